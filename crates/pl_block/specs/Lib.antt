@@ -1,0 +1,4 @@
+pub mod Codes
+pub mod Block
+pub mod Spelling
+pub mod Reading

@@ -1,0 +1,97 @@
+-- Reading a block from left to right, with the first fault that is met.
+use Rattle.std.specs.Prelude.{◌≡◌, ℕ, zero, suc, ◌+◌, ◌^◌, ◌||◌, List, [], ◌∷◌, length, take, drop, Result, Ok, Err, nat_eq, nat_lt, ◌==◌, if◌then◌else◌}
+use Rattle.std.specs.Cmp.Lexicographic.{pointwise}
+use Rattle.std.specs.Int.{Width, w16, w32, w64, byte_len, from_be_bytes}
+use Rattle.pl_block.specs.declared.fault.Fault.{Fault}
+use Rattle.pl_block.specs.declared.fault.Fault.TheVariants.{EndsInField, NumberOutOfRange, PartitionNotAbove, UnknownKind, EmptyPut, PutPastPage, BytesAfterEnd, WrongAnnotations, TooLong}
+use Rattle.pl_block.specs.declared.fault.BlockFault.{BlockFault}
+use Rattle.pl_block.specs.declared.fault.BlockFault.TheVariants as faults
+use Rattle.pl_block.specs.declared.record.Record.{Record}
+use Rattle.pl_block.specs.declared.record.Record.TheVariants.{Put}
+use Rattle.pl_block.specs.Block.{Content, touched}
+use Rattle.pl_block.specs.Spelling.{block_spelling}
+
+-- the next step, unless there was a fault
+infixl 10 ◌>>=◌
+abbrev pub ◌>>=◌ : {A B : Type 0} → Result A Fault → (A → Result B Fault) → Result B Fault
+(Ok x) >>= f = f x
+(Err e) >>= f = Err e
+
+-- what a call returned, seen by view, is what reading gives, unless memory was refused
+abbrev pub Fails : {Y : Type 0} → BlockFault → Result Y Fault → Type 0
+Fails faults.NoMemory read = Unit {0}
+Fails (faults.Malformed f) read = read ≡ Err f
+
+abbrev pub Gives : {X Y : Type 0} → (X → Y) → Result X BlockFault → Result Y Fault → Type 0
+Gives view (Ok x) read = read ≡ Ok (view x)
+Gives view (Err e) read = Fails e read
+
+-- a reader gave a value, and left what follows it
+abbrev pub Takes : {X Y : Type 0} → (X → Y) → Result X BlockFault → List ℕ → Result (Y × List ℕ) Fault → Type 0
+Takes view result rest read = Gives (λ x. (view x, rest)) result read
+
+-- a number of so many bytes
+abbrev pub number_at : Width → List ℕ → Result (ℕ × List ℕ) Fault
+number_at w bytes = if nat_lt (length bytes) (byte_len w) then Err EndsInField else Ok (from_be_bytes w (take (byte_len w) bytes), drop (byte_len w) bytes)
+
+-- the block's number, 1 to 2 ^ 48
+unfoldable pub lsn_at : List ℕ → Result (ℕ × List ℕ) Fault
+lsn_at bytes = do
+  lsn ← number_at w64 bytes
+  if lsn.0 == 0 || nat_lt (2 ^ 48) lsn.0 then Err NumberOutOfRange else Ok lsn
+
+-- so many partitions, the first at least low, each above the one before
+unfoldable pub rising_at : ℕ → ℕ → List ℕ → Result (List ℕ × List ℕ) Fault
+rising_at zero low bytes = Ok ([], bytes)
+rising_at (suc n) low bytes = do
+  first ← number_at w16 bytes
+  if nat_lt first.0 low then Err PartitionNotAbove else (rising_at n (first.0 + 1) first.1 >>= λ others. Ok (first.0 ∷ others.0, others.1))
+
+-- a count, and that many partitions
+unfoldable pub annotations_at : List ℕ → Result (List ℕ × List ℕ) Fault
+annotations_at bytes = do
+  count ← number_at w16 bytes
+  rising_at count.0 0 count.1
+
+-- page, offset and length, then the length's tests, then that many bytes
+unfoldable pub put_at : List ℕ → Result (Record × List ℕ) Fault
+put_at bytes = do
+  page ← number_at w32 bytes
+  offset ← number_at w16 page.1
+  len ← number_at w16 offset.1
+  if len.0 == 0 then Err EmptyPut else if nat_lt 8192 (offset.0 + len.0) then Err PutPastPage else if nat_lt (length len.1) len.0 then Err EndsInField else Ok (Put page.0 offset.0 (take len.0 len.1), drop len.0 len.1)
+
+-- a kind, and what the kind has
+unfoldable pub record_at : List ℕ → Result (Record × List ℕ) Fault
+record_at [] = Err EndsInField
+record_at (kind ∷ rest) = if kind == 1 then put_at rest else Err UnknownKind
+
+-- so many records
+unfoldable pub records_at : ℕ → List ℕ → Result (List Record × List ℕ) Fault
+records_at zero bytes = Ok ([], bytes)
+records_at (suc n) bytes = do
+  first ← record_at bytes
+  others ← records_at n first.1
+  Ok (first.0 ∷ others.0, others.1)
+
+-- all of the bytes: a block, or the fault that is told
+unfoldable pub block_reading : List ℕ → Result Content Fault
+block_reading bytes = if nat_lt 32768 (length bytes) then Err TooLong else (do
+  lsn ← lsn_at bytes
+  partitions ← annotations_at lsn.1
+  count ← number_at w16 partitions.1
+  records ← records_at count.0 count.1
+  if nat_lt 0 (length records.1) then Err BytesAfterEnd else if pointwise nat_eq partitions.0 (touched records.0) then Ok (record { lsn = lsn.0; records = records.0 }) else Err WrongAnnotations)
+
+-- the fault of one record, if any
+unfoldable pub record_fault : Record → Result (Unit {0}) Fault
+record_fault (Put page offset bytes) = if length bytes == 0 then Err EmptyPut else if nat_lt 8192 (offset + length bytes) then Err PutPastPage else Ok tt
+
+-- the fault of the first faulty record, if any
+unfoldable pub records_fault : List Record → Result (Unit {0}) Fault
+records_fault [] = Ok tt
+records_fault (first ∷ others) = record_fault first >>= λ _. records_fault others
+
+-- what a number and records make: a block, or the fault that is told
+unfoldable pub block_made : ℕ → List Record → Result Content Fault
+block_made lsn records = if lsn == 0 || nat_lt (2 ^ 48) lsn then Err NumberOutOfRange else (records_fault records >>= λ _. if nat_lt 32768 (length (block_spelling (record { lsn = lsn; records = records }))) then Err TooLong else Ok (record { lsn = lsn; records = records }))

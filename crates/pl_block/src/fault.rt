@@ -1,0 +1,65 @@
+//! Why bytes are no block, and why a number and records make none.
+
+ghost use Rattle.std.specs.Prelude.{◌≡◌, ◌≤◌};
+ghost use Rattle.pl_block.specs.declared.fault.BlockFault.TheVariants.{NoMemory};
+ghost use Rattle.pl_block.specs.Codes.{code_of};
+
+use std::alloc::{AllocError, AllocFailed};
+
+/// What is wrong with a block. The discriminant is the fault's code in the block format.
+#[derive(Clone, Copy, Debug, PartialEq, Eq)]
+pub enum Fault {
+    /// The bytes end inside a field.
+    EndsInField = 1,
+    /// The block's number is 0 or above 2^48.
+    NumberOutOfRange = 2,
+    /// An annotated partition is not above the one before it.
+    PartitionNotAbove = 3,
+    /// A record's kind is not the number of a kind of record.
+    UnknownKind = 4,
+    /// A Put has no bytes.
+    EmptyPut = 5,
+    /// A Put passes the end of its page.
+    PutPastPage = 6,
+    /// Bytes follow the last record.
+    BytesAfterEnd = 7,
+    /// The annotations are not the partitions that the records touch.
+    WrongAnnotations = 8,
+    /// The block has more than 32,768 bytes.
+    TooLong = 9,
+}
+
+impl Fault {
+    /// The fault's number in the block format, 1 to 9.
+    pub fn code(self) -> u8
+        ensures value { result ≡ code_of self }
+        ensures small { result ≤ 9 }
+    {
+        self as u8
+    }
+}
+
+/// Why a call gave no block.
+#[derive(Debug, Drop)]
+pub enum BlockFault {
+    /// The input is no block: the first fault, in the order of the block format.
+    Malformed(Fault),
+    /// Memory was refused.
+    NoMemory,
+}
+
+impl From<AllocError> for BlockFault {
+    ghost from_gives = { λ _ e. e ≡ NoMemory };
+
+    fn from(_refused: AllocError) -> BlockFault {
+        BlockFault::NoMemory
+    }
+}
+
+impl<T: Drop> From<AllocFailed<T>> for BlockFault {
+    ghost from_gives = { λ _ e. e ≡ NoMemory };
+
+    fn from(_refused: AllocFailed<T>) -> BlockFault {
+        BlockFault::NoMemory
+    }
+}

@@ -1,0 +1,13 @@
+//! Log blocks.
+#![tactic(auto)]
+
+mod block;
+mod content;
+mod fault;
+mod partitions;
+mod record;
+
+pub use block::Block;
+pub use fault::{BlockFault, Fault};
+pub use record::Record;
+pub use std::alloc::AllocError as NoMemory;

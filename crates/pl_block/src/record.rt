@@ -1,0 +1,33 @@
+//! One change to one page.
+
+ghost use Rattle.std.specs.Prelude.{◌≡◌};
+ghost use Rattle.pl_block.specs.Block.{partition_of};
+
+use bytes::Bytes;
+
+/// The bytes of a page.
+pub const PAGE_BYTES: u32 = 8_192;
+
+/// The pages of a partition, which follow one another.
+pub const PAGES_PER_PARTITION: u32 = 65_536;
+
+/// A change to one page.
+#[derive(Debug, Drop, PartialEq)]
+pub enum Record {
+    /// Replaces the bytes of the page from `offset` on by `bytes`.
+    Put {
+        page: u32,
+        offset: u16,
+        bytes: Bytes,
+    },
+}
+
+impl Record {
+    /// The partition of the page that the record changes.
+    pub fn partition(&self) -> u16
+        ensures { result ≡ partition_of self.now }
+    {
+        let Record::Put { page, .. } = self;
+        (*page / PAGES_PER_PARTITION) as u16
+    }
+}
