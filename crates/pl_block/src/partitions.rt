@@ -14,10 +14,7 @@ fn record_partitions(alloc: Global, records: &[Record]) -> Result<Vec<u16>, Allo
 }
 
 /// The partitions that the records touch, rising, each once, in n log n steps for n records.
-pub(crate) fn touched_partitions(
-    alloc: Global,
-    records: &[Record],
-) -> Result<Vec<u16>, AllocError>
+pub(crate) fn touched_partitions(alloc: Global, records: &[Record]) -> Result<Vec<u16>, AllocError>
     ensures { IfOk result (λ ps. ps.items ≡ touched records.now) }
 {
     let mut partitions = record_partitions(alloc, records)?;
