@@ -2,9 +2,11 @@
 #![tactic(auto)]
 
 mod block;
+mod checks;
 mod content;
 mod fault;
 mod partitions;
+mod reading;
 mod record;
 
 pub use block::Block;
