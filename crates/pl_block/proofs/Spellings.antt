@@ -1,5 +1,6 @@
 -- The two laws: what is read as a block is its spelling, and a block is read from its spelling.
 use Rattle.std.proofs.Common.{◌≡◌, ℕ, ◌+◌, ◌*◌, ◌^◌, ◌<◌, ◌≤◌, Bool, true, false, cond, ltb, eqb, ◌||◌, List, [], ◌∷◌, ◌++◌, length, Result, Ok, Err, refl, sym, ap, subst, ◌∙◌, append_assoc, arith}
+use Rattle.std.specs.Prelude.{IfOk}
 use Rattle.std.specs.List.{flat_map, AllByRecursion}
 use Rattle.std.specs.Int.{w16, w64, to_be_bytes}
 use Rattle.std.specs.Str.{bytes_eq}
@@ -15,7 +16,8 @@ use Rattle.pl_block.specs.declared.record.Record.TheVariants.{Put}
 use Rattle.pl_block.specs.Block.{Content, touched, IsRecord}
 use Rattle.pl_block.specs.Spelling.{annotations, record_spelling, block_spelling, IsBlock}
 use Rattle.pl_block.specs.Laws.{AreBytes, OneSpelling}
-use Rattle.pl_block.specs.Reading.{◌>>=◌, number_at, lsn_fault, lsn_at, annotations_at, records_at, block_reading}
+use Rattle.pl_block.specs.declared.fault.BlockFault.{BlockFault}
+use Rattle.pl_block.specs.Reading.{◌>>=◌, Gives, number_at, lsn_fault, lsn_at, annotations_at, records_at, block_reading}
 use Rattle.pl_block.proofs.Fields.{bind_ok, guard_ok, ok_is, IsFront, IsFront-then, wide16, wide64, number_takes, number_again}
 use Rattle.pl_block.proofs.Touched.{RisesFrom-touched}
 use Rattle.pl_block.proofs.Annotations.{length-partitions, annotations_take, annotations_again, touched_small}
@@ -127,3 +129,12 @@ same_spelling a b is_a is_b e = ok_is a b (sym (block_again a is_a) ∙ ap block
 
 pub one_spelling : OneSpelling
 one_spelling = record { again = block_again; spelled = block_takes; same = same_spelling }
+
+-- ---- as a call answers
+
+pub is_found : (bytes : List ℕ) (r : Result Content BlockFault) → AreBytes bytes → Gives (λ x. x) r (block_reading bytes) → IfOk r (λ b. IsBlock b × (bytes ≡ block_spelling b))
+is_found bytes (Ok b) fits given = block_takes bytes b fits given
+is_found bytes (Err e) fits given = tt
+
+pub is_only : (bytes : List ℕ) (r : Result Content BlockFault) (b : Content) → Gives (λ x. x) r (block_reading bytes) → IsBlock b → bytes ≡ block_spelling b → Gives (λ x. x) r (Ok b)
+is_only bytes r b given is_block e = subst (λ (read : Result Content Fault). Gives (λ x. x) r read) (ap block_reading e ∙ block_again b is_block) given

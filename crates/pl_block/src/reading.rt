@@ -11,11 +11,9 @@ use crate::checks::{check_lsn, check_put, MAX_BLOCK_BYTES};
 use crate::content::Parts;
 use crate::fault::{BlockFault, Fault};
 use crate::partitions::touched_partitions;
-use crate::record::Record;
+use crate::record::{Record, PUT};
 use bytes::{Buf, Bytes};
 use std::alloc::Global;
-
-const PUT: u8 = 1;
 
 #[tactic(auto, unfolding(crate::specs::Reading::lsn_at))]
 fn take_lsn(rest: &mut Bytes) -> Result<u64, BlockFault>
