@@ -5,3 +5,4 @@ pub mod Fronts
 pub mod Annotations
 pub mod Puts
 pub mod Spellings
+pub mod RecordFaults

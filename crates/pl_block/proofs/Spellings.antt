@@ -35,6 +35,10 @@ records_long (r ∷ rs) h = rw (flat_map-cons record_spelling r rs, length-appen
 pub length-block_spelling : (b : Content) → length (block_spelling b) ≡ 12 + 2 * length (touched b.records) + length (flat_map record_spelling b.records)
 length-block_spelling b = simp length-append (omega (arith, length-partitions (touched b.records)))
 
+-- the same, counted from equal lists
+pub length-counted : (lsn : ℕ) (records : List Record) (ps : List ℕ) (rs : List Record) → ps ≡ touched records → rs ≡ records → length (block_spelling (record { lsn = lsn; records = records })) ≡ 12 + 2 * length ps + length (flat_map record_spelling rs)
+length-counted lsn records ps rs told all = rw (told, all) (length-block_spelling (record { lsn = lsn; records = records }))
+
 -- both counts of a block are numbers of two bytes
 pub counts : (b : Content) → IsBlock b → (length (touched b.records) < 2 ^ 16) × (length b.records < 2 ^ 16)
 counts b h =

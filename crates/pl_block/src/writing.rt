@@ -19,14 +19,13 @@ fn record_len(entry: &Record) -> usize
     9 + bytes.len()
 }
 
-/// The length of the spelling of a block with these partitions and records. Where it is more than
-/// a block can have, some length that is too.
+/// The length of the spelling of a block with these partitions and records, where a block can
+/// have it; otherwise some length that no block can have.
 pub(crate) fn spelling_len(partitions: &[u16], records: &[Record]) -> usize
-    ensures value { 12 + 2 * length partitions.now
-        + length (flat_map record_spelling records.now) ≤ 32768 →
+    ensures value { result ≤ 32768 →
         result ≡ 12 + 2 * length partitions.now + length (flat_map record_spelling records.now) }
-    ensures full { 32768 < 12 + 2 * length partitions.now
-        + length (flat_map record_spelling records.now) → 32768 < result }
+    ensures full { 32768 < result →
+        32768 < 12 + 2 * length partitions.now + length (flat_map record_spelling records.now) }
 {
     let mut len = 12 + 2 * partitions.len();
     for entry in records {

@@ -18,7 +18,7 @@ invariant_of-of_parts c =
     (taken.0, c.in_ok-lsn.ensures.value)
 
 given : (c : goal.After-of_parts) → Gives (λ x. x) c.of_parts.result (block_reading c.args.input)
-given c = rw c.in_ok-lsn.ensures.exact c.of_parts.ensures
+given c = rw c.in_ok-lsn.ensures.exact c.of_parts.ensures.exact
 
 pub returns-clause-found : goal.returns-clause-found
 returns-clause-found c = is_found c.args.input c.of_parts.result (subst AreBytes c.as_slice.ensures c.each_is_byte.ensures) (given c)
