@@ -19,7 +19,7 @@ mod writing;
 pub use block::Block;
 pub use checks::{LAST_LSN, MAX_BLOCK_BYTES};
 pub use fault::{BlockFault, Fault};
-pub use laws::one_spelling;
+pub use laws::{one_spelling, same_blocks_are_equal};
 pub use reading::decode;
 pub use record::{Record, PAGES_PER_PARTITION, PAGE_BYTES};
 pub use std::alloc::AllocError as NoMemory;

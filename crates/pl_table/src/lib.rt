@@ -1,13 +1,23 @@
-// A library with one function.
+//! Requests, and the written table that says who may append, pull, read and administer.
+//!
+//! A contract sees a [`Request`] as its head and its act, and a [`Table`] as its principals and its
+//! rows. What a denial by the table means for a database is the matter of the crates above.
 #![tactic(auto)]
 
-ghost use Rattle.std.specs.Prelude.{◌≡◌};
-ghost use Rattle.pl_table.specs.Echo.{echo_of};
+mod head;
+mod op;
+mod range;
+mod request;
+mod row;
+mod start_table;
+mod table;
+mod verdict;
 
-// The `ensures` clause is the contract: what `echo` returns is `echo_of` of its argument, a definition
-// in `specs/Echo.antt`, which a caller's clause can cite too.
-pub fn echo(x: usize) -> usize
-    ensures { result ≡ echo_of x }
-{
-    x
-}
+pub use head::Head;
+pub use op::{Op, Role};
+pub use pl_block::NoMemory;
+pub use range::PartitionRange;
+pub use request::{Act, Request};
+pub use row::{Ops, Row};
+pub use table::{Principal, Table};
+pub use verdict::{Section, Verdict};

@@ -1,0 +1,54 @@
+-- Roles and operations: their numbers, and which operations a role has.
+use Rattle.std.specs.Prelude.{ℕ, Bool, ◌==◌, List, [], ◌∷◌, Option, Some, None, if◌then◌else◌}
+use Rattle.std.specs.List.{list_any}
+use Rattle.pl_table.specs.declared.op.Role.{Role}
+use Rattle.pl_table.specs.declared.op.Role.TheVariants.{Primary, Secondary, PageServer, Operator}
+use Rattle.pl_table.specs.declared.op.Op.{Op}
+use Rattle.pl_table.specs.declared.op.Op.TheVariants.{Write, Offer, Report, Get, Pull, Advance, Status, Failover, SetTable, Audit, Tidy}
+
+abbrev pub role_number : Role → ℕ
+role_number Primary = 1
+role_number Secondary = 2
+role_number PageServer = 3
+role_number Operator = 4
+
+abbrev pub op_number : Op → ℕ
+op_number Write = 1
+op_number Offer = 2
+op_number Report = 3
+op_number Get = 4
+op_number Pull = 5
+op_number Advance = 6
+op_number Status = 7
+op_number Failover = 8
+op_number SetTable = 9
+op_number Audit = 10
+op_number Tidy = 11
+
+-- the role of a number
+abbrev pub role_of : ℕ → Option Role
+role_of n = if n == 1 then Some Primary else if n == 2 then Some Secondary else if n == 3 then Some PageServer else if n == 4 then Some Operator else None
+
+-- the operation of a number
+abbrev pub op_named : ℕ → Option Op
+op_named n = if n == 1 then Some Write else if n == 2 then Some Offer else if n == 3 then Some Report else if n == 4 then Some Get else if n == 5 then Some Pull else if n == 6 then Some Advance else if n == 7 then Some Status else if n == 8 then Some Failover else if n == 9 then Some SetTable else if n == 10 then Some Audit else if n == 11 then Some Tidy else None
+
+abbrev pub same_role : Role → Role → Bool
+same_role a b = role_number a == role_number b
+
+abbrev pub same_op : Op → Op → Bool
+same_op a b = op_number a == op_number b
+
+-- the operation is listed
+abbrev pub lists_op : Op → List Op → Bool
+lists_op op ops = list_any (λ listed. same_op listed op) ops
+
+-- the operations that a role has
+abbrev pub ops_of : Role → List Op
+ops_of Primary = Write ∷ Offer ∷ Report ∷ Get ∷ Status ∷ []
+ops_of Secondary = Pull ∷ Get ∷ Status ∷ []
+ops_of PageServer = Pull ∷ Advance ∷ Status ∷ []
+ops_of Operator = Failover ∷ SetTable ∷ Audit ∷ Tidy ∷ Status ∷ []
+
+abbrev pub has_op : Role → Op → Bool
+has_op role op = lists_op op (ops_of role)

@@ -1,0 +1,27 @@
+-- Which requests a row speaks of.
+use Rattle.std.specs.Prelude.{ℕ, Bool, true, ◌&&◌, ◌||◌, ◌==◌, nat_le, List, length, Option, Some, None, if◌then◌else◌}
+use Rattle.std.specs.List.{list_all, list_any}
+use Rattle.pl_table.specs.declared.range.PartitionRange.{PartitionRange}
+use Rattle.pl_table.specs.declared.row.Row.{Row}
+use Rattle.pl_table.specs.Ops.{same_role, lists_op}
+use Rattle.pl_table.specs.Request.{Query, op_of, partitions_of}
+
+-- a part that is absent matches all
+abbrev pub part_matches : {A : Type 0} → (A → Bool) → Option A → Bool
+part_matches test None = true
+part_matches test (Some part) = test part
+
+abbrev pub is_within : PartitionRange → ℕ → Bool
+is_within range p = nat_le range.from p && nat_le p range.to
+
+-- A range of a row that allows matches if it has all of the partitions named, that of a row that
+-- denies if it has at least one. Where none is named, each range matches.
+abbrev pub range_matches : Bool → List ℕ → PartitionRange → Bool
+range_matches allows ps range = if allows then list_all (is_within range) ps else length ps == 0 || list_any (is_within range) ps
+
+-- the row speaks of the request
+abbrev pub row_matches : Row → Query → Bool
+row_matches row q = part_matches (λ who. who == q.head.principal) row.who
+    && (part_matches (same_role q.head.role) row.role
+    && (part_matches (lists_op (op_of q.act)) row.op
+    && part_matches (range_matches row.allows (partitions_of q.act)) row.range))

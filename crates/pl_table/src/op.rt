@@ -1,0 +1,113 @@
+//! Roles, and the operations that each has.
+
+ghost use Rattle.std.specs.Prelude.{◌≡◌, ◌≤◌};
+ghost use Rattle.pl_table.specs.Ops.{op_number, role_number, has_op, op_named, role_of};
+
+/// Who a principal says it is. The discriminant is the role's number in a request.
+#[derive(Clone, Copy, Debug, PartialEq, Eq)]
+pub enum Role {
+    /// Writes the log of its database, and reports what is hardened.
+    Primary = 1,
+    /// Follows the log, and reads pages.
+    Secondary = 2,
+    /// Follows the log of its partitions, and applies it.
+    PageServer = 3,
+    /// Names the primary, sets the table and reads the audit list.
+    Operator = 4,
+}
+
+/// What a request asks for. The discriminant is the operation's number in a request.
+#[derive(Clone, Copy, Debug, PartialEq, Eq)]
+pub enum Op {
+    /// Puts a block into one copy of the landing zone.
+    Write = 1,
+    /// Puts a block into the pending area.
+    Offer = 2,
+    /// Hardens the log up to a number.
+    Report = 3,
+    /// Reads a page.
+    Get = 4,
+    /// Reads hardened blocks.
+    Pull = 5,
+    /// Applies the log to a partition.
+    Advance = 6,
+    /// Tells the epoch, the primary and how many blocks are hardened.
+    Status = 7,
+    /// Names the primary of a new epoch.
+    Failover = 8,
+    /// Puts another table in force.
+    SetTable = 9,
+    /// Reads the list of what was decided.
+    Audit = 10,
+    /// Moves old blocks out of the broker.
+    Tidy = 11,
+}
+
+impl Role {
+    /// The role's number in a request, 1 to 4.
+    pub fn number(self) -> u8
+        ensures { result ≡ role_number self }
+    {
+        self as u8
+    }
+
+    /// The role of this number, if there is one.
+    pub fn of_number(number: u8) -> Option<Role>
+        ensures { result ≡ role_of number }
+    {
+        match number {
+            1 => Some(Role::Primary),
+            2 => Some(Role::Secondary),
+            3 => Some(Role::PageServer),
+            4 => Some(Role::Operator),
+            _ => None,
+        }
+    }
+
+    /// Whether a principal in this role has the operation, whatever the table says.
+    pub fn has(self, op: Op) -> bool
+        ensures { result ≡ has_op self op }
+    {
+        match self {
+            Role::Primary => matches!(
+                op,
+                Op::Write | Op::Offer | Op::Report | Op::Get | Op::Status
+            ),
+            Role::Secondary => matches!(op, Op::Pull | Op::Get | Op::Status),
+            Role::PageServer => matches!(op, Op::Pull | Op::Advance | Op::Status),
+            Role::Operator => matches!(
+                op,
+                Op::Failover | Op::SetTable | Op::Audit | Op::Tidy | Op::Status
+            ),
+        }
+    }
+}
+
+impl Op {
+    /// The operation's number in a request, 1 to 11.
+    pub fn number(self) -> u8
+        ensures { result ≡ op_number self }
+    {
+        self as u8
+    }
+
+    /// The operation of this number, if there is one.
+    pub fn of_number(number: u8) -> Option<Op>
+        ensures { result ≡ op_named number }
+    {
+        match number {
+            1 => Some(Op::Write),
+            2 => Some(Op::Offer),
+            3 => Some(Op::Report),
+            4 => Some(Op::Get),
+            5 => Some(Op::Pull),
+            6 => Some(Op::Advance),
+            7 => Some(Op::Status),
+            8 => Some(Op::Failover),
+            9 => Some(Op::SetTable),
+            10 => Some(Op::Audit),
+            11 => Some(Op::Tidy),
+            _ => None,
+        }
+    }
+}

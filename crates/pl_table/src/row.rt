@@ -1,0 +1,138 @@
+//! A row of the table.
+
+ghost use Rattle.std.specs.Prelude.{◌≡◌, ◌==◌};
+ghost use Rattle.pl_table.specs.Request.{InRange, partitions_of};
+ghost use Rattle.pl_table.specs.Row.{part_matches, range_matches, row_matches};
+ghost use Rattle.pl_table.specs.Ops.{same_role, lists_op};
+
+use crate::op::{Op, Role};
+use crate::range::PartitionRange;
+use crate::request::{Act, Request};
+use std::marker::Model;
+
+/// The operations that a row speaks of.
+#[derive(Debug, Drop)]
+pub struct Ops {
+    items: Vec<Op>,
+}
+
+impl Model for Ops {
+    ghost use Rattle.std.specs.Prelude.{List};
+    ghost use Rattle.pl_table.specs.declared.op.Op.{Op};
+
+    ghost Value = { List Op };
+
+    ghost view = { λ o. o.items.items };
+}
+
+impl Ops {
+    /// The operations in this order.
+    pub fn new(items: Vec<Op>) -> Ops
+        ensures { result ≡ items.items }
+    {
+        Ops { items }
+    }
+
+    /// The operations in their order.
+    pub fn as_slice(&self) -> &[Op]
+        ensures { result.now ≡ self.now }
+    {
+        &self.items
+    }
+}
+
+/// A row: which requests it speaks of, and whether it allows them. A part that is `None` matches
+/// every request.
+#[derive(Debug, Drop)]
+pub struct Row {
+    /// Whether the row allows what it matches, and else denies it.
+    pub allows: bool,
+    /// The id of the one principal that it speaks of.
+    pub who: Option<u32>,
+    /// The one role that it speaks of.
+    pub role: Option<Role>,
+    /// The operations that it speaks of.
+    pub op: Option<Ops>,
+    /// The partitions that it speaks of: all that a request names for a row that allows, at least
+    /// one of them for a row that denies. A request that names none is spoken of whatever they are.
+    pub range: Option<PartitionRange>,
+}
+
+impl Row {
+    /// Whether the row speaks of the request.
+    pub fn matches(&self, request: &Request) -> bool
+        ensures { result ≡ row_matches self.now request.now }
+    {
+        let head = request.head();
+        matches_who(self.who, head.principal)
+            && matches_role(self.role, head.role)
+            && matches_op(&self.op, request.act().op())
+            && matches_range(self.allows, self.range, request.act())
+    }
+}
+
+fn matches_who(who: Option<u32>, principal: u32) -> bool
+    ensures { result ≡ part_matches (λ id. id == principal) who }
+{
+    match who {
+        Some(id) => id == principal,
+        None => true,
+    }
+}
+
+fn matches_role(part: Option<Role>, role: Role) -> bool
+    ensures { result ≡ part_matches (same_role role) part }
+{
+    match part {
+        Some(listed) => listed.number() == role.number(),
+        None => true,
+    }
+}
+
+fn matches_op(part: &Option<Ops>, op: Op) -> bool
+    ensures { result ≡ part_matches (lists_op op) part.now }
+{
+    match part {
+        Some(ops) => has_op_of(ops.as_slice(), op),
+        None => true,
+    }
+}
+
+fn has_op_of(ops: &[Op], op: Op) -> bool
+    ensures { result ≡ lists_op op ops.now }
+{
+    ops.iter().any(|listed| listed.number() == op.number())
+}
+
+fn matches_range(allows: bool, part: Option<PartitionRange>, act: &Act) -> bool
+    requires { InRange act.now }
+    ensures { result ≡ part_matches (range_matches allows (partitions_of act.now)) part }
+{
+    match part {
+        Some(range) => range_covers(allows, range, act),
+        None => true,
+    }
+}
+
+fn range_covers(allows: bool, range: PartitionRange, act: &Act) -> bool
+    requires { InRange act.now }
+    ensures { result ≡ range_matches allows (partitions_of act.now) range }
+{
+    match act {
+        Act::Write { block, .. } => {
+            if allows {
+                range.has_all(block.partitions())
+            } else {
+                block.partitions().is_empty() || range.has_any(block.partitions())
+            }
+        }
+        Act::Report { .. } => true,
+        Act::Pull { lo, hi, .. } => {
+            if allows {
+                range.has_all_between(*lo, *hi)
+            } else {
+                range.has_any_between(*lo, *hi)
+            }
+        }
+    }
+}

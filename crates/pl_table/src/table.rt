@@ -1,0 +1,99 @@
+//! The written table.
+
+ghost use Rattle.std.specs.Prelude.{◌≡◌, ◌≤◌, All, length};
+ghost use Rattle.pl_table.specs.Table.{IsTable, token_of, first_match_from};
+
+use crate::request::Request;
+use crate::row::Row;
+use std::marker::Model;
+
+/// Who may ask at all: an id, and the token that shows that a request is the principal's.
+#[derive(Clone, Copy, Debug, PartialEq, Eq)]
+pub struct Principal {
+    pub id: u32,
+    pub token: [u8; 16],
+}
+
+/// The principals, each with an id of its own, and the rows that say in order what they may do.
+#[derive(Debug, Drop)]
+pub struct Table {
+    principals: Vec<Principal>,
+    rows: Vec<Row>,
+}
+
+impl Model for Table {
+    ghost use Rattle.pl_table.specs.Table.{WrittenTable, IsTable};
+
+    ghost Value = { WrittenTable };
+
+    ghost view = { λ t. record { principals = t.principals.items; rows = t.rows.items } };
+
+    ghost invariant = { λ t. IsTable (record { principals = t.principals.items; rows = t.rows.items }) };
+}
+
+impl Table {
+    // The table with these principals and rows.
+    pub(crate) fn of_parts(principals: Vec<Principal>, rows: Vec<Row>) -> Table
+        requires { IsTable (record { principals = principals.items; rows = rows.items }) }
+        ensures { result ≡ record { principals = principals.items; rows = rows.items } }
+    {
+        Table { principals, rows }
+    }
+
+    /// The principals, 1 to 64, in the order in which they are listed.
+    pub fn principals(&self) -> &[Principal]
+        ensures value { result.now ≡ self.now.principals }
+        ensures valid { IsTable self.now }
+    {
+        &self.principals
+    }
+
+    /// The rows, at most 256, in their order. The first has the number 1.
+    pub fn rows(&self) -> &[Row]
+        ensures value { result.now ≡ self.now.rows }
+        ensures valid { IsTable self.now }
+    {
+        &self.rows
+    }
+
+    /// The token listed for the id.
+    pub fn token(&self, id: u32) -> Option<[u8; 16]>
+        ensures value { result ≡ token_of id self.now.principals }
+
+        // An id has one token, since no two principals have one id.
+        ensures only { All (λ p. p.id ≡ id → result ≡ Some p.token) self.now.principals }
+    {
+        token_in(&self.principals, id)
+    }
+
+    /// The first row that speaks of the request: its number, from 1, and whether it allows.
+    pub fn first_match(&self, request: &Request) -> Option<(u16, bool)>
+        ensures value { result ≡ first_match_from 1 self.now.rows request.now }
+        ensures valid { IsTable self.now }
+    {
+        first_in(&self.rows, request)
+    }
+}
+
+fn token_in(principals: &[Principal], id: u32) -> Option<[u8; 16]>
+    ensures { result ≡ token_of id principals.now }
+{
+    for principal in principals {
+        if principal.id == id {
+            return Some(principal.token);
+        }
+    }
+    None
+}
+
+fn first_in(rows: &[Row], request: &Request) -> Option<(u16, bool)>
+    requires { length rows.now ≤ 256 }
+    ensures { result ≡ first_match_from 1 rows.now request.now }
+{
+    for (index, row) in rows.iter().enumerate() {
+        if row.matches(request) {
+            return Some((index as u16 + 1, row.allows));
+        }
+    }
+    None
+}
