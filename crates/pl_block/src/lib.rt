@@ -21,6 +21,9 @@ pub use checks::{LAST_LSN, MAX_BLOCK_BYTES};
 pub use fault::{BlockFault, Fault};
 pub use laws::{one_spelling, same_blocks_are_equal};
 pub use reading::decode;
-pub use record::{Record, PAGES_PER_PARTITION, PAGE_BYTES};
+pub use record::{PAGE_BYTES, PAGES_PER_PARTITION, Record};
 pub use std::alloc::AllocError as NoMemory;
 pub use writing::encode;
+
+#[cfg(test)]
+mod tests;

@@ -7,7 +7,7 @@ ghost use Rattle.pl_block.specs.Spelling.{IsBlock};
 ghost use Rattle.pl_block.specs.Reading.{Gives, record_fault, records_fault, block_made};
 
 use crate::block::Block;
-use crate::checks::{check_lsn, check_put, MAX_BLOCK_BYTES};
+use crate::checks::{MAX_BLOCK_BYTES, check_lsn, check_put};
 use crate::content::Parts;
 use crate::fault::{BlockFault, Fault};
 use crate::partitions::touched_partitions;
@@ -19,7 +19,11 @@ fn check_record(entry: &Record) -> Result<(), BlockFault>
     ensures exact { Gives (λ x. x) result (record_fault entry.now) }
     ensures valid { IfOk result (λ _. IsRecord entry.now) }
 {
-    let Record::Put { page, offset, bytes } = entry;
+    let Record::Put {
+        page,
+        offset,
+        bytes,
+    } = entry;
     let _page = *page;
     check_put(*offset, bytes.len())
 }
@@ -48,6 +52,13 @@ impl Block {
         if spelling_len(&partitions, &records) > MAX_BLOCK_BYTES {
             return Err(BlockFault::Malformed(Fault::TooLong));
         }
-        Block::of_parts(alloc, Parts { lsn, partitions, records })
+        Block::of_parts(
+            alloc,
+            Parts {
+                lsn,
+                partitions,
+                records,
+            },
+        )
     }
 }

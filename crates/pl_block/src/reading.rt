@@ -7,11 +7,11 @@ ghost use Rattle.pl_block.specs.Spelling.{IsBlock, block_spelling};
 ghost use Rattle.pl_block.specs.Reading.{Gives, Takes, lsn_at, rising_at, annotations_at, put_at, record_at, records_at, block_reading};
 
 use crate::block::Block;
-use crate::checks::{check_lsn, check_put, MAX_BLOCK_BYTES};
+use crate::checks::{MAX_BLOCK_BYTES, check_lsn, check_put};
 use crate::content::Parts;
 use crate::fault::{BlockFault, Fault};
 use crate::partitions::touched_partitions;
-use crate::record::{Record, PUT};
+use crate::record::{PUT, Record};
 use bytes::{Buf, Bytes};
 use std::alloc::Global;
 
@@ -61,7 +61,11 @@ fn take_put(rest: &mut Bytes) -> Result<Record, BlockFault>
         return Err(BlockFault::Malformed(Fault::EndsInField));
     }
     let bytes = rest.split_to(len)?;
-    Ok(Record::Put { page, offset, bytes })
+    Ok(Record::Put {
+        page,
+        offset,
+        bytes,
+    })
 }
 
 #[tactic(auto, unfolding(crate::specs::Reading::record_at))]
@@ -88,10 +92,7 @@ fn take_records(alloc: Global, count: u16, rest: &mut Bytes) -> Result<Vec<Recor
 
 // The number, the annotations and the records of a block.
 #[tactic(auto, unfolding(crate::specs::Reading::block_reading))]
-fn fields_of(
-    alloc: Global,
-    input: Bytes,
-) -> Result<(u64, Vec<u16>, Vec<Record>), BlockFault>
+fn fields_of(alloc: Global, input: Bytes) -> Result<(u64, Vec<u16>, Vec<Record>), BlockFault>
     ensures exact { Gives (λ x. record { lsn = x.0; records = x.2.items }) result (block_reading input) }
     ensures value { IfOk result (λ x. x.1.items ≡ touched x.2.items) }
 {
@@ -134,5 +135,12 @@ pub fn decode(alloc: Global, input: Bytes) -> Result<Block, BlockFault>
 {
     each_is_byte(input.as_slice());
     let (lsn, partitions, records) = fields_of(alloc, input)?;
-    Block::of_parts(alloc, Parts { lsn, partitions, records })
+    Block::of_parts(
+        alloc,
+        Parts {
+            lsn,
+            partitions,
+            records,
+        },
+    )
 }

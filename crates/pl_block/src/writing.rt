@@ -7,7 +7,7 @@ ghost use Rattle.pl_block.specs.Spelling.{annotations, record_spelling, block_sp
 
 use crate::block::Block;
 use crate::checks::MAX_BLOCK_BYTES;
-use crate::record::{Record, PUT};
+use crate::record::{PUT, Record};
 use bytes::BufMut;
 use std::alloc::{AllocError, Global};
 

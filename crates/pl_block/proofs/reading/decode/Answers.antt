@@ -1,6 +1,5 @@
-use Rattle.std.proofs.Common.{◌≡◌, ℕ, List, Err, subst, sym}
+use Rattle.std.proofs.Common.{Err, subst}
 use Rattle.std.proofs.lemmas.Result.{err_from_is_err_and}
-use Rattle.pl_block.specs.Block.{Content}
 use Rattle.pl_block.specs.Laws.{AreBytes}
 use Rattle.pl_block.specs.Reading.{Gives, block_reading}
 use Rattle.pl_block.proofs.Spellings.{block_takes, is_found, is_only}

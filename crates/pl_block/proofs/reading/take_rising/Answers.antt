@@ -1,7 +1,5 @@
-use Rattle.std.proofs.Common.{◌≡◌, Ok, arith}
-use Rattle.std.specs.Int.{w16}
+use Rattle.std.proofs.Common.{arith}
 use Rattle.std.proofs.lemmas.Result.{err_from_is_err_and}
-use Rattle.pl_block.specs.Reading.{number_at, rising_at}
 use Rattle.pl_block.proofs.Fronts.{number_is, rising_cut, rising_falls, rising_goes_on, rising_is_done}
 use Rattle.pl_block.proofs.reading.take_rising.Goals as goal
 

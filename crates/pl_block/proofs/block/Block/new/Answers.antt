@@ -1,8 +1,7 @@
-use Rattle.std.proofs.Common.{◌≡◌, ◌+◌, ◌*◌, ◌<◌, ◌≤◌, length, ap, subst, sym, ◌∙◌, arith}
-use Rattle.std.specs.List.{flat_map}
+use Rattle.std.proofs.Common.{ap, ◌∙◌, arith}
 use Rattle.std.proofs.lemmas.Result.{err_from_is_err_and}
 use Rattle.pl_block.specs.Block.{touched}
-use Rattle.pl_block.specs.Spelling.{record_spelling, block_spelling, IsBlock}
+use Rattle.pl_block.specs.Spelling.{IsBlock}
 use Rattle.pl_block.proofs.Spellings.{length-counted, lsn_fault-ok}
 use Rattle.pl_block.proofs.RecordFaults.{made_fails-number, made_fails-record, made_too_long, made}
 use Rattle.pl_block.proofs.block.Block.new.Goals as goal
