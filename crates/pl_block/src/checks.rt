@@ -7,7 +7,7 @@ use crate::fault::{BlockFault, Fault};
 use crate::record::PAGE_BYTES;
 
 /// The last number that a block can have.
-pub const LAST_LSN: u64 = 281_474_976_710_656;
+pub const LAST_LSN: u64 = 1 << 48;
 
 /// The bytes that a block can have.
 pub const MAX_BLOCK_BYTES: usize = 32_768;
@@ -29,7 +29,7 @@ pub(crate) fn check_put(offset: u16, len: usize) -> Result<(), BlockFault>
     if len == 0 {
         return Err(BlockFault::Malformed(Fault::EmptyPut));
     }
-    if len > PAGE_BYTES as usize || offset as usize + len > PAGE_BYTES as usize {
+    if usize::from(offset).saturating_add(len) > PAGE_BYTES {
         return Err(BlockFault::Malformed(Fault::PutPastPage));
     }
     Ok(())
