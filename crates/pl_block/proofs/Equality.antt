@@ -17,17 +17,17 @@ both false b e = absurd cc
 pub same_record-Decides : (x y : Record) → Decides (same_record x y) (x ≡ y)
 same_record-Decides (Put p o b) (Put q u c) = (
   λ e.
-    let first = both (eqb p q) (eqb o u && bytes_eq b c) e in
-    let second = both (eqb o u) (bytes_eq b c) first.1 in
-    let pages = eqb-true p q first.0 in
-    let offsets = eqb-true o u second.0 in
-    let texts = (bytes_eq-Decides b c).0 second.1 in
-    cc,
+      let first = both (eqb p q) (eqb o u && bytes_eq b c) e in
+      let second = both (eqb o u) (bytes_eq b c) first.1 in
+      let pages = eqb-true p q first.0 in
+      let offsets = eqb-true o u second.0 in
+      let texts = (bytes_eq-Decides b c).0 second.1 in
+      cc,
   λ e.
-    let pages : p ≡ q = cc in
-    let offsets : o ≡ u = cc in
-    let texts : b ≡ c = cc in
-    rw (eq-eqb p q pages, eq-eqb o u offsets, (bytes_eq-Decides b c).1 texts) refl,
+      let pages : p ≡ q = cc in
+      let offsets : o ≡ u = cc in
+      let texts : b ≡ c = cc in
+      rw (eq-eqb p q pages, eq-eqb o u offsets, (bytes_eq-Decides b c).1 texts) refl,
 )
 
 -- blocks are one where their numbers and records are
