@@ -6,6 +6,8 @@
 //! answered all follow from that list; the code keeps them at hand.
 #![tactic(auto)]
 
+mod changes;
+mod db;
 mod decision;
 mod epochs;
 mod limits;
@@ -14,6 +16,7 @@ mod reply;
 mod slots;
 mod view;
 
+pub use db::{Db, DbFault};
 pub use epochs::Epochs;
 pub use limits::Limits;
 pub use line::Line;
