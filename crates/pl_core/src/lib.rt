@@ -13,7 +13,9 @@ mod epochs;
 mod limits;
 mod line;
 mod reply;
+mod serving;
 mod slots;
+mod verdict;
 mod view;
 
 pub use db::{Db, DbFault};
