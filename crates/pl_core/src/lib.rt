@@ -15,6 +15,7 @@ mod line;
 mod reply;
 mod serving;
 mod slots;
+mod step;
 mod verdict;
 mod view;
 
