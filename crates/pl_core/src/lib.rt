@@ -13,6 +13,7 @@ mod epochs;
 mod limits;
 mod line;
 mod reply;
+mod run;
 mod serving;
 mod slots;
 mod step;

@@ -1,0 +1,27 @@
+//! A run: one step for each request, in order.
+
+ghost use Rattle.std.specs.Prelude.{◌≡◌, IfOk, OnErr};
+ghost use Rattle.pl_core.specs.Run.{IsRun};
+
+use crate::db::Db;
+use crate::reply::Reply;
+use pl_table::Request;
+use std::alloc::AllocError;
+
+impl Db {
+    /// Takes one step for each request, each under the pass of its number, and gives the replies in
+    /// the same order. Room for them is made first: where it is refused, no step is taken.
+    pub fn run(&mut self, requests: Vec<(u64, Request)>) -> Result<Vec<Reply>, AllocError>
+        ensures run { IfOk result (λ replies. IsRun self.old requests.items replies.items self.new) }
+        ensures err { OnErr result (self.new ≡ self.old) }
+    {
+        let mut replies = Vec::with_capacity(self.alloc, requests.len())?;
+        let mut left = requests;
+        left.reverse();
+        while let Some((pass_no, request)) = left.pop() {
+            let reply = self.step(pass_no, request);
+            replies.push(reply).unwrap();
+        }
+        Ok(replies)
+    }
+}
