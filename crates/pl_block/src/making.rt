@@ -24,6 +24,7 @@ fn check_record(entry: &Record) -> Result<(), BlockFault>
         offset,
         bytes,
     } = entry;
+    // Looked at, so that it is known to be a number of 32 bits.
     let _page = *page;
     check_put(*offset, bytes.len())
 }
@@ -49,7 +50,8 @@ impl Block {
         check_lsn(lsn)?;
         check_records(&records)?;
         let partitions = touched_partitions(alloc, &records)?;
-        if spelling_len(&partitions, &records) > MAX_BLOCK_BYTES {
+        let len = spelling_len(&partitions, &records);
+        if len > MAX_BLOCK_BYTES {
             return Err(BlockFault::Malformed(Fault::TooLong));
         }
         Block::of_parts(

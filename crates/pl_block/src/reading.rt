@@ -93,7 +93,8 @@ fn take_records(alloc: Global, count: u16, rest: &mut Bytes) -> Result<Vec<Recor
 // The number, the annotations and the records of a block.
 #[tactic(auto, unfolding(crate::specs::Reading::block_reading))]
 fn fields_of(alloc: Global, input: Bytes) -> Result<(u64, Vec<u16>, Vec<Record>), BlockFault>
-    ensures exact { Gives (λ x. record { lsn = x.0; records = x.2.items }) result (block_reading input) }
+    ensures exact { Gives (λ x. record { lsn = x.0; records = x.2.items }) result
+        (block_reading input) }
     ensures value { IfOk result (λ x. x.1.items ≡ touched x.2.items) }
 {
     if input.len() > MAX_BLOCK_BYTES {
@@ -107,7 +108,8 @@ fn fields_of(alloc: Global, input: Bytes) -> Result<(u64, Vec<u16>, Vec<Record>)
     if !rest.is_empty() {
         return Err(BlockFault::Malformed(Fault::BytesAfterEnd));
     }
-    if partitions != touched_partitions(alloc, &records)? {
+    let touched = touched_partitions(alloc, &records)?;
+    if partitions != touched {
         return Err(BlockFault::Malformed(Fault::WrongAnnotations));
     }
     Ok((lsn, partitions, records))

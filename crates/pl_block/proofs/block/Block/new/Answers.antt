@@ -16,11 +16,11 @@ returns-in_err-check_records-clause-exact c =
     let p = err_from_is_err_and c.from_residual-in_err-check_records.result c.from_residual-in_err-check_records.ensures.1 in
     rw (p.1, p.2) (made_fails-record c.in_err-check_records.field-0.0 c.args.lsn c.args.records.items c.in_ok-check_lsn.field-0 c.in_ok-check_lsn.ensures (rw c.deref.ensures.value at c.in_err-check_records.ensures.exact))
 
-pub returns-then-spelling_len-gt-MAX_BLOCK_BYTES-clause-exact : goal.returns-then-spelling_len-gt-MAX_BLOCK_BYTES-clause-exact
-returns-then-spelling_len-gt-MAX_BLOCK_BYTES-clause-exact c =
+pub returns-then-len-gt-MAX_BLOCK_BYTES-clause-exact : goal.returns-then-len-gt-MAX_BLOCK_BYTES-clause-exact
+returns-then-len-gt-MAX_BLOCK_BYTES-clause-exact c =
     let told = c.deref-3.ensures.value ∙ c.in_ok-partitions.ensures ∙ ap touched c.deref-2.ensures.value in
     let counted = length-counted c.args.lsn c.args.records.items _ _ told c.deref-4.ensures.value in
-    made_too_long c.args.lsn c.args.records.items _ _ c.in_ok-check_lsn.ensures (rw c.deref.ensures.value at c.in_ok-check_records.ensures.exact) (omega (arith, c.spelling_len.ensures.full))
+    made_too_long c.args.lsn c.args.records.items _ _ c.in_ok-check_lsn.ensures (rw c.deref.ensures.value at c.in_ok-check_records.ensures.exact) (omega (arith, c.spelling_len-len.ensures.full))
 
 pub invariant_of-of_parts : goal.invariant_of-of_parts
 invariant_of-of_parts c =
@@ -31,7 +31,7 @@ invariant_of-of_parts c =
       positive = ranged.0;
       in_range = ranged.1;
       each = rw c.deref.ensures.value at c.in_ok-check_records.ensures.valid;
-      short = omega (arith, c.spelling_len.ensures.value);
+      short = omega (arith, c.spelling_len-len.ensures.value);
     } in
     (is_block, c.in_ok-partitions.ensures ∙ ap touched c.deref-2.ensures.value)
 
@@ -39,5 +39,5 @@ pub returns-clause-exact : goal.returns-clause-exact
 returns-clause-exact c =
     let told = c.deref-3.ensures.value ∙ c.in_ok-partitions.ensures ∙ ap touched c.deref-2.ensures.value in
     let counted = length-counted c.args.lsn c.args.records.items _ _ told c.deref-4.ensures.value in
-    let is_made = made c.args.lsn c.args.records.items _ _ c.in_ok-check_lsn.ensures (rw c.deref.ensures.value at c.in_ok-check_records.ensures.exact) (omega (arith, c.spelling_len.ensures.value)) in
+    let is_made = made c.args.lsn c.args.records.items _ _ c.in_ok-check_lsn.ensures (rw c.deref.ensures.value at c.in_ok-check_records.ensures.exact) (omega (arith, c.spelling_len-len.ensures.value)) in
     rw is_made c.of_parts.ensures.exact
