@@ -17,7 +17,7 @@ use Rattle.pl_block.specs.Block.{Content, touched, IsRecord}
 use Rattle.pl_block.specs.Spelling.{annotations, record_spelling, block_spelling, IsBlock}
 use Rattle.pl_block.specs.Laws.{AreBytes, OneSpelling}
 use Rattle.pl_block.specs.declared.fault.BlockFault.{BlockFault}
-use Rattle.pl_block.specs.Reading.{◌>>=◌, Gives, number_at, lsn_fault, lsn_at, annotations_at, records_at, block_reading}
+use Rattle.pl_block.specs.Reading.{◌>>=◌, Gives, number_at, lsn_fault, len_fault, lsn_at, annotations_at, records_at, block_reading}
 use Rattle.pl_block.proofs.Fields.{bind_ok, guard_ok, ok_is, IsFront, IsFront-then, wide16, wide64, number_takes, number_again}
 use Rattle.pl_block.proofs.Touched.{RisesFrom-touched}
 use Rattle.pl_block.proofs.Annotations.{length-partitions, annotations_take, annotations_again, touched_small}
@@ -95,8 +95,9 @@ pub block_takes : (bytes : List ℕ) (b : Content) → AreBytes bytes → block_
 unfolding block_reading
 block_takes bytes b fits e =
     let last = λ (lsn : ℕ) (ps : List ℕ) (rs : List Record × List ℕ). cond (ltb 0 (length rs.1)) (Err BytesAfterEnd) (cond (bytes_eq ps (touched rs.0)) (Ok (record { lsn = lsn; records = rs.0 })) (Err WrongAnnotations)) in
-    let g = guard_ok (ltb 32768 (length bytes)) TooLong (lsn_at bytes >>= λ lsn. annotations_at lsn.1 >>= λ ps. number_at w16 ps.1 >>= λ count. records_at count.0 count.1 >>= λ rs. last lsn.0 ps.0 rs) b e in
-    let l = bind_ok (lsn_at bytes) (λ lsn. annotations_at lsn.1 >>= λ ps. number_at w16 ps.1 >>= λ count. records_at count.0 count.1 >>= λ rs. last lsn.0 ps.0 rs) b g.1 in
+    let g = bind_ok (len_fault (length bytes)) (λ _. lsn_at bytes >>= λ lsn. annotations_at lsn.1 >>= λ ps. number_at w16 ps.1 >>= λ count. records_at count.0 count.1 >>= λ rs. last lsn.0 ps.0 rs) b e in
+    let short = ltb-false _ _ (guard_ok (ltb 32768 (length bytes)) TooLong (Ok tt) g.0 g.1).0 in
+    let l = bind_ok (lsn_at bytes) (λ lsn. annotations_at lsn.1 >>= λ ps. number_at w16 ps.1 >>= λ count. records_at count.0 count.1 >>= λ rs. last lsn.0 ps.0 rs) b g.2 in
     let p = bind_ok (annotations_at l.0.1) (λ ps. number_at w16 ps.1 >>= λ count. records_at count.0 count.1 >>= λ rs. last l.0.0 ps.0 rs) b l.2 in
     let n = bind_ok (number_at w16 p.0.1) (λ count. records_at count.0 count.1 >>= λ rs. last l.0.0 p.0.0 rs) b p.2 in
     let r = bind_ok (records_at n.0.0 n.0.1) (λ rs. last l.0.0 p.0.0 rs) b n.2 in
@@ -110,7 +111,7 @@ block_takes bytes b fits e =
     let four = records_take n.0.0 n.0.1 r.0 three.0.rest_fits r.1 in
     let counted = subst (λ (k : ℕ). IsFront p.0.1 (to_be_bytes w16 k) n.0.1) (sym four.1) three.0 in
     let closed = subst (λ (t : List ℕ). IsFront n.0.1 (flat_map record_spelling r.0.0) t) nothing four.0 in
-    let whole = whole_block bytes l.0.0 p.0.0 r.0.0 l.0.1 p.0.1 n.0.1 (ltb-false _ _ g.0) (one.1, one.2) four.2 same one.0 two counted closed in
+    let whole = whole_block bytes l.0.0 p.0.0 r.0.0 l.0.1 p.0.1 n.0.1 short (one.1, one.2) four.2 same one.0 two counted closed in
     subst (λ (x : Content). IsBlock x × (bytes ≡ block_spelling x)) told.1 whole
 
 pub block_again : (b : Content) → IsBlock b → block_reading (block_spelling b) ≡ Ok b
