@@ -16,11 +16,12 @@ abbrev pub ◌>>=◌ : {A B : Type 0} → Result A Fault → (A → Result B Fau
 (Ok x) >>= f = f x
 (Err e) >>= f = Err e
 
--- what a call returned, seen by view, is what reading gives, unless memory was refused
+-- a call failed with the fault that is told, or for want of memory
 abbrev pub Fails : {Y : Type 0} → BlockFault → Result Y Fault → Type 0
 Fails faults.NoMemory read = Unit {0}
 Fails (faults.Malformed f) read = read ≡ Err f
 
+-- a call gave what is told, seen by view, or failed with its fault or for want of memory
 abbrev pub Gives : {X Y : Type 0} → (X → Y) → Result X BlockFault → Result Y Fault → Type 0
 Gives view (Ok x) read = read ≡ Ok (view x)
 Gives view (Err e) read = Fails e read
