@@ -1,6 +1,5 @@
 //! The bounds that every block keeps, whether it was read or made.
 
-ghost use Rattle.std.specs.Prelude.{length};
 ghost use Rattle.pl_block.specs.Reading.{Gives, len_fault, lsn_fault, put_fault};
 
 use crate::fault::{BlockFault, Fault};

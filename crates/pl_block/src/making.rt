@@ -1,6 +1,6 @@
 //! A block, made of a number and records.
 
-ghost use Rattle.std.specs.Prelude.{◌≡◌, IfOk, Ok};
+ghost use Rattle.std.specs.Prelude.{IfOk, Ok};
 ghost use Rattle.std.specs.List.{AllByRecursion};
 ghost use Rattle.pl_block.specs.Block.{IsRecord};
 ghost use Rattle.pl_block.specs.Spelling.{IsBlock};
