@@ -25,13 +25,13 @@ rising_takes zero low bytes x fits e =
     subst (λ (y : List ℕ × List ℕ). IsFront bytes (flat_map (to_be_bytes w16) y.0) y.1 × (length y.0 ≡ 0)) (ok_is ([], bytes) x e) (record { parts = refl; rest_fits = fits }, refl)
 rising_takes (suc n) low bytes x fits e =
     let a = bind_ok (number_at w16 bytes) (λ first. cond (ltb first.0 low) (Err PartitionNotAbove) (rising_at n (first.0 + 1) first.1 >>= λ others. Ok (first.0 ∷ others.0, others.1))) x e in
-    let g = guard_ok (ltb a.0.0 low) PartitionNotAbove (rising_at n (a.0.0 + 1) a.0.1 >>= λ others. Ok (a.0.0 ∷ others.0, others.1)) x a.2 in
-    let b = bind_ok (rising_at n (a.0.0 + 1) a.0.1) (λ others. Ok (a.0.0 ∷ others.0, others.1)) x g.1 in
-    let first = number_takes w16 (2 ^ 16) wide16 bytes a.0.0 a.0.1 fits a.1 in
-    let others = rising_takes n (a.0.0 + 1) a.0.1 b.0 first.0.rest_fits b.1 in
-    let all = IsFront-then bytes (to_be_bytes w16 a.0.0) a.0.1 (flat_map (to_be_bytes w16) b.0.0) b.0.1 first.0 others.0 in
-    let whole : IsFront bytes (flat_map (to_be_bytes w16) (a.0.0 ∷ b.0.0)) b.0.1 = subst (λ (t : List ℕ). IsFront bytes t b.0.1) (sym (flat_map-cons (to_be_bytes w16) a.0.0 b.0.0)) all in
-    subst (λ (y : List ℕ × List ℕ). IsFront bytes (flat_map (to_be_bytes w16) y.0) y.1 × (length y.0 ≡ suc n)) (ok_is (a.0.0 ∷ b.0.0, b.0.1) x b.2) (whole, omega (arith, others.1))
+    let g = guard_ok (ltb a.value.0 low) PartitionNotAbove (rising_at n (a.value.0 + 1) a.value.1 >>= λ others. Ok (a.value.0 ∷ others.0, others.1)) x a.next in
+    let b = bind_ok (rising_at n (a.value.0 + 1) a.value.1) (λ others. Ok (a.value.0 ∷ others.0, others.1)) x g.1 in
+    let first = number_takes w16 (2 ^ 16) wide16 bytes a.value.0 a.value.1 fits a.first in
+    let others = rising_takes n (a.value.0 + 1) a.value.1 b.value first.0.rest_fits b.first in
+    let all = IsFront-then bytes (to_be_bytes w16 a.value.0) a.value.1 (flat_map (to_be_bytes w16) b.value.0) b.value.1 first.0 others.0 in
+    let whole : IsFront bytes (flat_map (to_be_bytes w16) (a.value.0 ∷ b.value.0)) b.value.1 = subst (λ (t : List ℕ). IsFront bytes t b.value.1) (sym (flat_map-cons (to_be_bytes w16) a.value.0 b.value.0)) all in
+    subst (λ (y : List ℕ × List ℕ). IsFront bytes (flat_map (to_be_bytes w16) y.0) y.1 × (length y.0 ≡ suc n)) (ok_is (a.value.0 ∷ b.value.0, b.value.1) x b.next) (whole, omega (arith, others.1))
 
 pub rising_again : (low : ℕ) (ps rest : List ℕ) → RisesFrom low ps → ((p : ℕ) → In p ps → p < 2 ^ 16) → rising_at (length ps) low (flat_map (to_be_bytes w16) ps ++ rest) ≡ Ok (ps, rest)
 unfolding rising_at
@@ -45,9 +45,9 @@ pub annotations_take : (bytes : List ℕ) (x : List ℕ × List ℕ) → AreByte
 unfolding annotations_at
 annotations_take bytes x fits e =
     let a = bind_ok (number_at w16 bytes) (λ count. rising_at count.0 0 count.1) x e in
-    let first = number_takes w16 (2 ^ 16) wide16 bytes a.0.0 a.0.1 fits a.1 in
-    let others = rising_takes a.0.0 0 a.0.1 x first.0.rest_fits a.2 in
-    let all = IsFront-then bytes (to_be_bytes w16 a.0.0) a.0.1 (flat_map (to_be_bytes w16) x.0) x.1 first.0 others.0 in
+    let first = number_takes w16 (2 ^ 16) wide16 bytes a.value.0 a.value.1 fits a.first in
+    let others = rising_takes a.value.0 0 a.value.1 x first.0.rest_fits a.next in
+    let all = IsFront-then bytes (to_be_bytes w16 a.value.0) a.value.1 (flat_map (to_be_bytes w16) x.0) x.1 first.0 others.0 in
     subst (λ (k : ℕ). IsFront bytes (to_be_bytes w16 k ++ flat_map (to_be_bytes w16) x.0) x.1) (sym others.1) all
 
 pub annotations_again : (ps rest : List ℕ) → RisesFrom 0 ps → ((p : ℕ) → In p ps → p < 2 ^ 16) → length ps < 2 ^ 16 → annotations_at (annotations ps ++ rest) ≡ Ok (ps, rest)

@@ -19,9 +19,15 @@ AreBytes-take n bytes h i =
       | inr le ↦ rw (get_or_past (take n bytes) i 0 (omega (arith, length-take n bytes))) (omega arith)
     ]
 
--- the value of a step that did not fail
-pub bind_ok : {A B : Type 0} (r : Result A Fault) (f : A → Result B Fault) (y : B) → (r >>= f) ≡ Ok y → (x : A) × (r ≡ Ok x) × (f x ≡ Ok y)
-bind_ok (Ok x) f y e = (x, refl, e)
+-- a step that gave a value, and a next one that gave y of it
+pub record IsBound {A B : Type 0} (r : Result A Fault) (f : A → Result B Fault) (y : B) : Type 0 where
+  pub value : A
+  pub first : r ≡ Ok value
+  pub next : f value ≡ Ok y
+
+-- two steps of which neither failed
+pub bind_ok : {A B : Type 0} (r : Result A Fault) (f : A → Result B Fault) (y : B) → (r >>= f) ≡ Ok y → IsBound r f y
+bind_ok (Ok x) f y e = record { value = x; first = refl; next = e }
 bind_ok (Err d) f y e = absurd cc
 
 -- a test that did not fail

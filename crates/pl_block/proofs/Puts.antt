@@ -44,20 +44,20 @@ put_takes : (bytes : List ℕ) (x : Record × List ℕ) → AreBytes bytes → p
 unfolding put_at
 put_takes bytes x fits e =
     let a = bind_ok (number_at w32 bytes) (λ page. number_at w16 page.1 >>= λ offset. number_at w16 offset.1 >>= λ len. put_fault offset.0 len.0 >>= λ _. cond (ltb (length len.1) len.0) (Err EndsInField) (Ok (Put page.0 offset.0 (take len.0 len.1), drop len.0 len.1))) x e in
-    let b = bind_ok (number_at w16 a.0.1) (λ offset. number_at w16 offset.1 >>= λ len. put_fault offset.0 len.0 >>= λ _. cond (ltb (length len.1) len.0) (Err EndsInField) (Ok (Put a.0.0 offset.0 (take len.0 len.1), drop len.0 len.1))) x a.2 in
-    let c = bind_ok (number_at w16 b.0.1) (λ len. put_fault b.0.0 len.0 >>= λ _. cond (ltb (length len.1) len.0) (Err EndsInField) (Ok (Put a.0.0 b.0.0 (take len.0 len.1), drop len.0 len.1))) x b.2 in
-    let d = bind_ok (put_fault b.0.0 c.0.0) (λ _. cond (ltb (length c.0.1) c.0.0) (Err EndsInField) (Ok (Put a.0.0 b.0.0 (take c.0.0 c.0.1), drop c.0.0 c.0.1))) x c.2 in
-    let g = guard_ok (ltb (length c.0.1) c.0.0) EndsInField (Ok (Put a.0.0 b.0.0 (take c.0.0 c.0.1), drop c.0.0 c.0.1)) x d.2 in
-    let tested = put_fault-ok b.0.0 c.0.0 d.0 d.1 in
-    let page = number_takes w32 (2 ^ 32) wide32 bytes a.0.0 a.0.1 fits a.1 in
-    let offset = number_takes w16 (2 ^ 16) wide16 a.0.1 b.0.0 b.0.1 page.0.rest_fits b.1 in
-    let len = number_takes w16 (2 ^ 16) wide16 b.0.1 c.0.0 c.0.1 offset.0.rest_fits c.1 in
-    let text = bytes_take c.0.0 c.0.1 len.0.rest_fits (ltb-false _ _ g.0) in
-    let three = IsFront-then b.0.1 (to_be_bytes w16 c.0.0) c.0.1 (take c.0.0 c.0.1) (drop c.0.0 c.0.1) len.0 text.0 in
-    let counted : IsFront b.0.1 (to_be_bytes w16 (length (take c.0.0 c.0.1)) ++ take c.0.0 c.0.1) (drop c.0.0 c.0.1) = subst (λ (k : ℕ). IsFront b.0.1 (to_be_bytes w16 k ++ take c.0.0 c.0.1) (drop c.0.0 c.0.1)) (sym text.1) three in
-    let two = IsFront-then a.0.1 (to_be_bytes w16 b.0.0) b.0.1 (to_be_bytes w16 (length (take c.0.0 c.0.1)) ++ take c.0.0 c.0.1) (drop c.0.0 c.0.1) offset.0 counted in
-    let all = IsFront-then bytes (to_be_bytes w32 a.0.0) a.0.1 (to_be_bytes w16 b.0.0 ++ (to_be_bytes w16 (length (take c.0.0 c.0.1)) ++ take c.0.0 c.0.1)) (drop c.0.0 c.0.1) page.0 two in
-    subst (λ (y : Record × List ℕ). IsPut bytes y.0 y.1) (ok_is (Put a.0.0 b.0.0 (take c.0.0 c.0.1), drop c.0.0 c.0.1) x g.1) (all, (page.1, omega (arith, text.1, tested.0), omega (arith, text.1, tested.1)))
+    let b = bind_ok (number_at w16 a.value.1) (λ offset. number_at w16 offset.1 >>= λ len. put_fault offset.0 len.0 >>= λ _. cond (ltb (length len.1) len.0) (Err EndsInField) (Ok (Put a.value.0 offset.0 (take len.0 len.1), drop len.0 len.1))) x a.next in
+    let c = bind_ok (number_at w16 b.value.1) (λ len. put_fault b.value.0 len.0 >>= λ _. cond (ltb (length len.1) len.0) (Err EndsInField) (Ok (Put a.value.0 b.value.0 (take len.0 len.1), drop len.0 len.1))) x b.next in
+    let d = bind_ok (put_fault b.value.0 c.value.0) (λ _. cond (ltb (length c.value.1) c.value.0) (Err EndsInField) (Ok (Put a.value.0 b.value.0 (take c.value.0 c.value.1), drop c.value.0 c.value.1))) x c.next in
+    let g = guard_ok (ltb (length c.value.1) c.value.0) EndsInField (Ok (Put a.value.0 b.value.0 (take c.value.0 c.value.1), drop c.value.0 c.value.1)) x d.next in
+    let tested = put_fault-ok b.value.0 c.value.0 d.value d.first in
+    let page = number_takes w32 (2 ^ 32) wide32 bytes a.value.0 a.value.1 fits a.first in
+    let offset = number_takes w16 (2 ^ 16) wide16 a.value.1 b.value.0 b.value.1 page.0.rest_fits b.first in
+    let len = number_takes w16 (2 ^ 16) wide16 b.value.1 c.value.0 c.value.1 offset.0.rest_fits c.first in
+    let text = bytes_take c.value.0 c.value.1 len.0.rest_fits (ltb-false _ _ g.0) in
+    let three = IsFront-then b.value.1 (to_be_bytes w16 c.value.0) c.value.1 (take c.value.0 c.value.1) (drop c.value.0 c.value.1) len.0 text.0 in
+    let counted : IsFront b.value.1 (to_be_bytes w16 (length (take c.value.0 c.value.1)) ++ take c.value.0 c.value.1) (drop c.value.0 c.value.1) = subst (λ (k : ℕ). IsFront b.value.1 (to_be_bytes w16 k ++ take c.value.0 c.value.1) (drop c.value.0 c.value.1)) (sym text.1) three in
+    let two = IsFront-then a.value.1 (to_be_bytes w16 b.value.0) b.value.1 (to_be_bytes w16 (length (take c.value.0 c.value.1)) ++ take c.value.0 c.value.1) (drop c.value.0 c.value.1) offset.0 counted in
+    let all = IsFront-then bytes (to_be_bytes w32 a.value.0) a.value.1 (to_be_bytes w16 b.value.0 ++ (to_be_bytes w16 (length (take c.value.0 c.value.1)) ++ take c.value.0 c.value.1)) (drop c.value.0 c.value.1) page.0 two in
+    subst (λ (y : Record × List ℕ). IsPut bytes y.0 y.1) (ok_is (Put a.value.0 b.value.0 (take c.value.0 c.value.1), drop c.value.0 c.value.1) x g.1) (all, (page.1, omega (arith, text.1, tested.0), omega (arith, text.1, tested.1)))
 
 put_again : (page offset : ℕ) (bytes rest : List ℕ) → IsRecord (Put page offset bytes) → put_at (put_text page offset bytes ++ rest) ≡ Ok (Put page offset bytes, rest)
 unfolding put_at
@@ -107,12 +107,12 @@ records_take zero bytes x fits e =
     subst (λ (y : List Record × List ℕ). IsFront bytes (flat_map record_spelling y.0) y.1 × (length y.0 ≡ 0) × AllByRecursion IsRecord y.0) (ok_is ([], bytes) x e) (record { parts = refl; rest_fits = fits }, refl, tt)
 records_take (suc n) bytes x fits e =
     let a = bind_ok (record_at bytes) (λ first. records_at n first.1 >>= λ others. Ok (first.0 ∷ others.0, others.1)) x e in
-    let b = bind_ok (records_at n a.0.1) (λ others. Ok (a.0.0 ∷ others.0, others.1)) x a.2 in
-    let first = record_takes bytes a.0 fits a.1 in
-    let others = records_take n a.0.1 b.0 first.0.rest_fits b.1 in
-    let all = IsFront-then bytes (record_spelling a.0.0) a.0.1 (flat_map record_spelling b.0.0) b.0.1 first.0 others.0 in
-    let whole : IsFront bytes (flat_map record_spelling (a.0.0 ∷ b.0.0)) b.0.1 = subst (λ (t : List ℕ). IsFront bytes t b.0.1) (sym (flat_map-cons record_spelling a.0.0 b.0.0)) all in
-    subst (λ (y : List Record × List ℕ). IsFront bytes (flat_map record_spelling y.0) y.1 × (length y.0 ≡ suc n) × AllByRecursion IsRecord y.0) (ok_is (a.0.0 ∷ b.0.0, b.0.1) x b.2) (whole, omega (arith, others.1), (first.1, others.2))
+    let b = bind_ok (records_at n a.value.1) (λ others. Ok (a.value.0 ∷ others.0, others.1)) x a.next in
+    let first = record_takes bytes a.value fits a.first in
+    let others = records_take n a.value.1 b.value first.0.rest_fits b.first in
+    let all = IsFront-then bytes (record_spelling a.value.0) a.value.1 (flat_map record_spelling b.value.0) b.value.1 first.0 others.0 in
+    let whole : IsFront bytes (flat_map record_spelling (a.value.0 ∷ b.value.0)) b.value.1 = subst (λ (t : List ℕ). IsFront bytes t b.value.1) (sym (flat_map-cons record_spelling a.value.0 b.value.0)) all in
+    subst (λ (y : List Record × List ℕ). IsFront bytes (flat_map record_spelling y.0) y.1 × (length y.0 ≡ suc n) × AllByRecursion IsRecord y.0) (ok_is (a.value.0 ∷ b.value.0, b.value.1) x b.next) (whole, omega (arith, others.1), (first.1, others.2))
 
 pub records_again : (records : List Record) (rest : List ℕ) → AllByRecursion IsRecord records → records_at (length records) (flat_map record_spelling records ++ rest) ≡ Ok (records, rest)
 unfolding records_at

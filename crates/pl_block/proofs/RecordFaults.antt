@@ -1,16 +1,21 @@
 -- The first fault of a number and records, as tests that are made one after the other find it.
-use Rattle.std.proofs.Common.{◌≡◌, ℕ, ◌+◌, ◌<◌, ◌≤◌, true, false, ltb, List, [], ◌∷◌, ◌++◌, length, get_or, take, drop, Result, Ok, Err, refl, sym, ap, subst, ◌∙◌}
-use Rattle.std.specs.List.{AllByRecursion}
-use Rattle.std.proofs.lemmas.Bool.{lt-ltb, le-ltb}
+use Rattle.std.proofs.Common.{◌≡◌, ℕ, ◌+◌, ◌*◌, ◌<◌, ◌≤◌, true, false, ltb, List, [], ◌∷◌, ◌++◌, length, get_or, take, drop, Result, Ok, refl, sym, ap, subst, ◌∙◌, inl, inr}
+use Rattle.std.specs.List.{flat_map, AllByRecursion}
+use Rattle.std.proofs.lemmas.Bool.{cases_lt, lt-ltb, le-ltb, ltb-false}
 use Rattle.std.proofs.lemmas.List.{at_drop_more, at_drop_all, take_more}
 use Rattle.pl_block.specs.declared.fault.Fault.{Fault}
 use Rattle.pl_block.specs.declared.fault.Fault.TheVariants.{TooLong}
 use Rattle.pl_block.specs.declared.fault.BlockFault.{BlockFault}
 use Rattle.pl_block.specs.declared.fault.BlockFault.TheVariants as faults
 use Rattle.pl_block.specs.declared.record.Record.{Record}
-use Rattle.pl_block.specs.Block.{IsRecord}
-use Rattle.pl_block.specs.Spelling.{block_spelling}
-use Rattle.pl_block.specs.Reading.{◌>>=◌, Fails, lsn_fault, record_fault, records_fault, block_made}
+use Rattle.pl_block.specs.Block.{Content, touched, IsRecord}
+use Rattle.pl_block.specs.Spelling.{record_spelling, block_spelling, IsBlock}
+use Rattle.pl_block.specs.Reading.{◌>>=◌, Fails, Gives, lsn_fault, len_fault}
+use Rattle.pl_block.specs.Making.{record_fault, records_fault, block_made}
+use Rattle.pl_block.specs.declared.record.Record.TheVariants.{Put}
+use Rattle.pl_block.proofs.Fields.{guard_ok}
+use Rattle.pl_block.proofs.Puts.{put_fault-none}
+use Rattle.pl_block.proofs.Spellings.{length-counted, lsn_fault-none}
 
 -- a fault is not changed by what would have come after it
 Fails-then : {A B : Type 0} (e : BlockFault) (r : Result A Fault) (f : A → Result B Fault) → Fails e r → Fails e (r >>= f)
@@ -53,14 +58,51 @@ pub made_fails-record : (e : BlockFault) (lsn : ℕ) (records : List Record) (u 
 unfolding block_made
 made_fails-record e lsn records u ranged fails = rw ranged (Fails-then e (records_fault records) _ fails)
 
-pub made_too_long : (lsn : ℕ) (records : List Record) (u v : Unit {0}) → lsn_fault lsn ≡ Ok u → records_fault records ≡ Ok v → 32768 < length (block_spelling (record { lsn = lsn; records = records })) → block_made lsn records ≡ Err TooLong
+pub made_fails-length : (e : BlockFault) (lsn : ℕ) (records : List Record) (u v : Unit {0}) → lsn_fault lsn ≡ Ok u → records_fault records ≡ Ok v → Fails e (len_fault (length (block_spelling (record { lsn = lsn; records = records })))) → Fails e (block_made lsn records)
 unfolding block_made
-made_too_long lsn records u v ranged sound long =
-    let over : ltb 32768 (length (block_spelling (record { lsn = lsn; records = records }))) ≡ true = lt-ltb _ _ long in
-    rw (ranged, sound, over) refl
+made_fails-length e lsn records u v ranged sound fails = rw (ranged, sound) (Fails-then e (len_fault (length (block_spelling (record { lsn = lsn; records = records })))) _ fails)
 
-pub made : (lsn : ℕ) (records : List Record) (u v : Unit {0}) → lsn_fault lsn ≡ Ok u → records_fault records ≡ Ok v → length (block_spelling (record { lsn = lsn; records = records })) ≤ 32768 → block_made lsn records ≡ Ok (record { lsn = lsn; records = records })
+pub made : (lsn : ℕ) (records : List Record) (u v w : Unit {0}) → lsn_fault lsn ≡ Ok u → records_fault records ≡ Ok v → len_fault (length (block_spelling (record { lsn = lsn; records = records }))) ≡ Ok w → block_made lsn records ≡ Ok (record { lsn = lsn; records = records })
 unfolding block_made
-made lsn records u v ranged sound short =
-    let within : ltb 32768 (length (block_spelling (record { lsn = lsn; records = records }))) ≡ false = le-ltb _ _ short in
-    rw (ranged, sound, within) refl
+made lsn records u v w ranged sound short = rw (ranged, sound, short) refl
+
+-- ---- what is a block is made
+
+len_fault-none : (len : ℕ) → len ≤ 32768 → len_fault len ≡ Ok tt
+len_fault-none len le = let within : ltb 32768 len ≡ false = le-ltb _ _ le in rw within refl
+
+pub len_fault-ok : (len : ℕ) (u : Unit {0}) → len_fault len ≡ Ok u → len ≤ 32768
+len_fault-ok len u e = ltb-false _ _ (guard_ok (ltb 32768 len) TooLong (Ok tt) u e).0
+
+-- a length that was counted as far as a block goes has the fault of the whole
+pub len_fault-counted : (counted len : ℕ) → (counted ≤ 32768 → counted ≡ len) → (32768 < counted → 32768 < len) → len_fault counted ≡ len_fault len
+len_fault-counted counted len exact long =
+    elim (cases_lt 32768 counted) [
+      | inl lt ↦
+          let over : ltb 32768 counted ≡ true = lt-ltb _ _ lt in
+          let whole : ltb 32768 len ≡ true = lt-ltb _ _ (long lt) in
+          rw (over, whole) refl
+      | inr le ↦ ap len_fault (exact le)
+    ]
+
+-- so has one that was counted from equal lists
+pub len_fault-told : (lsn : ℕ) (records : List Record) (ps : List ℕ) (rs : List Record) (counted : ℕ) → ps ≡ touched records → rs ≡ records
+    → (counted ≤ 32768 → counted ≡ 12 + 2 * length ps + length (flat_map record_spelling rs)) → (32768 < counted → 32768 < 12 + 2 * length ps + length (flat_map record_spelling rs))
+    → len_fault counted ≡ len_fault (length (block_spelling (record { lsn = lsn; records = records })))
+len_fault-told lsn records ps rs counted told all exact long =
+    let whole = length-counted lsn records ps rs told all in
+    len_fault-counted counted (length (block_spelling (record { lsn = lsn; records = records }))) (λ le. exact le ∙ sym whole) (λ lt. rw whole (long lt))
+
+record_fault-none : (r : Record) → IsRecord r → record_fault r ≡ Ok tt
+record_fault-none (Put page offset bytes) h = put_fault-none offset (length bytes) h.1 h.2
+
+records_fault-none : (records : List Record) → AllByRecursion IsRecord records → records_fault records ≡ Ok tt
+unfolding records_fault
+records_fault-none [] h = refl
+records_fault-none (r ∷ rs) h = rw (record_fault-none r h.0) (records_fault-none rs h.1)
+
+pub made_again : (b : Content) → IsBlock b → block_made b.lsn b.records ≡ Ok b
+made_again b h = made b.lsn b.records tt tt tt (lsn_fault-none b.lsn h.positive h.in_range) (records_fault-none b.records h.each) (len_fault-none (length (block_spelling b)) h.short)
+
+pub is_made : (lsn : ℕ) (records : List Record) (r : Result Content BlockFault) → Gives (λ x. x) r (block_made lsn records) → IsBlock (record { lsn = lsn; records = records }) → Gives (λ x. x) r (Ok (record { lsn = lsn; records = records }))
+is_made lsn records r given is_block = subst (λ (read : Result Content Fault). Gives (λ x. x) r read) (made_again (record { lsn = lsn; records = records }) is_block) given

@@ -17,7 +17,7 @@ use Rattle.pl_block.specs.Block.{Content, touched, IsRecord}
 use Rattle.pl_block.specs.Spelling.{annotations, record_spelling, block_spelling, IsBlock}
 use Rattle.pl_block.specs.Laws.{AreBytes, OneSpelling}
 use Rattle.pl_block.specs.declared.fault.BlockFault.{BlockFault}
-use Rattle.pl_block.specs.Reading.{◌>>=◌, Gives, number_at, lsn_fault, lsn_at, annotations_at, records_at, block_reading}
+use Rattle.pl_block.specs.Reading.{◌>>=◌, Gives, number_at, lsn_fault, len_fault, lsn_at, annotations_at, records_at, block_reading}
 use Rattle.pl_block.proofs.Fields.{bind_ok, guard_ok, ok_is, IsFront, IsFront-then, wide16, wide64, number_takes, number_again}
 use Rattle.pl_block.proofs.Touched.{RisesFrom-touched}
 use Rattle.pl_block.proofs.Annotations.{length-partitions, annotations_take, annotations_again, touched_small}
@@ -64,10 +64,10 @@ lsn_takes : (bytes : List ℕ) (x : ℕ × List ℕ) → AreBytes bytes → lsn_
 unfolding lsn_at
 lsn_takes bytes x fits e =
     let a = bind_ok (number_at w64 bytes) (λ lsn. lsn_fault lsn.0 >>= λ _. Ok lsn) x e in
-    let b = bind_ok (lsn_fault a.0.0) (λ _. Ok a.0) x a.2 in
-    let front = number_takes w64 (2 ^ 64) wide64 bytes a.0.0 a.0.1 fits a.1 in
-    let ranged = lsn_fault-ok a.0.0 b.0 b.1 in
-    subst (λ (y : ℕ × List ℕ). IsFront bytes (to_be_bytes w64 y.0) y.1 × (0 < y.0) × (y.0 ≤ 2 ^ 48)) (ok_is a.0 x b.2) (front.0, ranged.0, ranged.1)
+    let b = bind_ok (lsn_fault a.value.0) (λ _. Ok a.value) x a.next in
+    let front = number_takes w64 (2 ^ 64) wide64 bytes a.value.0 a.value.1 fits a.first in
+    let ranged = lsn_fault-ok a.value.0 b.value b.first in
+    subst (λ (y : ℕ × List ℕ). IsFront bytes (to_be_bytes w64 y.0) y.1 × (0 < y.0) × (y.0 ≤ 2 ^ 48)) (ok_is a.value x b.next) (front.0, ranged.0, ranged.1)
 
 lsn_again : (lsn : ℕ) (rest : List ℕ) → 0 < lsn → lsn ≤ 2 ^ 48 → lsn_at (to_be_bytes w64 lsn ++ rest) ≡ Ok (lsn, rest)
 unfolding lsn_at
@@ -95,22 +95,23 @@ pub block_takes : (bytes : List ℕ) (b : Content) → AreBytes bytes → block_
 unfolding block_reading
 block_takes bytes b fits e =
     let last = λ (lsn : ℕ) (ps : List ℕ) (rs : List Record × List ℕ). cond (ltb 0 (length rs.1)) (Err BytesAfterEnd) (cond (bytes_eq ps (touched rs.0)) (Ok (record { lsn = lsn; records = rs.0 })) (Err WrongAnnotations)) in
-    let g = guard_ok (ltb 32768 (length bytes)) TooLong (lsn_at bytes >>= λ lsn. annotations_at lsn.1 >>= λ ps. number_at w16 ps.1 >>= λ count. records_at count.0 count.1 >>= λ rs. last lsn.0 ps.0 rs) b e in
-    let l = bind_ok (lsn_at bytes) (λ lsn. annotations_at lsn.1 >>= λ ps. number_at w16 ps.1 >>= λ count. records_at count.0 count.1 >>= λ rs. last lsn.0 ps.0 rs) b g.1 in
-    let p = bind_ok (annotations_at l.0.1) (λ ps. number_at w16 ps.1 >>= λ count. records_at count.0 count.1 >>= λ rs. last l.0.0 ps.0 rs) b l.2 in
-    let n = bind_ok (number_at w16 p.0.1) (λ count. records_at count.0 count.1 >>= λ rs. last l.0.0 p.0.0 rs) b p.2 in
-    let r = bind_ok (records_at n.0.0 n.0.1) (λ rs. last l.0.0 p.0.0 rs) b n.2 in
-    let ended = guard_ok (ltb 0 (length r.0.1)) BytesAfterEnd (cond (bytes_eq p.0.0 (touched r.0.0)) (Ok (record { lsn = l.0.0; records = r.0.0 })) (Err WrongAnnotations)) b r.2 in
-    let told = guard_same (bytes_eq p.0.0 (touched r.0.0)) WrongAnnotations (record { lsn = l.0.0; records = r.0.0 }) b ended.1 in
-    let same = (bytes_eq-Decides p.0.0 (touched r.0.0)).0 told.0 in
-    let nothing : r.0.1 ≡ [] = nil_from_length r.0.1 (omega (arith, ltb-false _ _ ended.0)) in
-    let one = lsn_takes bytes l.0 fits l.1 in
-    let two = annotations_take l.0.1 p.0 one.0.rest_fits p.1 in
-    let three = number_takes w16 (2 ^ 16) wide16 p.0.1 n.0.0 n.0.1 two.rest_fits n.1 in
-    let four = records_take n.0.0 n.0.1 r.0 three.0.rest_fits r.1 in
-    let counted = subst (λ (k : ℕ). IsFront p.0.1 (to_be_bytes w16 k) n.0.1) (sym four.1) three.0 in
-    let closed = subst (λ (t : List ℕ). IsFront n.0.1 (flat_map record_spelling r.0.0) t) nothing four.0 in
-    let whole = whole_block bytes l.0.0 p.0.0 r.0.0 l.0.1 p.0.1 n.0.1 (ltb-false _ _ g.0) (one.1, one.2) four.2 same one.0 two counted closed in
+    let g = bind_ok (len_fault (length bytes)) (λ _. lsn_at bytes >>= λ lsn. annotations_at lsn.1 >>= λ ps. number_at w16 ps.1 >>= λ count. records_at count.0 count.1 >>= λ rs. last lsn.0 ps.0 rs) b e in
+    let short = ltb-false _ _ (guard_ok (ltb 32768 (length bytes)) TooLong (Ok tt) g.value g.first).0 in
+    let l = bind_ok (lsn_at bytes) (λ lsn. annotations_at lsn.1 >>= λ ps. number_at w16 ps.1 >>= λ count. records_at count.0 count.1 >>= λ rs. last lsn.0 ps.0 rs) b g.next in
+    let p = bind_ok (annotations_at l.value.1) (λ ps. number_at w16 ps.1 >>= λ count. records_at count.0 count.1 >>= λ rs. last l.value.0 ps.0 rs) b l.next in
+    let n = bind_ok (number_at w16 p.value.1) (λ count. records_at count.0 count.1 >>= λ rs. last l.value.0 p.value.0 rs) b p.next in
+    let r = bind_ok (records_at n.value.0 n.value.1) (λ rs. last l.value.0 p.value.0 rs) b n.next in
+    let ended = guard_ok (ltb 0 (length r.value.1)) BytesAfterEnd (cond (bytes_eq p.value.0 (touched r.value.0)) (Ok (record { lsn = l.value.0; records = r.value.0 })) (Err WrongAnnotations)) b r.next in
+    let told = guard_same (bytes_eq p.value.0 (touched r.value.0)) WrongAnnotations (record { lsn = l.value.0; records = r.value.0 }) b ended.1 in
+    let same = (bytes_eq-Decides p.value.0 (touched r.value.0)).0 told.0 in
+    let nothing : r.value.1 ≡ [] = nil_from_length r.value.1 (omega (arith, ltb-false _ _ ended.0)) in
+    let one = lsn_takes bytes l.value fits l.first in
+    let two = annotations_take l.value.1 p.value one.0.rest_fits p.first in
+    let three = number_takes w16 (2 ^ 16) wide16 p.value.1 n.value.0 n.value.1 two.rest_fits n.first in
+    let four = records_take n.value.0 n.value.1 r.value three.0.rest_fits r.first in
+    let counted = subst (λ (k : ℕ). IsFront p.value.1 (to_be_bytes w16 k) n.value.1) (sym four.1) three.0 in
+    let closed = subst (λ (t : List ℕ). IsFront n.value.1 (flat_map record_spelling r.value.0) t) nothing four.0 in
+    let whole = whole_block bytes l.value.0 p.value.0 r.value.0 l.value.1 p.value.1 n.value.1 short (one.1, one.2) four.2 same one.0 two counted closed in
     subst (λ (x : Content). IsBlock x × (bytes ≡ block_spelling x)) told.1 whole
 
 pub block_again : (b : Content) → IsBlock b → block_reading (block_spelling b) ≡ Ok b

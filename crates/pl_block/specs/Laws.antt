@@ -8,8 +8,11 @@ use Rattle.pl_block.specs.Reading.{block_reading}
 abbrev pub AreBytes : List ℕ → Type 0
 AreBytes bytes = (i : ℕ) → slice_index bytes i < 256
 
--- a block is read from its spelling, and what is read as a block is its spelling
+-- a block and its spelling tell one another
 pub record OneSpelling : Type 0 where
+  -- a block is read again from its spelling
   pub again : (b : Content) → IsBlock b → block_reading (block_spelling b) ≡ Ok b
+  -- what is read as a block is its spelling
   pub spelled : (bytes : List ℕ) (b : Content) → AreBytes bytes → block_reading bytes ≡ Ok b → IsBlock b × (bytes ≡ block_spelling b)
+  -- no two blocks have one spelling
   pub same : (a b : Content) → IsBlock a → IsBlock b → block_spelling a ≡ block_spelling b → a ≡ b

@@ -2,4 +2,5 @@ pub mod Codes
 pub mod Block
 pub mod Spelling
 pub mod Reading
+pub mod Making
 pub mod Laws

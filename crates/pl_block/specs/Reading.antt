@@ -9,7 +9,6 @@ use Rattle.pl_block.specs.declared.fault.BlockFault.TheVariants as faults
 use Rattle.pl_block.specs.declared.record.Record.{Record}
 use Rattle.pl_block.specs.declared.record.Record.TheVariants.{Put}
 use Rattle.pl_block.specs.Block.{Content, touched}
-use Rattle.pl_block.specs.Spelling.{block_spelling}
 
 -- the next step, unless there was a fault
 infixl 10 ◌>>=◌
@@ -17,11 +16,12 @@ abbrev pub ◌>>=◌ : {A B : Type 0} → Result A Fault → (A → Result B Fau
 (Ok x) >>= f = f x
 (Err e) >>= f = Err e
 
--- what a call returned, seen by view, is what reading gives, unless memory was refused
+-- a call failed with the fault that is told, or for want of memory
 abbrev pub Fails : {Y : Type 0} → BlockFault → Result Y Fault → Type 0
 Fails faults.NoMemory read = Unit {0}
 Fails (faults.Malformed f) read = read ≡ Err f
 
+-- a call gave what is told, seen by view, or failed with its fault or for want of memory
 abbrev pub Gives : {X Y : Type 0} → (X → Y) → Result X BlockFault → Result Y Fault → Type 0
 Gives view (Ok x) read = read ≡ Ok (view x)
 Gives view (Err e) read = Fails e read
@@ -41,6 +41,10 @@ lsn_fault lsn = if lsn == 0 || nat_lt (2 ^ 48) lsn then Err NumberOutOfRange els
 -- the fault of a Put of so many bytes at an offset, if any: it has bytes, and they end within its page
 abbrev pub put_fault : ℕ → ℕ → Result (Unit {0}) Fault
 put_fault offset len = if len == 0 then Err EmptyPut else if nat_lt 8192 (offset + len) then Err PutPastPage else Ok tt
+
+-- the fault of so many bytes of a block, if any: they are at most 32768
+abbrev pub len_fault : ℕ → Result (Unit {0}) Fault
+len_fault len = if nat_lt 32768 len then Err TooLong else Ok tt
 
 -- the block's number
 unfoldable pub lsn_at : List ℕ → Result (ℕ × List ℕ) Fault
@@ -82,22 +86,9 @@ records_at (suc n) bytes = do
 
 -- all of the bytes: a block, or the fault that is told
 unfoldable pub block_reading : List ℕ → Result Content Fault
-block_reading bytes = if nat_lt 32768 (length bytes) then Err TooLong else (do
+block_reading bytes = len_fault (length bytes) >>= λ _. do
   lsn ← lsn_at bytes
   partitions ← annotations_at lsn.1
   count ← number_at w16 partitions.1
   records ← records_at count.0 count.1
-  if nat_lt 0 (length records.1) then Err BytesAfterEnd else if pointwise nat_eq partitions.0 (touched records.0) then Ok (record { lsn = lsn.0; records = records.0 }) else Err WrongAnnotations)
-
--- the fault of one record, if any
-abbrev pub record_fault : Record → Result (Unit {0}) Fault
-record_fault (Put page offset bytes) = put_fault offset (length bytes)
-
--- the fault of the first faulty record, if any
-unfoldable pub records_fault : List Record → Result (Unit {0}) Fault
-records_fault [] = Ok tt
-records_fault (first ∷ others) = record_fault first >>= λ _. records_fault others
-
--- what a number and records make: a block, or the fault that is told
-unfoldable pub block_made : ℕ → List Record → Result Content Fault
-block_made lsn records = lsn_fault lsn >>= λ _. records_fault records >>= λ _. if nat_lt 32768 (length (block_spelling (record { lsn = lsn; records = records }))) then Err TooLong else Ok (record { lsn = lsn; records = records })
+  if nat_lt 0 (length records.1) then Err BytesAfterEnd else if pointwise nat_eq partitions.0 (touched records.0) then Ok (record { lsn = lsn.0; records = records.0 }) else Err WrongAnnotations

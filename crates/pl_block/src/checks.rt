@@ -1,7 +1,6 @@
 //! The bounds that every block keeps, whether it was read or made.
 
-ghost use Rattle.std.specs.Prelude.{length};
-ghost use Rattle.pl_block.specs.Reading.{Gives, lsn_fault, put_fault};
+ghost use Rattle.pl_block.specs.Reading.{Gives, len_fault, lsn_fault, put_fault};
 
 use crate::fault::{BlockFault, Fault};
 use crate::record::PAGE_BYTES;
@@ -31,6 +30,16 @@ pub(crate) fn check_put(offset: u16, len: usize) -> Result<(), BlockFault>
     }
     if usize::from(offset).saturating_add(len) > PAGE_BYTES {
         return Err(BlockFault::Malformed(Fault::PutPastPage));
+    }
+    Ok(())
+}
+
+/// Whether a block can have so many bytes.
+pub(crate) fn check_len(len: usize) -> Result<(), BlockFault>
+    ensures { Gives (λ x. x) result (len_fault len) }
+{
+    if len > MAX_BLOCK_BYTES {
+        return Err(BlockFault::Malformed(Fault::TooLong));
     }
     Ok(())
 }

@@ -1,15 +1,16 @@
 //! A block, made of a number and records.
 
-ghost use Rattle.std.specs.Prelude.{◌≡◌, IfOk, Ok};
+ghost use Rattle.std.specs.Prelude.{IfOk, Ok};
 ghost use Rattle.std.specs.List.{AllByRecursion};
 ghost use Rattle.pl_block.specs.Block.{IsRecord};
 ghost use Rattle.pl_block.specs.Spelling.{IsBlock};
-ghost use Rattle.pl_block.specs.Reading.{Gives, record_fault, records_fault, block_made};
+ghost use Rattle.pl_block.specs.Reading.{Gives};
+ghost use Rattle.pl_block.specs.Making.{record_fault, records_fault, block_made};
 
 use crate::block::Block;
-use crate::checks::{MAX_BLOCK_BYTES, check_lsn, check_put};
+use crate::checks::{check_len, check_lsn, check_put};
 use crate::content::Parts;
-use crate::fault::{BlockFault, Fault};
+use crate::fault::BlockFault;
 use crate::partitions::touched_partitions;
 use crate::record::Record;
 use crate::writing::spelling_len;
@@ -24,6 +25,7 @@ fn check_record(entry: &Record) -> Result<(), BlockFault>
         offset,
         bytes,
     } = entry;
+    // Looked at, so that it is known to be a number of 32 bits.
     let _page = *page;
     check_put(*offset, bytes.len())
 }
@@ -38,27 +40,33 @@ fn check_records(records: &[Record]) -> Result<(), BlockFault>
     Ok(())
 }
 
+// What the number and the records make, with the partitions that they touch.
+fn parts_of(alloc: Global, lsn: u64, records: Vec<Record>) -> Result<Parts, BlockFault>
+    ensures { Gives (λ x. x) result (block_made lsn records.items) }
+{
+    check_lsn(lsn)?;
+    check_records(&records)?;
+    let partitions = touched_partitions(alloc, &records)?;
+    check_len(spelling_len(&partitions, &records))?;
+    Ok(Parts {
+        lsn,
+        partitions,
+        records,
+    })
+}
+
 impl Block {
     /// A block of the number and the records, which are kept as they stand.
     ///
     /// The number is tested first, then each record in turn, and the length of the spelling last.
     pub fn new(alloc: Global, lsn: u64, records: Vec<Record>) -> Result<Block, BlockFault>
         ensures valid { IfOk result (λ b. IsBlock b) }
+        // What is a block is made, unless memory runs out.
+        ensures only { IsBlock (record { lsn = lsn; records = records.items }) →
+            Gives (λ x. x) result (Ok (record { lsn = lsn; records = records.items })) }
+        // Which fault it is.
         ensures exact { Gives (λ x. x) result (block_made lsn records.items) }
     {
-        check_lsn(lsn)?;
-        check_records(&records)?;
-        let partitions = touched_partitions(alloc, &records)?;
-        if spelling_len(&partitions, &records) > MAX_BLOCK_BYTES {
-            return Err(BlockFault::Malformed(Fault::TooLong));
-        }
-        Block::of_parts(
-            alloc,
-            Parts {
-                lsn,
-                partitions,
-                records,
-            },
-        )
+        Block::of_parts(alloc, parts_of(alloc, lsn, records)?)
     }
 }

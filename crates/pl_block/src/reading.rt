@@ -7,7 +7,7 @@ ghost use Rattle.pl_block.specs.Spelling.{IsBlock, block_spelling};
 ghost use Rattle.pl_block.specs.Reading.{Gives, Takes, lsn_at, rising_at, annotations_at, put_at, record_at, records_at, block_reading};
 
 use crate::block::Block;
-use crate::checks::{MAX_BLOCK_BYTES, check_lsn, check_put};
+use crate::checks::{check_len, check_lsn, check_put};
 use crate::content::Parts;
 use crate::fault::{BlockFault, Fault};
 use crate::partitions::touched_partitions;
@@ -93,12 +93,11 @@ fn take_records(alloc: Global, count: u16, rest: &mut Bytes) -> Result<Vec<Recor
 // The number, the annotations and the records of a block.
 #[tactic(auto, unfolding(crate::specs::Reading::block_reading))]
 fn fields_of(alloc: Global, input: Bytes) -> Result<(u64, Vec<u16>, Vec<Record>), BlockFault>
-    ensures exact { Gives (λ x. record { lsn = x.0; records = x.2.items }) result (block_reading input) }
+    ensures exact { Gives (λ x. record { lsn = x.0; records = x.2.items }) result
+        (block_reading input) }
     ensures value { IfOk result (λ x. x.1.items ≡ touched x.2.items) }
 {
-    if input.len() > MAX_BLOCK_BYTES {
-        return Err(BlockFault::Malformed(Fault::TooLong));
-    }
+    check_len(input.len())?;
     let mut rest = input;
     let lsn = take_lsn(&mut rest)?;
     let partitions = take_annotations(alloc, &mut rest)?;
@@ -107,7 +106,8 @@ fn fields_of(alloc: Global, input: Bytes) -> Result<(u64, Vec<u16>, Vec<Record>)
     if !rest.is_empty() {
         return Err(BlockFault::Malformed(Fault::BytesAfterEnd));
     }
-    if partitions != touched_partitions(alloc, &records)? {
+    let touched = touched_partitions(alloc, &records)?;
+    if partitions != touched {
         return Err(BlockFault::Malformed(Fault::WrongAnnotations));
     }
     Ok((lsn, partitions, records))

@@ -1,7 +1,7 @@
 use Rattle.std.proofs.Common.{◌≡◌, take, drop}
 use Rattle.std.specs.List.{AllByRecursion}
 use Rattle.pl_block.specs.Block.{IsRecord}
-use Rattle.pl_block.specs.Reading.{records_fault}
+use Rattle.pl_block.specs.Making.{records_fault}
 use Rattle.pl_block.proofs.making.check_records.Given as goal
 
 abbrev pub invariant-loop-entry : goal.invariant-loop-entry
