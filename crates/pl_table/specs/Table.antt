@@ -11,7 +11,7 @@ pub record WrittenTable : Type 0 where
   pub principals : List Principal
   pub rows : List Row
 
--- no two principals have one id, and there are at most 64 of them and 256 rows
+-- there are 1 to 64 principals, no two of one id, and at most 256 rows
 pub record IsTable (t : WrittenTable) : Type 0 where
   pub some : 0 < length t.principals
   pub few : length t.principals ≤ 64
