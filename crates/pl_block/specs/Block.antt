@@ -1,5 +1,7 @@
 -- What a block is: a number and records, and the partitions that they touch.
-use Rattle.std.specs.Prelude.{ℕ, ◌+◌, ◌/◌, ◌^◌, ◌<◌, ◌≤◌, ◌==◌, nat_lt, if◌then◌else◌, List, [], ◌∷◌, length, fold}
+use Rattle.std.specs.Prelude.{ℕ, ◌+◌, ◌/◌, ◌^◌, ◌<◌, ◌≤◌, Bool, ◌&&◌, ◌==◌, nat_lt, if◌then◌else◌, List, [], ◌∷◌, length, fold}
+use Rattle.std.specs.Cmp.Lexicographic.{pointwise}
+use Rattle.std.specs.Str.{bytes_eq}
 use Rattle.pl_block.specs.declared.record.Record.{Record}
 use Rattle.pl_block.specs.declared.record.Record.TheVariants.{Put}
 
@@ -7,6 +9,14 @@ use Rattle.pl_block.specs.declared.record.Record.TheVariants.{Put}
 pub record Content : Type 0 where
   pub lsn : ℕ
   pub records : List Record
+
+-- a test whether two records are one
+abbrev pub same_record : Record → Record → Bool
+same_record (Put p o b) (Put q u c) = p == q && (o == u && bytes_eq b c)
+
+-- a test whether two blocks are one
+abbrev pub same_block : Content → Content → Bool
+same_block a b = a.lsn == b.lsn && pointwise same_record a.records b.records
 
 -- the partition of the page that a record changes
 abbrev pub partition_of : Record → ℕ

@@ -2,3 +2,4 @@ pub mod Codes
 pub mod Block
 pub mod Spelling
 pub mod Reading
+pub mod Laws

@@ -34,11 +34,17 @@ Takes view result rest read = Gives (λ x. (view x, rest)) result read
 abbrev pub number_at : Width → List ℕ → Result (ℕ × List ℕ) Fault
 number_at w bytes = if nat_lt (length bytes) (byte_len w) then Err EndsInField else Ok (from_be_bytes w (take (byte_len w) bytes), drop (byte_len w) bytes)
 
--- the block's number, 1 to 2 ^ 48
+-- the fault of a block's number, if any: it is 1 to 2 ^ 48
+abbrev pub lsn_fault : ℕ → Result (Unit {0}) Fault
+lsn_fault lsn = if lsn == 0 || nat_lt (2 ^ 48) lsn then Err NumberOutOfRange else Ok tt
+
+-- the fault of a Put of so many bytes at an offset, if any: it has bytes, and they end within its page
+abbrev pub put_fault : ℕ → ℕ → Result (Unit {0}) Fault
+put_fault offset len = if len == 0 then Err EmptyPut else if nat_lt 8192 (offset + len) then Err PutPastPage else Ok tt
+
+-- the block's number
 unfoldable pub lsn_at : List ℕ → Result (ℕ × List ℕ) Fault
-lsn_at bytes = do
-  lsn ← number_at w64 bytes
-  if lsn.0 == 0 || nat_lt (2 ^ 48) lsn.0 then Err NumberOutOfRange else Ok lsn
+lsn_at bytes = number_at w64 bytes >>= λ lsn. lsn_fault lsn.0 >>= λ _. Ok lsn
 
 -- so many partitions, the first at least low, each above the one before
 unfoldable pub rising_at : ℕ → ℕ → List ℕ → Result (List ℕ × List ℕ) Fault
@@ -53,13 +59,13 @@ annotations_at bytes = do
   count ← number_at w16 bytes
   rising_at count.0 0 count.1
 
--- page, offset and length, then the length's tests, then that many bytes
+-- page, offset and length, which are tested, and then that many bytes
 unfoldable pub put_at : List ℕ → Result (Record × List ℕ) Fault
 put_at bytes = do
   page ← number_at w32 bytes
   offset ← number_at w16 page.1
   len ← number_at w16 offset.1
-  if len.0 == 0 then Err EmptyPut else if nat_lt 8192 (offset.0 + len.0) then Err PutPastPage else if nat_lt (length len.1) len.0 then Err EndsInField else Ok (Put page.0 offset.0 (take len.0 len.1), drop len.0 len.1)
+  put_fault offset.0 len.0 >>= λ _. if nat_lt (length len.1) len.0 then Err EndsInField else Ok (Put page.0 offset.0 (take len.0 len.1), drop len.0 len.1)
 
 -- a kind, and what the kind has
 unfoldable pub record_at : List ℕ → Result (Record × List ℕ) Fault
@@ -84,8 +90,8 @@ block_reading bytes = if nat_lt 32768 (length bytes) then Err TooLong else (do
   if nat_lt 0 (length records.1) then Err BytesAfterEnd else if pointwise nat_eq partitions.0 (touched records.0) then Ok (record { lsn = lsn.0; records = records.0 }) else Err WrongAnnotations)
 
 -- the fault of one record, if any
-unfoldable pub record_fault : Record → Result (Unit {0}) Fault
-record_fault (Put page offset bytes) = if length bytes == 0 then Err EmptyPut else if nat_lt 8192 (offset + length bytes) then Err PutPastPage else Ok tt
+abbrev pub record_fault : Record → Result (Unit {0}) Fault
+record_fault (Put page offset bytes) = put_fault offset (length bytes)
 
 -- the fault of the first faulty record, if any
 unfoldable pub records_fault : List Record → Result (Unit {0}) Fault
@@ -94,4 +100,4 @@ records_fault (first ∷ others) = record_fault first >>= λ _. records_fault ot
 
 -- what a number and records make: a block, or the fault that is told
 unfoldable pub block_made : ℕ → List Record → Result Content Fault
-block_made lsn records = if lsn == 0 || nat_lt (2 ^ 48) lsn then Err NumberOutOfRange else (records_fault records >>= λ _. if nat_lt 32768 (length (block_spelling (record { lsn = lsn; records = records }))) then Err TooLong else Ok (record { lsn = lsn; records = records }))
+block_made lsn records = lsn_fault lsn >>= λ _. records_fault records >>= λ _. if nat_lt 32768 (length (block_spelling (record { lsn = lsn; records = records }))) then Err TooLong else Ok (record { lsn = lsn; records = records })

@@ -1,9 +1,11 @@
 //! Why bytes are no block, and why a number and records make none.
 
 ghost use Rattle.std.specs.Prelude.{◌≡◌, ◌≤◌};
-ghost use Rattle.pl_block.specs.declared.fault.BlockFault.TheVariants.{NoMemory};
+ghost use Rattle.pl_block.specs.declared.fault.Fault.TheVariants.{EndsInField};
+ghost use Rattle.pl_block.specs.declared.fault.BlockFault.TheVariants.{Malformed, NoMemory};
 ghost use Rattle.pl_block.specs.Codes.{code_of};
 
+use bytes::TryGetError;
 use std::alloc::{AllocError, AllocFailed};
 
 /// What is wrong with a block. The discriminant is the fault's code in the block format.
@@ -46,6 +48,14 @@ pub enum BlockFault {
     Malformed(Fault),
     /// Memory was refused.
     NoMemory,
+}
+
+impl From<TryGetError> for BlockFault {
+    ghost from_gives = { λ _ e. e ≡ Malformed EndsInField };
+
+    fn from(_missing: TryGetError) -> BlockFault {
+        BlockFault::Malformed(Fault::EndsInField)
+    }
 }
 
 impl From<AllocError> for BlockFault {

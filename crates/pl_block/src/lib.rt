@@ -1,13 +1,29 @@
-//! Log blocks.
+//! Log blocks: a number and the page records written under it, and the one spelling of each block
+//! in bytes.
+//!
+//! A contract sees a [`Block`] as its number and its records. That the code also keeps the list of
+//! the partitions touched, and that blocks share their bytes, is seen by no contract.
 #![tactic(auto)]
 
 mod block;
+mod checks;
 mod content;
 mod fault;
+mod laws;
+mod making;
 mod partitions;
+mod reading;
 mod record;
+mod writing;
 
 pub use block::Block;
+pub use checks::{LAST_LSN, MAX_BLOCK_BYTES};
 pub use fault::{BlockFault, Fault};
-pub use record::Record;
+pub use laws::{one_spelling, same_blocks_are_equal};
+pub use reading::decode;
+pub use record::{PAGE_BYTES, PAGES_PER_PARTITION, Record};
 pub use std::alloc::AllocError as NoMemory;
+pub use writing::encode;
+
+#[cfg(test)]
+mod tests;

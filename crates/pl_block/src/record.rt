@@ -6,10 +6,13 @@ ghost use Rattle.pl_block.specs.Block.{partition_of};
 use bytes::Bytes;
 
 /// The bytes of a page.
-pub const PAGE_BYTES: u32 = 8_192;
+pub const PAGE_BYTES: usize = 8_192;
 
 /// The pages of a partition, which follow one another.
 pub const PAGES_PER_PARTITION: u32 = 65_536;
+
+/// The number of a Put among the kinds of record.
+pub(crate) const PUT: u8 = 1;
 
 /// A change to one page.
 #[derive(Debug, Drop, PartialEq)]

@@ -1,13 +1,22 @@
-// A library with one function.
+//! One database: who may do what is decided, blocks are hardened and served, and each decision is
+//! entered in a list.
+//!
+//! A contract sees a [`Db`] as its history alone: what it began from, and what was decided of each
+//! request. Which blocks are hardened, what a window of numbers has and what the next request is
+//! answered all follow from that list; the code keeps them at hand.
 #![tactic(auto)]
 
-ghost use Rattle.std.specs.Prelude.{◌≡◌};
-ghost use Rattle.pl_core.specs.Echo.{echo_of};
+mod decision;
+mod epochs;
+mod limits;
+mod line;
+mod reply;
+mod slots;
+mod view;
 
-// The `ensures` clause is the contract: what `echo` returns is `echo_of` of its argument, a definition
-// in `specs/Echo.antt`, which a caller's clause can cite too.
-pub fn echo(x: usize) -> usize
-    ensures { result ≡ echo_of x }
-{
-    x
-}
+pub use epochs::Epochs;
+pub use limits::Limits;
+pub use line::Line;
+pub use pl_block::NoMemory;
+pub use reply::{Blocks, Reply};
+pub use view::View;

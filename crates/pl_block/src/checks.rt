@@ -1,0 +1,36 @@
+//! The bounds that every block keeps, whether it was read or made.
+
+ghost use Rattle.std.specs.Prelude.{length};
+ghost use Rattle.pl_block.specs.Reading.{Gives, lsn_fault, put_fault};
+
+use crate::fault::{BlockFault, Fault};
+use crate::record::PAGE_BYTES;
+
+/// The last number that a block can have.
+pub const LAST_LSN: u64 = 1 << 48;
+
+/// The bytes that a block can have.
+pub const MAX_BLOCK_BYTES: usize = 32_768;
+
+/// Whether a block can have the number.
+pub(crate) fn check_lsn(lsn: u64) -> Result<(), BlockFault>
+    ensures { Gives (λ x. x) result (lsn_fault lsn) }
+{
+    if lsn == 0 || lsn > LAST_LSN {
+        return Err(BlockFault::Malformed(Fault::NumberOutOfRange));
+    }
+    Ok(())
+}
+
+/// Whether a Put can have so many bytes at the offset.
+pub(crate) fn check_put(offset: u16, len: usize) -> Result<(), BlockFault>
+    ensures { Gives (λ x. x) result (put_fault offset len) }
+{
+    if len == 0 {
+        return Err(BlockFault::Malformed(Fault::EmptyPut));
+    }
+    if usize::from(offset).saturating_add(len) > PAGE_BYTES {
+        return Err(BlockFault::Malformed(Fault::PutPastPage));
+    }
+    Ok(())
+}

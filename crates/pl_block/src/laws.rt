@@ -1,0 +1,17 @@
+//! What the definitions say of one another, for the crates above. Each function is a law: its
+//! clauses hold of all blocks and bytes, and its body does nothing.
+
+ghost use Rattle.std.specs.Prelude.{◌≡◌, ◌↔◌, IsTrue};
+ghost use Rattle.pl_block.specs.Block.{Content, same_block};
+ghost use Rattle.pl_block.specs.Laws.{OneSpelling};
+
+/// Two blocks that are the same by the test are equal, and no others are.
+pub fn same_blocks_are_equal()
+    ensures { (a b : Content) → IsTrue (same_block a b) ↔ (a ≡ b) }
+{}
+
+/// A block is read again from its spelling, what is read as a block is its spelling, and no two
+/// blocks have one spelling.
+pub fn one_spelling()
+    ensures { OneSpelling }
+{}

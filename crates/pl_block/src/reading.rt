@@ -1,0 +1,146 @@
+//! A block, read from its bytes.
+
+ghost use Rattle.std.specs.Prelude.{◌≡◌, IfOk, Ok};
+ghost use Rattle.pl_block.specs.Block.{Content, touched};
+ghost use Rattle.pl_block.specs.Laws.{AreBytes};
+ghost use Rattle.pl_block.specs.Spelling.{IsBlock, block_spelling};
+ghost use Rattle.pl_block.specs.Reading.{Gives, Takes, lsn_at, rising_at, annotations_at, put_at, record_at, records_at, block_reading};
+
+use crate::block::Block;
+use crate::checks::{MAX_BLOCK_BYTES, check_lsn, check_put};
+use crate::content::Parts;
+use crate::fault::{BlockFault, Fault};
+use crate::partitions::touched_partitions;
+use crate::record::{PUT, Record};
+use bytes::{Buf, Bytes};
+use std::alloc::Global;
+
+#[tactic(auto, unfolding(crate::specs::Reading::lsn_at))]
+fn take_lsn(rest: &mut Bytes) -> Result<u64, BlockFault>
+    ensures { Takes (λ x. x) result rest.new (lsn_at rest.old) }
+{
+    let lsn = rest.try_get_u64()?;
+    check_lsn(lsn)?;
+    Ok(lsn)
+}
+
+// So many partitions, each above the one before it.
+fn take_rising(alloc: Global, count: u16, rest: &mut Bytes) -> Result<Vec<u16>, BlockFault>
+    ensures { Takes (λ ps. ps.items) result rest.new (rising_at count 0 rest.old) }
+{
+    let mut partitions = Vec::new(alloc);
+    let mut low = 0u32;
+    for _ in 0..count {
+        let partition = rest.try_get_u16()?;
+        if u32::from(partition) < low {
+            return Err(BlockFault::Malformed(Fault::PartitionNotAbove));
+        }
+        partitions.push(partition)?;
+        low = u32::from(partition) + 1;
+    }
+    Ok(partitions)
+}
+
+#[tactic(auto, unfolding(crate::specs::Reading::annotations_at))]
+fn take_annotations(alloc: Global, rest: &mut Bytes) -> Result<Vec<u16>, BlockFault>
+    ensures { Takes (λ ps. ps.items) result rest.new (annotations_at rest.old) }
+{
+    let count = rest.try_get_u16()?;
+    take_rising(alloc, count, rest)
+}
+
+#[tactic(auto, unfolding(crate::specs::Reading::put_at))]
+fn take_put(rest: &mut Bytes) -> Result<Record, BlockFault>
+    ensures { Takes (λ x. x) result rest.new (put_at rest.old) }
+{
+    let page = rest.try_get_u32()?;
+    let offset = rest.try_get_u16()?;
+    let len = rest.try_get_u16()? as usize;
+    check_put(offset, len)?;
+    if rest.len() < len {
+        return Err(BlockFault::Malformed(Fault::EndsInField));
+    }
+    let bytes = rest.split_to(len)?;
+    Ok(Record::Put {
+        page,
+        offset,
+        bytes,
+    })
+}
+
+#[tactic(auto, unfolding(crate::specs::Reading::record_at))]
+fn take_record(rest: &mut Bytes) -> Result<Record, BlockFault>
+    ensures { Takes (λ x. x) result rest.new (record_at rest.old) }
+{
+    match rest.try_get_u8()? {
+        PUT => take_put(rest),
+        _ => Err(BlockFault::Malformed(Fault::UnknownKind)),
+    }
+}
+
+// So many records.
+fn take_records(alloc: Global, count: u16, rest: &mut Bytes) -> Result<Vec<Record>, BlockFault>
+    ensures { Takes (λ rs. rs.items) result rest.new (records_at count rest.old) }
+{
+    let mut records = Vec::new(alloc);
+    for _ in 0..count {
+        let entry = take_record(rest)?;
+        records.push(entry)?;
+    }
+    Ok(records)
+}
+
+// The number, the annotations and the records of a block.
+#[tactic(auto, unfolding(crate::specs::Reading::block_reading))]
+fn fields_of(alloc: Global, input: Bytes) -> Result<(u64, Vec<u16>, Vec<Record>), BlockFault>
+    ensures exact { Gives (λ x. record { lsn = x.0; records = x.2.items }) result (block_reading input) }
+    ensures value { IfOk result (λ x. x.1.items ≡ touched x.2.items) }
+{
+    if input.len() > MAX_BLOCK_BYTES {
+        return Err(BlockFault::Malformed(Fault::TooLong));
+    }
+    let mut rest = input;
+    let lsn = take_lsn(&mut rest)?;
+    let partitions = take_annotations(alloc, &mut rest)?;
+    let count = rest.try_get_u16()?;
+    let records = take_records(alloc, count, &mut rest)?;
+    if !rest.is_empty() {
+        return Err(BlockFault::Malformed(Fault::BytesAfterEnd));
+    }
+    if partitions != touched_partitions(alloc, &records)? {
+        return Err(BlockFault::Malformed(Fault::WrongAnnotations));
+    }
+    Ok((lsn, partitions, records))
+}
+
+// A slice that is looked at is known to have bytes.
+fn each_is_byte(bytes: &[u8])
+    ensures { AreBytes bytes.now }
+{
+    let _all = bytes;
+}
+
+/// The block that the bytes spell. The records keep the bytes of the input, and none is copied.
+///
+/// Faults are told in the order of the format: the length of the input first, then each field
+/// from the front, then bytes that are left over, and the annotations last.
+pub fn decode(alloc: Global, input: Bytes) -> Result<Block, BlockFault>
+    // What is read is spelled so.
+    ensures found { IfOk result (λ b. IsBlock b × (input ≡ block_spelling b)) }
+    // What is spelled so is read, unless memory runs out.
+    ensures only { (b : Content) → IsBlock b → input ≡ block_spelling b →
+        Gives (λ x. x) result (Ok b) }
+    // Which fault it is.
+    ensures exact { Gives (λ x. x) result (block_reading input) }
+{
+    each_is_byte(input.as_slice());
+    let (lsn, partitions, records) = fields_of(alloc, input)?;
+    Block::of_parts(
+        alloc,
+        Parts {
+            lsn,
+            partitions,
+            records,
+        },
+    )
+}

@@ -1,0 +1,93 @@
+//! A block, written as its bytes.
+
+ghost use Rattle.std.specs.Prelude.{◌≡◌, ◌+◌, ◌*◌, ◌<◌, ◌≤◌, ◌^◌, ◌++◌, length, IfOk, OnOk};
+ghost use Rattle.std.specs.List.{flat_map};
+ghost use Rattle.std.specs.Int.{w16, to_be_bytes};
+ghost use Rattle.pl_block.specs.Spelling.{annotations, record_spelling, block_spelling};
+
+use crate::block::Block;
+use crate::checks::MAX_BLOCK_BYTES;
+use crate::record::{PUT, Record};
+use bytes::BufMut;
+use std::alloc::{AllocError, Global};
+
+fn record_len(entry: &Record) -> usize
+    ensures value { result ≡ length (record_spelling entry.now) }
+    ensures bound { result < 2 ^ 63 + 9 }
+{
+    let Record::Put { bytes, .. } = entry;
+    9 + bytes.len()
+}
+
+/// The length of the spelling of a block with these partitions and records, where a block can
+/// have it; otherwise some length that no block can have.
+pub(crate) fn spelling_len(partitions: &[u16], records: &[Record]) -> usize
+    ensures value { result ≤ 32768 →
+        result ≡ 12 + 2 * length partitions.now + length (flat_map record_spelling records.now) }
+    ensures full { 32768 < result →
+        32768 < 12 + 2 * length partitions.now + length (flat_map record_spelling records.now) }
+{
+    let mut len = 12 + 2 * partitions.len();
+    for entry in records {
+        // What is too long is not counted on, so that no sum wraps.
+        if len > MAX_BLOCK_BYTES {
+            return len;
+        }
+        len += record_len(entry);
+    }
+    len
+}
+
+fn put_partitions(out: &mut Vec<u8>, partitions: &[u16]) -> Result<(), AllocError>
+    requires { length partitions.now < 2 ^ 16 }
+    ensures { OnOk result (out.new.items ≡ out.old.items ++ annotations partitions.now) }
+{
+    out.put_u16(partitions.len() as u16)?;
+    for partition in partitions {
+        out.put_u16(*partition)?;
+    }
+    Ok(())
+}
+
+fn put_record(out: &mut Vec<u8>, entry: &Record) -> Result<(), AllocError>
+    requires { length (record_spelling entry.now) ≤ 32768 }
+    ensures { OnOk result (out.new.items ≡ out.old.items ++ record_spelling entry.now) }
+{
+    let Record::Put {
+        page,
+        offset,
+        bytes,
+    } = entry;
+    out.put_u8(PUT)?;
+    out.put_u32(*page)?;
+    out.put_u16(*offset)?;
+    out.put_u16(bytes.len() as u16)?;
+    out.put_slice(bytes.as_slice())
+}
+
+fn put_records(out: &mut Vec<u8>, records: &[Record]) -> Result<(), AllocError>
+    requires few { length records.now < 2 ^ 16 }
+    requires short { length (flat_map record_spelling records.now) ≤ 32768 }
+    ensures { OnOk result (out.new.items ≡ out.old.items
+        ++ (to_be_bytes w16 (length records.now) ++ flat_map record_spelling records.now)) }
+{
+    out.put_u16(records.len() as u16)?;
+    for entry in records {
+        put_record(out, entry)?;
+    }
+    Ok(())
+}
+
+/// The one spelling of the block. Memory is asked for once, and for no more bytes than it has.
+pub fn encode(alloc: Global, block: &Block) -> Result<Vec<u8>, AllocError>
+    ensures exact { IfOk result (λ bytes. bytes.items ≡ block_spelling block.now) }
+    ensures short { IfOk result (λ bytes. length bytes.items ≤ 32768) }
+{
+    let partitions = block.partitions();
+    let records = block.records();
+    let mut out = Vec::with_capacity(alloc, spelling_len(partitions, records))?;
+    out.put_u64(block.lsn())?;
+    put_partitions(&mut out, partitions)?;
+    put_records(&mut out, records)?;
+    Ok(out)
+}

@@ -1,0 +1,5 @@
+-- The ranges of a database's limits.
+use Rattle.std.specs.Prelude.{ℕ, ◌≤◌}
+
+abbrev pub AreLimits : ℕ → ℕ → Type 0
+AreLimits audit chunks = (1 ≤ audit) × (1 ≤ chunks) × (chunks ≤ 65536)

@@ -1,0 +1,132 @@
+-- The written order: its rows, and the first that stands against a request. What the rows of
+-- section C look at is given as a view of the log.
+use Rattle.std.specs.Prelude.{ℕ, ◌+◌, Bool, true, false, not, ◌&&◌, ◌==◌, nat_lt, nat_le, List, [], ◌∷◌, ◌++◌, length, map, cond, Option, Some, None}
+use Rattle.std.specs.Str.{bytes_eq}
+use Rattle.std.specs.List.{range_with_len}
+use Rattle.pl_table.specs.declared.head.Head.{Head}
+use Rattle.pl_table.specs.declared.op.Role.TheVariants as roles
+use Rattle.pl_table.specs.declared.request.Act.{Act}
+use Rattle.pl_table.specs.declared.request.Act.TheVariants as acts
+use Rattle.pl_table.specs.declared.verdict.Section.{Section}
+use Rattle.pl_table.specs.declared.verdict.Section.TheVariants as sections
+use Rattle.pl_table.specs.declared.verdict.Verdict.{Verdict}
+use Rattle.pl_table.specs.declared.verdict.Verdict.TheVariants as verdicts
+use Rattle.pl_table.specs.Ops.{same_role, has_op}
+use Rattle.pl_table.specs.Request.{Query, op_of}
+use Rattle.pl_table.specs.Table.{WrittenTable, token_of, first_match_from}
+use Rattle.pl_core.specs.declared.epochs.Epochs.{Epochs}
+use Rattle.pl_core.specs.declared.view.View.{View}
+
+-- a row of the written order
+pub data Rule : Type 0 where
+  a1 : Rule
+  a2 : Rule
+  a3 : Rule
+  a4 : Rule
+  a5 : Rule
+  b : (row : ℕ) → Rule
+  b0 : Rule
+  c1 : Rule
+  c2 : Rule
+  c3 : Rule
+  c4 : Rule
+  c5 : Rule
+  c6 : Rule
+
+-- the token listed for the principal is the request's
+abbrev pub is_token : List ℕ → Option (List ℕ) → Bool
+is_token token None = false
+is_token token (Some listed) = bytes_eq listed token
+
+abbrev pub is_known : WrittenTable → Head → Bool
+is_known t head = is_token head.token (token_of head.principal t.principals)
+
+-- the row is the first that matches, and denies
+abbrev pub denies_at : ℕ → Option (ℕ × Bool) → Bool
+denies_at row None = false
+denies_at row (Some found) = found.0 == row && not found.1
+
+abbrev pub is_unmatched : Option (ℕ × Bool) → Bool
+is_unmatched None = true
+is_unmatched (Some found) = false
+
+-- a pull from above the hardened numbers
+abbrev pub pulls_above : ℕ → Act → Bool
+pulls_above hard (acts.Pull lo hi lsn max) = nat_lt hard lsn
+pulls_above hard _ = false
+
+-- a write of a hardened number
+abbrev pub writes_hardened : ℕ → Act → Bool
+writes_hardened hard (acts.Write copy block) = nat_le block.lsn hard
+writes_hardened hard _ = false
+
+-- a write above the window
+abbrev pub writes_above : ℕ → Act → Bool
+writes_above hard (acts.Write copy block) = nat_lt (hard + 64) block.lsn
+writes_above hard _ = false
+
+-- a write of another block than the number's content
+abbrev pub writes_other : Bool → Act → Bool
+writes_other agrees (acts.Write copy block) = not agrees
+writes_other agrees _ = false
+
+-- a write to a copy that is not there
+abbrev pub writes_beside : ℕ → Act → Bool
+writes_beside copies (acts.Write copy block) = nat_le copies copy
+writes_beside copies _ = false
+
+-- a report of a number that cannot be hardened
+abbrev pub reports_early : Bool → Act → Bool
+reports_early can_harden (acts.Report lsn) = not can_harden
+reports_early can_harden _ = false
+
+-- whether a row stands against a request
+abbrev pub stands_against : Rule → Query → WrittenTable → Epochs → View → Bool
+stands_against a1 q t e v = not (is_known t q.head)
+stands_against a2 q t e v = nat_lt q.head.epoch e.epoch
+stands_against a3 q t e v = nat_lt e.epoch q.head.epoch
+stands_against a4 q t e v = same_role q.head.role roles.Primary && not (q.head.principal == e.primary)
+stands_against a5 q t e v = not (has_op q.head.role (op_of q.act))
+stands_against (b row) q t e v = denies_at row (first_match_from 1 t.rows q)
+stands_against b0 q t e v = is_unmatched (first_match_from 1 t.rows q)
+stands_against c1 q t e v = pulls_above v.hard q.act
+stands_against c2 q t e v = writes_hardened v.hard q.act
+stands_against c3 q t e v = writes_above v.hard q.act
+stands_against c4 q t e v = writes_other v.agrees q.act
+stands_against c5 q t e v = writes_beside v.copies q.act
+stands_against c6 q t e v = reports_early v.can_harden q.act
+
+-- what a row answers: its section, its number and its value
+abbrev pub denial : Rule → Epochs → View → Verdict
+denial a1 e v = verdicts.Denied sections.A 1 0
+denial a2 e v = verdicts.Denied sections.A 2 e.epoch
+denial a3 e v = verdicts.Denied sections.A 3 e.epoch
+denial a4 e v = verdicts.Denied sections.A 4 0
+denial a5 e v = verdicts.Denied sections.A 5 0
+denial (b row) e v = verdicts.Denied sections.B row 0
+denial b0 e v = verdicts.Denied sections.B 0 0
+denial c1 e v = verdicts.Denied sections.C 1 v.hard
+denial c2 e v = verdicts.Denied sections.C 2 v.hard
+denial c3 e v = verdicts.Denied sections.C 3 v.hard
+denial c4 e v = verdicts.Denied sections.C 4 0
+denial c5 e v = verdicts.Denied sections.C 5 0
+denial c6 e v = verdicts.Denied sections.C 6 v.hard
+
+abbrev pub section_c : List Rule
+section_c = c1 ∷ c2 ∷ c3 ∷ c4 ∷ c5 ∷ c6 ∷ []
+
+-- the rows of the table, the row for what none of them matches, section C
+abbrev pub behind_a : ℕ → List Rule
+behind_a rows = map b (range_with_len 1 rows) ++ b0 ∷ section_c
+
+-- section A, and what is behind it
+abbrev pub written_order : ℕ → List Rule
+written_order rows = a1 ∷ a2 ∷ a3 ∷ a4 ∷ a5 ∷ behind_a rows
+
+-- the first row that stands against the request denies it
+abbrev pub first_denial : List Rule → Query → WrittenTable → Epochs → View → Verdict
+first_denial [] q t e v = verdicts.Allowed
+first_denial (rule ∷ rules) q t e v = cond (stands_against rule q t e v) (denial rule e v) (first_denial rules q t e v)
+
+abbrev pub decision : Query → WrittenTable → Epochs → View → Verdict
+decision q t e v = first_denial (written_order (length t.rows)) q t e v

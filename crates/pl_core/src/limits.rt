@@ -1,0 +1,22 @@
+//! How much a database may hold.
+
+ghost use Rattle.std.specs.Prelude.{◌≤◌, ◌↔◌, IsTrue};
+ghost use Rattle.pl_core.specs.Limits.{AreLimits};
+
+/// How much a database may hold.
+#[derive(Clone, Copy, Debug, PartialEq, Eq)]
+pub struct Limits {
+    /// The entries of the list of what was decided, at least 1.
+    pub audit: u64,
+    /// The chunks of 64 page versions, 1 to 65,536. No page is kept yet.
+    pub chunks: usize,
+}
+
+impl Limits {
+    /// Whether both numbers are in their ranges.
+    pub fn are_valid(&self) -> bool
+        ensures { IsTrue result ↔ AreLimits self.now.audit self.now.chunks }
+    {
+        1 <= self.audit && 1 <= self.chunks && self.chunks <= 65_536
+    }
+}

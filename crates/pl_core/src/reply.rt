@@ -1,0 +1,98 @@
+//! What a request is answered.
+
+ghost use Rattle.std.specs.Prelude.{◌≡◌, ◌↔◌, IsTrue};
+ghost use Rattle.pl_core.specs.Reply.{FitsReply};
+
+use pl_block::Block;
+use pl_table::Section;
+use std::marker::Model;
+
+/// The most blocks that one reply serves.
+const MAX_SERVED: usize = 16;
+
+/// The greatest code of a malformed body.
+const MAX_CODE: u8 = 15;
+
+/// Blocks in the order of their numbers.
+#[derive(Debug, Drop)]
+pub struct Blocks {
+    items: Vec<Block>,
+}
+
+impl Model for Blocks {
+    ghost use Rattle.std.specs.Prelude.{List};
+    ghost use Rattle.pl_block.specs.Block.{Content};
+
+    ghost Value = { List Content };
+
+    ghost view = { λ b. b.items.items };
+}
+
+impl Blocks {
+    /// These blocks.
+    pub fn new(items: Vec<Block>) -> Blocks
+        ensures { result ≡ items.items }
+    {
+        Blocks { items }
+    }
+
+    /// The blocks.
+    pub fn as_slice(&self) -> &[Block]
+        ensures { result.now ≡ self.now }
+    {
+        &self.items
+    }
+
+    /// The blocks as a `Vec`, which takes no memory.
+    pub fn into_vec(self) -> Vec<Block>
+        ensures { result.items ≡ self }
+    {
+        let Blocks { items } = self;
+        items
+    }
+}
+
+/// What a request is answered.
+#[derive(Debug, Drop)]
+pub enum Reply {
+    /// The request was carried out.
+    Done,
+    /// The blocks of a pull, and the number from which to go on.
+    Blocks {
+        next: u64,
+        blocks: Blocks,
+    },
+    /// The first row of the written order that stands against the request, and the value that it
+    /// tells. But for the entry of the denial nothing has changed.
+    Denied {
+        section: Section,
+        row: u16,
+        value: u64,
+    },
+    /// Memory was refused. Nothing has changed.
+    NoMemory,
+    /// The list of what was decided holds as many entries as it may. Nothing has changed.
+    AuditFull,
+    /// The database's turns were all given. Never from a step of the database.
+    Spent,
+    /// There is no such database. Never from a step of a database.
+    NoDatabase,
+    /// The body is no request, by this code, 1 to 15. Never from a step of the database.
+    Malformed {
+        code: u8,
+    },
+}
+
+impl Reply {
+    /// Whether counts and codes are in the ranges of the reply format, so that the reply can be
+    /// written.
+    pub fn fits(&self) -> bool
+        ensures { IsTrue result ↔ FitsReply self.now }
+    {
+        match self {
+            Reply::Blocks { blocks, .. } => blocks.as_slice().len() <= MAX_SERVED,
+            Reply::Malformed { code } => 1 <= *code && *code <= MAX_CODE,
+            _ => true,
+        }
+    }
+}
