@@ -1,10 +1,11 @@
 //! What no clause says: that the definitions are those of the written rules.
 
-ghost use Rattle.std.specs.Prelude.{◌≡◌, ◌≤◌, IfOk, length};
+ghost use Rattle.std.specs.Prelude.{◌≤◌, length};
 
 use crate::{Act, Head, Op, Ops, PartitionRange, Principal, Request, Role, Row, Table};
+use bytes::Bytes;
+use pl_block::{Block, BlockFault, Record};
 use std::alloc::{AllocError, Global};
-use std::process::Abort;
 use std::test::Fail;
 
 const ROLES: [(Role, u8); 4] = [
@@ -245,7 +246,29 @@ fn first_match_of_start_table(rt: HostRuntime) -> Result<(), Fail> {
         let asked = request(who, role, Act::Report { lsn: 0 })?;
         assert_eq!(rt; table.first_match(&asked), found, "{who} reports as {role}");
     }
+    let block = block_touching(rt.alloc(), &[7])?;
+    let asked = request(2, Role::Primary, Act::Write { copy: 0, block })?;
+    assert_eq!(rt;
+        table.first_match(&asked),
+        Some((2, true)),
+        "2 writes as primary"
+    );
     Ok(())
+}
+
+// Block 1, with a Put on the first page of each partition.
+fn block_touching(alloc: Global, partitions: &[u16]) -> Result<Block, BlockFault> {
+    let mut records = Vec::new(alloc);
+    for partition in partitions {
+        let bytes = Bytes::from_vec(vec![in alloc; 0xaa]?)?;
+        let page = u32::from(*partition) * 65_536;
+        records.push(Record::Put {
+            page,
+            offset: 0,
+            bytes,
+        })?;
+    }
+    Block::new(alloc, 1, records)
 }
 
 // A table of these rows.
@@ -305,5 +328,42 @@ fn a_row_that_denies_one_partition(rt: HostRuntime) -> Result<(), Fail> {
         Some((2, true)),
         "the row lists no report"
     );
+    Ok(())
+}
+
+#[test]
+fn rows_against_writes(rt: HostRuntime) -> Result<(), Fail> {
+    let writes = Ops::new(vec![in rt.alloc(); Op::Write]?);
+    let rows = vec![in rt.alloc();
+        Row {
+            allows: false,
+            who: None,
+            role: None,
+            op: Some(writes),
+            range: range(5, 5),
+        },
+        Row {
+            allows: true,
+            who: None,
+            role: None,
+            op: None,
+            range: range(0, 5),
+        },
+    ]?;
+    let table = table_of(rt.alloc(), rows)?;
+    let cases: [(&str, &[u16], Option<(u16, bool)>); 7] = [
+        ("partitions 0 and 5", &[0, 5], Some((1, false))),
+        ("partition 5", &[5], Some((1, false))),
+        ("no partition", &[], Some((1, false))),
+        ("partition 0", &[0], Some((2, true))),
+        ("partitions 0 and 4", &[0, 4], Some((2, true))),
+        ("partitions 0 and 6", &[0, 6], None),
+        ("partition 6", &[6], None),
+    ];
+    for (case, partitions, found) in cases {
+        let block = block_touching(rt.alloc(), partitions)?;
+        let asked = request(3, Role::Primary, Act::Write { copy: 0, block })?;
+        assert_eq!(rt; table.first_match(&asked), found, "{case}");
+    }
     Ok(())
 }
