@@ -1,7 +1,8 @@
 //! The written table.
 
-ghost use Rattle.std.specs.Prelude.{◌≡◌, ◌≤◌, ◌↔◌, All, Contains, IsSome, length, map};
-ghost use Rattle.pl_table.specs.Table.{IsTable, token_of, first_match_from};
+ghost use Rattle.std.specs.Prelude.{◌≡◌, ◌≤◌, ◌↔◌, All, Contains, IfNone, IfSome, IsSome, false, length, map};
+ghost use Rattle.pl_table.specs.Table.{IsTable, IsFirstMatch, token_of, first_match_from};
+ghost use Rattle.pl_table.specs.Row.{row_matches};
 
 use crate::request::Request;
 use crate::row::Row;
@@ -73,6 +74,8 @@ impl Table {
     /// where no row speaks of it. No memory is taken, and each row up to that one is looked at once.
     pub fn first_match(&self, request: &Request) -> Option<(u16, bool)>
         ensures value { result ≡ first_match_from 1 self.now.rows request.now }
+        ensures some { IfSome result (IsFirstMatch self.now.rows request.now) }
+        ensures none { IfNone result (All (λ row. row_matches row request.now ≡ false) self.now.rows) }
         ensures valid { IsTable self.now }
     {
         first_in(&self.rows, request)
