@@ -28,7 +28,7 @@ abbrev pub first_match_from : ℕ → List Row → Query → Option (ℕ × Bool
 first_match_from k [] q = None
 first_match_from k (row ∷ rows) q = if row_matches row q then Some (k, row.allows) else first_match_from (k + 1) rows q
 
--- the row of this number speaks of the request and allows it or not, as is said, and no row above does
+-- the row of this number speaks of the request, and allows or denies as is said; no row above it speaks of it
 pub record IsFirstMatch (rows : List Row) (q : Query) (found : ℕ × Bool) : Type 0 where
   pub number : 0 < found.0
   pub row : IsSomeAnd (slice_get rows (found.0 - 1)) (λ row. IsTrue (row_matches row q) × (row.allows ≡ found.1))

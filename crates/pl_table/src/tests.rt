@@ -154,6 +154,15 @@ fn request(principal: u32, role: Role, act: Act) -> Result<Request, &'static str
 }
 
 #[test]
+fn operations_of_a_row(rt: HostRuntime) -> Result<(), Fail> {
+    let listed = [Op::Pull, Op::Get, Op::Pull];
+    let ops = Ops::new(vec![in rt.alloc(); Op::Pull, Op::Get, Op::Pull]?);
+    assert_eq!(rt; ops.as_slice(), listed.as_slice());
+    assert_eq!(rt; ops.into_vec().as_slice(), listed.as_slice());
+    Ok(())
+}
+
+#[test]
 fn principals_of_start_table(rt: HostRuntime) -> Result<(), Fail> {
     let table = Table::t0(rt.alloc())?;
     let principals = [
