@@ -6,14 +6,19 @@
 //! answered all follow from that list; the code keeps them at hand.
 #![tactic(auto)]
 
+mod changes;
+mod db;
 mod decision;
 mod epochs;
 mod limits;
 mod line;
 mod reply;
+mod serving;
 mod slots;
+mod verdict;
 mod view;
 
+pub use db::{Db, DbFault};
 pub use epochs::Epochs;
 pub use limits::Limits;
 pub use line::Line;
