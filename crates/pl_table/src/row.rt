@@ -60,9 +60,9 @@ pub struct Row {
     pub role: Option<Role>,
     /// The operations that it speaks of.
     pub op: Option<Ops>,
-    /// The partitions that it speaks of. A row that allows matches only where these are all that the
-    /// request names, and more perhaps; a row that denies, where the request names one of these. A
-    /// request that names no partition matches whatever they are.
+    /// The partitions that it speaks of. A row that allows matches where it has all of those that
+    /// the request names, a row that denies where it has at least one of them. A request that names
+    /// no partition is matched whatever they are.
     pub range: Option<PartitionRange>,
 }
 
