@@ -31,7 +31,8 @@ impl Model for Table {
 
     ghost view = { λ t. record { principals = t.principals.items; rows = t.rows.items } };
 
-    ghost invariant = { λ t. IsTable (record { principals = t.principals.items; rows = t.rows.items }) };
+    ghost invariant = { λ t.
+        IsTable (record { principals = t.principals.items; rows = t.rows.items }) };
 }
 
 impl Table {
@@ -71,11 +72,12 @@ impl Table {
     }
 
     /// The first row that speaks of the request: its number, from 1, and whether it allows. `None`
-    /// where no row speaks of it. No memory is taken, and each row up to that one is looked at once.
+    /// where no row speaks of it. Each row up to that one is looked at once, without memory.
     pub fn first_match(&self, request: &Request) -> Option<(u16, bool)>
         ensures value { result ≡ first_match_from 1 self.now.rows request.now }
         ensures some { IfSome result (IsFirstMatch self.now.rows request.now) }
-        ensures none { IfNone result (All (λ row. row_matches row request.now ≡ false) self.now.rows) }
+        ensures none { IfNone result
+            (All (λ row. row_matches row request.now ≡ false) self.now.rows) }
         ensures valid { IsTable self.now }
     {
         first_in(&self.rows, request)
