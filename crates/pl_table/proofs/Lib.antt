@@ -1,3 +1,4 @@
 pub mod Spans
 pub mod BuiltIn
 pub mod Tokens
+pub mod FirstMatch

@@ -1,7 +1,10 @@
--- An id that no two principals have has one token.
-use Rattle.std.proofs.Common.{◌≡◌, ℕ, List, [], ◌∷◌, All, Some, Option, eqb, false, refl, sym, ap, ◌∙◌, map}
-use Rattle.std.specs.List.{IsDistinct, AllByRecursion}
-use Rattle.std.proofs.lemmas.Bool.{eq-eqb}
+-- Which token is listed for an id: none or one.
+use Rattle.std.proofs.Common.{◌≡◌, ℕ, List, [], ◌∷◌, All, Some, Option, eqb, false, refl, sym, ap, ◌∙◌, map, ◌↔◌, IsSome, Contains, is_some, arith}
+use Rattle.std.specs.Cmp.{nat_eq_equiv}
+use Rattle.std.specs.List.{IsDistinct, AllByRecursion, list_any}
+use Rattle.std.proofs.lemmas.Bool.{eq-eqb, eqb-true}
+use Rattle.std.proofs.lemmas.Bool.Decides.{nat_tests}
+use Rattle.std.proofs.lemmas.Map.Views.{Contains-from_any, list_any-from_Contains}
 use Rattle.std.proofs.lemmas.List.Elements.{All-from_recursion}
 use Rattle.pl_table.specs.declared.table.Principal.{Principal}
 use Rattle.pl_table.specs.Table.{token_of}
@@ -23,3 +26,15 @@ each_told id (p ∷ ps) apart =
 
 pub token_of-only : (id : ℕ) (ps : List Principal) → IsDistinct eqb (map (λ p. p.id) ps) → All (λ p. p.id ≡ id → token_of id ps ≡ Some p.token) ps
 token_of-only id ps apart = All-from_recursion (λ p. p.id ≡ id → token_of id ps ≡ Some p.token) ps (each_told id ps apart)
+
+-- a token is found where a test finds the id
+is_some-token_of : (id : ℕ) (ps : List Principal) → is_some (token_of id ps) ≡ list_any (eqb id) (map (λ p. p.id) ps)
+is_some-token_of id [] = refl
+is_some-token_of id (p ∷ ps) = grind (arith, nat_tests, is_some-token_of id ps)
+
+-- a token is found for the ids that are listed
+pub IsSome-token_of : (id : ℕ) (ps : List Principal) → IsSome (token_of id ps) ↔ Contains (map (λ p. p.id) ps) id
+IsSome-token_of id ps = (
+  λ h. Contains-from_any eqb-true id (map (λ p. p.id) ps) (sym (is_some-token_of id ps) ∙ h),
+  λ h. is_some-token_of id ps ∙ list_any-from_Contains nat_eq_equiv id (map (λ p. p.id) ps) h,
+)

@@ -1,4 +1,4 @@
--- What a request is.
+-- What a request is, and what it names.
 use Rattle.std.specs.Prelude.{ℕ, ◌+◌, ◌-◌, ◌^◌, ◌≤◌, List, []}
 use Rattle.std.specs.List.{range_with_len}
 use Rattle.pl_block.specs.Block.{touched}
@@ -13,18 +13,19 @@ pub record Query : Type 0 where
   pub head : Head
   pub act : Act
 
+-- the operation that is asked for
 abbrev pub op_of : Act → Op
 op_of (Write copy block) = ops.Write
 op_of (Report lsn) = ops.Report
 op_of (Pull lo hi lsn max) = ops.Pull
 
--- each number is in its range
+-- each number of the act is in its range
 abbrev pub InRange : Act → Type 0
 InRange (Write copy block) = Unit {0}
 InRange (Report lsn) = lsn ≤ 2 ^ 48
 InRange (Pull lo hi lsn max) = (lo ≤ hi) × (1 ≤ lsn) × (lsn ≤ 2 ^ 48) × (1 ≤ max) × (max ≤ 16)
 
--- the partitions that a request names, if it names any
+-- the partitions that an act names: those that the block touches, or all from lo to hi
 abbrev pub partitions_of : Act → List ℕ
 partitions_of (Write copy block) = touched block.records
 partitions_of (Report lsn) = []

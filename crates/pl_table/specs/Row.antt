@@ -6,11 +6,12 @@ use Rattle.pl_table.specs.declared.row.Row.{Row}
 use Rattle.pl_table.specs.Ops.{same_role, lists_op}
 use Rattle.pl_table.specs.Request.{Query, op_of, partitions_of}
 
--- a part that is absent matches all
+-- a part of a row passes the test, and one that is absent passes each
 abbrev pub part_matches : {A : Type 0} → (A → Bool) → Option A → Bool
 part_matches test None = true
 part_matches test (Some part) = test part
 
+-- the range has the partition
 abbrev pub is_within : PartitionRange → ℕ → Bool
 is_within range p = nat_le range.from p && nat_le p range.to
 

@@ -20,9 +20,11 @@ allow_row who role range = record { allows = true; who = Some who; role = Some r
 abbrev pub deny_pages : ℕ → ℕ → Row
 deny_pages who partition = record { allows = false; who = Some who; role = None; op = Some (Get ∷ []); range = Some (record { from = partition; to = partition }) }
 
+-- the five principals
 abbrev pub start_principals : List Principal
 start_principals = principal 1 0x11 ∷ principal 2 0x22 ∷ principal 3 0x33 ∷ principal 4 0x44 ∷ principal 5 0x55 ∷ []
 
+-- what each may do
 abbrev pub start_rows : List Row
 start_rows = allow_row 1 Operator None
     ∷ allow_row 2 Primary None
@@ -32,5 +34,6 @@ start_rows = allow_row 1 Operator None
     ∷ allow_row 5 Primary None
     ∷ []
 
+-- both
 abbrev pub start_table : WrittenTable
 start_table = record { principals = start_principals; rows = start_rows }

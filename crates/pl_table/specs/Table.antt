@@ -1,5 +1,5 @@
 -- The written table: what it lists for a principal, and its first row that speaks of a request.
-use Rattle.std.specs.Prelude.{ℕ, ◌+◌, ◌<◌, ◌≤◌, Bool, ◌==◌, nat_eq, List, [], ◌∷◌, length, map, Option, Some, None, if◌then◌else◌}
+use Rattle.std.specs.Prelude.{ℕ, ◌≡◌, ◌+◌, ◌-◌, ◌<◌, ◌≤◌, Bool, false, IsTrue, ◌==◌, nat_eq, List, [], ◌∷◌, length, map, take, slice_get, All, IsSomeAnd, Option, Some, None, if◌then◌else◌}
 use Rattle.std.specs.List.{IsDistinct}
 use Rattle.pl_table.specs.declared.row.Row.{Row}
 use Rattle.pl_table.specs.declared.table.Principal.{Principal}
@@ -11,7 +11,7 @@ pub record WrittenTable : Type 0 where
   pub principals : List Principal
   pub rows : List Row
 
--- no two principals have one id, and there are at most 64 of them and 256 rows
+-- there are 1 to 64 principals, no two of one id, and at most 256 rows
 pub record IsTable (t : WrittenTable) : Type 0 where
   pub some : 0 < length t.principals
   pub few : length t.principals ≤ 64
@@ -27,3 +27,9 @@ token_of id (p ∷ ps) = if p.id == id then Some p.token else token_of id ps
 abbrev pub first_match_from : ℕ → List Row → Query → Option (ℕ × Bool)
 first_match_from k [] q = None
 first_match_from k (row ∷ rows) q = if row_matches row q then Some (k, row.allows) else first_match_from (k + 1) rows q
+
+-- the row of this number speaks of the request, and allows or denies as is said; no row above it speaks of it
+pub record IsFirstMatch (rows : List Row) (q : Query) (found : ℕ × Bool) : Type 0 where
+  pub number : 0 < found.0
+  pub row : IsSomeAnd (slice_get rows (found.0 - 1)) (λ row. IsTrue (row_matches row q) × (row.allows ≡ found.1))
+  pub above : All (λ row. row_matches row q ≡ false) (take (found.0 - 1) rows)

@@ -21,3 +21,6 @@ pub use request::{Act, Request};
 pub use row::{Ops, Row};
 pub use table::{Principal, Table};
 pub use verdict::{Section, Verdict};
+
+#[cfg(test)]
+mod tests;

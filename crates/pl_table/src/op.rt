@@ -1,9 +1,11 @@
 //! Roles, and the operations that each has.
 
-ghost use Rattle.std.specs.Prelude.{◌≡◌, ◌≤◌};
-ghost use Rattle.pl_table.specs.Ops.{op_number, role_number, has_op, op_named, role_of};
+ghost use Rattle.std.specs.Prelude.{◌≡◌, Some};
+ghost use Rattle.pl_table.specs.Ops.{op_number, op_of_number, op_name, role_number, role_of_number, role_name, has_op};
 
-/// Who a principal says it is. The discriminant is the role's number in a request.
+use std::fmt;
+
+/// The part in which a principal asks. The discriminant is the role's number in a request.
 #[derive(Clone, Copy, Debug, PartialEq, Eq)]
 pub enum Role {
     /// Writes the log of its database, and reports what is hardened.
@@ -53,7 +55,7 @@ impl Role {
 
     /// The role of this number, if there is one.
     pub fn of_number(number: u8) -> Option<Role>
-        ensures { result ≡ role_of number }
+        ensures { result ≡ role_of_number number }
     {
         match number {
             1 => Some(Role::Primary),
@@ -61,6 +63,18 @@ impl Role {
             3 => Some(Role::PageServer),
             4 => Some(Role::Operator),
             _ => None,
+        }
+    }
+
+    /// The word for the role, as it is printed.
+    pub fn name(self) -> &'static str
+        ensures { result.now ≡ role_name self }
+    {
+        match self {
+            Role::Primary => "primary",
+            Role::Secondary => "secondary",
+            Role::PageServer => "page_server",
+            Role::Operator => "operator",
         }
     }
 
@@ -93,7 +107,7 @@ impl Op {
 
     /// The operation of this number, if there is one.
     pub fn of_number(number: u8) -> Option<Op>
-        ensures { result ≡ op_named number }
+        ensures { result ≡ op_of_number number }
     {
         match number {
             1 => Some(Op::Write),
@@ -109,5 +123,40 @@ impl Op {
             11 => Some(Op::Tidy),
             _ => None,
         }
+    }
+
+    /// The word for the operation, as it is printed.
+    pub fn name(self) -> &'static str
+        ensures { result.now ≡ op_name self }
+    {
+        match self {
+            Op::Write => "write",
+            Op::Offer => "offer",
+            Op::Report => "report",
+            Op::Get => "get",
+            Op::Pull => "pull",
+            Op::Advance => "advance",
+            Op::Status => "status",
+            Op::Failover => "failover",
+            Op::SetTable => "set_table",
+            Op::Audit => "audit",
+            Op::Tidy => "tidy",
+        }
+    }
+}
+
+impl fmt::Display for Role {
+    ghost output = { λ role. Some (role_name role) };
+
+    fn fmt<W: fmt::Write>(&self, f: &mut fmt::Formatter<W>) -> fmt::Result {
+        f.write_str(self.name())
+    }
+}
+
+impl fmt::Display for Op {
+    ghost output = { λ op. Some (op_name op) };
+
+    fn fmt<W: fmt::Write>(&self, f: &mut fmt::Formatter<W>) -> fmt::Result {
+        f.write_str(self.name())
     }
 }

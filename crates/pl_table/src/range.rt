@@ -3,10 +3,12 @@
 ghost use Rattle.std.specs.Prelude.{◌≡◌, ◌≤◌, ◌+◌, ◌-◌};
 ghost use Rattle.std.specs.List.{list_all, list_any, range_with_len};
 
-/// The partitions `from` to `to`, both included.
+/// The partitions `from` to `to`, both included. There are none where `from` is above `to`.
 #[derive(Clone, Copy, Debug, PartialEq, Eq)]
 pub struct PartitionRange {
+    /// The first partition.
     pub from: u16,
+    /// The last partition.
     pub to: u16,
 }
 

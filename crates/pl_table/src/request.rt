@@ -26,8 +26,8 @@ pub enum Act {
     Report {
         lsn: u64,
     },
-    /// Read at most `max` blocks, 1 to 16, from the number `lsn` on, 1 to 2^48, that touch a partition
-    /// from `lo` to `hi`, where `lo` is at most `hi`.
+    /// Read at most `max` blocks, 1 to 16, from the number `lsn` on, 1 to 2^48, that touch a
+    /// partition from `lo` to `hi`, where `lo` is at most `hi`.
     Pull {
         lo: u16,
         hi: u16,

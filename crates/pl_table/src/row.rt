@@ -39,6 +39,13 @@ impl Ops {
     {
         &self.items
     }
+
+    /// The operations in their order, given back with the memory that they stand in.
+    pub fn into_vec(self) -> Vec<Op>
+        ensures { result.items ≡ self }
+    {
+        self.items
+    }
 }
 
 /// A row: which requests it speaks of, and whether it allows them. A part that is `None` matches
@@ -53,8 +60,9 @@ pub struct Row {
     pub role: Option<Role>,
     /// The operations that it speaks of.
     pub op: Option<Ops>,
-    /// The partitions that it speaks of: all that a request names for a row that allows, at least
-    /// one of them for a row that denies. A request that names none is spoken of whatever they are.
+    /// The partitions that it speaks of. A row that allows matches where it has all of those that
+    /// the request names, a row that denies where it has at least one of them. A request that names
+    /// no partition is matched whatever they are.
     pub range: Option<PartitionRange>,
 }
 

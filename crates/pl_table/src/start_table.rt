@@ -10,9 +10,9 @@ use crate::table::{Principal, Table};
 use std::alloc::{AllocError, Global};
 
 impl Table {
-    /// The table that is built in until tables are read from text: principal 1 is the operator, 2 and
-    /// 5 may be primaries, 3 follows the log and may not read pages of partition 7, and 4 serves the
-    /// pages of partitions 0 to 3.
+    /// The table that is built in until tables are read from text: principal 1 is the operator,
+    /// 2 and 5 may be primaries, 3 follows the log and may not read pages of partition 7, and 4
+    /// follows the log of partitions 0 to 3, and applies it.
     pub fn t0(alloc: Global) -> Result<Table, AllocError>
         ensures { IfOk result (λ t. t ≡ start_table) }
     {

@@ -1,16 +1,19 @@
 //! The written table.
 
-ghost use Rattle.std.specs.Prelude.{◌≡◌, ◌≤◌, All, length};
-ghost use Rattle.pl_table.specs.Table.{IsTable, token_of, first_match_from};
+ghost use Rattle.std.specs.Prelude.{◌≡◌, ◌≤◌, ◌↔◌, All, Contains, IfNone, IfSome, IsSome, false, length, map};
+ghost use Rattle.pl_table.specs.Table.{IsTable, IsFirstMatch, token_of, first_match_from};
+ghost use Rattle.pl_table.specs.Row.{row_matches};
 
 use crate::request::Request;
 use crate::row::Row;
 use std::marker::Model;
 
-/// Who may ask at all: an id, and the token that shows that a request is the principal's.
+/// Who may ask at all.
 #[derive(Clone, Copy, Debug, PartialEq, Eq)]
 pub struct Principal {
+    /// The id by which rows and requests name the principal.
     pub id: u32,
+    /// What shows that a request is the principal's.
     pub token: [u8; 16],
 }
 
@@ -28,7 +31,8 @@ impl Model for Table {
 
     ghost view = { λ t. record { principals = t.principals.items; rows = t.rows.items } };
 
-    ghost invariant = { λ t. IsTable (record { principals = t.principals.items; rows = t.rows.items }) };
+    ghost invariant = { λ t.
+        IsTable (record { principals = t.principals.items; rows = t.rows.items }) };
 }
 
 impl Table {
@@ -56,9 +60,10 @@ impl Table {
         &self.rows
     }
 
-    /// The token listed for the id.
+    /// The token listed for the id, or `None` where the id is not listed.
     pub fn token(&self, id: u32) -> Option<[u8; 16]>
         ensures value { result ≡ token_of id self.now.principals }
+        ensures found { IsSome result ↔ Contains (map (λ p. p.id) self.now.principals) id }
 
         // An id has one token, since no two principals have one id.
         ensures only { All (λ p. p.id ≡ id → result ≡ Some p.token) self.now.principals }
@@ -66,9 +71,13 @@ impl Table {
         token_in(&self.principals, id)
     }
 
-    /// The first row that speaks of the request: its number, from 1, and whether it allows.
+    /// The first row that speaks of the request: its number, from 1, and whether it allows. `None`
+    /// where no row speaks of it. Each row up to that one is looked at once, without memory.
     pub fn first_match(&self, request: &Request) -> Option<(u16, bool)>
         ensures value { result ≡ first_match_from 1 self.now.rows request.now }
+        ensures some { IfSome result (IsFirstMatch self.now.rows request.now) }
+        ensures none { IfNone result
+            (All (λ row. row_matches row request.now ≡ false) self.now.rows) }
         ensures valid { IsTable self.now }
     {
         first_in(&self.rows, request)

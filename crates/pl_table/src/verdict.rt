@@ -16,7 +16,8 @@ pub enum Section {
 pub enum Verdict {
     /// No row stands against it.
     Allowed,
-    /// The first row that stands against it, by section and number, and the value that the row tells.
+    /// The first row that stands against it, by section and number, and the value that the row
+    /// tells.
     Denied {
         section: Section,
         row: u16,
