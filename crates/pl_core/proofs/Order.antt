@@ -1,10 +1,9 @@
 -- The rows of the table in the written order: none stands against a request but the first that matches, if it denies.
-use Rattle.std.proofs.Common.{◌≡◌, ℕ, zero, suc, ◌+◌, ◌<◌, ◌≤◌, Bool, true, false, ◌&&◌, cond, eqb, List, [], ◌∷◌, ◌++◌, length, map, Option, Some, None, refl, sym, ap, ◌∙◌, inl, inr, arith}
+use Rattle.std.proofs.Common.{◌≡◌, ℕ, zero, suc, ◌+◌, ◌<◌, ◌≤◌, Bool, true, false, ◌&&◌, eqb, List, [], ◌∷◌, ◌++◌, length, map, Option, Some, None, refl, sym, ap, ◌∙◌, inl, inr, arith}
 use Rattle.std.specs.List.{range_with_len}
 use Rattle.std.specs.Option.{option_map_or}
-use Rattle.std.proofs.lemmas.Bool.{cases_eq, cases_Bool, eq-eqb, ne_eqb, false≢true}
+use Rattle.std.proofs.lemmas.Bool.{cases_eq, cases_Bool, eq-eqb, ne_eqb}
 use Rattle.pl_table.specs.declared.row.Row.{Row}
-use Rattle.pl_table.specs.declared.verdict.Verdict.{Verdict}
 use Rattle.pl_table.specs.declared.verdict.Verdict.TheVariants as verdicts
 use Rattle.pl_table.specs.declared.verdict.Section.TheVariants as sections
 use Rattle.pl_table.specs.Request.{Query}
@@ -12,7 +11,7 @@ use Rattle.pl_table.specs.Row.{row_matches}
 use Rattle.pl_table.specs.Table.{WrittenTable, first_match_from}
 use Rattle.pl_core.specs.declared.epochs.Epochs.{Epochs}
 use Rattle.pl_core.specs.declared.view.View.{View}
-use Rattle.pl_core.specs.WrittenOrder.{Rule, b as table_row, b0, denies_at, denial, section_c, behind_a, first_denial}
+use Rattle.pl_core.specs.WrittenOrder.{Rule, b as table_row, b0, denies_at, section_c, behind_a, first_denial}
 
 and_false : (x : Bool) → (x && false) ≡ false
 and_false true = refl

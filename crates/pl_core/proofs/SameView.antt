@@ -1,8 +1,7 @@
 -- Two views that differ in the content of a number outside the window decide alike.
-use Rattle.std.proofs.Common.{◌≡◌, ℕ, zero, suc, ◌+◌, ◌<◌, ◌≤◌, Bool, true, false, cond, List, [], ◌∷◌, ◌++◌, length, map, refl, sym, ap, ◌∙◌, inl, inr, arith}
+use Rattle.std.proofs.Common.{◌≡◌, ℕ, zero, suc, ◌+◌, ◌<◌, ◌≤◌, Bool, cond, List, ◌∷◌, ◌++◌, length, map, refl, ap, ◌∙◌, inl, inr}
 use Rattle.std.specs.List.{range_with_len}
-use Rattle.std.proofs.lemmas.Bool.{cases_lt, le-leb, lt-leb, lt-ltb, le-ltb}
-use Rattle.pl_block.specs.Block.{Content}
+use Rattle.std.proofs.lemmas.Bool.{cases_lt, le-leb, lt-leb, lt-ltb}
 use Rattle.pl_table.specs.declared.head.Head.{Head}
 use Rattle.pl_table.specs.declared.request.Act.{Act}
 use Rattle.pl_table.specs.declared.request.Act.TheVariants as acts
@@ -29,9 +28,9 @@ same_log : (head : Head) (act : Act) (t : WrittenTable) (e : Epochs) (hard copie
 same_log head (acts.Write copy block) t e hard copies can x y same =
     elim (cases_lt hard block.lsn) [
       | inl above ↦ elim (cases_lt (hard + 64) block.lsn) [
-          | inl far ↦ rw (lt-leb block.lsn hard above, lt-ltb (hard + 64) block.lsn far) refl
-          | inr within ↦ ap (λ (a : Bool). first_denial section_c (record { head = head; act = acts.Write copy block }) t e (seen hard copies can a)) (same above within)
-        ]
+        | inl far ↦ rw (lt-leb block.lsn hard above, lt-ltb (hard + 64) block.lsn far) refl
+        | inr within ↦ ap (λ (a : Bool). first_denial section_c (record { head = head; act = acts.Write copy block }) t e (seen hard copies can a)) (same above within)
+      ]
       | inr below ↦ rw (le-leb block.lsn hard below) refl
     ]
 same_log head (acts.Report lsn) t e hard copies can x y same = refl

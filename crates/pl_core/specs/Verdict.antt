@@ -1,5 +1,5 @@
 -- The verdict on a request, asked of the whole history.
-use Rattle.std.specs.Prelude.{ℕ, ◌+◌, ◌-◌, Bool, true, false, List, Option, Some, None}
+use Rattle.std.specs.Prelude.{◌+◌, ◌-◌, Bool, true, List, Option, Some, None}
 use Rattle.std.specs.List.{list_all, range_with_len}
 use Rattle.pl_block.specs.Block.{Content, same_block}
 use Rattle.pl_table.specs.declared.request.Act.{Act}

@@ -7,7 +7,6 @@ use Rattle.pl_table.specs.declared.head.Head.{Head}
 use Rattle.pl_table.specs.declared.op.Role.TheVariants as roles
 use Rattle.pl_table.specs.declared.request.Act.{Act}
 use Rattle.pl_table.specs.declared.request.Act.TheVariants as acts
-use Rattle.pl_table.specs.declared.verdict.Section.{Section}
 use Rattle.pl_table.specs.declared.verdict.Section.TheVariants as sections
 use Rattle.pl_table.specs.declared.verdict.Verdict.{Verdict}
 use Rattle.pl_table.specs.declared.verdict.Verdict.TheVariants as verdicts

@@ -77,6 +77,11 @@ impl Db {
         requires { is_known (table_of self.now) request.now.head ≡ true }
         ensures { result ≡ verdict_of request.now self.now }
     {
-        decide(&self.table, self.epochs(), self.view(request.act()), request)
+        decide(
+            &self.table,
+            self.epochs(),
+            self.view(request.act()),
+            request,
+        )
     }
 }

@@ -1,4 +1,4 @@
-use Rattle.std.proofs.Common.{◌≡◌, ℕ, Bool, true, false, Some, Option, sym, ap, ◌∙◌}
+use Rattle.std.proofs.Common.{◌≡◌, Bool, true, false, Some, sym, ap, ◌∙◌}
 use Rattle.pl_table.specs.Table.{first_match_from}
 use Rattle.pl_core.proofs.Order.{behind_a-none, behind_a-allows, behind_a-denies}
 use Rattle.pl_core.proofs.decision.decide_by_table.Goals as goal
