@@ -13,6 +13,7 @@ use Rattle.pl_table.specs.Request.{Query, InRange, op_of}
 use Rattle.pl_wire.specs.declared.fault.WireFault.{WireFault}
 use Rattle.pl_wire.specs.declared.fault.WireFault.TheVariants.{TooShort, OutOfRange}
 use Rattle.pl_wire.specs.declared.fault.BodyFault.{BodyFault}
+use Rattle.pl_wire.specs.Laws.{OneRequestSpelling}
 use Rattle.pl_wire.specs.Spelling.{IsHead, IsRequest, act_spelling, request_spelling}
 use Rattle.pl_wire.specs.Reading.{Gives, head_in, act_reading, is_in_range, with_head, with_op, with_role, request_reading}
 use Rattle.pl_wire.proofs.Ranges.{is_in_range-Decides}
@@ -71,6 +72,12 @@ request_again law q is =
     ∙ ap (with_op q.head (act_spelling q.act)) op
     ∙ ap (with_head q.head) (act_again law q.act is.fields)
     ∙ ap (λ (b : Bool). cond b (Ok (record { head = q.head; act = q.act })) (Err OutOfRange)) tested
+
+pub same_requests : OneSpelling → (a b : Query) → IsRequest a → IsRequest b → request_spelling a ≡ request_spelling b → a ≡ b
+same_requests law a b is_a is_b e = ok_is a b (sym (request_again law a is_a) ∙ ap request_reading e ∙ request_again law b is_b)
+
+pub requests_law : OneSpelling → OneRequestSpelling
+requests_law law = record { again = request_again law; spelled = request_takes law; same = same_requests law }
 
 -- ---- as a call answers
 

@@ -1,8 +1,18 @@
--- What ties replies and frames to bytes.
-use Rattle.std.specs.Prelude.{◌≡◌, ℕ, ◌^◌, ◌<◌, List, ◌++◌, length}
+-- What ties requests, replies and frames to bytes.
+use Rattle.std.specs.Prelude.{◌≡◌, ℕ, ◌^◌, ◌<◌, List, ◌++◌, length, Ok}
+use Rattle.pl_block.specs.Laws.{AreBytes}
+use Rattle.pl_table.specs.Request.{Query}
 use Rattle.pl_core.specs.declared.reply.Reply.{Reply}
 use Rattle.pl_wire.specs.Frames.{frame}
+use Rattle.pl_wire.specs.Spelling.{IsRequest, request_spelling}
+use Rattle.pl_wire.specs.Reading.{request_reading}
 use Rattle.pl_wire.specs.Replies.{IsReply, reply_spelling}
+
+-- a request is read from its spelling, and what is read as a request is its spelling
+pub record OneRequestSpelling : Type 0 where
+  pub again : (q : Query) → IsRequest q → request_reading (request_spelling q) ≡ Ok q
+  pub spelled : (bytes : List ℕ) (q : Query) → AreBytes bytes → request_reading bytes ≡ Ok q → IsRequest q × (bytes ≡ request_spelling q)
+  pub same : (a b : Query) → IsRequest a → IsRequest b → request_spelling a ≡ request_spelling b → a ≡ b
 
 -- no two replies have one spelling
 abbrev pub OneReplySpelling : Type 0

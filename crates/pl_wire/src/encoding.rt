@@ -1,10 +1,11 @@
 //! A reply, written as its bytes.
 
-ghost use Rattle.std.specs.Prelude.{◌≡◌, ◌≤◌, ◌++◌, length, IfOk, OnOk};
-ghost use Rattle.std.specs.List.{flat_map};
+ghost use Rattle.std.specs.Prelude.{◌≡◌, ◌≤◌, ◌++◌, ◌^◌, length, IfOk, OnOk};
+ghost use Rattle.std.specs.List.{flat_map, AllByRecursion};
+ghost use Rattle.pl_block.specs.Spelling.{IsBlock};
 ghost use Rattle.std.specs.Int.{w16, w64, to_be_bytes};
 ghost use Rattle.pl_core.specs.Reply.{FitsReply};
-ghost use Rattle.pl_wire.specs.Replies.{section_number, served, reply_spelling};
+ghost use Rattle.pl_wire.specs.Replies.{section_number, served, reply_spelling, FillsFields, IsReply};
 
 use bytes::BufMut;
 use pl_block::{Block, encode};
@@ -70,25 +71,63 @@ fn put_malformed(out: &mut Vec<u8>, code: u8) -> Result<(), AllocError>
     out.put_u8(code)
 }
 
-/// The one spelling of the reply: its kind in a byte, and what the kind has.
-pub fn encode_reply(alloc: Global, reply: &Reply) -> Result<Vec<u8>, AllocError>
+fn put_reply(alloc: Global, out: &mut Vec<u8>, reply: &Reply) -> Result<(), AllocError>
     requires { FitsReply reply.now }
-    ensures { IfOk result (λ bytes. bytes.items ≡ reply_spelling reply.now) }
+    ensures { OnOk result (out.new.items ≡ out.old.items ++ reply_spelling reply.now) }
 {
-    let mut out = Vec::new(alloc);
     match reply {
-        Reply::Done => out.put_u8(0)?,
-        Reply::Blocks { next, blocks } => put_served(alloc, &mut out, *next, blocks)?,
+        Reply::Done => out.put_u8(0),
+        Reply::Blocks { next, blocks } => put_served(alloc, out, *next, blocks),
         Reply::Denied {
             section,
             row,
             value,
-        } => put_denied(&mut out, *section, *row, *value)?,
-        Reply::NoMemory => out.put_u8(6)?,
-        Reply::AuditFull => out.put_u8(7)?,
-        Reply::Spent => out.put_u8(8)?,
-        Reply::NoDatabase => out.put_u8(9)?,
-        Reply::Malformed { code } => put_malformed(&mut out, *code)?,
+        } => put_denied(out, *section, *row, *value),
+        Reply::NoMemory => out.put_u8(6),
+        Reply::AuditFull => out.put_u8(7),
+        Reply::Spent => out.put_u8(8),
+        Reply::NoDatabase => out.put_u8(9),
+        Reply::Malformed { code } => put_malformed(out, *code),
     }
+}
+
+// A block that is asked for its number is known to be one.
+fn each_is_block(blocks: &[Block])
+    ensures { AllByRecursion IsBlock blocks.now }
+{
+    for block in blocks {
+        let _number = block.lsn();
+    }
+}
+
+// A number that is read is known to be in the range of its type.
+fn fills_fields(reply: &Reply)
+    ensures { FillsFields reply.now }
+{
+    match reply {
+        Reply::Blocks { next, blocks } => {
+            let _next = *next;
+            each_is_block(blocks.as_slice());
+        }
+        Reply::Denied { row, value, .. } => {
+            let _row = *row;
+            let _value = *value;
+        }
+        _ => {}
+    }
+}
+
+/// The one spelling of the reply: its kind in a byte, and what the kind has. It can travel in a
+/// frame. Each block's bytes are made once and then copied behind those before them.
+pub fn encode_reply(alloc: Global, reply: &Reply) -> Result<Vec<u8>, AllocError>
+    requires { FitsReply reply.now }
+    ensures exact { IfOk result (λ bytes. bytes.items ≡ reply_spelling reply.now) }
+    ensures short { IfOk result (λ bytes. length bytes.items ≤ 2 ^ 20) }
+    // It is a reply by the definition that the law of spellings speaks of.
+    ensures valid { IfOk result (λ _. IsReply reply.now) }
+{
+    fills_fields(reply);
+    let mut out = Vec::new(alloc);
+    put_reply(alloc, &mut out, reply)?;
     Ok(out)
 }

@@ -1,7 +1,8 @@
 //! What the definitions say of one another, for the crates above. Each function is a law: its
-//! clause holds of all replies and bytes, and its body does nothing.
+//! clause holds of all requests, replies and bytes, and its body does nothing but to call on the
+//! law of blocks.
 
-ghost use Rattle.pl_wire.specs.Laws.{FramesEndThemselves, OneReplySpelling};
+ghost use Rattle.pl_wire.specs.Laws.{FramesEndThemselves, OneReplySpelling, OneRequestSpelling};
 
 use pl_block::one_spelling;
 
@@ -9,6 +10,14 @@ use pl_block::one_spelling;
 pub fn frames_end_themselves()
     ensures { FramesEndThemselves }
 {}
+
+/// A request is read again from its spelling, what is read as a request is its spelling, and no
+/// two requests have one spelling.
+pub fn one_request_spelling()
+    ensures { OneRequestSpelling }
+{
+    one_spelling();
+}
 
 /// No two replies have one spelling.
 pub fn one_reply_spelling()

@@ -13,7 +13,7 @@ mod numbers;
 pub use decoding::decode_request;
 pub use encoding::encode_reply;
 pub use fault::{BodyFault, WireFault};
-pub use laws::{frames_end_themselves, one_reply_spelling};
+pub use laws::{frames_end_themselves, one_reply_spelling, one_request_spelling};
 pub use pl_block::NoMemory;
 
 #[cfg(test)]

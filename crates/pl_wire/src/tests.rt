@@ -18,17 +18,32 @@ const ONE_PUT: [u8; 24] = [
 // A pull of at most 16 blocks from number 1 on, of all partitions.
 const PULL: [u8; 14] = [0, 0, 0xff, 0xff, 0, 0, 0, 0, 0, 0, 0, 1, 0, 16];
 
-// A head, in which principal, database and epoch are 2, 0 and 1, and arguments.
-fn body(alloc: Global, role: u8, op: u8, arguments: &[u8]) -> Result<Vec<u8>, NoMemory> {
+// A principal's id, and the byte that its token repeats.
+const PRIMARY: (u8, u8) = (2, 0x22);
+
+const FOLLOWER: (u8, u8) = (3, 0x33);
+
+// A head, in which database and epoch are 0 and 1, and arguments.
+fn body_of(
+    alloc: Global,
+    who: (u8, u8),
+    role: u8,
+    op: u8,
+    arguments: &[u8],
+) -> Result<Vec<u8>, NoMemory> {
     let mut bytes = Vec::new(alloc);
-    bytes.extend_from_slice(&[0, 0, 0, 2])?;
-    bytes.extend_from_slice(&[0x22; 16])?;
+    bytes.extend_from_slice(&[0, 0, 0, who.0])?;
+    bytes.extend_from_slice(&[who.1; 16])?;
     bytes.push(role)?;
     bytes.extend_from_slice(&[0, 0, 0, 0])?;
     bytes.extend_from_slice(&[0, 0, 0, 1])?;
     bytes.push(op)?;
     bytes.extend_from_slice(arguments)?;
     Ok(bytes)
+}
+
+fn body(alloc: Global, role: u8, op: u8, arguments: &[u8]) -> Result<Vec<u8>, NoMemory> {
+    body_of(alloc, PRIMARY, role, op, arguments)
 }
 
 // The fault's code, or 0 where there is a request.
@@ -109,8 +124,9 @@ fn faults_of_the_body(rt: HostRuntime) -> Result<(), Fail> {
         assert_eq!(rt; code_of(decode_request(alloc, &bytes))?, code, "{name}");
     }
     assert_eq!(rt; code_of(decode_request(alloc, &[]))?, 1, "no bytes");
-    let head = body(alloc, 1, 1, &[])?;
-    assert_eq!(rt; code_of(decode_request(alloc, &head[..29]))?, 1, "29 bytes");
+    let mut head = body(alloc, 1, 1, &[])?;
+    head.truncate(29);
+    assert_eq!(rt; code_of(decode_request(alloc, &head))?, 1, "29 bytes");
     Ok(())
 }
 
@@ -144,17 +160,17 @@ fn faults_of_the_block(rt: HostRuntime) -> Result<(), Fail> {
                 0, 0, 0, 0, 0, 0, 0, 0, 1, 0, 0, 0, 1, 1, 0, 0, 0, 0, 0, 0, 0x20, 1,
             ],
         ),
-        ("a byte more", 13, &[0, 0, 0, 0, 0, 0, 0, 0, 1, 0, 0, 0, 0, 0]),
+        (
+            "a byte more",
+            13,
+            &[0, 0, 0, 0, 0, 0, 0, 0, 1, 0, 0, 0, 0, 0],
+        ),
         (
             "annotation without a record",
             14,
             &[0, 0, 0, 0, 0, 0, 0, 0, 1, 0, 1, 0, 0, 0, 0],
         ),
-        (
-            "copy 255",
-            0,
-            &[255, 0, 0, 0, 0, 0, 0, 0, 1, 0, 0, 0, 0],
-        ),
+        ("copy 255", 0, &[255, 0, 0, 0, 0, 0, 0, 0, 1, 0, 0, 0, 0]),
     ];
     for (name, code, arguments) in cases {
         let bytes = body(alloc, 1, 1, arguments)?;
@@ -162,7 +178,11 @@ fn faults_of_the_block(rt: HostRuntime) -> Result<(), Fail> {
     }
     let zeros = vec![in alloc; 0; 32_770]?;
     let too_long = body(alloc, 1, 1, &zeros)?;
-    assert_eq!(rt; code_of(decode_request(alloc, &too_long))?, 15, "32,769 bytes of 0");
+    assert_eq!(rt;
+        code_of(decode_request(alloc, &too_long))?,
+        15,
+        "32,769 bytes of 0"
+    );
     Ok(())
 }
 
@@ -172,13 +192,7 @@ fn least_code_is_told(rt: HostRuntime) -> Result<(), Fail> {
     let cases: [(&str, u8, u8, u8, &[u8]); 6] = [
         ("2 before 3", 2, 0, 0, &[]),
         ("3 before 4", 3, 1, 12, &[]),
-        (
-            "4 before 6",
-            4,
-            2,
-            5,
-            &[0, 2, 0, 1, 0, 0, 0, 0, 0, 0, 0, 0],
-        ),
+        ("4 before 6", 4, 2, 5, &[0, 2, 0, 1, 0, 0, 0, 0, 0, 0, 0, 0]),
         (
             "5 before 6 in a pull",
             5,
@@ -199,8 +213,9 @@ fn least_code_is_told(rt: HostRuntime) -> Result<(), Fail> {
         let bytes = body(alloc, role, op, arguments)?;
         assert_eq!(rt; code_of(decode_request(alloc, &bytes))?, code, "{name}");
     }
-    let short = body(alloc, 0, 0, &[])?;
-    assert_eq!(rt; code_of(decode_request(alloc, &short[..29]))?, 1, "1 before 2");
+    let mut short = body(alloc, 0, 0, &[])?;
+    short.truncate(29);
+    assert_eq!(rt; code_of(decode_request(alloc, &short))?, 1, "1 before 2");
     Ok(())
 }
 
@@ -210,68 +225,77 @@ fn fields_at_their_places(rt: HostRuntime) -> Result<(), Fail> {
     let bytes: [u8; 44] = [
         0xa1, 0xa2, 0xa3, 0xa4, // principal
         0, 1, 2, 3, 4, 5, 6, 7, 8, 9, 10, 11, 12, 13, 14, 15, // token
-        3,  // page server
+        3, // page server
         0xb1, 0xb2, 0xb3, 0xb4, // database
         0xc1, 0xc2, 0xc3, 0xc4, // epoch
-        5,    // pull
+        5, // pull
         0xd1, 0xd2, 0xe1, 0xe2, // partitions
         0, 0, 0xf1, 0xf2, 0xf3, 0xf4, 0xf5, 0xf6, // number
         0, 7, // at most
     ];
     let request = decode_request(alloc, &bytes)?;
-    assert_eq!(rt; *request.head(), Head {
-        principal: 0xa1a2_a3a4,
-        token: [0, 1, 2, 3, 4, 5, 6, 7, 8, 9, 10, 11, 12, 13, 14, 15],
-        role: Role::PageServer,
-        database: 0xb1b2_b3b4,
-        epoch: 0xc1c2_c3c4,
-    });
+    assert_eq!(rt;
+        *request.head(),
+        Head {
+            principal: 0xa1a2_a3a4,
+            token: [0, 1, 2, 3, 4, 5, 6, 7, 8, 9, 10, 11, 12, 13, 14, 15],
+            role: Role::PageServer,
+            database: 0xb1b2_b3b4,
+            epoch: 0xc1c2_c3c4,
+        }
+    );
     match request.act() {
         Act::Pull { lo, hi, lsn, max } => {
-            assert_eq!(rt; (*lo, *hi, *lsn, *max), (0xd1d2, 0xe1e2, 0xf1f2_f3f4_f5f6, 7));
+            assert_eq!(rt;
+                (*lo, *hi, *lsn, *max),
+                (0xd1d2, 0xe1e2, 0xf1f2_f3f4_f5f6, 7)
+            );
         }
         _ => assert!(rt; false, "a pull"),
     }
     Ok(())
 }
 
-// The bodies of a short run: block 1 in two copies, hardened, and pulled by another principal.
-fn run_bodies(alloc: Global) -> Result<[Vec<u8>; 4], NoMemory> {
-    let mut first = vec![in alloc; 0u8]?;
-    first.extend_from_slice(&ONE_PUT)?;
-    let mut second = vec![in alloc; 1u8]?;
-    second.extend_from_slice(&ONE_PUT)?;
-    let mut pull = body(alloc, 2, 5, &PULL)?;
-    pull[3] = 3;
-    pull[4..20].fill(0x33);
-    Ok([
-        body(alloc, 1, 1, &first)?,
-        body(alloc, 1, 1, &second)?,
-        body(alloc, 1, 3, &[0, 0, 0, 0, 0, 0, 0, 1])?,
-        pull,
-    ])
+fn write_body(alloc: Global, copy: u8) -> Result<Vec<u8>, NoMemory> {
+    let mut arguments = Vec::new(alloc);
+    arguments.push(copy)?;
+    arguments.extend_from_slice(&ONE_PUT)?;
+    body(alloc, 1, 1, &arguments)
 }
 
+// Block 1 in two copies, hardened, and pulled by another principal.
 #[test]
 fn run_is_read(rt: HostRuntime) -> Result<(), Fail> {
     let alloc = rt.alloc();
-    let [first, second, report, pull] = run_bodies(alloc)?;
+    let report = body(alloc, 1, 3, &[0, 0, 0, 0, 0, 0, 0, 1])?;
+    let pull = body_of(alloc, FOLLOWER, 2, 5, &PULL)?;
     let cases = [
-        ("first write", &first, 2, Op::Write, 7),
-        ("second write", &second, 2, Op::Write, 7),
-        ("report", &report, 2, Op::Report, 4),
-        ("pull", &pull, 3, Op::Pull, 4),
+        ("first write", write_body(alloc, 0)?, 2, Op::Write, 7),
+        ("second write", write_body(alloc, 1)?, 2, Op::Write, 7),
+        ("report", report, 2, Op::Report, 4),
+        ("pull", pull, 3, Op::Pull, 4),
     ];
-    for (name, bytes, principal, op, cut_code) in cases {
-        let request = decode_request(alloc, bytes)?;
+    for (name, mut bytes, principal, op, cut_code) in cases {
+        let request = decode_request(alloc, &bytes)?;
         assert_eq!(rt; request.head().principal, principal, "{name}");
         assert_eq!(rt; request.act().op(), op, "{name}");
-        let cut = decode_request(alloc, &bytes[..bytes.len() - 1]);
+        let _last = bytes.pop();
+        let cut = decode_request(alloc, &bytes);
         assert_eq!(rt; code_of(cut)?, cut_code, "{name}, cut by its last byte");
     }
-    if let Act::Write { copy, block } = decode_request(alloc, &second)?.act() {
-        assert_eq!(rt; *copy, 1);
-        assert!(rt; block.same(&one_put(alloc)?));
+    Ok(())
+}
+
+#[test]
+fn write_has_its_copy_and_block(rt: HostRuntime) -> Result<(), Fail> {
+    let alloc = rt.alloc();
+    let (_, act) = decode_request(alloc, &write_body(alloc, 2)?)?.into_parts();
+    match act {
+        Act::Write { copy, block } => {
+            assert_eq!(rt; copy, 2);
+            assert!(rt; block.same(&one_put(alloc)?));
+        }
+        _ => assert!(rt; false, "a write"),
     }
     Ok(())
 }
