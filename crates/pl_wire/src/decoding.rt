@@ -132,6 +132,7 @@ fn each_is_byte(bytes: &[u8])
 /// keeps the copy; else no memory is asked for.
 ///
 /// Of the body's faults the one of the least code is told.
+#[tactic(auto, using(crate::proofs::Requests::is_found, crate::proofs::Requests::is_only))]
 pub fn decode_request(alloc: Global, body: &[u8]) -> Result<Request, BodyFault>
     // What is read is a request, and is spelled so.
     ensures found { IfOk result (λ q. IsRequest q × (body.now ≡ request_spelling q)) }

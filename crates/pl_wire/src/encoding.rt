@@ -119,6 +119,7 @@ fn fills_fields(reply: &Reply)
 
 /// The one spelling of the reply: its kind in a byte, and what the kind has. It can travel in a
 /// frame. Each block's bytes are made once and then copied behind those before them.
+#[tactic(auto, using(crate::proofs::ReplyLemmas::reply_fits_frame))]
 pub fn encode_reply(alloc: Global, reply: &Reply) -> Result<Vec<u8>, AllocError>
     requires { FitsReply reply.now }
     ensures exact { IfOk result (λ bytes. bytes.items ≡ reply_spelling reply.now) }
