@@ -1,13 +1,20 @@
-// A library with one function.
+//! Requests and replies as bytes, and the frames in which they travel.
+//!
+//! Each request and each reply that fits has one spelling. What is read is the request of its
+//! spelling, and bytes that spell none are told the fault of the least code.
 #![tactic(auto)]
 
-ghost use Rattle.std.specs.Prelude.{◌≡◌};
-ghost use Rattle.pl_wire.specs.Echo.{echo_of};
+mod decoding;
+mod encoding;
+mod fault;
+mod laws;
+mod numbers;
 
-// The `ensures` clause is the contract: what `echo` returns is `echo_of` of its argument, a definition
-// in `specs/Echo.antt`, which a caller's clause can cite too.
-pub fn echo(x: usize) -> usize
-    ensures { result ≡ echo_of x }
-{
-    x
-}
+pub use decoding::decode_request;
+pub use encoding::encode_reply;
+pub use fault::{BodyFault, WireFault};
+pub use laws::{frames_end_themselves, one_reply_spelling, one_request_spelling};
+pub use pl_block::NoMemory;
+
+#[cfg(test)]
+mod tests;

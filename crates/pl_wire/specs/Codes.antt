@@ -1,0 +1,24 @@
+-- The numbers of the faults of a body.
+use Rattle.std.specs.Prelude.{ℕ, ◌+◌}
+use Rattle.pl_block.specs.Codes as blocks
+use Rattle.pl_block.specs.declared.fault.BlockFault.{BlockFault}
+use Rattle.pl_block.specs.declared.fault.BlockFault.TheVariants as block_faults
+use Rattle.pl_wire.specs.declared.fault.WireFault.{WireFault}
+use Rattle.pl_wire.specs.declared.fault.WireFault.TheVariants.{TooShort, UnknownRole, UnknownKind, EndsInField, BytesAfterEnd, OutOfRange, Block}
+use Rattle.pl_wire.specs.declared.fault.BodyFault.{BodyFault}
+use Rattle.pl_wire.specs.declared.fault.BodyFault.TheVariants as faults
+
+-- the code of a fault: a block's is behind the body's own
+abbrev pub code_of : WireFault → ℕ
+code_of TooShort = 1
+code_of UnknownRole = 2
+code_of UnknownKind = 3
+code_of EndsInField = 4
+code_of BytesAfterEnd = 5
+code_of OutOfRange = 6
+code_of (Block fault) = blocks.code_of fault + 6
+
+-- why there is no body where there is no block
+abbrev pub of_block : BlockFault → BodyFault
+of_block (block_faults.Malformed fault) = faults.Malformed (Block fault)
+of_block block_faults.NoMemory = faults.NoMemory

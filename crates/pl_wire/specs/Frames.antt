@@ -1,0 +1,7 @@
+-- The frames in which bodies travel.
+use Rattle.std.specs.Prelude.{ℕ, List, ◌++◌, length}
+use Rattle.std.specs.Int.{w32, to_be_bytes}
+
+-- a length, and so many bytes
+abbrev pub frame : List ℕ → List ℕ
+frame body = to_be_bytes w32 (length body) ++ body

@@ -1,0 +1,23 @@
+-- What ties requests, replies and frames to bytes.
+use Rattle.std.specs.Prelude.{◌≡◌, ℕ, ◌^◌, ◌<◌, List, ◌++◌, length, Ok}
+use Rattle.pl_block.specs.Laws.{AreBytes}
+use Rattle.pl_table.specs.Request.{Query}
+use Rattle.pl_core.specs.declared.reply.Reply.{Reply}
+use Rattle.pl_wire.specs.Frames.{frame}
+use Rattle.pl_wire.specs.Spelling.{IsRequest, request_spelling}
+use Rattle.pl_wire.specs.Reading.{request_reading}
+use Rattle.pl_wire.specs.Replies.{IsReply, reply_spelling}
+
+-- a request is read from its spelling, and what is read as a request is its spelling
+pub record OneRequestSpelling : Type 0 where
+  pub again : (q : Query) → IsRequest q → request_reading (request_spelling q) ≡ Ok q
+  pub spelled : (bytes : List ℕ) (q : Query) → AreBytes bytes → request_reading bytes ≡ Ok q → IsRequest q × (bytes ≡ request_spelling q)
+  pub same : (a b : Query) → IsRequest a → IsRequest b → request_spelling a ≡ request_spelling b → a ≡ b
+
+-- no two replies have one spelling
+abbrev pub OneReplySpelling : Type 0
+OneReplySpelling = (a b : Reply) → IsReply a → IsReply b → reply_spelling a ≡ reply_spelling b → a ≡ b
+
+-- no frame is the beginning of another: where bytes begin with a frame, they begin with no other
+abbrev pub FramesEndThemselves : Type 0
+FramesEndThemselves = (a b x y : List ℕ) → length a < 2 ^ 32 → length b < 2 ^ 32 → frame a ++ x ≡ frame b ++ y → (a ≡ b) × (x ≡ y)

@@ -1,0 +1,88 @@
+-- Reading a request, with the fault of the least code.
+use Rattle.std.specs.Prelude.{◌≡◌, ℕ, ◌^◌, Bool, true, ◌&&◌, List, [], ◌∷◌, length, take, drop, slice_index, Option, Some, None, Result, Ok, Err, nat_lt, nat_le, if◌then◌else◌}
+use Rattle.std.specs.Int.{Width, w16, w32, w64, byte_len, from_be_bytes}
+use Rattle.pl_block.specs.Block.{Content}
+use Rattle.pl_block.specs.Reading.{block_reading}
+use Rattle.pl_block.specs.declared.fault.Fault.{Fault}
+use Rattle.pl_table.specs.declared.head.Head.{Head}
+use Rattle.pl_table.specs.declared.op.Op.{Op}
+use Rattle.pl_table.specs.declared.op.Op.TheVariants as ops
+use Rattle.pl_table.specs.declared.op.Role.{Role}
+use Rattle.pl_table.specs.declared.request.Act.{Act}
+use Rattle.pl_table.specs.declared.request.Act.TheVariants.{Write, Report, Pull}
+use Rattle.pl_table.specs.Ops.{role_of, op_named}
+use Rattle.pl_table.specs.Request.{Query}
+use Rattle.pl_wire.specs.declared.fault.WireFault.{WireFault}
+use Rattle.pl_wire.specs.declared.fault.WireFault.TheVariants.{TooShort, UnknownRole, UnknownKind, EndsInField, BytesAfterEnd, OutOfRange, Block}
+use Rattle.pl_wire.specs.declared.fault.BodyFault.{BodyFault}
+use Rattle.pl_wire.specs.declared.fault.BodyFault.TheVariants as faults
+
+-- what a call returned is what reading gives, unless memory was refused
+abbrev pub Fails : {X : Type 0} → BodyFault → Result X WireFault → Type 0
+Fails faults.NoMemory read = Unit {0}
+Fails (faults.Malformed f) read = read ≡ Err f
+
+abbrev pub Gives : {X : Type 0} → Result X BodyFault → Result X WireFault → Type 0
+Gives (Ok x) read = read ≡ Ok x
+Gives (Err e) read = Fails e read
+
+-- the number of this width at a place
+abbrev pub number_in : Width → ℕ → List ℕ → ℕ
+number_in w at bytes = from_be_bytes w (take (byte_len w) (drop at bytes))
+
+-- the head that a body begins with
+abbrev pub head_in : Role → List ℕ → Head
+head_in role body = record { principal = number_in w32 0 body; token = take 16 (drop 4 body); role = role; database = number_in w32 21 body; epoch = number_in w32 25 body }
+
+-- the value, where there are so many bytes, no fewer and no more
+abbrev pub sized : {X : Type 0} → ℕ → List ℕ → X → Result X WireFault
+sized size bytes x = if nat_lt (length bytes) size then Err EndsInField else if nat_lt size (length bytes) then Err BytesAfterEnd else Ok x
+
+-- a write, where there is a block
+abbrev pub write_to : ℕ → Result Content Fault → Result Act WireFault
+write_to copy (Ok block) = Ok (Write copy block)
+write_to copy (Err fault) = Err (Block fault)
+
+-- a copy, and then a block to the end
+abbrev pub write_reading : List ℕ → Result Act WireFault
+write_reading [] = Err EndsInField
+write_reading (copy ∷ bytes) = write_to copy (block_reading bytes)
+
+abbrev pub report_reading : List ℕ → Result Act WireFault
+report_reading bytes = sized 8 bytes (Report (number_in w64 0 bytes))
+
+abbrev pub pull_reading : List ℕ → Result Act WireFault
+pull_reading bytes = sized 14 bytes (Pull (number_in w16 0 bytes) (number_in w16 2 bytes) (number_in w64 4 bytes) (number_in w16 12 bytes))
+
+-- the arguments of an operation
+abbrev pub act_reading : Op → List ℕ → Result Act WireFault
+act_reading ops.Write bytes = write_reading bytes
+act_reading ops.Report bytes = report_reading bytes
+act_reading ops.Pull bytes = pull_reading bytes
+act_reading _ bytes = Err UnknownKind
+
+-- a test whether an act's numbers are in their ranges
+abbrev pub is_in_range : Act → Bool
+is_in_range (Write copy block) = true
+is_in_range (Report lsn) = nat_le lsn (2 ^ 48)
+is_in_range (Pull lo hi lsn max) = nat_le lo hi && (nat_le 1 lsn && (nat_le lsn (2 ^ 48) && (nat_le 1 max && nat_le max 16)))
+
+-- a request of a head and an act, where the act's numbers are in their ranges
+abbrev pub ranged : Head → Act → Result Query WireFault
+ranged head act = if is_in_range act then Ok (record { head = head; act = act }) else Err OutOfRange
+
+abbrev pub with_head : Head → Result Act WireFault → Result Query WireFault
+with_head head (Ok act) = ranged head act
+with_head head (Err fault) = Err fault
+
+abbrev pub with_op : Head → List ℕ → Option Op → Result Query WireFault
+with_op head arguments None = Err UnknownKind
+with_op head arguments (Some op) = with_head head (act_reading op arguments)
+
+abbrev pub with_role : List ℕ → Option Role → Result Query WireFault
+with_role body None = Err UnknownRole
+with_role body (Some role) = with_op (head_in role body) (drop 30 body) (op_named (slice_index body 29))
+
+-- all of the bytes: a request, or the fault that is told
+unfoldable pub request_reading : List ℕ → Result Query WireFault
+request_reading body = if nat_lt (length body) 30 then Err TooShort else with_role body (role_of (slice_index body 20))

@@ -1,0 +1,134 @@
+//! A reply, written as its bytes.
+
+ghost use Rattle.std.specs.Prelude.{◌≡◌, ◌≤◌, ◌++◌, ◌^◌, length, IfOk, OnOk};
+ghost use Rattle.std.specs.List.{flat_map, AllByRecursion};
+ghost use Rattle.pl_block.specs.Spelling.{IsBlock};
+ghost use Rattle.std.specs.Int.{w16, w64, to_be_bytes};
+ghost use Rattle.pl_core.specs.Reply.{FitsReply};
+ghost use Rattle.pl_wire.specs.Replies.{section_number, served, reply_spelling, FillsFields, IsReply};
+
+use bytes::BufMut;
+use pl_block::{Block, encode};
+use pl_core::{Blocks, Reply};
+use pl_table::Section;
+use std::alloc::{AllocError, Global};
+
+fn number_of(section: Section) -> u8
+    ensures { result ≡ section_number section }
+{
+    section as u8
+}
+
+#[tactic(auto, unfolding(crate::specs::Replies::served))]
+fn put_block(alloc: Global, out: &mut Vec<u8>, block: &Block) -> Result<(), AllocError>
+    ensures { OnOk result (out.new.items ≡ out.old.items ++ served block.now) }
+{
+    let bytes = encode(alloc, block)?;
+    out.put_u32(bytes.len() as u32)?;
+    out.put_slice(&bytes)
+}
+
+fn put_blocks(alloc: Global, out: &mut Vec<u8>, blocks: &[Block]) -> Result<(), AllocError>
+    requires { length blocks.now ≤ 16 }
+    ensures { OnOk result (out.new.items ≡ out.old.items
+        ++ (to_be_bytes w16 (length blocks.now) ++ flat_map served blocks.now)) }
+{
+    out.put_u16(blocks.len() as u16)?;
+    for block in blocks {
+        put_block(alloc, out, block)?;
+    }
+    Ok(())
+}
+
+fn put_served(
+    alloc: Global,
+    out: &mut Vec<u8>,
+    next: u64,
+    blocks: &Blocks,
+) -> Result<(), AllocError>
+    requires { length blocks.now ≤ 16 }
+    ensures { OnOk result (out.new.items ≡ out.old.items ++ reply_spelling (Reply.Blocks next blocks.now)) }
+{
+    out.put_u8(1)?;
+    out.put_u64(next)?;
+    put_blocks(alloc, out, blocks.as_slice())
+}
+
+fn put_denied(out: &mut Vec<u8>, section: Section, row: u16, value: u64) -> Result<(), AllocError>
+    ensures { OnOk result (out.new.items ≡ out.old.items
+        ++ reply_spelling (Reply.Denied section row value)) }
+{
+    out.put_u8(5)?;
+    out.put_u8(number_of(section))?;
+    out.put_u16(row)?;
+    out.put_u64(value)
+}
+
+fn put_malformed(out: &mut Vec<u8>, code: u8) -> Result<(), AllocError>
+    ensures { OnOk result (out.new.items ≡ out.old.items ++ reply_spelling (Reply.Malformed code)) }
+{
+    out.put_u8(10)?;
+    out.put_u8(code)
+}
+
+fn put_reply(alloc: Global, out: &mut Vec<u8>, reply: &Reply) -> Result<(), AllocError>
+    requires { FitsReply reply.now }
+    ensures { OnOk result (out.new.items ≡ out.old.items ++ reply_spelling reply.now) }
+{
+    match reply {
+        Reply::Done => out.put_u8(0),
+        Reply::Blocks { next, blocks } => put_served(alloc, out, *next, blocks),
+        Reply::Denied {
+            section,
+            row,
+            value,
+        } => put_denied(out, *section, *row, *value),
+        Reply::NoMemory => out.put_u8(6),
+        Reply::AuditFull => out.put_u8(7),
+        Reply::Spent => out.put_u8(8),
+        Reply::NoDatabase => out.put_u8(9),
+        Reply::Malformed { code } => put_malformed(out, *code),
+    }
+}
+
+// A block that is asked for its number is known to be one.
+fn each_is_block(blocks: &[Block])
+    ensures { AllByRecursion IsBlock blocks.now }
+{
+    for block in blocks {
+        let _number = block.lsn();
+    }
+}
+
+// A number that is read is known to be in the range of its type.
+fn fills_fields(reply: &Reply)
+    ensures { FillsFields reply.now }
+{
+    match reply {
+        Reply::Blocks { next, blocks } => {
+            let _next = *next;
+            each_is_block(blocks.as_slice());
+        }
+        Reply::Denied { row, value, .. } => {
+            let _row = *row;
+            let _value = *value;
+        }
+        _ => {}
+    }
+}
+
+/// The one spelling of the reply: its kind in a byte, and what the kind has. It can travel in a
+/// frame. Each block's bytes are made once and then copied behind those before them.
+#[tactic(auto, using(crate::proofs::ReplyLemmas::reply_fits_frame))]
+pub fn encode_reply(alloc: Global, reply: &Reply) -> Result<Vec<u8>, AllocError>
+    requires { FitsReply reply.now }
+    ensures exact { IfOk result (λ bytes. bytes.items ≡ reply_spelling reply.now) }
+    ensures short { IfOk result (λ bytes. length bytes.items ≤ 2 ^ 20) }
+    // It is a reply by the definition that the law of spellings speaks of.
+    ensures valid { IfOk result (λ _. IsReply reply.now) }
+{
+    fills_fields(reply);
+    let mut out = Vec::new(alloc);
+    put_reply(alloc, &mut out, reply)?;
+    Ok(out)
+}

@@ -1,0 +1,27 @@
+//! What the definitions say of one another, for the crates above. Each function is a law: its
+//! clause holds of all requests, replies and bytes, and its body does nothing but to call on the
+//! law of blocks.
+
+ghost use Rattle.pl_wire.specs.Laws.{FramesEndThemselves, OneReplySpelling, OneRequestSpelling};
+
+use pl_block::one_spelling;
+
+/// No frame is the beginning of another, so that frames in a row can be told apart.
+pub fn frames_end_themselves()
+    ensures { FramesEndThemselves }
+{}
+
+/// A request is read again from its spelling, what is read as a request is its spelling, and no
+/// two requests have one spelling.
+pub fn one_request_spelling()
+    ensures { OneRequestSpelling }
+{
+    one_spelling();
+}
+
+/// No two replies have one spelling.
+pub fn one_reply_spelling()
+    ensures { OneReplySpelling }
+{
+    one_spelling();
+}
