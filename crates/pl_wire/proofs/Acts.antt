@@ -13,7 +13,7 @@ use Rattle.pl_table.specs.declared.op.Op.{Op}
 use Rattle.pl_table.specs.declared.op.Op.TheVariants as ops
 use Rattle.pl_table.specs.declared.request.Act.{Act}
 use Rattle.pl_table.specs.declared.request.Act.TheVariants.{Write, Report, Pull}
-use Rattle.pl_table.specs.Ops.{op_number, op_named}
+use Rattle.pl_table.specs.Ops.{op_number, op_of_number}
 use Rattle.pl_table.specs.Request.{op_of}
 use Rattle.pl_wire.specs.declared.fault.WireFault.{WireFault}
 use Rattle.pl_wire.specs.declared.fault.WireFault.TheVariants.{EndsInField, BytesAfterEnd}
@@ -100,12 +100,12 @@ act_again law (Report lsn) h = ap (λ (n : ℕ). done (Report n)) (from_be_bytes
 act_again law (Pull lo hi lsn max) h = rw (from_be_bytes-to_be_bytes_2 lo h.0, from_be_bytes-to_be_bytes_2 hi h.1, from_be_bytes-to_be_bytes_8 lsn h.2, from_be_bytes-to_be_bytes_2 max h.3) refl
 
 -- the operation of an act that can be read, by its number
-pub op_told : (n : ℕ) (act : Act) → op_named n ≡ Some (op_of act) → n ≡ op_number (op_of act)
+pub op_told : (n : ℕ) (act : Act) → op_of_number n ≡ Some (op_of act) → n ≡ op_number (op_of act)
 op_told n (Write copy block) e = grind (arith, nat_tests)
 op_told n (Report lsn) e = grind (arith, nat_tests)
 op_told n (Pull lo hi lsn max) e = grind (arith, nat_tests)
 
-pub op_again : (act : Act) → op_named (op_number (op_of act)) ≡ Some (op_of act)
+pub op_again : (act : Act) → op_of_number (op_number (op_of act)) ≡ Some (op_of act)
 op_again (Write copy block) = refl
 op_again (Report lsn) = refl
 op_again (Pull lo hi lsn max) = refl

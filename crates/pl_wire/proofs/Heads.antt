@@ -9,18 +9,18 @@ use Rattle.pl_block.specs.Laws.{AreBytes}
 use Rattle.pl_table.specs.declared.head.Head.{Head}
 use Rattle.pl_table.specs.declared.op.Role.{Role}
 use Rattle.pl_table.specs.declared.op.Role.TheVariants.{Primary, Secondary, PageServer, Operator}
-use Rattle.pl_table.specs.Ops.{role_number, role_of}
+use Rattle.pl_table.specs.Ops.{role_number, role_of_number}
 use Rattle.pl_wire.specs.Spelling.{IsHead}
 use Rattle.pl_wire.specs.Reading.{number_in, head_in}
 use Rattle.pl_wire.proofs.Places.{wide32, cut, number_cut, number_below, byte_cut}
 
-pub role_told : (n : ℕ) (role : Role) → role_of n ≡ Some role → n ≡ role_number role
+pub role_told : (n : ℕ) (role : Role) → role_of_number n ≡ Some role → n ≡ role_number role
 role_told n Primary e = grind (arith, nat_tests)
 role_told n Secondary e = grind (arith, nat_tests)
 role_told n PageServer e = grind (arith, nat_tests)
 role_told n Operator e = grind (arith, nat_tests)
 
-pub role_again : (role : Role) → role_of (role_number role) ≡ Some role
+pub role_again : (role : Role) → role_of_number (role_number role) ≡ Some role
 role_again Primary = refl
 role_again Secondary = refl
 role_again PageServer = refl
@@ -39,7 +39,7 @@ IsHead-head_in role body fits long = record {
 }
 
 -- a body is its head, spelled, and the bytes from the operation on
-pub head_takes : (role : Role) (body : List ℕ) → AreBytes body → 30 ≤ length body → role_of (get_or body 20 0) ≡ Some role → body ≡ headed (head_in role body) (get_or body 29 0 ∷ drop 30 body)
+pub head_takes : (role : Role) (body : List ℕ) → AreBytes body → 30 ≤ length body → role_of_number (get_or body 20 0) ≡ Some role → body ≡ headed (head_in role body) (get_or body 29 0 ∷ drop 30 body)
 head_takes role body fits long e =
     let p : List ℕ = to_be_bytes w32 (number_in w32 0 body) in
     let t : List ℕ = take 16 (drop 4 body) in

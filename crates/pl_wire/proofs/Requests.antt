@@ -8,7 +8,7 @@ use Rattle.pl_table.specs.declared.head.Head.{Head}
 use Rattle.pl_table.specs.declared.op.Op.{Op}
 use Rattle.pl_table.specs.declared.op.Role.{Role}
 use Rattle.pl_table.specs.declared.request.Act.{Act}
-use Rattle.pl_table.specs.Ops.{role_of, op_named, op_number}
+use Rattle.pl_table.specs.Ops.{role_of_number, op_of_number, op_number}
 use Rattle.pl_table.specs.Request.{Query, InRange, op_of}
 use Rattle.pl_wire.specs.declared.fault.WireFault.{WireFault}
 use Rattle.pl_wire.specs.declared.fault.WireFault.TheVariants.{TooShort, OutOfRange}
@@ -36,17 +36,17 @@ with_op_ok : (head : Head) (arguments : List ℕ) (o : Option Op) (q : Query) �
 with_op_ok head arguments None q e = absurd cc
 with_op_ok head arguments (Some op) q e = (op, refl, e)
 
-with_role_ok : (body : List ℕ) (o : Option Role) (q : Query) → with_role body o ≡ Ok q → (role : Role) × (o ≡ Some role) × (with_op (head_in role body) (drop 30 body) (op_named (get_or body 29 0)) ≡ Ok q)
+with_role_ok : (body : List ℕ) (o : Option Role) (q : Query) → with_role body o ≡ Ok q → (role : Role) × (o ≡ Some role) × (with_op (head_in role body) (drop 30 body) (op_of_number (get_or body 29 0)) ≡ Ok q)
 with_role_ok body None q e = absurd cc
 with_role_ok body (Some role) q e = (role, refl, e)
 
 pub request_takes : OneSpelling → (body : List ℕ) (q : Query) → AreBytes body → request_reading body ≡ Ok q → IsRequest q × (body ≡ request_spelling q)
 unfolding request_reading
 request_takes law body q fits e =
-    let g = guard_ok (ltb (length body) 30) TooShort (with_role body (role_of (get_or body 20 0))) q e in
+    let g = guard_ok (ltb (length body) 30) TooShort (with_role body (role_of_number (get_or body 20 0))) q e in
     let long = ltb-false _ _ g.0 in
-    let r = with_role_ok body (role_of (get_or body 20 0)) q g.1 in
-    let o = with_op_ok (head_in r.0 body) (drop 30 body) (op_named (get_or body 29 0)) q r.2 in
+    let r = with_role_ok body (role_of_number (get_or body 20 0)) q g.1 in
+    let o = with_op_ok (head_in r.0 body) (drop 30 body) (op_of_number (get_or body 29 0)) q r.2 in
     let h = with_head_ok (head_in r.0 body) (act_reading o.0 (drop 30 body)) q o.2 in
     let a = act_takes law o.0 (drop 30 body) q.act (AreBytes-drop 30 body fits) h.0 in
     let op : get_or body 29 0 ≡ op_number (op_of q.act) = op_told (get_or body 29 0) q.act (o.1 ∙ ap (λ (x : Op). Some x) (sym a.of_op)) in
@@ -60,15 +60,15 @@ request_again law q is =
     let body = request_spelling q in
     let rest : List ℕ = op_number (op_of q.act) ∷ act_spelling q.act in
     let long : ltb (length body) 30 ≡ false = le-ltb _ _ (simp length-append (omega (arith, is.head.token))) in
-    let role : role_of (get_or body 20 0) ≡ Some q.head.role = ap role_of (role_in q.head rest is.head) ∙ role_again q.head.role in
+    let role : role_of_number (get_or body 20 0) ≡ Some q.head.role = ap role_of_number (role_in q.head rest is.head) ∙ role_again q.head.role in
     let head : head_in q.head.role body ≡ q.head = head_again q.head rest is.head in
     let arguments : drop 30 body ≡ act_spelling q.act = arguments_in q.head (op_number (op_of q.act)) (act_spelling q.act) is.head in
-    let op : op_named (get_or body 29 0) ≡ Some (op_of q.act) = ap op_named (op_in q.head (op_number (op_of q.act)) (act_spelling q.act) is.head) ∙ op_again q.act in
+    let op : op_of_number (get_or body 29 0) ≡ Some (op_of q.act) = ap op_of_number (op_in q.head (op_number (op_of q.act)) (act_spelling q.act) is.head) ∙ op_again q.act in
     let tested : is_in_range q.act ≡ true = (is_in_range-Decides q.act).1 is.in_range in
-    ap (λ (b : Bool). cond b (Err TooShort) (with_role body (role_of (get_or body 20 0)))) long
+    ap (λ (b : Bool). cond b (Err TooShort) (with_role body (role_of_number (get_or body 20 0)))) long
     ∙ ap (with_role body) role
-    ∙ ap (λ (h : Head). with_op h (drop 30 body) (op_named (get_or body 29 0))) head
-    ∙ ap (λ (t : List ℕ). with_op q.head t (op_named (get_or body 29 0))) arguments
+    ∙ ap (λ (h : Head). with_op h (drop 30 body) (op_of_number (get_or body 29 0))) head
+    ∙ ap (λ (t : List ℕ). with_op q.head t (op_of_number (get_or body 29 0))) arguments
     ∙ ap (with_op q.head (act_spelling q.act)) op
     ∙ ap (with_head q.head) (act_again law q.act is.fields)
     ∙ ap (λ (b : Bool). cond b (Ok (record { head = q.head; act = q.act })) (Err OutOfRange)) tested

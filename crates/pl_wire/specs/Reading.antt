@@ -10,7 +10,7 @@ use Rattle.pl_table.specs.declared.op.Op.TheVariants as ops
 use Rattle.pl_table.specs.declared.op.Role.{Role}
 use Rattle.pl_table.specs.declared.request.Act.{Act}
 use Rattle.pl_table.specs.declared.request.Act.TheVariants.{Write, Report, Pull}
-use Rattle.pl_table.specs.Ops.{role_of, op_named}
+use Rattle.pl_table.specs.Ops.{role_of_number, op_of_number}
 use Rattle.pl_table.specs.Request.{Query}
 use Rattle.pl_wire.specs.declared.fault.WireFault.{WireFault}
 use Rattle.pl_wire.specs.declared.fault.WireFault.TheVariants.{TooShort, UnknownRole, UnknownKind, EndsInField, BytesAfterEnd, OutOfRange, Block}
@@ -81,8 +81,8 @@ with_op head arguments (Some op) = with_head head (act_reading op arguments)
 
 abbrev pub with_role : List ℕ → Option Role → Result Query WireFault
 with_role body None = Err UnknownRole
-with_role body (Some role) = with_op (head_in role body) (drop 30 body) (op_named (slice_index body 29))
+with_role body (Some role) = with_op (head_in role body) (drop 30 body) (op_of_number (slice_index body 29))
 
 -- all of the bytes: a request, or the fault that is told
 unfoldable pub request_reading : List ℕ → Result Query WireFault
-request_reading body = if nat_lt (length body) 30 then Err TooShort else with_role body (role_of (slice_index body 20))
+request_reading body = if nat_lt (length body) 30 then Err TooShort else with_role body (role_of_number (slice_index body 20))

@@ -1,0 +1,3 @@
+mod Feeds
+mod Pieces
+mod Turns

@@ -1,0 +1,35 @@
+ghost use Rattle.std.specs.Prelude.{◌≡◌, IfOk, IsErr, IfErr, Ok};
+ghost use Rattle.hex.specs.Hex.{decode_of};
+ghost use Rattle.pagelog.specs.Text.{answer_text};
+
+use hex::FromHexError;
+use std::alloc::{AllocError, Global};
+
+/// Why a line gives no body.
+#[derive(Clone, Copy, Debug, PartialEq, Eq)]
+pub(crate) enum LineFault {
+    /// An odd number of digits, or a byte that is no digit.
+    Text,
+    NoMemory,
+}
+
+/// The bytes that a line spells, two digits a byte, in either case.
+pub(crate) fn bytes_of_line(alloc: Global, line: &[u8]) -> Result<Vec<u8>, LineFault>
+    ensures ok { IfOk result (λ body. decode_of line.now ≡ Ok body.items) }
+    ensures err { IfErr result (λ fault. fault ≡ LineFault.Text → IsErr (decode_of line.now)) }
+{
+    match hex::decode(alloc, line) {
+        Ok(body) => Ok(body),
+        Err(FromHexError::OutOfMemory) => Err(LineFault::NoMemory),
+        Err(_) => Err(LineFault::Text),
+    }
+}
+
+/// The line that a body is written as: digits in lower case, and a line feed.
+pub(crate) fn line_of_bytes(alloc: Global, body: &[u8]) -> Result<Vec<u8>, AllocError>
+    ensures { IfOk result (λ line. line.items ≡ answer_text body.now) }
+{
+    let mut line = hex::encode(alloc, body)?.into_bytes();
+    line.push(b'\n')?;
+    Ok(line)
+}

@@ -1,0 +1,27 @@
+ghost use Rattle.std.specs.Prelude.{ℕ, ◌<◌, OnOk, OnErr, length, take};
+ghost use Rattle.std.specs.Io.KnownBytes.{Appends};
+
+use std::io::Write;
+
+/// A write failed, or took no byte.
+#[derive(Clone, Copy, Debug, PartialEq, Eq)]
+pub(crate) struct Stopped;
+
+/// Writes until the whole is written. Nothing is tried again after a fault.
+pub(crate) fn write_whole<W: Write>(writer: &mut W, bytes: &[u8]) -> Result<(), Stopped>
+    ensures ok { OnOk result (Appends (W.contents writer.old) (W.contents writer.new) bytes.now) }
+
+    // What was written is a beginning of the bytes, and never all of them.
+    ensures err { OnErr result ((k : ℕ) × (k < length bytes.now)
+        × Appends (W.contents writer.old) (W.contents writer.new) (take k bytes.now)) }
+{
+    let mut at = 0;
+    while at < bytes.len() {
+        let (_, rest) = bytes.split_at(at);
+        match writer.write(rest) {
+            Ok(0) | Err(_) => return Err(Stopped),
+            Ok(n) => at += n,
+        }
+    }
+    Ok(())
+}
