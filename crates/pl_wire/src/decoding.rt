@@ -108,7 +108,8 @@ fn ranged_request(head: Head, act: Act) -> Result<Request, WireFault>
 #[tactic(auto, unfolding(crate::specs::Reading::request_reading))]
 fn request_of(alloc: Global, body: &[u8]) -> Result<Request, BodyFault>
     ensures exact { Gives result (request_reading body.now) }
-    ensures full { result ≡ Err BodyFault.NoMemory → op_named (slice_index body.now 29) ≡ Some Op.Write }
+    ensures full { result ≡ Err BodyFault.NoMemory →
+        op_named (slice_index body.now 29) ≡ Some Op.Write }
 {
     if body.len() < HEAD_BYTES {
         return Err(BodyFault::Malformed(WireFault::TooShort));
