@@ -17,7 +17,7 @@ use Rattle.pl_table.specs.Ops.{op_number, op_of_number}
 use Rattle.pl_table.specs.Request.{op_of}
 use Rattle.pl_wire.specs.declared.fault.WireFault.{WireFault}
 use Rattle.pl_wire.specs.declared.fault.WireFault.TheVariants.{EndsInField, BytesAfterEnd}
-use Rattle.pl_wire.specs.Spelling.{FitsFields, act_spelling}
+use Rattle.pl_wire.specs.Spelling.{FitsActFields, act_spelling}
 use Rattle.pl_wire.specs.Reading.{number_in, sized, write_to, write_reading, report_reading, pull_reading, act_reading}
 use Rattle.pl_wire.proofs.Places.{wide16, wide64, number_cut, number_below}
 
@@ -42,7 +42,7 @@ sized_ok size bytes x y e =
 -- an act, and the arguments that it was read from
 pub record IsRead (op : Op) (bytes : List ℕ) (act : Act) : Type 0 where
   pub of_op : op_of act ≡ op
-  pub fields : FitsFields act
+  pub fields : FitsActFields act
   pub spelled : bytes ≡ act_spelling act
 
 write_to_ok : (copy : ℕ) (r : Result Content Fault) (act : Act) → write_to copy r ≡ Ok act → (b : Content) × (r ≡ Ok b) × (Write copy b ≡ act)
@@ -94,7 +94,7 @@ act_takes law ops.SetTable bytes act fits e = absurd cc
 act_takes law ops.Audit bytes act fits e = absurd cc
 act_takes law ops.Tidy bytes act fits e = absurd cc
 
-pub act_again : OneSpelling → (act : Act) → FitsFields act → act_reading (op_of act) (act_spelling act) ≡ Ok act
+pub act_again : OneSpelling → (act : Act) → FitsActFields act → act_reading (op_of act) (act_spelling act) ≡ Ok act
 act_again law (Write copy block) h = ap (write_to copy) (law.again block h.1)
 act_again law (Report lsn) h = ap (λ (n : ℕ). done (Report n)) (from_be_bytes-to_be_bytes_8 lsn h)
 act_again law (Pull lo hi lsn max) h = rw (from_be_bytes-to_be_bytes_2 lo h.0, from_be_bytes-to_be_bytes_2 hi h.1, from_be_bytes-to_be_bytes_8 lsn h.2, from_be_bytes-to_be_bytes_2 max h.3) refl

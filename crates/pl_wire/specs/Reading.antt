@@ -17,11 +17,12 @@ use Rattle.pl_wire.specs.declared.fault.WireFault.TheVariants.{TooShort, Unknown
 use Rattle.pl_wire.specs.declared.fault.BodyFault.{BodyFault}
 use Rattle.pl_wire.specs.declared.fault.BodyFault.TheVariants as faults
 
--- what a call returned is what reading gives, unless memory was refused
+-- a call failed as reading does, unless memory was refused
 abbrev pub Fails : {X : Type 0} → BodyFault → Result X WireFault → Type 0
 Fails faults.NoMemory read = Unit {0}
 Fails (faults.Malformed f) read = read ≡ Err f
 
+-- what a call returned is what reading gives, unless memory was refused
 abbrev pub Gives : {X : Type 0} → Result X BodyFault → Result X WireFault → Type 0
 Gives (Ok x) read = read ≡ Ok x
 Gives (Err e) read = Fails e read
@@ -48,9 +49,11 @@ abbrev pub write_reading : List ℕ → Result Act WireFault
 write_reading [] = Err EndsInField
 write_reading (copy ∷ bytes) = write_to copy (block_reading bytes)
 
+-- a number, and no more
 abbrev pub report_reading : List ℕ → Result Act WireFault
 report_reading bytes = sized 8 bytes (Report (number_in w64 0 bytes))
 
+-- partitions from and to, number and count, and no more
 abbrev pub pull_reading : List ℕ → Result Act WireFault
 pull_reading bytes = sized 14 bytes (Pull (number_in w16 0 bytes) (number_in w16 2 bytes) (number_in w64 4 bytes) (number_in w16 12 bytes))
 
@@ -71,14 +74,17 @@ is_in_range (Pull lo hi lsn max) = nat_le lo hi && (nat_le 1 lsn && (nat_le lsn 
 abbrev pub ranged : Head → Act → Result Query WireFault
 ranged head act = if is_in_range act then Ok (record { head = head; act = act }) else Err OutOfRange
 
+-- a head, and then an act, if it could be read
 abbrev pub with_head : Head → Result Act WireFault → Result Query WireFault
 with_head head (Ok act) = ranged head act
 with_head head (Err fault) = Err fault
 
+-- an operation, if there is one of the number, and then its arguments
 abbrev pub with_op : Head → List ℕ → Option Op → Result Query WireFault
 with_op head arguments None = Err UnknownKind
 with_op head arguments (Some op) = with_head head (act_reading op arguments)
 
+-- a role, if there is one of the number, and then the rest of the body
 abbrev pub with_role : List ℕ → Option Role → Result Query WireFault
 with_role body None = Err UnknownRole
 with_role body (Some role) = with_op (head_in role body) (drop 30 body) (op_of_number (slice_index body 29))

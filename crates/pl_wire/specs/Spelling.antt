@@ -26,13 +26,13 @@ pub record IsHead (h : Head) : Type 0 where
   pub epoch : h.epoch < 2 ^ 32
 
 -- each argument fits its field
-abbrev pub FitsFields : Act → Type 0
-FitsFields (Write copy block) = (copy < 256) × IsBlock block
-FitsFields (Report lsn) = lsn < 2 ^ 64
-FitsFields (Pull lo hi lsn max) = (lo < 2 ^ 16) × (hi < 2 ^ 16) × (lsn < 2 ^ 64) × (max < 2 ^ 16)
+abbrev pub FitsActFields : Act → Type 0
+FitsActFields (Write copy block) = (copy < 256) × IsBlock block
+FitsActFields (Report lsn) = lsn < 2 ^ 64
+FitsActFields (Pull lo hi lsn max) = (lo < 2 ^ 16) × (hi < 2 ^ 16) × (lsn < 2 ^ 64) × (max < 2 ^ 16)
 
 -- what is asked, and by whom, fits the fields, and its numbers are in their ranges
 pub record IsRequest (q : Query) : Type 0 where
   pub head : IsHead q.head
-  pub fields : FitsFields q.act
+  pub fields : FitsActFields q.act
   pub in_range : InRange q.act

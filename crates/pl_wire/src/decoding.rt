@@ -1,7 +1,8 @@
 //! A request, read from its bytes.
 
-ghost use Rattle.std.specs.Prelude.{◌≡◌, ◌≤◌, IfOk, Ok, drop, length, take};
+ghost use Rattle.std.specs.Prelude.{◌≡◌, ◌≤◌, IfOk, Ok, drop, length, slice_index, take};
 ghost use Rattle.pl_block.specs.Laws.{AreBytes};
+ghost use Rattle.pl_table.specs.Ops.{op_named};
 ghost use Rattle.pl_table.specs.Request.{Query};
 ghost use Rattle.pl_wire.specs.Spelling.{IsRequest, request_spelling};
 ghost use Rattle.pl_wire.specs.Reading.{Gives, head_in, sized, write_reading, report_reading, pull_reading, act_reading, ranged, request_reading};
@@ -87,7 +88,8 @@ fn pull_of(arguments: &[u8]) -> Result<Act, WireFault>
 }
 
 fn act_of(alloc: Global, op: Op, arguments: &[u8]) -> Result<Act, BodyFault>
-    ensures { Gives result (act_reading op arguments.now) }
+    ensures exact { Gives result (act_reading op arguments.now) }
+    ensures full { result ≡ Err BodyFault.NoMemory → op ≡ Op.Write }
 {
     match op {
         Op::Write => write_of(alloc, arguments),
@@ -105,7 +107,9 @@ fn ranged_request(head: Head, act: Act) -> Result<Request, WireFault>
 
 #[tactic(auto, unfolding(crate::specs::Reading::request_reading))]
 fn request_of(alloc: Global, body: &[u8]) -> Result<Request, BodyFault>
-    ensures { Gives result (request_reading body.now) }
+    ensures exact { Gives result (request_reading body.now) }
+    ensures full { result ≡ Err BodyFault.NoMemory →
+        op_named (slice_index body.now 29) ≡ Some Op.Write }
 {
     if body.len() < HEAD_BYTES {
         return Err(BodyFault::Malformed(WireFault::TooShort));
@@ -129,7 +133,7 @@ fn each_is_byte(bytes: &[u8])
 }
 
 /// The request that the bytes spell. The bytes of a write's block are copied once, and the block
-/// keeps the copy; else no memory is asked for.
+/// keeps the copy. The other requests ask for no memory.
 ///
 /// Of the body's faults the one of the least code is told.
 #[tactic(auto, using(crate::proofs::Requests::is_found, crate::proofs::Requests::is_only))]
@@ -140,6 +144,9 @@ pub fn decode_request(alloc: Global, body: &[u8]) -> Result<Request, BodyFault>
     ensures only { (q : Query) → IsRequest q → body.now ≡ request_spelling q → Gives result (Ok q) }
     // Which fault it is.
     ensures exact { Gives result (request_reading body.now) }
+    // Memory is refused to a write alone.
+    ensures full { result ≡ Err BodyFault.NoMemory →
+        op_named (slice_index body.now 29) ≡ Some Op.Write }
 {
     each_is_byte(body);
     one_spelling();

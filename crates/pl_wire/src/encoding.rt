@@ -2,11 +2,12 @@
 
 ghost use Rattle.std.specs.Prelude.{◌≡◌, ◌≤◌, ◌++◌, ◌^◌, length, IfOk, OnOk};
 ghost use Rattle.std.specs.List.{flat_map, AllByRecursion};
-ghost use Rattle.pl_block.specs.Spelling.{IsBlock};
 ghost use Rattle.std.specs.Int.{w16, w64, to_be_bytes};
+ghost use Rattle.pl_block.specs.Spelling.{IsBlock};
 ghost use Rattle.pl_core.specs.Reply.{FitsReply};
-ghost use Rattle.pl_wire.specs.Replies.{section_number, served, reply_spelling, FillsFields, IsReply};
+ghost use Rattle.pl_wire.specs.Replies.{section_number, served, reply_spelling, FitsReplyFields, IsReply};
 
+use crate::kind::Kind;
 use bytes::BufMut;
 use pl_block::{Block, encode};
 use pl_core::{Blocks, Reply};
@@ -47,9 +48,10 @@ fn put_served(
     blocks: &Blocks,
 ) -> Result<(), AllocError>
     requires { length blocks.now ≤ 16 }
-    ensures { OnOk result (out.new.items ≡ out.old.items ++ reply_spelling (Reply.Blocks next blocks.now)) }
+    ensures { OnOk result (out.new.items ≡ out.old.items
+        ++ reply_spelling (Reply.Blocks next blocks.now)) }
 {
-    out.put_u8(1)?;
+    out.put_u8(Kind::Blocks as u8)?;
     out.put_u64(next)?;
     put_blocks(alloc, out, blocks.as_slice())
 }
@@ -58,7 +60,7 @@ fn put_denied(out: &mut Vec<u8>, section: Section, row: u16, value: u64) -> Resu
     ensures { OnOk result (out.new.items ≡ out.old.items
         ++ reply_spelling (Reply.Denied section row value)) }
 {
-    out.put_u8(5)?;
+    out.put_u8(Kind::Denied as u8)?;
     out.put_u8(number_of(section))?;
     out.put_u16(row)?;
     out.put_u64(value)
@@ -67,7 +69,7 @@ fn put_denied(out: &mut Vec<u8>, section: Section, row: u16, value: u64) -> Resu
 fn put_malformed(out: &mut Vec<u8>, code: u8) -> Result<(), AllocError>
     ensures { OnOk result (out.new.items ≡ out.old.items ++ reply_spelling (Reply.Malformed code)) }
 {
-    out.put_u8(10)?;
+    out.put_u8(Kind::Malformed as u8)?;
     out.put_u8(code)
 }
 
@@ -76,17 +78,17 @@ fn put_reply(alloc: Global, out: &mut Vec<u8>, reply: &Reply) -> Result<(), Allo
     ensures { OnOk result (out.new.items ≡ out.old.items ++ reply_spelling reply.now) }
 {
     match reply {
-        Reply::Done => out.put_u8(0),
+        Reply::Done => out.put_u8(Kind::Done as u8),
         Reply::Blocks { next, blocks } => put_served(alloc, out, *next, blocks),
         Reply::Denied {
             section,
             row,
             value,
         } => put_denied(out, *section, *row, *value),
-        Reply::NoMemory => out.put_u8(6),
-        Reply::AuditFull => out.put_u8(7),
-        Reply::Spent => out.put_u8(8),
-        Reply::NoDatabase => out.put_u8(9),
+        Reply::NoMemory => out.put_u8(Kind::NoMemory as u8),
+        Reply::AuditFull => out.put_u8(Kind::AuditFull as u8),
+        Reply::Spent => out.put_u8(Kind::Spent as u8),
+        Reply::NoDatabase => out.put_u8(Kind::NoDatabase as u8),
         Reply::Malformed { code } => put_malformed(out, *code),
     }
 }
@@ -101,8 +103,8 @@ fn each_is_block(blocks: &[Block])
 }
 
 // A number that is read is known to be in the range of its type.
-fn fills_fields(reply: &Reply)
-    ensures { FillsFields reply.now }
+fn each_number_fits(reply: &Reply)
+    ensures { FitsReplyFields reply.now }
 {
     match reply {
         Reply::Blocks { next, blocks } => {
@@ -117,8 +119,10 @@ fn fills_fields(reply: &Reply)
     }
 }
 
-/// The one spelling of the reply: its kind in a byte, and what the kind has. It can travel in a
-/// frame. Each block's bytes are made once and then copied behind those before them.
+/// The one spelling of the reply: its kind in a byte, and what the kind has. Whether the reply can
+/// be written is told by [`Reply::fits`], and what is written can travel in a frame.
+///
+/// Each block's bytes are made once, and then copied behind those before them.
 #[tactic(auto, using(crate::proofs::ReplyLemmas::reply_fits_frame))]
 pub fn encode_reply(alloc: Global, reply: &Reply) -> Result<Vec<u8>, AllocError>
     requires { FitsReply reply.now }
@@ -127,7 +131,7 @@ pub fn encode_reply(alloc: Global, reply: &Reply) -> Result<Vec<u8>, AllocError>
     // It is a reply by the definition that the law of spellings speaks of.
     ensures valid { IfOk result (λ _. IsReply reply.now) }
 {
-    fills_fields(reply);
+    each_number_fits(reply);
     let mut out = Vec::new(alloc);
     put_reply(alloc, &mut out, reply)?;
     Ok(out)

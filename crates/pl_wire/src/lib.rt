@@ -7,6 +7,7 @@
 mod decoding;
 mod encoding;
 mod fault;
+mod kind;
 mod laws;
 mod numbers;
 
