@@ -2,7 +2,7 @@
 
 ghost use Rattle.std.specs.Prelude.{◌≡◌, ◌≤◌, IfOk, Ok, drop, length, slice_index, take};
 ghost use Rattle.pl_block.specs.Laws.{AreBytes};
-ghost use Rattle.pl_table.specs.Ops.{op_named};
+ghost use Rattle.pl_table.specs.Ops.{op_of_number};
 ghost use Rattle.pl_table.specs.Request.{Query};
 ghost use Rattle.pl_wire.specs.Spelling.{IsRequest, request_spelling};
 ghost use Rattle.pl_wire.specs.Reading.{Gives, head_in, sized, write_reading, report_reading, pull_reading, act_reading, ranged, request_reading};
@@ -109,7 +109,7 @@ fn ranged_request(head: Head, act: Act) -> Result<Request, WireFault>
 fn request_of(alloc: Global, body: &[u8]) -> Result<Request, BodyFault>
     ensures exact { Gives result (request_reading body.now) }
     ensures full { result ≡ Err BodyFault.NoMemory →
-        op_named (slice_index body.now 29) ≡ Some Op.Write }
+        op_of_number (slice_index body.now 29) ≡ Some Op.Write }
 {
     if body.len() < HEAD_BYTES {
         return Err(BodyFault::Malformed(WireFault::TooShort));
@@ -146,7 +146,7 @@ pub fn decode_request(alloc: Global, body: &[u8]) -> Result<Request, BodyFault>
     ensures exact { Gives result (request_reading body.now) }
     // Memory is refused to a write alone.
     ensures full { result ≡ Err BodyFault.NoMemory →
-        op_named (slice_index body.now 29) ≡ Some Op.Write }
+        op_of_number (slice_index body.now 29) ≡ Some Op.Write }
 {
     each_is_byte(body);
     one_spelling();
