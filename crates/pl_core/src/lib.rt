@@ -27,3 +27,6 @@ pub use line::Line;
 pub use pl_block::NoMemory;
 pub use reply::{Blocks, Reply};
 pub use view::View;
+
+#[cfg(test)]
+mod tests;
