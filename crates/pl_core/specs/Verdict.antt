@@ -13,7 +13,7 @@ use Rattle.pl_core.specs.Epoch.{epoch_of, primary_of, table_of}
 use Rattle.pl_core.specs.Log.{copy_count, content_at, has_quorum, hard_of}
 use Rattle.pl_core.specs.WrittenOrder.{decision}
 
--- a number has no content yet, or this block
+-- a number that has this content, if any, is open to the block: it has none yet, or this block
 abbrev pub is_open_to : Content → Option Content → Bool
 is_open_to block None = true
 is_open_to block (Some content) = same_block content block
@@ -25,14 +25,23 @@ agrees _ es = true
 
 -- each number above the hardened ones up to a report's stands in a quorum of copies
 abbrev pub can_harden : Act → List Entry → Bool
-can_harden (acts.Report lsn) es = list_all (has_quorum es) (range_with_len (hard_of es + 1) (lsn - hard_of es))
+can_harden (acts.Report lsn) es =
+    list_all (has_quorum es) (range_with_len (hard_of es + 1) (lsn - hard_of es))
 can_harden _ es = true
 
+-- the epoch and its primary
 abbrev pub epochs_of : History → Epochs
 epochs_of h = record { epoch = epoch_of h; primary = primary_of h }
 
+-- what the rows of section C look at
 abbrev pub view_of : Act → List Entry → View
-view_of act es = record { hard = hard_of es; agrees = agrees act es; copies = copy_count; can_harden = can_harden act es }
+view_of act es = record {
+  hard = hard_of es;
+  agrees = agrees act es;
+  copies = copy_count;
+  can_harden = can_harden act es;
+}
 
+-- the decision of the written order, by the table in force
 abbrev pub verdict_of : Query → History → Verdict
 verdict_of q h = decision q (table_of h) (epochs_of h) (view_of q.act h.entries)

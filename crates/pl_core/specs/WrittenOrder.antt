@@ -1,6 +1,6 @@
 -- The written order: its rows, and the first that stands against a request. What the rows of
 -- section C look at is given as a view of the log.
-use Rattle.std.specs.Prelude.{ℕ, ◌+◌, Bool, true, false, not, ◌&&◌, ◌==◌, nat_lt, nat_le, List, [], ◌∷◌, ◌++◌, length, map, cond, Option, Some, None}
+use Rattle.std.specs.Prelude.{ℕ, ◌+◌, Bool, true, false, not, ◌&&◌, ◌==◌, nat_lt, nat_le, List, [], ◌∷◌, ◌++◌, length, map, if◌then◌else◌, Option, Some, None}
 use Rattle.std.specs.Str.{bytes_eq}
 use Rattle.std.specs.List.{range_with_len}
 use Rattle.pl_table.specs.declared.head.Head.{Head}
@@ -15,6 +15,7 @@ use Rattle.pl_table.specs.Request.{Query, op_of}
 use Rattle.pl_table.specs.Table.{WrittenTable, token_of, first_match_from}
 use Rattle.pl_core.specs.declared.epochs.Epochs.{Epochs}
 use Rattle.pl_core.specs.declared.view.View.{View}
+use Rattle.pl_core.specs.Log.{window}
 
 -- a row of the written order
 pub data Rule : Type 0 where
@@ -37,6 +38,7 @@ abbrev pub is_token : List ℕ → Option (List ℕ) → Bool
 is_token token None = false
 is_token token (Some listed) = bytes_eq listed token
 
+-- the table lists the principal, with this token
 abbrev pub is_known : WrittenTable → Head → Bool
 is_known t head = is_token head.token (token_of head.principal t.principals)
 
@@ -45,6 +47,7 @@ abbrev pub denies_at : ℕ → Option (ℕ × Bool) → Bool
 denies_at row None = false
 denies_at row (Some found) = found.0 == row && not found.1
 
+-- no row matches
 abbrev pub is_unmatched : Option (ℕ × Bool) → Bool
 is_unmatched None = true
 is_unmatched (Some found) = false
@@ -61,7 +64,7 @@ writes_hardened hard _ = false
 
 -- a write above the window
 abbrev pub writes_above : ℕ → Act → Bool
-writes_above hard (acts.Write copy block) = nat_lt (hard + 64) block.lsn
+writes_above hard (acts.Write copy block) = nat_lt (hard + window) block.lsn
 writes_above hard _ = false
 
 -- a write of another block than the number's content
@@ -111,6 +114,7 @@ denial c4 e v = verdicts.Denied sections.C 4 0
 denial c5 e v = verdicts.Denied sections.C 5 0
 denial c6 e v = verdicts.Denied sections.C 6 v.hard
 
+-- the rows on the log
 abbrev pub section_c : List Rule
 section_c = c1 ∷ c2 ∷ c3 ∷ c4 ∷ c5 ∷ c6 ∷ []
 
@@ -125,7 +129,9 @@ written_order rows = a1 ∷ a2 ∷ a3 ∷ a4 ∷ a5 ∷ behind_a rows
 -- the first row that stands against the request denies it
 abbrev pub first_denial : List Rule → Query → WrittenTable → Epochs → View → Verdict
 first_denial [] q t e v = verdicts.Allowed
-first_denial (rule ∷ rules) q t e v = cond (stands_against rule q t e v) (denial rule e v) (first_denial rules q t e v)
+first_denial (rule ∷ rules) q t e v =
+    if stands_against rule q t e v then denial rule e v else first_denial rules q t e v
 
+-- the verdict by the whole written order
 abbrev pub decision : Query → WrittenTable → Epochs → View → Verdict
 decision q t e v = first_denial (written_order (length t.rows)) q t e v

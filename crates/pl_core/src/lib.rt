@@ -10,6 +10,7 @@ mod changes;
 mod db;
 mod decision;
 mod epochs;
+mod laws;
 mod limits;
 mod line;
 mod reply;
@@ -22,6 +23,7 @@ mod view;
 
 pub use db::{Db, DbFault};
 pub use epochs::Epochs;
+pub use laws::{denials_change_nothing, pulls_reach_the_hardened_end};
 pub use limits::Limits;
 pub use line::Line;
 pub use pl_block::NoMemory;

@@ -30,10 +30,10 @@ impl Model for Blocks {
 
 impl Blocks {
     /// These blocks.
-    pub fn new(items: Vec<Block>) -> Blocks
-        ensures { result ≡ items.items }
+    pub fn new(blocks: Vec<Block>) -> Blocks
+        ensures { result ≡ blocks.items }
     {
-        Blocks { items }
+        Blocks { items: blocks }
     }
 
     /// The blocks.
