@@ -1,3 +1,5 @@
 pub mod Lines
 pub mod Text
+pub mod Answering
+pub mod Start
 pub mod Played

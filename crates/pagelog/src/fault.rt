@@ -1,3 +1,7 @@
+//! Why `play` stops.
+
+use std::fmt;
+
 /// Why `play` stopped before the end of its input. Lines are numbered from 1.
 #[derive(Clone, Copy, Debug, PartialEq, Eq)]
 pub enum PlayFault {
@@ -5,10 +9,22 @@ pub enum PlayFault {
     Read,
     /// A write failed, or took no byte.
     Write,
-    /// A growth was refused.
+    /// A growth was refused, but not to a step: that is a reply.
     NoMemory,
     /// The line of this number has an odd number of digits, or a byte that is none.
     Text(u64),
     /// The line of this number has more than 131,072 bytes before its line feed.
     Long(u64),
+}
+
+impl fmt::Display for PlayFault {
+    fn fmt<W: fmt::Write>(&self, f: &mut fmt::Formatter<W>) -> fmt::Result {
+        match self {
+            PlayFault::Read => write!(f, "read"),
+            PlayFault::Write => write!(f, "write"),
+            PlayFault::NoMemory => write!(f, "no memory"),
+            PlayFault::Text(line) => write!(f, "line {line} is no hexadecimal text"),
+            PlayFault::Long(line) => write!(f, "line {line} is too long"),
+        }
+    }
 }

@@ -1,28 +1,28 @@
-ghost use Rattle.std.specs.Prelude.{⊤};
+//! What no clause says: the stored run by hand, texts, and that each call can succeed.
 
 use super::*;
+use crate::answering::answer_body;
+use crate::words::are_play;
+use pl_core::{Db, Limits};
+use pl_table::Table;
 use std::alloc::{AllocError, Global};
-use std::io::{self, BufRead, BufReader, ErrorKind, Read, Write};
+use std::io::{BufRead, ErrorKind, Read, Write};
 use std::test::Fail;
 
-/// Answers a body by the body from back to front.
-#[derive(Drop)]
-struct Reverses {
-    steps: u64,
-}
+// Block 1 is written in two copies, reported and pulled. The lines end at 111, 222, 299 and 388.
+const REQUESTS: &[u8] = b"\
+    0000000222222222222222222222222222222222010000000000000001010000000000000000010001000000\
+    01010000000000000001aa\n\
+    0000000222222222222222222222222222222222010000000000000001010100000000000000010001000000\
+    01010000000000000001aa\n\
+    0000000222222222222222222222222222222222010000000000000001030000000000000001\n\
+    00000003333333333333333333333333333333330200000000000000010500\
+    00ffff00000000000000010010\n";
 
-impl Answers for Reverses {
-    ghost step = { λ _ _ _ _. ⊤ };
-
-    fn answer(&mut self, alloc: Global, body: &[u8]) -> Result<Vec<u8>, AllocError> {
-        let Ok(mut reply) = Vec::from_slice(alloc, body) else {
-            return Err(AllocError);
-        };
-        reply.as_mut_slice().reverse();
-        self.steps = self.steps.saturating_add(1);
-        Ok(reply)
-    }
-}
+// Done, Done, Done, and the block. The lines end at 3, 6, 9 and 88.
+const ANSWERS: &[u8] = b"00\n00\n00\n\
+    01000000000000000200010000001800000000000000010001000000\
+    01010000000000000001aa\n";
 
 /// Fails at each read.
 #[derive(Drop)]
@@ -58,58 +58,67 @@ impl Write for Pipe {
     }
 }
 
-/// What was written, how many bodies were answered, and how it ended.
+/// What was written, how many entries the database has, and how it ended.
 #[derive(Drop)]
 struct Outcome {
     output: Vec<u8>,
-    steps: u64,
+    entries: u64,
     result: Result<u64, PlayFault>,
 }
 
-fn run<R: BufRead>(alloc: Global, reader: &mut R) -> Outcome {
+fn run<R: BufRead>(alloc: Global, reader: &mut R) -> Result<Outcome, AllocError> {
+    let mut db = start_db(alloc)?;
     let mut output = Vec::new(alloc);
-    let mut answerer = Reverses { steps: 0 };
-    let result = play(alloc, reader, &mut output, &mut answerer);
-    Outcome {
+    let result = play(alloc, reader, &mut output, &mut db);
+    Ok(Outcome {
         output,
-        steps: answerer.steps,
+        entries: db.audit_len(),
         result,
-    }
+    })
 }
 
-fn run_into(alloc: Global, pipe: &mut Pipe, mut text: &[u8]) -> (u64, Result<u64, PlayFault>) {
-    let mut answerer = Reverses { steps: 0 };
-    let result = play(alloc, &mut text, pipe, &mut answerer);
-    (answerer.steps, result)
+#[test]
+fn stored_run(rt: HostRuntime) -> Result<(), Fail> {
+    let mut db = start_db(rt.alloc())?;
+    let mut input = REQUESTS;
+    let mut output = Vec::new(rt.alloc());
+    let result = play(rt.alloc(), &mut input, &mut output, &mut db);
+    assert_eq!(rt; result, Ok(4));
+    assert_eq!(rt; output.as_slice(), ANSWERS);
+    assert_eq!(rt; db.audit_len(), 4);
+    assert_eq!(rt; db.hard(), 1);
+    Ok(())
 }
-
-// Three lines that end at 5, 6 and 12 bytes, the last of them with no line feed. Their answers end
-// at 5, 6 and 13.
-const TEXT: &[u8] = b"0a0B\n\nFfee01";
-
-const ANSWERS: &[u8] = b"0b0a\n\n01eeff\n";
 
 #[test]
 fn answers_each_line(rt: HostRuntime) -> Result<(), Fail> {
-    let cases: [(&str, &[u8], &[u8], u64, Result<u64, PlayFault>); 12] = [
+    let upper = "0000000222222222222222222222222222222222010000000000000001010000000000000000010001\
+        00000001010000000000000001AA\n";
+    let cases: [(&str, &[u8], &[u8], u64, Result<u64, PlayFault>); 14] = [
         ("no line", b"", b"", 0, Ok(0)),
-        ("an empty line", b"\n", b"\n", 1, Ok(1)),
-        ("two bytes", b"0a0b\n", b"0b0a\n", 1, Ok(1)),
-        ("digits in upper case", b"FF0A\n", b"0aff\n", 1, Ok(1)),
+        ("an empty line", b"\n", b"0a01\n", 0, Ok(1)),
+        ("two empty lines", b"\n\n", b"0a01\n0a01\n", 0, Ok(2)),
         (
             "a last line with no line feed",
-            b"01\n0203",
-            b"01\n0302\n",
-            2,
+            b"\nff",
+            b"0a01\n0a01\n",
+            0,
             Ok(2),
         ),
-        ("an empty line at the end", b"01\n\n", b"01\n\n", 2, Ok(2)),
-        ("three lines", TEXT, ANSWERS, 3, Ok(3)),
+        (
+            "an empty line at the end",
+            b"ff\n\n",
+            b"0a01\n0a01\n",
+            0,
+            Ok(2),
+        ),
+        ("digits in upper case", upper.as_bytes(), b"00\n", 1, Ok(1)),
+        ("the stored run", REQUESTS, ANSWERS, 4, Ok(4)),
         (
             "a bad digit",
-            b"01\n0203\n0g\n04\n",
-            b"01\n0302\n",
-            2,
+            b"\n\n0g\n\n",
+            b"0a01\n0a01\n",
+            0,
             Err(PlayFault::Text(3)),
         ),
         (
@@ -121,9 +130,9 @@ fn answers_each_line(rt: HostRuntime) -> Result<(), Fail> {
         ),
         (
             "an odd number of digits",
-            b"01\n012\n",
-            b"01\n",
-            1,
+            b"\n012\n",
+            b"0a01\n",
+            0,
             Err(PlayFault::Text(2)),
         ),
         (
@@ -134,77 +143,165 @@ fn answers_each_line(rt: HostRuntime) -> Result<(), Fail> {
             Err(PlayFault::Text(1)),
         ),
         ("a space", b"01 02\n", b"", 0, Err(PlayFault::Text(1))),
+        (
+            "0x before the digits",
+            b"0x01\n",
+            b"",
+            0,
+            Err(PlayFault::Text(1)),
+        ),
+        ("a zero byte", b"\0\n", b"", 0, Err(PlayFault::Text(1))),
     ];
-    for (name, mut text, output, steps, result) in cases {
-        let ran = run(rt.alloc(), &mut text);
+    for (name, mut text, output, entries, result) in cases {
+        let ran = run(rt.alloc(), &mut text)?;
         assert_eq!(rt; ran.result, result, "{name}");
         assert_eq!(rt; ran.output.as_slice(), output, "{name}");
-        assert_eq!(rt; ran.steps, steps, "{name}");
+        assert_eq!(rt; ran.entries, entries, "{name}");
     }
+    Ok(())
+}
+
+#[test]
+fn bad_line_in_the_stored_run(rt: HostRuntime) -> Result<(), Fail> {
+    let (three, last) = REQUESTS.split_at(299);
+    let mut text = three.chain(b"0g\n".as_slice()).chain(last);
+    let ran = run(rt.alloc(), &mut text)?;
+    assert_eq!(rt; ran.result, Err(PlayFault::Text(4)));
+    assert_eq!(rt; ran.output.as_slice(), b"00\n00\n00\n".as_slice());
+    assert_eq!(rt; ran.entries, 3);
+    Ok(())
+}
+
+#[test]
+fn malformed_beside_full_list(rt: HostRuntime) -> Result<(), Fail> {
+    let limits = Limits {
+        audit: 1,
+        chunks: 1,
+    };
+    let Ok(mut db) = Db::new(rt.alloc(), Table::t0(rt.alloc())?, 2, limits) else {
+        return Err(Fail::from(AllocError));
+    };
+    let (one, _) = REQUESTS.split_at(111);
+    let mut text = one
+        .chain(b"\n".as_slice())
+        .chain(one)
+        .chain(b"ff\n".as_slice());
+    let mut output = Vec::new(rt.alloc());
+    let result = play(rt.alloc(), &mut text, &mut output, &mut db);
+    assert_eq!(rt; result, Ok(4));
+    assert_eq!(rt; output.as_slice(), b"00\n0a01\n07\n0a01\n".as_slice());
+    assert_eq!(rt; db.audit_len(), 1);
+    Ok(())
+}
+
+#[test]
+fn body_of_a_request_and_of_none(rt: HostRuntime) -> Result<(), Fail> {
+    let mut db = start_db(rt.alloc())?;
+    let mut report = [0; 38];
+    report[3] = 2;
+    for at in 4..20 {
+        report[at] = 0x22;
+    }
+    report[20] = 1;
+    report[28] = 1;
+    report[29] = 3;
+    let done = answer_body(rt.alloc(), &report, &mut db)?;
+    assert_eq!(rt;
+        done.as_slice(),
+        [0].as_slice(),
+        "a report of what is hardened"
+    );
+    let short = answer_body(rt.alloc(), &report[..37], &mut db)?;
+    assert_eq!(rt;
+        short.as_slice(),
+        [10, 4].as_slice(),
+        "a body that ends in its number"
+    );
+    assert_eq!(rt; db.audit_len(), 1);
     Ok(())
 }
 
 #[test]
 fn cuts_of_the_input_change_nothing(rt: HostRuntime) -> Result<(), Fail> {
-    for at in 0..=TEXT.len() {
-        let (front, back) = TEXT.split_at(at);
-        let ran = run(rt.alloc(), &mut front.chain(back));
-        assert_eq!(rt; ran.result, Ok(3), "cut at {at}");
+    for at in 0..=REQUESTS.len() {
+        let (front, back) = REQUESTS.split_at(at);
+        let ran = run(rt.alloc(), &mut front.chain(back))?;
+        assert_eq!(rt; ran.result, Ok(4), "cut at {at}");
         assert_eq!(rt; ran.output.as_slice(), ANSWERS, "cut at {at}");
     }
-    let mut bytes = BufReader::with_capacity(rt.alloc(), 1, TEXT)?;
-    let ran = run(rt.alloc(), &mut bytes);
-    assert_eq!(rt; ran.result, Ok(3), "a byte at a time");
+    let mut bytes = BufReader::with_capacity(rt.alloc(), 1, REQUESTS)?;
+    let ran = run(rt.alloc(), &mut bytes)?;
+    assert_eq!(rt; ran.result, Ok(4), "a byte at a time");
     assert_eq!(rt; ran.output.as_slice(), ANSWERS, "a byte at a time");
     Ok(())
 }
 
+// How many lines are answered, and in how many bytes, once so many bytes were read.
+fn answered_after(read: usize) -> (u64, usize) {
+    match read {
+        0..=110 => (0, 0),
+        111..=221 => (1, 3),
+        222..=298 => (2, 6),
+        299..=387 => (3, 9),
+        _ => (4, 88),
+    }
+}
+
 #[test]
 fn a_failed_read_ends_it(rt: HostRuntime) -> Result<(), Fail> {
-    // What is written, and of how many lines, once so many bytes could be read.
-    let written = [0, 0, 0, 0, 0, 5, 6, 6, 6, 6, 6, 6, 6];
-    let steps = [0, 0, 0, 0, 0, 1, 2, 2, 2, 2, 2, 2, 2];
-    for at in 0..=TEXT.len() {
-        let (front, _) = TEXT.split_at(at);
+    for at in 0..=REQUESTS.len() {
+        let (front, _) = REQUESTS.split_at(at);
         let mut reader = BufReader::new(rt.alloc(), front.chain(Fails))?;
-        let ran = run(rt.alloc(), &mut reader);
+        let ran = run(rt.alloc(), &mut reader)?;
+        let (lines, bytes) = answered_after(at);
         assert_eq!(rt; ran.result, Err(PlayFault::Read), "after {at} bytes");
-        assert_eq!(rt; ran.output.len(), written[at], "after {at} bytes");
+        assert_eq!(rt; ran.output.len(), bytes, "after {at} bytes");
         assert!(rt;
             ANSWERS.starts_with(ran.output.as_slice()),
             "after {at} bytes"
         );
-        assert_eq!(rt; ran.steps, steps[at], "after {at} bytes");
+        assert_eq!(rt; ran.entries, lines, "after {at} bytes");
     }
     Ok(())
 }
 
+// How many lines had their step once a writer took so many bytes, and then no more.
+fn steps_before(taken: usize) -> u64 {
+    match taken {
+        0..=2 => 1,
+        3..=5 => 2,
+        6..=8 => 3,
+        _ => 4,
+    }
+}
+
+fn run_into(alloc: Global, pipe: &mut Pipe) -> Result<(u64, Result<u64, PlayFault>), AllocError> {
+    let mut db = start_db(alloc)?;
+    let mut input = REQUESTS;
+    let result = play(alloc, &mut input, pipe, &mut db);
+    Ok((db.audit_len(), result))
+}
+
 #[test]
-fn a_full_writer_ends_it(rt: HostRuntime) -> Result<(), Fail> {
-    // How many lines are answered where there is room for so many bytes: also the one that stops it.
-    let steps = [1, 1, 1, 1, 1, 2, 3, 3, 3, 3, 3, 3, 3];
+fn a_failed_write_ends_it(rt: HostRuntime) -> Result<(), Fail> {
     for at_once in [1, 2, 100] {
-        for room in 0..13 {
+        for room in 0..=ANSWERS.len() {
             let held = Vec::new(rt.alloc());
             let mut pipe = Pipe {
                 held,
                 at_once,
                 room,
             };
-            let (count, result) = run_into(rt.alloc(), &mut pipe, TEXT);
-            assert_eq!(rt; result, Err(PlayFault::Write), "room for {room}");
+            let (steps, result) = run_into(rt.alloc(), &mut pipe)?;
+            let ended = if room < 88 {
+                Err(PlayFault::Write)
+            } else {
+                Ok(4)
+            };
+            assert_eq!(rt; result, ended, "room for {room}");
             assert_eq!(rt; pipe.held.as_slice(), &ANSWERS[..room], "room for {room}");
-            assert_eq!(rt; count, steps[room], "room for {room}");
+            assert_eq!(rt; steps, steps_before(room), "room for {room}");
         }
-        let held = Vec::new(rt.alloc());
-        let mut pipe = Pipe {
-            held,
-            at_once,
-            room: 13,
-        };
-        let (_, result) = run_into(rt.alloc(), &mut pipe, TEXT);
-        assert_eq!(rt; result, Ok(3), "room for all");
-        assert_eq!(rt; pipe.held.as_slice(), ANSWERS, "room for all");
     }
     Ok(())
 }
@@ -215,9 +312,9 @@ fn a_writer_that_takes_nothing_ends_it(rt: HostRuntime) -> Result<(), Fail> {
     let mut pipe = Pipe {
         held,
         at_once: 0,
-        room: 13,
+        room: 88,
     };
-    let (steps, result) = run_into(rt.alloc(), &mut pipe, TEXT);
+    let (steps, result) = run_into(rt.alloc(), &mut pipe)?;
     assert_eq!(rt; result, Err(PlayFault::Write));
     assert!(rt; pipe.held.is_empty());
     assert_eq!(rt; steps, 1);
@@ -246,12 +343,73 @@ fn lines_may_have_131_072_bytes(rt: HostRuntime) -> Result<(), Fail> {
                 text.extend_from_slice(vec![in rt.alloc(); digit; length]?.as_slice())?;
                 text.extend_from_slice(ending)?;
                 let mut reader = BufReader::with_capacity(rt.alloc(), capacity, text.as_slice())?;
-                let ran = run(rt.alloc(), &mut reader);
+                let ran = run(rt.alloc(), &mut reader)?;
                 assert_eq!(rt; ran.result, result, "{name}");
-                let written = if result.is_ok() { 131_076 } else { 3 };
+                let written = if result.is_ok() { 10 } else { 5 };
                 assert_eq!(rt; ran.output.len(), written, "{name}");
             }
         }
+    }
+    Ok(())
+}
+
+// The end of a line that is too long is never looked for.
+#[test]
+fn long_line_is_told_at_once(rt: HostRuntime) -> Result<(), Fail> {
+    let digits = vec![in rt.alloc(); b'0'; 131_073]?;
+    for (length, fault) in [(131_072, PlayFault::Read), (131_073, PlayFault::Long(1))] {
+        let (front, _) = digits.as_slice().split_at(length);
+        let mut reader = BufReader::with_capacity(rt.alloc(), 1, front.chain(Fails))?;
+        let ran = run(rt.alloc(), &mut reader)?;
+        assert_eq!(rt; ran.result, Err(fault), "{length} digits and no more");
+        assert!(rt; ran.output.is_empty());
+    }
+    Ok(())
+}
+
+#[test]
+fn texts(rt: HostRuntime) -> Result<(), Fail> {
+    let cases = [
+        (Stop::Usage, "usage: pagelog play", 2),
+        (Stop::Fault(PlayFault::Read), "fault: read", 1),
+        (Stop::Fault(PlayFault::Write), "fault: write", 1),
+        (Stop::Fault(PlayFault::NoMemory), "fault: no memory", 1),
+        (
+            Stop::Fault(PlayFault::Text(3)),
+            "fault: line 3 is no hexadecimal text",
+            1,
+        ),
+        (
+            Stop::Fault(PlayFault::Long(4_294_967_296)),
+            "fault: line 4294967296 is too long",
+            1,
+        ),
+    ];
+    for (stop, text, status) in cases {
+        let written = stop.to_string(rt.alloc())?;
+        assert_eq!(rt; written.as_str(), text);
+        assert_eq!(rt; stop.status(), status, "{text}");
+    }
+    Ok(())
+}
+
+#[test]
+fn words(rt: HostRuntime) -> Result<(), Fail> {
+    let cases: [(&[&str], bool); 7] = [
+        (&["pagelog", "play"], true),
+        (&["", "play"], true),
+        (&[], false),
+        (&["play"], false),
+        (&["pagelog", "Play"], false),
+        (&["pagelog", "play", ""], false),
+        (&["pagelog", "play", "--table"], false),
+    ];
+    for (texts, is_play) in cases {
+        let mut words = Vec::new(rt.alloc());
+        for text in texts {
+            words.push(String::from_str(rt.alloc(), text)?)?;
+        }
+        assert_eq!(rt; are_play(&words), is_play, "{texts:?}");
     }
     Ok(())
 }

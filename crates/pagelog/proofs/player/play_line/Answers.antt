@@ -15,4 +15,4 @@ returns-in_default g c =
 pub returns-in_default-line_of_bytes : goal.returns-in_default-line_of_bytes
 returns-in_default-line_of_bytes g c =
     let reads : decode_of c.args.line.now ≡ Ok c.as_slice.result.now = c.in-Ok.ensures.ok ∙ ap Ok (sym c.as_slice.ensures.value) in
-    λ rest. inr (loses_answer _ _ _ _ _ _ c.in-Ok-answer.reply.items c.requires reads c.in-Ok-answer.ensures.ok)
+    λ rest. inr (loses_answer _ _ _ _ _ _ c.in-Ok-answer_body.reply.items c.requires reads c.in-Ok-answer_body.ensures.ok)
