@@ -1,5 +1,8 @@
 //! What is decided of a request.
 
+ghost use Rattle.std.specs.Prelude.{◌≡◌};
+ghost use Rattle.pl_table.specs.Section.{section_number};
+
 /// A part of the written order. The discriminant is the section's number in a reply.
 #[derive(Clone, Copy, Debug, PartialEq, Eq)]
 pub enum Section {
@@ -9,6 +12,15 @@ pub enum Section {
     B = 2,
     /// What the database has.
     C = 3,
+}
+
+impl Section {
+    /// The section's number in a reply, 1 to 3.
+    pub fn number(self) -> u8
+        ensures { result ≡ section_number self }
+    {
+        self as u8
+    }
 }
 
 /// What is decided of a request.

@@ -5,7 +5,7 @@ ghost use Rattle.std.specs.List.{flat_map, AllByRecursion};
 ghost use Rattle.std.specs.Int.{w16, w64, to_be_bytes};
 ghost use Rattle.pl_block.specs.Spelling.{IsBlock};
 ghost use Rattle.pl_core.specs.Reply.{FitsReply};
-ghost use Rattle.pl_wire.specs.Replies.{section_number, served, reply_spelling, FitsReplyFields, IsReply};
+ghost use Rattle.pl_wire.specs.Replies.{served, reply_spelling, FitsReplyFields, IsReply};
 
 use crate::kind::Kind;
 use bytes::BufMut;
@@ -13,12 +13,6 @@ use pl_block::{Block, encode};
 use pl_core::{Blocks, Reply};
 use pl_table::Section;
 use std::alloc::{AllocError, Global};
-
-fn number_of(section: Section) -> u8
-    ensures { result ≡ section_number section }
-{
-    section as u8
-}
 
 #[tactic(auto, unfolding(crate::specs::Replies::served))]
 fn put_block(alloc: Global, out: &mut Vec<u8>, block: &Block) -> Result<(), AllocError>
@@ -61,7 +55,7 @@ fn put_denied(out: &mut Vec<u8>, section: Section, row: u16, value: u64) -> Resu
         ++ reply_spelling (Reply.Denied section row value)) }
 {
     out.put_u8(Kind::Denied as u8)?;
-    out.put_u8(number_of(section))?;
+    out.put_u8(section.number())?;
     out.put_u16(row)?;
     out.put_u64(value)
 }
