@@ -2,7 +2,6 @@
 
 use super::*;
 use crate::answering::answer_body;
-use crate::words::are_play;
 use pl_core::{Db, Limits};
 use pl_table::Table;
 use std::alloc::{AllocError, Global};
@@ -23,6 +22,14 @@ const REQUESTS: &[u8] = b"\
 const ANSWERS: &[u8] = b"00\n00\n00\n\
     01000000000000000200010000001800000000000000010001000000\
     01010000000000000001aa\n";
+
+// Principal 2 as primary reports number 0, which changes nothing.
+const REPORT: [u8; 38] = [
+    0, 0, 0, 2, // principal
+    34, 34, 34, 34, 34, 34, 34, 34, 34, 34, 34, 34, 34, 34, 34, 34, // token
+    1, 0, 0, 0, 0, 0, 0, 0, 1, 3, // role, database, epoch, operation
+    0, 0, 0, 0, 0, 0, 0, 0, // number
+];
 
 /// Fails at each read.
 #[derive(Drop)]
@@ -197,21 +204,14 @@ fn malformed_beside_full_list(rt: HostRuntime) -> Result<(), Fail> {
 #[test]
 fn body_of_a_request_and_of_none(rt: HostRuntime) -> Result<(), Fail> {
     let mut db = start_db(rt.alloc())?;
-    let mut report = [0; 38];
-    report[3] = 2;
-    for at in 4..20 {
-        report[at] = 0x22;
-    }
-    report[20] = 1;
-    report[28] = 1;
-    report[29] = 3;
-    let done = answer_body(rt.alloc(), &report, &mut db)?;
+    let done = answer_body(rt.alloc(), &REPORT, &mut db)?;
     assert_eq!(rt;
         done.as_slice(),
         [0].as_slice(),
         "a report of what is hardened"
     );
-    let short = answer_body(rt.alloc(), &report[..37], &mut db)?;
+    let (cut, _) = REPORT.split_at(37);
+    let short = answer_body(rt.alloc(), cut, &mut db)?;
     assert_eq!(rt;
         short.as_slice(),
         [10, 4].as_slice(),
@@ -356,60 +356,12 @@ fn lines_may_have_131_072_bytes(rt: HostRuntime) -> Result<(), Fail> {
 // The end of a line that is too long is never looked for.
 #[test]
 fn long_line_is_told_at_once(rt: HostRuntime) -> Result<(), Fail> {
-    let digits = vec![in rt.alloc(); b'0'; 131_073]?;
     for (length, fault) in [(131_072, PlayFault::Read), (131_073, PlayFault::Long(1))] {
-        let (front, _) = digits.as_slice().split_at(length);
-        let mut reader = BufReader::with_capacity(rt.alloc(), 1, front.chain(Fails))?;
+        let digits = vec![in rt.alloc(); b'0'; length]?;
+        let mut reader = BufReader::with_capacity(rt.alloc(), 1, digits.as_slice().chain(Fails))?;
         let ran = run(rt.alloc(), &mut reader)?;
         assert_eq!(rt; ran.result, Err(fault), "{length} digits and no more");
         assert!(rt; ran.output.is_empty());
-    }
-    Ok(())
-}
-
-#[test]
-fn texts(rt: HostRuntime) -> Result<(), Fail> {
-    let cases = [
-        (Stop::Usage, "usage: pagelog play", 2),
-        (Stop::Fault(PlayFault::Read), "fault: read", 1),
-        (Stop::Fault(PlayFault::Write), "fault: write", 1),
-        (Stop::Fault(PlayFault::NoMemory), "fault: no memory", 1),
-        (
-            Stop::Fault(PlayFault::Text(3)),
-            "fault: line 3 is no hexadecimal text",
-            1,
-        ),
-        (
-            Stop::Fault(PlayFault::Long(4_294_967_296)),
-            "fault: line 4294967296 is too long",
-            1,
-        ),
-    ];
-    for (stop, text, status) in cases {
-        let written = stop.to_string(rt.alloc())?;
-        assert_eq!(rt; written.as_str(), text);
-        assert_eq!(rt; stop.status(), status, "{text}");
-    }
-    Ok(())
-}
-
-#[test]
-fn words(rt: HostRuntime) -> Result<(), Fail> {
-    let cases: [(&[&str], bool); 7] = [
-        (&["pagelog", "play"], true),
-        (&["", "play"], true),
-        (&[], false),
-        (&["play"], false),
-        (&["pagelog", "Play"], false),
-        (&["pagelog", "play", ""], false),
-        (&["pagelog", "play", "--table"], false),
-    ];
-    for (texts, is_play) in cases {
-        let mut words = Vec::new(rt.alloc());
-        for text in texts {
-            words.push(String::from_str(rt.alloc(), text)?)?;
-        }
-        assert_eq!(rt; are_play(&words), is_play, "{texts:?}");
     }
     Ok(())
 }
