@@ -3,6 +3,8 @@
 
 ghost use Rattle.pl_core.specs.Laws.{DenialsChangeNothing, DeniedChangesNothing};
 ghost use Rattle.pl_core.specs.Laws.{PullsReachTheHardenedEnd, PullsAboveAreDenied};
+ghost use Rattle.pl_core.specs.Laws.{ServedBlocksAreHardened, HardenedBlocksAreNumbered};
+ghost use Rattle.pl_core.specs.Laws.{HistoriesStayLegal};
 
 /// After a denial the hardened log, each number's content and the copies it stands in are what they
 /// were.
@@ -16,4 +18,16 @@ pub fn denials_change_nothing()
 pub fn pulls_reach_the_hardened_end()
     ensures reach { PullsReachTheHardenedEnd }
     ensures above { PullsAboveAreDenied }
+{}
+
+/// Each block that a pull of a legal history is answered is hardened, touches a partition that was
+/// asked for, and has a number from the one asked to the hardened end.
+pub fn served_blocks_are_hardened()
+    ensures served { ServedBlocksAreHardened }
+    ensures numbered { HardenedBlocksAreNumbered }
+{}
+
+/// A legal history, and a request in its ranges with a reply that it may have, make a legal history.
+pub fn histories_stay_legal()
+    ensures legal { HistoriesStayLegal }
 {}
