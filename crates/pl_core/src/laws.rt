@@ -27,7 +27,7 @@ pub fn served_blocks_are_hardened()
     ensures numbered { HardenedBlocksAreNumbered }
 {}
 
-/// A legal history, and a request in its ranges with a reply that it may have, make a legal history.
+/// A legal history stays legal with a request in its ranges, and a reply that it may have.
 pub fn histories_stay_legal()
     ensures legal { HistoriesStayLegal }
 {}
