@@ -1,7 +1,7 @@
 //! What follows from the definitions, for the crates above. Each function is a law: its clauses
 //! hold of all histories, and its body does nothing.
 
-ghost use Rattle.pl_core.specs.Laws.{DenialsChangeNothing, DeniedChangesNothing};
+ghost use Rattle.pl_core.specs.Laws.{DenialsChangeNothing, DeniedChangesNothing, LogsOnlyGrow};
 ghost use Rattle.pl_core.specs.Laws.{PullsReachTheHardenedEnd, PullsAboveAreDenied};
 ghost use Rattle.pl_core.specs.Laws.{ServedBlocksAreHardened, HardenedBlocksAreNumbered};
 ghost use Rattle.pl_core.specs.Laws.{HistoriesStayLegal};
@@ -11,6 +11,11 @@ ghost use Rattle.pl_core.specs.Laws.{HistoriesStayLegal};
 pub fn denials_change_nothing()
     ensures entry { DenialsChangeNothing }
     ensures reply { DeniedChangesNothing }
+{}
+
+/// No entry takes a hardened block away, and a number that has a content keeps it.
+pub fn logs_only_grow()
+    ensures { LogsOnlyGrow }
 {}
 
 /// The hardened end is how far an allowed pull goes: asked at each number up to it, it is allowed,
