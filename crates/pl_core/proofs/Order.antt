@@ -1,4 +1,5 @@
--- The rows of the table in the written order: none stands against a request but the first that matches, if it denies.
+-- The rows of the table in the written order: none stands against a request but the first that
+-- matches, if it denies.
 use Rattle.std.proofs.Common.{◌≡◌, ℕ, zero, suc, ◌+◌, ◌<◌, ◌≤◌, Bool, true, false, ◌&&◌, eqb, List, [], ◌∷◌, ◌++◌, length, map, Option, Some, None, refl, sym, ap, ◌∙◌, inl, inr, arith}
 use Rattle.std.specs.List.{range_with_len}
 use Rattle.std.specs.Option.{option_map_or}

@@ -20,7 +20,8 @@ asked_at q n = record { head = q.head; act = act_at q.act n }
 
 -- no row stands against the request asked at each number from its own up to k
 abbrev pub IsAllowedTo : History → Query → ℕ → Type 0
-IsAllowedTo h q k = (n : ℕ) → first_number q.act ≤ n → n ≤ k → verdict_of (asked_at q n) h ≡ verdicts.Allowed
+IsAllowedTo h q k = (n : ℕ) → first_number q.act ≤ n → n ≤ k
+    → verdict_of (asked_at q n) h ≡ verdicts.Allowed
 
 -- the request goes as far as this: it is the greatest number up to which no row stands against it
 pub record IsReach (h : History) (q : Query) (reach : ℕ) : Type 0 where

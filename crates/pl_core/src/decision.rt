@@ -54,7 +54,8 @@ pub(crate) fn decide(table: &Table, epochs: Epochs, view: View, request: &Reques
 
 // The verdict of sections B and C.
 fn decide_by_table(table: &Table, epochs: Epochs, view: View, request: &Request) -> Verdict
-    ensures { result ≡ first_denial (behind_a (length table.now.rows)) request.now table.now epochs view }
+    ensures { result ≡
+        first_denial (behind_a (length table.now.rows)) request.now table.now epochs view }
 {
     match table.first_match(request) {
         None => denied(Section::B, 0, 0),
@@ -70,7 +71,8 @@ fn decide_by_table(table: &Table, epochs: Epochs, view: View, request: &Request)
 
 // Whether it asks as a primary, and another is.
 fn is_other_primary(head: &Head, primary: u32) -> bool
-    ensures { result ≡ (same_role head.now.role Role.Primary && not (head.now.principal == primary)) }
+    ensures { result ≡
+        (same_role head.now.role Role.Primary && not (head.now.principal == primary)) }
 {
     head.role.number() == Role::Primary.number() && head.principal != primary
 }
@@ -101,7 +103,8 @@ fn decide_by_log(view: View, act: &Act) -> Verdict
 
 fn decide_write(view: View, copy: u8, lsn: u64) -> Verdict
     ensures { (head : Head) (t : WrittenTable) (e : Epochs) (block : Content) → block.lsn ≡ lsn →
-        result ≡ first_denial section_c (record { head = head; act = Act.Write copy block }) t e view }
+        result ≡
+        first_denial section_c (record { head = head; act = Act.Write copy block }) t e view }
 {
     if lsn <= view.hard {
         return denied(Section::C, 2, view.hard);

@@ -1,8 +1,10 @@
 //! What follows from the definitions, for the crates above. Each function is a law: its clauses
 //! hold of all histories, and its body does nothing.
 
-ghost use Rattle.pl_core.specs.Laws.{DenialsChangeNothing, DeniedChangesNothing};
+ghost use Rattle.pl_core.specs.Laws.{DenialsChangeNothing, DeniedChangesNothing, LogsOnlyGrow};
 ghost use Rattle.pl_core.specs.Laws.{PullsReachTheHardenedEnd, PullsAboveAreDenied};
+ghost use Rattle.pl_core.specs.Laws.{ServedBlocksAreHardened, HardenedBlocksAreNumbered};
+ghost use Rattle.pl_core.specs.Laws.{HistoriesStayLegal};
 
 /// After a denial the hardened log, each number's content and the copies it stands in are what they
 /// were.
@@ -11,9 +13,26 @@ pub fn denials_change_nothing()
     ensures reply { DeniedChangesNothing }
 {}
 
+/// No entry takes a hardened block away, and a number that has a content keeps it.
+pub fn logs_only_grow()
+    ensures { LogsOnlyGrow }
+{}
+
 /// The hardened end is how far an allowed pull goes: asked at each number up to it, it is allowed,
 /// and at each number above it is denied.
 pub fn pulls_reach_the_hardened_end()
     ensures reach { PullsReachTheHardenedEnd }
     ensures above { PullsAboveAreDenied }
+{}
+
+/// Each block that a pull of a legal history is answered is hardened, touches a partition that was
+/// asked for, and has a number from the one asked to the hardened end.
+pub fn served_blocks_are_hardened()
+    ensures served { ServedBlocksAreHardened }
+    ensures numbered { HardenedBlocksAreNumbered }
+{}
+
+/// A legal history stays legal with a request in its ranges, and a reply that it may have.
+pub fn histories_stay_legal()
+    ensures legal { HistoriesStayLegal }
 {}

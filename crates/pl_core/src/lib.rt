@@ -23,7 +23,10 @@ mod view;
 
 pub use db::{Db, DbFault};
 pub use epochs::Epochs;
-pub use laws::{denials_change_nothing, pulls_reach_the_hardened_end};
+pub use laws::{
+    denials_change_nothing, histories_stay_legal, logs_only_grow, pulls_reach_the_hardened_end,
+    served_blocks_are_hardened,
+};
 pub use limits::Limits;
 pub use line::Line;
 pub use pl_block::NoMemory;

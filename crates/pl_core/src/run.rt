@@ -12,7 +12,8 @@ impl Db {
     /// Takes one step for each request, each under the pass of its number, and gives the replies in
     /// the same order. Room for them is made first: where it is refused, no step is taken.
     pub fn run(&mut self, requests: Vec<(u64, Request)>) -> Result<Vec<Reply>, AllocError>
-        ensures run { IfOk result (λ replies. IsRun self.old requests.items replies.items self.new) }
+        ensures run { IfOk result (λ replies.
+            IsRun self.old requests.items replies.items self.new) }
         ensures err { OnErr result (self.new ≡ self.old) }
     {
         let mut replies = Vec::with_capacity(self.alloc, requests.len())?;

@@ -43,7 +43,8 @@ impl Db {
         count <= WINDOW && all_stand_in_quorum(&self.window[..count as usize])
     }
 
-    // What section C looks at. A write outside the window is told apart before its block is looked at.
+    // What section C looks at. A write outside the window is denied by a row above the one on
+    // contents, so its block is not looked at.
     fn view(&self, act: &Act) -> View
         ensures hard { result.hard ≡ hard_of self.now.entries }
         ensures copies { result.copies ≡ copy_count }
