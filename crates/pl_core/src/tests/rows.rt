@@ -84,9 +84,11 @@ fn pull_in_parts(rt: HostRuntime) -> Result<(), Fail> {
         ];
         plays(&rt, rt.alloc(), &mut db, &transcript)?;
     }
+    let first = Told::Blocks(17, &blocks[..16]);
+    expects(&rt, rt.alloc(), &mut db, pull_from(1), first)?;
+    let rest = Told::Blocks(21, &blocks[16..]);
+    expects(&rt, rt.alloc(), &mut db, pull_from(17), rest)?;
     let transcript = [
-        (pull_from(1), Told::Blocks(17, &blocks[..16])),
-        (pull_from(17), Told::Blocks(21, &blocks[16..])),
         (pull_from(21), c(1, 20)),
         (write(20, 20, 0), c(2, 20)),
         (report(7), Told::Done),
