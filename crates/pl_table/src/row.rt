@@ -1,6 +1,6 @@
 //! A row of the table.
 
-ghost use Rattle.std.specs.Prelude.{◌≡◌, ◌==◌};
+ghost use Rattle.std.specs.Prelude.{◌≡◌, ◌==◌, ◌&&◌};
 ghost use Rattle.pl_table.specs.Request.{InRange, partitions_of};
 ghost use Rattle.pl_table.specs.Row.{part_matches, range_matches, row_matches};
 ghost use Rattle.pl_table.specs.Ops.{same_role, lists_op};
@@ -76,6 +76,18 @@ impl Row {
             && matches_role(self.role, head.role)
             && matches_op(&self.op, request.act().op())
             && matches_range(self.allows, self.range, request.act())
+    }
+
+    // Whether the row speaks of an operation without partitions that the principal asks for in the
+    // role: the range, if there is one, matches.
+    pub(crate) fn speaks_of(&self, principal: u32, role: Role, op: Op) -> bool
+        ensures { result ≡ (part_matches (λ who. who == principal) self.now.who
+            && (part_matches (same_role role) self.now.role
+            && part_matches (lists_op op) self.now.op)) }
+    {
+        matches_who(self.who, principal)
+            && matches_role(self.role, role)
+            && matches_op(&self.op, op)
     }
 }
 
