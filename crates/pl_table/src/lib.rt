@@ -14,6 +14,7 @@ mod request;
 mod row;
 mod start_table;
 mod table;
+mod table_text;
 mod tree;
 mod verdict;
 
@@ -26,6 +27,7 @@ pub use reading::read_table;
 pub use request::{Act, Request};
 pub use row::{Ops, Row};
 pub use table::{Principal, Table};
+pub use table_text::TableText;
 pub use verdict::{Section, Verdict};
 
 #[cfg(test)]
