@@ -2,3 +2,5 @@ pub mod Spans
 pub mod BuiltIn
 pub mod Tokens
 pub mod FirstMatch
+pub mod Trees
+pub mod Listings

@@ -4,22 +4,30 @@
 //! rows. What a denial by the table means for a database is the matter of the crates above.
 #![tactic(auto)]
 
+mod fault;
 mod head;
 mod op;
+mod part;
 mod range;
+mod reading;
 mod request;
 mod row;
 mod start_table;
 mod table;
+mod table_text;
+mod tree;
 mod verdict;
 
+pub use fault::{ReadFault, TableFault};
 pub use head::Head;
 pub use op::{Op, Role};
 pub use pl_block::NoMemory;
 pub use range::PartitionRange;
+pub use reading::read_table;
 pub use request::{Act, Request};
 pub use row::{Ops, Row};
 pub use table::{Principal, Table};
+pub use table_text::TableText;
 pub use verdict::{Section, Verdict};
 
 #[cfg(test)]

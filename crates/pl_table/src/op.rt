@@ -2,6 +2,7 @@
 
 ghost use Rattle.std.specs.Prelude.{◌≡◌, Some};
 ghost use Rattle.pl_table.specs.Ops.{op_number, op_of_number, op_name, role_number, role_of_number, role_name, has_op};
+ghost use Rattle.pl_table.specs.Part.{role_of_name, op_of_name};
 
 use std::fmt;
 
@@ -78,6 +79,20 @@ impl Role {
         }
     }
 
+    /// The role that the word names, if there is one.
+    #[tactic(auto, unfolding(crate::specs::Part::role_of_name))]
+    pub fn of_name(name: &str) -> Option<Role>
+        ensures { result ≡ role_of_name name.now }
+    {
+        let roles = [
+            Role::Primary,
+            Role::Secondary,
+            Role::PageServer,
+            Role::Operator,
+        ];
+        roles.iter().copied().find(|role| role.name() == name)
+    }
+
     /// Whether a principal in this role has the operation, whatever the table says.
     pub fn has(self, op: Op) -> bool
         ensures { result ≡ has_op self op }
@@ -142,6 +157,27 @@ impl Op {
             Op::Audit => "audit",
             Op::Tidy => "tidy",
         }
+    }
+
+    /// The operation that the word names, if there is one.
+    #[tactic(auto, unfolding(crate::specs::Part::op_of_name))]
+    pub fn of_name(name: &str) -> Option<Op>
+        ensures { result ≡ op_of_name name.now }
+    {
+        let ops = [
+            Op::Write,
+            Op::Offer,
+            Op::Report,
+            Op::Get,
+            Op::Pull,
+            Op::Advance,
+            Op::Status,
+            Op::Failover,
+            Op::SetTable,
+            Op::Audit,
+            Op::Tidy,
+        ];
+        ops.iter().copied().find(|op| op.name() == name)
     }
 }
 

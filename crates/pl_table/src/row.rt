@@ -1,6 +1,6 @@
 //! A row of the table.
 
-ghost use Rattle.std.specs.Prelude.{◌≡◌, ◌==◌};
+ghost use Rattle.std.specs.Prelude.{◌≡◌, ◌==◌, ◌&&◌, IfOk};
 ghost use Rattle.pl_table.specs.Request.{InRange, partitions_of};
 ghost use Rattle.pl_table.specs.Row.{part_matches, range_matches, row_matches};
 ghost use Rattle.pl_table.specs.Ops.{same_role, lists_op};
@@ -8,6 +8,7 @@ ghost use Rattle.pl_table.specs.Ops.{same_role, lists_op};
 use crate::op::{Op, Role};
 use crate::range::PartitionRange;
 use crate::request::{Act, Request};
+use std::alloc::AllocError;
 use std::marker::Model;
 
 /// The operations that a row speaks of.
@@ -40,12 +41,27 @@ impl Ops {
         &self.items
     }
 
+    // The same operations, in memory of their own.
+    pub(crate) fn clone_ops(&self) -> Result<Ops, AllocError>
+        ensures { IfOk result (λ ops. ops ≡ self.now) }
+    {
+        Ok(Ops {
+            items: copy_of(&self.items)?,
+        })
+    }
+
     /// The operations in their order, given back with the memory that they stand in.
     pub fn into_vec(self) -> Vec<Op>
         ensures { result.items ≡ self }
     {
         self.items
     }
+}
+
+fn copy_of(ops: &Vec<Op>) -> Result<Vec<Op>, AllocError>
+    ensures { IfOk result (λ copy. copy.items ≡ ops.now.items) }
+{
+    ops.iter().copied().collect(*ops.allocator())
 }
 
 /// A row: which requests it speaks of, and whether it allows them. A part that is `None` matches
@@ -76,6 +92,35 @@ impl Row {
             && matches_role(self.role, head.role)
             && matches_op(&self.op, request.act().op())
             && matches_range(self.allows, self.range, request.act())
+    }
+
+    // The same row, in memory of its own.
+    pub(crate) fn clone_row(&self) -> Result<Row, AllocError>
+        ensures { IfOk result (λ row. row ≡ self.now) }
+    {
+        let op = match &self.op {
+            Some(ops) => Some(ops.clone_ops()?),
+            None => None,
+        };
+        Ok(Row {
+            allows: self.allows,
+            who: self.who,
+            role: self.role,
+            op,
+            range: self.range,
+        })
+    }
+
+    // Whether the row speaks of an operation without partitions that the principal asks for in the
+    // role: the range, if there is one, matches.
+    pub(crate) fn speaks_of(&self, principal: u32, role: Role, op: Op) -> bool
+        ensures { result ≡ (part_matches (λ who. who == principal) self.now.who
+            && (part_matches (same_role role) self.now.role
+            && part_matches (lists_op op) self.now.op)) }
+    {
+        matches_who(self.who, principal)
+            && matches_role(self.role, role)
+            && matches_op(&self.op, op)
     }
 }
 

@@ -1,11 +1,12 @@
 //! The written table.
 
-ghost use Rattle.std.specs.Prelude.{◌≡◌, ◌≤◌, ◌↔◌, All, Contains, IfNone, IfSome, IsSome, false, length, map};
+ghost use Rattle.std.specs.Prelude.{◌≡◌, ◌≤◌, ◌↔◌, All, Contains, IfNone, IfOk, IfSome, IsSome, false, length, map};
 ghost use Rattle.pl_table.specs.Table.{IsTable, IsFirstMatch, token_of, first_match_from};
 ghost use Rattle.pl_table.specs.Row.{row_matches};
 
 use crate::request::Request;
 use crate::row::Row;
+use std::alloc::AllocError;
 use std::marker::Model;
 
 /// Who may ask at all.
@@ -60,6 +61,15 @@ impl Table {
         &self.rows
     }
 
+    /// An equal table, in memory of its own.
+    pub fn clone_table(&self) -> Result<Table, AllocError>
+        ensures { IfOk result (λ t. t ≡ self.now) }
+    {
+        let principals = copy_of_principals(&self.principals)?;
+        let rows = copy_of_rows(&self.rows)?;
+        Ok(Table { principals, rows })
+    }
+
     /// The token listed for the id, or `None` where the id is not listed.
     pub fn token(&self, id: u32) -> Option<[u8; 16]>
         ensures value { result ≡ token_of id self.now.principals }
@@ -82,6 +92,22 @@ impl Table {
     {
         first_in(&self.rows, request)
     }
+}
+
+fn copy_of_principals(principals: &Vec<Principal>) -> Result<Vec<Principal>, AllocError>
+    ensures { IfOk result (λ copy. copy.items ≡ principals.now.items) }
+{
+    principals.iter().copied().collect(*principals.allocator())
+}
+
+fn copy_of_rows(rows: &Vec<Row>) -> Result<Vec<Row>, AllocError>
+    ensures { IfOk result (λ copy. copy.items ≡ rows.now.items) }
+{
+    let mut copy = Vec::new(*rows.allocator());
+    for row in rows {
+        copy.push(row.clone_row()?)?;
+    }
+    Ok(copy)
 }
 
 fn token_in(principals: &[Principal], id: u32) -> Option<[u8; 16]>

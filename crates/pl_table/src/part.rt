@@ -1,0 +1,293 @@
+//! The members of a principal and of a row.
+
+ghost use Rattle.std.specs.Prelude.{◌≡◌, ◌≤◌, ◌==◌, ◌&&◌, nat_le, length, IfSome, is_some, map, filter_map, option_map, IfOk};
+ghost use Rattle.std.specs.List.{list_any, list_all};
+ghost use Rattle.toml.specs.View.{view};
+ghost use Rattle.pl_table.specs.Part.{number_up_to, token_in, verdict_in, role_of_name, op_of_name, role_in, op_in, ops_in, id_of, token_of, principal_of, verdict_of, role_of, ops_of, listed_in, who_of, range_between, range_from, range_of, has_words, has_numbers, row_of};
+
+use crate::op::{Op, Role};
+use crate::range::PartitionRange;
+use crate::row::{Ops, Row};
+use crate::table::Principal;
+use hex::FromHex;
+use std::alloc::{AllocError, Global};
+use toml::Value;
+
+// The integer, if it is one from 0 to the most.
+#[tactic(auto, unfolding(crate::specs::Part::number_up_to))]
+fn number_up_to(most: u32, value: &Value) -> Option<u32>
+    ensures value { result ≡ number_up_to most (view value.now) }
+    ensures fits { IfSome result (λ n. n ≤ most) }
+{
+    match value {
+        Value::Integer(number) if 0 <= *number && *number <= i64::from(most) => {
+            Some(*number as u32)
+        }
+        _ => None,
+    }
+}
+
+#[tactic(auto, unfolding(crate::specs::Part::token_in))]
+fn token_in(value: &Value) -> Option<[u8; 16]>
+    ensures { result ≡ token_in (view value.now) }
+{
+    match value {
+        Value::String(digits) => <[u8; 16]>::from_hex(digits.as_str()).ok(),
+        _ => None,
+    }
+}
+
+#[tactic(auto, unfolding(crate::specs::Part::verdict_in))]
+fn verdict_in(value: &Value) -> Option<bool>
+    ensures { result ≡ verdict_in (view value.now) }
+{
+    match value {
+        Value::String(word) if word.as_str() == "allow" => Some(true),
+        Value::String(word) if word.as_str() == "deny" => Some(false),
+        _ => None,
+    }
+}
+
+#[tactic(auto, unfolding(crate::specs::Part::role_in))]
+fn role_in(value: &Value) -> Option<Role>
+    ensures { result ≡ role_in (view value.now) }
+{
+    match value {
+        Value::String(word) => Role::of_name(word.as_str()),
+        _ => None,
+    }
+}
+
+#[tactic(auto, unfolding(crate::specs::Part::op_in))]
+fn op_in(value: &Value) -> Option<Op>
+    ensures { result ≡ op_in (view value.now) }
+{
+    match value {
+        Value::String(word) => Op::of_name(word.as_str()),
+        _ => None,
+    }
+}
+
+#[tactic(auto, unfolding(crate::specs::Part::id_of))]
+pub(crate) fn id_of(principal: &Value) -> Option<u32>
+    ensures { result ≡ id_of (view principal.now) }
+{
+    match principal.get("id") {
+        Some(value) => number_up_to(u32::MAX, value),
+        None => None,
+    }
+}
+
+#[tactic(auto, unfolding(crate::specs::Part::token_of))]
+pub(crate) fn token_of(principal: &Value) -> Option<[u8; 16]>
+    ensures { result ≡ token_of (view principal.now) }
+{
+    match principal.get("token") {
+        Some(value) => token_in(value),
+        None => None,
+    }
+}
+
+#[tactic(auto, unfolding(crate::specs::Part::principal_of))]
+pub(crate) fn principal_of(principal: &Value) -> Option<Principal>
+    ensures { result ≡ principal_of (view principal.now) }
+{
+    let id = id_of(principal)?;
+    let token = token_of(principal)?;
+    Some(Principal { id, token })
+}
+
+#[tactic(auto, unfolding(crate::specs::Part::verdict_of))]
+pub(crate) fn verdict_of(row: &Value) -> Option<bool>
+    ensures { result ≡ verdict_of (view row.now) }
+{
+    match row.get("verdict") {
+        Some(value) => verdict_in(value),
+        None => None,
+    }
+}
+
+// The role of the row, which may be absent. `None` where it is there and is no role.
+#[tactic(auto, unfolding(crate::specs::Part::role_of, crate::specs::Part::if_there))]
+pub(crate) fn role_of(row: &Value) -> Option<Option<Role>>
+    ensures { result ≡ role_of (view row.now) }
+{
+    match row.get("role") {
+        Some(value) => role_in(value).map(Some),
+        None => Some(None),
+    }
+}
+
+fn are_ops(values: &[Value]) -> bool
+    ensures { result ≡ list_all (λ v. is_some (op_in (view v))) values.now }
+{
+    values.iter().all(|value| op_in(value).is_some())
+}
+
+// Whether there are values, each an operation.
+fn are_some_ops(values: &[Value]) -> bool
+    ensures { result ≡ (nat_le 1 (length values.now) && list_all (λ v. is_some (op_in (view v))) values.now) }
+{
+    1 <= values.len() && are_ops(values)
+}
+
+fn ops_from(alloc: Global, values: &[Value]) -> Result<Vec<Op>, AllocError>
+    ensures { IfOk result (λ ops. ops.items ≡ filter_map (λ v. op_in (view v)) values.now) }
+{
+    values.iter().filter_map(op_in).collect(alloc)
+}
+
+// Whether the value lists operations.
+#[tactic(auto, unfolding(crate::specs::Part::ops_in))]
+fn lists_ops(value: &Value) -> bool
+    ensures { result ≡ is_some (ops_in (view value.now)) }
+{
+    match value {
+        Value::Array(values) => are_some_ops(values),
+        _ => false,
+    }
+}
+
+// The operations that the value lists, if it lists some.
+#[tactic(auto, unfolding(crate::specs::Part::ops_in))]
+fn ops_in(alloc: Global, value: &Value) -> Result<Option<Ops>, AllocError>
+    ensures { IfOk result (λ ops. ops ≡ ops_in (view value.now)) }
+{
+    match value {
+        Value::Array(values) => {
+            if are_some_ops(values) {
+                Ok(Some(Ops::new(ops_from(alloc, values)?)))
+            } else {
+                Ok(None)
+            }
+        }
+        _ => Ok(None),
+    }
+}
+
+// Whether the operations of the row are absent, or are some.
+#[tactic(auto, unfolding(crate::specs::Part::ops_of, crate::specs::Part::if_there))]
+pub(crate) fn has_ops(row: &Value) -> bool
+    ensures { result ≡ is_some (ops_of (view row.now)) }
+{
+    match row.get("op") {
+        Some(value) => lists_ops(value),
+        None => true,
+    }
+}
+
+// The operations of the row, which may be absent. `None` where they are there and are none.
+#[tactic(auto, unfolding(crate::specs::Part::ops_of, crate::specs::Part::if_there))]
+fn ops_of(alloc: Global, row: &Value) -> Result<Option<Option<Ops>>, AllocError>
+    ensures { IfOk result (λ ops. ops ≡ ops_of (view row.now)) }
+{
+    match row.get("op") {
+        Some(value) => Ok(ops_in(alloc, value)?.map(Some)),
+        None => Ok(Some(None)),
+    }
+}
+
+fn is_listed(principals: &[Principal], id: u32) -> bool
+    ensures { result ≡ list_any (λ p. p.id == id) principals.now }
+{
+    principals.iter().any(|principal| principal.id == id)
+}
+
+// The principal whose id the value is, if it is that of one which is listed.
+#[tactic(auto, unfolding(crate::specs::Part::listed_in))]
+fn listed_in(principals: &[Principal], value: &Value) -> Option<u32>
+    ensures { result ≡ listed_in principals.now (view value.now) }
+{
+    let id = number_up_to(u32::MAX, value)?;
+    is_listed(principals, id).then_some(id)
+}
+
+// The principal of the row, which may be absent. `None` where it is there and is not listed.
+#[tactic(auto, unfolding(crate::specs::Part::who_of, crate::specs::Part::if_there))]
+pub(crate) fn who_of(principals: &[Principal], row: &Value) -> Option<Option<u32>>
+    ensures { result ≡ who_of principals.now (view row.now) }
+{
+    match row.get("who") {
+        Some(value) => listed_in(principals, value).map(Some),
+        None => Some(None),
+    }
+}
+
+#[tactic(auto, unfolding(crate::specs::Part::range_between))]
+fn range_between(from: &Value, to: &Value) -> Option<PartitionRange>
+    ensures { result ≡ range_between (number_up_to 65535 (view from.now))
+        (number_up_to 65535 (view to.now)) }
+{
+    let from = number_up_to(65_535, from)?;
+    let to = number_up_to(65_535, to)?;
+    if from <= to {
+        Some(PartitionRange {
+            from: from as u16,
+            to: to as u16,
+        })
+    } else {
+        None
+    }
+}
+
+// The range of the row, which may be absent. `None` where only one end is there, or an end is no
+// partition, or the first is above the last.
+#[tactic(auto, unfolding(crate::specs::Part::range_of, crate::specs::Part::range_from))]
+pub(crate) fn range_of(row: &Value) -> Option<Option<PartitionRange>>
+    ensures { result ≡ range_of (view row.now) }
+{
+    match (row.get("from"), row.get("to")) {
+        (Some(from), Some(to)) => range_between(from, to).map(Some),
+        (None, None) => Some(None),
+        _ => None,
+    }
+}
+
+// Whether the verdict, the role and the operations of the row are written in their words.
+#[tactic(auto, unfolding(crate::specs::Part::has_words))]
+pub(crate) fn has_words(row: &Value) -> bool
+    ensures { result ≡ has_words (view row.now) }
+{
+    verdict_of(row).is_some() && role_of(row).is_some() && has_ops(row)
+}
+
+// Whether the principal and the range of the row are written in their numbers.
+#[tactic(auto, unfolding(crate::specs::Part::has_numbers))]
+pub(crate) fn has_numbers(principals: &[Principal], row: &Value) -> bool
+    ensures { result ≡ has_numbers principals.now (view row.now) }
+{
+    who_of(principals, row).is_some() && range_of(row).is_some()
+}
+
+// The row, where each of its parts reads.
+#[tactic(auto, unfolding(crate::specs::Part::row_of))]
+pub(crate) fn row_of(
+    alloc: Global,
+    principals: &[Principal],
+    row: &Value,
+) -> Result<Option<Row>, AllocError>
+    ensures { IfOk result (λ read. read ≡ row_of principals.now (view row.now)) }
+{
+    let Some(allows) = verdict_of(row) else {
+        return Ok(None);
+    };
+    let Some(who) = who_of(principals, row) else {
+        return Ok(None);
+    };
+    let Some(role) = role_of(row) else {
+        return Ok(None);
+    };
+    let Some(range) = range_of(row) else {
+        return Ok(None);
+    };
+    let Some(op) = ops_of(alloc, row)? else {
+        return Ok(None);
+    };
+    Ok(Some(Row {
+        allows,
+        who,
+        role,
+        op,
+        range,
+    }))
+}

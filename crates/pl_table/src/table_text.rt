@@ -1,0 +1,57 @@
+//! A text, beside what it reads as.
+
+ghost use Rattle.std.specs.Prelude.{◌≡◌, IfOk};
+ghost use Rattle.pl_table.specs.TableText.{table_reading};
+
+use crate::fault::{ReadFault, TableFault};
+use crate::reading::read_table;
+use crate::table::Table;
+use std::alloc::{AllocError, Global};
+use std::marker::Model;
+
+/// A text that was read once: it keeps the table that it writes down, or the fault for which it is
+/// no table. A contract sees the text alone, since that says what it reads as.
+#[derive(Debug, Drop)]
+pub struct TableText {
+    text: Vec<u8>,
+    reading: Result<Table, TableFault>,
+}
+
+impl Model for TableText {
+    ghost use Rattle.std.specs.Prelude.{◌≡◌, ℕ, List};
+    ghost use Rattle.pl_table.specs.TableText.{table_reading};
+
+    ghost Value = { List ℕ };
+
+    ghost view = { λ t. t.text.items };
+
+    ghost invariant = { λ t. t.reading ≡ table_reading t.text.items };
+}
+
+impl TableText {
+    /// Reads the text. Where memory is refused the text is dropped.
+    pub fn new(alloc: Global, text: Vec<u8>) -> Result<TableText, AllocError>
+        ensures { IfOk result (λ t. t ≡ text.items) }
+    {
+        let reading = match read_table(alloc, &text) {
+            Ok(table) => Ok(table),
+            Err(ReadFault::Malformed(fault)) => Err(fault),
+            Err(ReadFault::NoMemory) => return Err(AllocError),
+        };
+        Ok(TableText { text, reading })
+    }
+
+    /// The text, byte for byte.
+    pub fn text(&self) -> &[u8]
+        ensures { result.now ≡ self.now }
+    {
+        &self.text
+    }
+
+    /// The table that the text writes down, or the first of its faults.
+    pub fn reading(&self) -> &Result<Table, TableFault>
+        ensures { result.now ≡ table_reading self.now }
+    {
+        &self.reading
+    }
+}
