@@ -15,14 +15,16 @@ abbrev pub own_pass : ℕ
 own_pass = 1
 
 -- the request takes its step, and the bytes spell what it is told
-pub record TakesStep (q : Query) (before : History) (reply : List ℕ) (after : History) : Type 0 where
+pub record TakesStep (q : Query) (before : History) (reply : List ℕ) (after : History)
+    : Type 0 where
   pub told : Reply
   pub may : MayReply q before told
   pub grows : after ≡ history_after q own_pass before told
   pub spelled : reply ≡ reply_spelling told
 
 -- the bytes spell the fault's code, and the history is as it was
-pub record TellsFault (fault : WireFault) (before : History) (reply : List ℕ) (after : History) : Type 0 where
+pub record TellsFault (fault : WireFault) (before : History) (reply : List ℕ) (after : History)
+    : Type 0 where
   pub same : after ≡ before
   pub spelled : reply ≡ reply_spelling (Malformed (code_of fault))
 

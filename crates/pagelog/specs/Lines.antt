@@ -49,7 +49,8 @@ BeginsLong (Some text) = OnFirst (lines_of text) IsLong
 abbrev pub HasNoFeed : List ℕ → Type 0
 HasNoFeed bytes = All (λ b. b ≢ 10) bytes
 
--- bytes with no line feed moved from the reader's front to the end of the line, and then those of the end were taken
+-- bytes with no line feed moved from the reader's front to the end of the line,
+-- and then those of the end were taken
 pub record MovesBytes (old new : Option (List ℕ)) (line longer ending : List ℕ) : Type 0 where
   pub piece : List ℕ
   pub moved : longer ≡ line ++ piece
@@ -59,11 +60,15 @@ pub record MovesBytes (old new : Option (List ℕ)) (line longer ending : List �
 -- known bytes begin with bytes with no line feed, which would make the line longer than it may be
 abbrev pub WouldBeLong : Option (List ℕ) → List ℕ → Type 0
 WouldBeLong None line = ⊤
-WouldBeLong (Some text) line = (piece : List ℕ) × (rest : List ℕ) × (text ≡ piece ++ rest) × HasNoFeed piece × (longest_line < length line + length piece)
+WouldBeLong (Some text) line =
+    (piece : List ℕ) × (rest : List ℕ) × (text ≡ piece ++ rest) × HasNoFeed piece
+    × (longest_line < length line + length piece)
 
 -- what one look at the reader does to a line
-abbrev pub TakesPiece : Option (List ℕ) → Option (List ℕ) → List ℕ → List ℕ → Result Piece LineStop → Type 0
-TakesPiece old new line longer (Ok pieces.Shown) = MovesBytes old new line longer [] × (length line < length longer)
+abbrev pub TakesPiece : Option (List ℕ) → Option (List ℕ) → List ℕ → List ℕ
+    → Result Piece LineStop → Type 0
+TakesPiece old new line longer (Ok pieces.Shown) =
+    MovesBytes old new line longer [] × (length line < length longer)
 TakesPiece old new line longer (Ok pieces.Line) = MovesBytes old new line longer (10 ∷ [])
 TakesPiece old new line longer (Ok pieces.Input) = IsAtEnd old × Keeps old new × (longer ≡ line)
 TakesPiece old new line longer (Err stops.Long) = WouldBeLong old line

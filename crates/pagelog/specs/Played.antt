@@ -13,7 +13,8 @@ abbrev pub Steps : Type 0 → Type 1
 Steps S = S → List ℕ → List ℕ → S → Type 0
 
 -- the body that a line spells is answered by a reply, and the answer is the text of that reply
-pub record AnswersLine {S : Type 0} (step : Steps S) (before : S) (line answer : List ℕ) (after : S) : Type 0 where
+pub record AnswersLine {S : Type 0} (step : Steps S) (before : S) (line answer : List ℕ) (after : S)
+    : Type 0 where
   pub body : List ℕ
   pub reply : List ℕ
   pub fits : length line ≤ longest_line
@@ -42,7 +43,8 @@ pub record Moment (S : Type 0) : Type 0 where
 abbrev pub moment : {S : Type 0} → Option (List ℕ) → S → Moment S
 moment output state = record { output = output; state = state }
 
--- so many lines of the input are answered, in order, and these are not; all answers are written, and nothing else
+-- so many lines of the input are answered, in order, and these are not;
+-- all answers are written, and nothing else
 pub record AnswersFirst {S : Type 0} (step : Steps S) (input : Option (List ℕ)) (count : ℕ)
     (unanswered : List (List ℕ)) (before after : Moment S) : Type 0 where
   pub answered : List (List ℕ)
@@ -63,13 +65,15 @@ pub record RefusesText (line : List ℕ) : Type 0 where
   pub no_text : IsNoText line
 
 -- the line is answered, and its answer is written
-pub record WritesAnswer {S : Type 0} (step : Steps S) (line : List ℕ) (before after : Moment S) : Type 0 where
+pub record WritesAnswer {S : Type 0} (step : Steps S) (line : List ℕ) (before after : Moment S)
+    : Type 0 where
   pub answer : List ℕ
   pub answers : AnswersLine step before.state line answer after.state
   pub written : Appends before.output after.output answer
 
 -- the line is answered, and a beginning of its answer is written, but not the whole
-pub record WritesPart {S : Type 0} (step : Steps S) (line : List ℕ) (before after : Moment S) : Type 0 where
+pub record WritesPart {S : Type 0} (step : Steps S) (line : List ℕ) (before after : Moment S)
+    : Type 0 where
   pub answer : List ℕ
   pub count : ℕ
   pub answers : AnswersLine step before.state line answer after.state
@@ -77,13 +81,15 @@ pub record WritesPart {S : Type 0} (step : Steps S) (line : List ℕ) (before af
   pub written : Appends before.output after.output (take count answer)
 
 -- the line is answered, and nothing of its answer is written
-pub record LosesAnswer {S : Type 0} (step : Steps S) (line : List ℕ) (before after : Moment S) : Type 0 where
+pub record LosesAnswer {S : Type 0} (step : Steps S) (line : List ℕ) (before after : Moment S)
+    : Type 0 where
   pub answer : List ℕ
   pub answers : AnswersLine step before.state line answer after.state
   pub output : Keeps before.output after.output
 
 -- how a fault ends it at the line of this number, the first of those that are not answered
-abbrev pub StopsAt : {S : Type 0} → Steps S → ℕ → List (List ℕ) → Moment S → Moment S → PlayFault → Type 0
+abbrev pub StopsAt : {S : Type 0} → Steps S → ℕ → List (List ℕ) → Moment S → Moment S
+    → PlayFault → Type 0
 StopsAt step number lines before after (faults.Text k) =
     (k ≡ number) × OnFirst lines RefusesText × LeavesBoth before after
 StopsAt step number lines before after (faults.Long k) =
@@ -104,12 +110,14 @@ pub record Stops {S : Type 0} (step : Steps S) (input : Option (List ℕ)) (befo
   pub stop : StopsAt step (count + 1) unanswered now after fault
 
 -- all lines of the input are answered, and this is their number; or some of them, until a fault
-abbrev pub Played : {S : Type 0} → Steps S → Option (List ℕ) → Moment S → Moment S → Result ℕ PlayFault → Type 0
+abbrev pub Played : {S : Type 0} → Steps S → Option (List ℕ) → Moment S → Moment S
+    → Result ℕ PlayFault → Type 0
 Played step input before after (Ok count) = AnswersFirst step input count [] before after
 Played step input before after (Err fault) = Stops step input before after fault
 
 -- one line is answered, or a fault ends it there
-abbrev pub PlaysLine : {S : Type 0} → Steps S → ℕ → List ℕ → Moment S → Moment S → Result (Unit {0}) PlayFault → Type 0
+abbrev pub PlaysLine : {S : Type 0} → Steps S → ℕ → List ℕ → Moment S → Moment S
+    → Result (Unit {0}) PlayFault → Type 0
 PlaysLine step number line before after (Ok _) = WritesAnswer step line before after
 PlaysLine step number line before after (Err fault) =
     (others : List (List ℕ)) → StopsAt step number (line ∷ others) before after fault

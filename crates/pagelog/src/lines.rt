@@ -1,3 +1,5 @@
+//! The next line of what a reader gives.
+
 ghost use Rattle.std.specs.Prelude.{◌≡◌, ◌≤◌, ◌<◌, IfOk, IfErr, IfSome, IfNone, Some, length, slice_get, take, vec_len};
 ghost use Rattle.pagelog.specs.Lines.{longest_line, TakesLine, HasNoLine, BeginsLong, TakesPiece, HasNoFeed};
 
@@ -37,8 +39,8 @@ pub(crate) enum Piece {
     Input,
 }
 
-/// Takes the next line, without its line feed: `None` at the end of the input. Only a line feed ends
-/// a line, and the last line needs none. Never more than `LONGEST_LINE` bytes are held.
+/// Takes the next line, without its line feed: `None` at the end of the input. Only a line feed
+/// ends a line, and the last line needs none. Never more than `LONGEST_LINE` bytes are held.
 pub(crate) fn take_line<R: BufRead>(
     alloc: Global,
     reader: &mut R,

@@ -1,3 +1,5 @@
+//! Lines in, lines out.
+
 ghost use Rattle.std.specs.Prelude.{◌≤◌, length};
 ghost use Rattle.pagelog.specs.Answering.{AnswersBody};
 ghost use Rattle.pagelog.specs.Lines.{longest_line};
@@ -15,8 +17,10 @@ use std::io::{BufRead, Write};
 /// How many lines `play` answers at most.
 const MOST_LINES: u64 = 4_294_967_296;
 
-/// Answers each line of the input by one line, in order, and says how many they were. Each answer is
-/// written before the next line is read. The first fault ends it.
+/// Answers each line of the input by one line, in order, and says how many they were. Each answer
+/// is written before the next line is read. The first fault ends it: the answers to the lines
+/// before it stand whole; after `Write` a beginning of the next one may follow, and after `Write`
+/// or `NoMemory` the database may have taken that line's step. An empty line is an empty body.
 pub fn play<R: BufRead, W: Write>(
     alloc: Global,
     reader: &mut R,

@@ -1,3 +1,5 @@
+//! Lines as hexadecimal text of bodies.
+
 ghost use Rattle.std.specs.Prelude.{◌≡◌, IfOk, IsErr, IfErr, Ok};
 ghost use Rattle.hex.specs.Hex.{decode_of};
 ghost use Rattle.pagelog.specs.Text.{answer_text};

@@ -1,3 +1,5 @@
+//! Writing the whole of what is to be written.
+
 ghost use Rattle.std.specs.Prelude.{ℕ, ◌<◌, OnOk, OnErr, length, take};
 ghost use Rattle.std.specs.Io.KnownBytes.{Appends};
 
