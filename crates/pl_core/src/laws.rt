@@ -9,8 +9,8 @@ ghost use Rattle.pl_core.specs.Laws.{HistoriesStayLegal};
 /// After a denial the hardened log, each number's content and the copies it stands in are what they
 /// were.
 pub fn denials_change_nothing()
-    ensures entry { DenialsChangeNothing }
-    ensures reply { DeniedChangesNothing }
+    ensures same { DenialsChangeNothing }
+    ensures kept { DeniedChangesNothing }
 {}
 
 /// No entry takes a hardened block away, and a number that has a content keeps it.
@@ -21,15 +21,15 @@ pub fn logs_only_grow()
 /// The hardened end is how far an allowed pull goes: asked at each number up to it, it is allowed,
 /// and at each number above it is denied.
 pub fn pulls_reach_the_hardened_end()
-    ensures reach { PullsReachTheHardenedEnd }
-    ensures above { PullsAboveAreDenied }
+    ensures exact { PullsReachTheHardenedEnd }
+    ensures only { PullsAboveAreDenied }
 {}
 
 /// Each block that a pull of a legal history is answered is hardened, touches a partition that was
 /// asked for, and has a number from the one asked to the hardened end.
 pub fn served_blocks_are_hardened()
-    ensures served { ServedBlocksAreHardened }
-    ensures numbered { HardenedBlocksAreNumbered }
+    ensures members { ServedBlocksAreHardened }
+    ensures rising { HardenedBlocksAreNumbered }
 {}
 
 /// A legal history stays legal with a request in its ranges, and a reply that it may have.
