@@ -173,7 +173,7 @@ impl Numbers {
         }
     }
 
-    // What is allowed unless the log stands against it, or is no row's matter.
+    // What its principal may ask in the current epoch, so that the table or the log decides.
     fn usual(&mut self, hard: u64) -> Ask
         requires { hard ≤ 2 ^ 48 }
     {
@@ -186,6 +186,7 @@ impl Numbers {
         }
     }
 
+    // Now and then with a wrong token, by another principal, in another epoch or role.
     fn ask(&mut self, hard: u64) -> Ask
         requires { hard ≤ 2 ^ 48 }
     {
