@@ -6,9 +6,9 @@ use super::reference::Reference;
 use super::*;
 
 /// How many requests are made, and how many entries both databases may have.
-const REQUESTS: u32 = 600;
+const REQUESTS: u32 = 900;
 
-const ENTRIES: u64 = 500;
+const ENTRIES: u64 = 800;
 
 /// What a request may meet: a row of the written order, or a way to be served. The rows of the table
 /// that is built in do not deny anything that can be asked yet, so section B has row 0 alone.
@@ -117,13 +117,13 @@ impl Numbers {
     fn number(&mut self, hard: u64) -> u64
         requires { hard ≤ 2 ^ 48 }
     {
-        match self.below(12) {
+        match self.below(20) {
             0 => 0,
             1 => hard,
             2 => hard + 64,
             3 => hard + 65,
             4 => self.below(hard + 70),
-            _ => hard + 1 + self.below(4),
+            _ => hard + 1 + self.below(2),
         }
     }
 
@@ -173,19 +173,20 @@ impl Numbers {
         }
     }
 
-    // What is allowed unless the log stands against it, or is no row's matter.
+    // What its principal may ask in the current epoch, so that the table or the log decides.
     fn usual(&mut self, hard: u64) -> Ask
         requires { hard ≤ 2 ^ 48 }
     {
-        match self.below(8) {
-            0 => self.pull(hard),
-            1 => report(self.number(hard)),
-            2 => report(hard + 1),
-            3 => report(1 << 48),
+        match self.below(16) {
+            0 | 1 => self.pull(hard),
+            2 => report(self.number(hard)),
+            3 | 4 => report(hard + 1),
+            5 => report(hard + 2),
             _ => write_block(self.block(hard), self.copy()),
         }
     }
 
+    // Now and then with a wrong token, by another principal, in another epoch or role.
     fn ask(&mut self, hard: u64) -> Ask
         requires { hard ≤ 2 ^ 48 }
     {
@@ -244,6 +245,7 @@ fn reference_agrees(rt: HostRuntime) -> Result<(), Fail> {
             seen[place] = seen[place] || met == Some(TO_MEET[place]);
         }
     }
+    assert!(rt; 16 < db.hard(), "no pull came upon more than 16 blocks");
     for place in 0..17 {
         assert!(rt; seen[place], "{:?} was not met", TO_MEET[place]);
     }
