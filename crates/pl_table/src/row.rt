@@ -8,7 +8,7 @@ ghost use Rattle.pl_table.specs.Ops.{same_role, lists_op};
 use crate::op::{Op, Role};
 use crate::range::PartitionRange;
 use crate::request::{Act, Request};
-use std::alloc::AllocError;
+use std::alloc::{AllocError, Global};
 use std::marker::Model;
 
 /// The operations that a row speaks of.
@@ -46,7 +46,7 @@ impl Ops {
         ensures { IfOk result (λ ops. ops ≡ self.now) }
     {
         Ok(Ops {
-            items: copy_of(&self.items)?,
+            items: copy_of(*self.items.allocator(), &self.items)?,
         })
     }
 
@@ -58,10 +58,10 @@ impl Ops {
     }
 }
 
-fn copy_of(ops: &Vec<Op>) -> Result<Vec<Op>, AllocError>
-    ensures { IfOk result (λ copy. copy.items ≡ ops.now.items) }
+fn copy_of(alloc: Global, ops: &[Op]) -> Result<Vec<Op>, AllocError>
+    ensures { IfOk result (λ copy. copy.items ≡ ops.now) }
 {
-    ops.iter().copied().collect(*ops.allocator())
+    ops.iter().copied().collect(alloc)
 }
 
 /// A row: which requests it speaks of, and whether it allows them. A part that is `None` matches

@@ -6,7 +6,7 @@ ghost use Rattle.pl_table.specs.Row.{row_matches};
 
 use crate::request::Request;
 use crate::row::Row;
-use std::alloc::AllocError;
+use std::alloc::{AllocError, Global};
 use std::marker::Model;
 
 /// Who may ask at all.
@@ -65,8 +65,9 @@ impl Table {
     pub fn clone_table(&self) -> Result<Table, AllocError>
         ensures { IfOk result (λ t. t ≡ self.now) }
     {
-        let principals = copy_of_principals(&self.principals)?;
-        let rows = copy_of_rows(&self.rows)?;
+        let alloc = *self.rows.allocator();
+        let principals = copy_of_principals(alloc, &self.principals)?;
+        let rows = copy_of_rows(alloc, &self.rows)?;
         Ok(Table { principals, rows })
     }
 
@@ -94,16 +95,16 @@ impl Table {
     }
 }
 
-fn copy_of_principals(principals: &Vec<Principal>) -> Result<Vec<Principal>, AllocError>
-    ensures { IfOk result (λ copy. copy.items ≡ principals.now.items) }
+fn copy_of_principals(alloc: Global, principals: &[Principal]) -> Result<Vec<Principal>, AllocError>
+    ensures { IfOk result (λ copy. copy.items ≡ principals.now) }
 {
-    principals.iter().copied().collect(*principals.allocator())
+    principals.iter().copied().collect(alloc)
 }
 
-fn copy_of_rows(rows: &Vec<Row>) -> Result<Vec<Row>, AllocError>
-    ensures { IfOk result (λ copy. copy.items ≡ rows.now.items) }
+fn copy_of_rows(alloc: Global, rows: &[Row]) -> Result<Vec<Row>, AllocError>
+    ensures { IfOk result (λ copy. copy.items ≡ rows.now) }
 {
-    let mut copy = Vec::new(*rows.allocator());
+    let mut copy = Vec::new(alloc);
     for row in rows {
         copy.push(row.clone_row()?)?;
     }

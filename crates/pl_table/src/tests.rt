@@ -2,6 +2,9 @@
 
 ghost use Rattle.std.specs.Prelude.{◌≤◌, length};
 
+mod faults;
+mod texts;
+
 use crate::{Act, Head, Op, Ops, PartitionRange, Principal, Request, Role, Row, Table};
 use bytes::Bytes;
 use pl_block::{Block, BlockFault, Record};
