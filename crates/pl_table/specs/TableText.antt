@@ -20,6 +20,7 @@ pub record Listed : Type 0 where
   pub principals : List Data
   pub rows : List Data
 
+-- the two lists
 abbrev pub listed_of : List Data → List Data → Listed
 listed_of ps rows = record { principals = ps; rows = rows }
 

@@ -26,7 +26,8 @@ pub enum TableFault {
     PrincipalToken = 7,
     /// Two principals have one id.
     RepeatedId = 8,
-    /// A row has a key that rows do not have, lacks its verdict, or has only one of `from` and `to`.
+    /// A row has a key that is none of a row's, lacks its verdict, or has only one of `from` and
+    /// `to`.
     RowKeys = 9,
     /// A verdict, a role or an operation is not one of their words, or a row lists no operation.
     RowWord = 10,

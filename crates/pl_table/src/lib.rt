@@ -1,7 +1,9 @@
 //! Requests, and the written table that says who may append, pull, read and administer.
 //!
 //! A contract sees a [`Request`] as its head and its act, and a [`Table`] as its principals and its
-//! rows. What a denial by the table means for a database is the matter of the crates above.
+//! rows. A table is written down in a text, and [`read_table`] says what a text reads as: a table,
+//! or the first of its faults. What a denial by the table means for a database is the matter of the
+//! crates above.
 #![tactic(auto)]
 
 mod fault;

@@ -126,7 +126,9 @@ fn are_ops(values: &[Value]) -> bool
 
 // Whether there are values, each an operation.
 fn are_some_ops(values: &[Value]) -> bool
-    ensures { result ≡ (nat_le 1 (length values.now) && list_all (λ v. is_some (op_in (view v))) values.now) }
+    ensures { result
+        ≡ (nat_le 1 (length values.now)
+        && list_all (λ v. is_some (op_in (view v))) values.now) }
 {
     1 <= values.len() && are_ops(values)
 }
