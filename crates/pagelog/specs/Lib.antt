@@ -3,3 +3,4 @@ pub mod Text
 pub mod Answering
 pub mod Start
 pub mod Played
+pub mod Texts

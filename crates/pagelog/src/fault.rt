@@ -1,5 +1,8 @@
 //! Why `play` stops.
 
+ghost use Rattle.std.specs.Prelude.{Some};
+ghost use Rattle.pagelog.specs.Texts.{fault_text};
+
 use std::fmt;
 
 /// Why `play` stopped before the end of its input. Lines are numbered from 1.
@@ -18,6 +21,8 @@ pub enum PlayFault {
 }
 
 impl fmt::Display for PlayFault {
+    ghost output = { λ fault. Some (fault_text fault) };
+
     fn fmt<W: fmt::Write>(&self, f: &mut fmt::Formatter<W>) -> fmt::Result {
         match self {
             PlayFault::Read => write!(f, "read"),

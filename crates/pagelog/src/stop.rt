@@ -1,5 +1,8 @@
 //! How the program ends where not all lines were answered.
 
+ghost use Rattle.std.specs.Prelude.{◌≡◌, Some};
+ghost use Rattle.pagelog.specs.Texts.{status_of, stop_text};
+
 use crate::fault::PlayFault;
 use std::fmt;
 
@@ -13,7 +16,9 @@ pub enum Stop {
 
 impl Stop {
     /// The exit status.
-    pub fn status(self) -> u8 {
+    pub fn status(self) -> u8
+        ensures { result ≡ status_of self }
+    {
         match self {
             Stop::Usage => 2,
             Stop::Fault(_) => 1,
@@ -22,6 +27,8 @@ impl Stop {
 }
 
 impl fmt::Display for Stop {
+    ghost output = { λ stop. Some (stop_text stop) };
+
     fn fmt<W: fmt::Write>(&self, f: &mut fmt::Formatter<W>) -> fmt::Result {
         match self {
             Stop::Usage => write!(f, "usage: pagelog play"),

@@ -1,6 +1,6 @@
 //! The words that the program is called with.
 
-ghost use Rattle.std.specs.Prelude.{◌≡◌, ◌↔◌, IsTrue, IfSome, Some, length, slice_get, string_bytes, codes};
+ghost use Rattle.std.specs.Prelude.{◌≡◌, ◌↔◌, IsTrue, IsOk, IsOkAnd, IfSome, Some, length, slice_get, string_bytes, codes};
 
 use crate::fault::PlayFault;
 use crate::stop::Stop;
@@ -28,7 +28,15 @@ pub fn are_play(words: &[String]) -> bool
 
 /// Whether the program was called with the word `play` alone. Words that are no UTF-8 are not.
 pub fn check_words(rt: &(impl Env + AllocGlobal)) -> Result<(), Stop> {
-    match words_of(rt) {
+    stop_of(words_of(rt))
+}
+
+// Whether words that were got, or not, are `play` alone, or else why the program ends.
+fn stop_of(words: io::Result<Vec<String>>) -> Result<(), Stop>
+    ensures ok { IsOk result ↔ IsOkAnd words (λ ws. (length ws.items ≡ 2)
+        × IfSome (slice_get ws.items 1) (λ word. string_bytes word ≡ codes "play")) }
+{
+    match words {
         Ok(words) => {
             if are_play(&words) {
                 Ok(())
