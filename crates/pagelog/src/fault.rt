@@ -8,7 +8,7 @@ use std::fmt;
 /// Why `play` stopped before the end of its input. Lines are numbered from 1.
 #[derive(Clone, Copy, Debug, PartialEq, Eq)]
 pub enum PlayFault {
-    /// A read failed, or the input has more than 4,294,967,296 lines.
+    /// A read failed, or the input has 4,294,967,296 lines or more.
     Read,
     /// A write failed, or took no byte.
     Write,
