@@ -216,12 +216,17 @@ fn reference(alloc: Global) -> Result<Reference, AllocError> {
     Ok(Reference::new(alloc, table, PRIMARY, ENTRIES))
 }
 
-// What the plain database answers. Where memory was refused, it is asked again.
-fn expected(alloc: Global, plain: &mut Reference, ask: Ask) -> Result<Reply, Fail> {
+// What the plain database answers, and whether its verdict is the one row by row. Where memory was
+// refused, it is asked again.
+fn expected(alloc: Global, plain: &mut Reference, ask: Ask) -> Result<(Reply, bool), Fail> {
     let request = ask.request(alloc)?;
+    let agrees = match plain.agrees_by_rows(&request) {
+        Ok(agrees) => agrees,
+        Err(_) => plain.agrees_by_rows(&request)?,
+    };
     match plain.step(1, &request) {
-        Ok(reply) => Ok(reply),
-        Err(_) => Ok(plain.step(1, &request)?),
+        Ok(reply) => Ok((reply, agrees)),
+        Err(_) => Ok((plain.step(1, &request)?, agrees)),
     }
 }
 
@@ -233,7 +238,11 @@ fn reference_agrees(rt: HostRuntime) -> Result<(), Fail> {
     let mut seen = [false; 17];
     for turn in 0..REQUESTS {
         let ask = numbers.ask(db.hard());
-        let told = expected(rt.alloc(), &mut plain, ask)?;
+        let (told, agrees) = expected(rt.alloc(), &mut plain, ask)?;
+        assert!(rt;
+            agrees,
+            "{turn}: {ask:?}: row by row the verdict is another"
+        );
         let reply = answer(&rt, rt.alloc(), &mut db, ask)?;
         assert!(rt;
             same(&reply, &told),
