@@ -4,14 +4,33 @@ ghost use Rattle.std.specs.Prelude.{◌<◌, ◌≤◌, ◌^◌};
 
 use super::reference::Reference;
 use super::*;
+use pl_table::{ReadFault, read_table};
 
 /// How many requests are made, and how many entries both databases may have.
 const REQUESTS: u32 = 900;
 
 const ENTRIES: u64 = 800;
 
-/// What a request may meet: a row of the written order, or a way to be served. The rows of the table
-/// that is built in do not deny anything that can be asked yet, so section B has row 0 alone.
+/// The table of both: row 2 denies pulls that touch partition 6, and what no row speaks of is denied.
+const TABLE: &str = "
+principal = [
+  { id = 1, token = '11111111111111111111111111111111' },
+  { id = 2, token = '22222222222222222222222222222222' },
+  { id = 3, token = '33333333333333333333333333333333' },
+  { id = 4, token = '44444444444444444444444444444444' },
+  { id = 5, token = '55555555555555555555555555555555' },
+]
+row = [
+  { verdict = 'allow', who = 1, role = 'operator' },
+  { verdict = 'deny', op = ['pull'], from = 6, to = 6 },
+  { verdict = 'allow', who = 2, role = 'primary' },
+  { verdict = 'allow', who = 3, role = 'secondary' },
+  { verdict = 'allow', who = 4, role = 'page_server', from = 0, to = 3 },
+  { verdict = 'allow', who = 5, role = 'primary' },
+]
+";
+
+/// What a request may meet: a row of the written order, or a way to be served.
 #[derive(Clone, Copy, Debug, PartialEq, Eq)]
 enum Met {
     Row(Section, u16),
@@ -22,13 +41,14 @@ enum Met {
     Full,
 }
 
-const TO_MEET: [Met; 17] = [
+const TO_MEET: [Met; 18] = [
     Met::Row(Section::A, 1),
     Met::Row(Section::A, 2),
     Met::Row(Section::A, 3),
     Met::Row(Section::A, 4),
     Met::Row(Section::A, 5),
     Met::Row(Section::B, 0),
+    Met::Row(Section::B, 2),
     Met::Row(Section::C, 1),
     Met::Row(Section::C, 2),
     Met::Row(Section::C, 3),
@@ -208,12 +228,21 @@ impl Numbers {
     }
 }
 
-fn reference(alloc: Global) -> Result<Reference, AllocError> {
-    let table = match Table::t0(alloc) {
-        Ok(table) => table,
-        Err(_) => Table::t0(alloc)?,
+// The table that is written down above. Where memory was refused, it is read again.
+fn table(alloc: Global) -> Result<Table, Fail> {
+    let read = match read_table(alloc, TABLE.as_bytes()) {
+        Err(ReadFault::NoMemory) => read_table(alloc, TABLE.as_bytes()),
+        read => read,
     };
-    Ok(Reference::new(alloc, table, PRIMARY, ENTRIES))
+    read.map_err(|_| Fail::from("the text is no table"))
+}
+
+fn database_of(alloc: Global, table: Table) -> Result<Db, DbFault> {
+    let limits = Limits {
+        audit: ENTRIES,
+        chunks: 16,
+    };
+    Db::new(alloc, table, PRIMARY, limits)
 }
 
 // What the plain database answers, and whether its verdict is the one row by row. Where memory was
@@ -232,10 +261,14 @@ fn expected(alloc: Global, plain: &mut Reference, ask: Ask) -> Result<(Reply, bo
 
 #[test]
 fn reference_agrees(rt: HostRuntime) -> Result<(), Fail> {
-    let mut db = database(rt.alloc(), PRIMARY, ENTRIES)?;
-    let mut plain = reference(rt.alloc())?;
+    let made = match database_of(rt.alloc(), table(rt.alloc())?) {
+        Err(DbFault::NoMemory) => database_of(rt.alloc(), table(rt.alloc())?),
+        made => made,
+    };
+    let mut db = made?;
+    let mut plain = Reference::new(rt.alloc(), table(rt.alloc())?, PRIMARY, ENTRIES);
     let mut numbers = Numbers { state: 1 };
-    let mut seen = [false; 17];
+    let mut seen = [false; 18];
     for turn in 0..REQUESTS {
         let ask = numbers.ask(db.hard());
         let (told, agrees) = expected(rt.alloc(), &mut plain, ask)?;
@@ -250,12 +283,12 @@ fn reference_agrees(rt: HostRuntime) -> Result<(), Fail> {
         );
         assert_eq!(rt; db.audit_len(), plain.audit_len(), "{turn}: {ask:?}");
         let met = met_by(ask.what, &reply);
-        for place in 0..17 {
+        for place in 0..18 {
             seen[place] = seen[place] || met == Some(TO_MEET[place]);
         }
     }
     assert!(rt; 16 < db.hard(), "no pull came upon more than 16 blocks");
-    for place in 0..17 {
+    for place in 0..18 {
         assert!(rt; seen[place], "{:?} was not met", TO_MEET[place]);
     }
     Ok(())
