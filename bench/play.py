@@ -4,11 +4,13 @@
 Usage: bench/play.py [LINES] [BYTES ...]     (100000 lines; blocks of 100 and of 16384 bytes)
 
 For each block of so many bytes: a write to copy 0, a write to copy 1, a report and a pull of that
-block. A database of `play` holds 65,536 entries; the lines behind them are answered `07`. The input
+block; and the same with a failover behind each twenty blocks, over a window of eight numbers that
+each stand in one copy. A database of `play` holds 65,536 entries; the lines behind them are answered `07`. The input
 is made here, under bench/work, and removed at the end. Prints times, lines a second and the peak of
 memory of each run, and ratios within this one run.
 """
 
+import itertools
 import os
 import pathlib
 import subprocess
@@ -17,7 +19,8 @@ import time
 
 ROOT = pathlib.Path(__file__).resolve().parent.parent
 WORK = ROOT / "bench" / "work"
-PROGRAM = ROOT / "crates" / "pagelog" / "out" / "pagelog"
+CRATE = ROOT / "crates" / "pagelog"
+PLAY = [CRATE / "out" / "pagelog", "play", "--table", CRATE / "data" / "t0.toml", "--primary", "2"]
 HEX_LINES = (
     "import sys, binascii\n"
     "out = sys.stdout.buffer\n"
@@ -26,10 +29,10 @@ HEX_LINES = (
 )
 
 
-def head(principal, role, operation):
+def head(principal, role, operation, epoch=1):
     token = bytes([0x11 * principal]) * 16
     return (principal.to_bytes(4, "big") + token + bytes([role]) + bytes(4)
-            + (1).to_bytes(4, "big") + bytes([operation]))
+            + epoch.to_bytes(4, "big") + bytes([operation]))
 
 
 def block(number, size):
@@ -45,20 +48,34 @@ def block(number, size):
             + len(records).to_bytes(2, "big") + b"".join(records))
 
 
-def lines(count, size):
-    number = 0
-    while count > 0:
+def round_of(number, size, epoch):
+    spelled = block(number, size)
+    yield head(2, 1, 1, epoch) + b"\0" + spelled
+    yield head(2, 1, 1, epoch) + b"\1" + spelled
+    yield head(2, 1, 3, epoch) + number.to_bytes(8, "big")
+    yield head(3, 2, 5, epoch) + bytes(2) + b"\xff\xff" + number.to_bytes(8, "big") + (16).to_bytes(2, "big")
+
+
+def failover(number, size, epoch):
+    for above in range(1, 9):
+        yield head(2, 1, 1, epoch) + b"\2" + block(number + above, size)
+    yield head(1, 4, 8, epoch) + (2).to_bytes(4, "big")
+
+
+def bodies(size, rounds):
+    """Without end; a failover behind each so many rounds, if any."""
+    number, epoch = 0, 1
+    while True:
         number += 1
-        spelled = block(number, size)
-        four = [
-            head(2, 1, 1) + b"\0" + spelled,
-            head(2, 1, 1) + b"\1" + spelled,
-            head(2, 1, 3) + number.to_bytes(8, "big"),
-            head(3, 2, 5) + bytes(2) + b"\xff\xff" + number.to_bytes(8, "big") + (16).to_bytes(2, "big"),
-        ]
-        for body in four[:count]:
-            yield body.hex().encode() + b"\n"
-        count -= 4
+        yield from round_of(number, size, epoch)
+        if rounds and number % rounds == 0:
+            yield from failover(number, size, epoch)
+            epoch += 1
+
+
+def lines(count, size, rounds):
+    for body in itertools.islice(bodies(size, rounds), count):
+        yield body.hex().encode() + b"\n"
 
 
 def run(command, source):
@@ -74,18 +91,18 @@ def run(command, source):
 
 
 def main():
-    if not PROGRAM.exists():
+    if not PLAY[0].exists():
         sys.exit("bench: no program yet: run scripts/pagelog once")
     count = int(sys.argv[1]) if len(sys.argv) > 1 else 100_000
     sizes = [int(word) for word in sys.argv[2:]] or [100, 16_384]
     WORK.mkdir(parents=True, exist_ok=True)
-    for size in sizes:
+    for size, rounds in ((size, rounds) for size in sizes for rounds in (0, 20)):
         source = WORK / f"lines-{size}"
-        print(f"blocks of {size} bytes")
+        print(f"blocks of {size} bytes" + (f", a failover behind each {rounds}" if rounds else ""))
         for part in (count // 8, count // 4, count // 2, count):
             with open(source, "wb") as file:
-                file.writelines(lines(part, size))
-            wall, _, peak = run([str(PROGRAM), "play"], source)
+                file.writelines(lines(part, size, rounds))
+            wall, _, peak = run([str(word) for word in PLAY], source)
             print(f"  play, {part:>7} lines: {wall:7.3f} s, {part / wall:>9.0f} lines/s, "
                   f"{wall / part * 1e6:6.2f} us a line, peak {peak:6.1f} MiB")
         text = source.stat().st_size / 2**20

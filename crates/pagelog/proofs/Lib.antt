@@ -1,3 +1,4 @@
 mod Feeds
 mod Pieces
 mod Turns
+pub mod Matching

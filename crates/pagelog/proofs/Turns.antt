@@ -1,17 +1,25 @@
 -- One line more is answered, or a fault ends it.
-use Rattle.std.proofs.Common.{◌≡◌, ℕ, ◌+◌, ◌<◌, ◌≤◌, lit<, replicate, List, [], ◌∷◌, ◌++◌, None, Some, Ok, length, refl, sym, ap, subst, ◌∙◌, append_assoc, append-nil, length-append}
+use Rattle.std.proofs.Common.{◌≡◌, ◌≢◌, inl, inr, slice_index, arith, ℕ, ◌+◌, ◌<◌, ◌≤◌, lit<, replicate, List, [], ◌∷◌, ◌++◌, None, Some, Ok, length, take, refl, sym, ap, subst, ◌∙◌, append_assoc, append-nil, length-append}
 use Rattle.std.specs.List.{concat}
 use Rattle.std.proofs.lemmas.List.{length-replicate}
 use Rattle.std.proofs.lemmas.List.Folds.{concat-append}
-use Rattle.std.specs.Prelude.{Option, ⊤}
-use Rattle.std.specs.Io.KnownBytes.{Appends}
+use Rattle.std.specs.Prelude.{Option, ⊤, Result, Err}
+use Rattle.std.specs.Io.KnownBytes.{Appends, Keeps}
 use Rattle.std.proofs.KnownBytes.{Appends-nil, Appends-trans, Keeps-refl}
 use Rattle.pagelog.specs.Lines.{lines_of, longest_line, TakesLine, BeginsLong, IsLong, OnFirst}
-use Rattle.pagelog.specs.Played.{Steps, AnswersLine, Answered, HasLines, Moment, moment, AnswersFirst, LeavesBoth, WritesAnswer, LosesAnswer, StopsAt, Stops}
+use Rattle.pagelog.specs.Played.{Steps, AnswersLine, Answered, HasLines, Moment, AnswersFirst, LeavesBoth, WritesAnswer, StopsAt, Stops, PlaysLine, Replied, AnswersRead, no_memory}
 use Rattle.pagelog.specs.Text.{answer_text}
+use Rattle.pagelog.specs.Answering.{AnswersBody, AnswersReading}
+use Rattle.pl_table.specs.Request.{Query}
+use Rattle.pl_core.specs.History.{History}
+use Rattle.pl_core.specs.declared.reply.Reply.{Reply}
+use Rattle.pl_core.specs.declared.reply.Reply.TheVariants as replies
+use Rattle.pl_wire.specs.Reading.{request_reading}
+use Rattle.pl_wire.specs.Replies.{reply_spelling}
+use Rattle.pl_wire.specs.declared.fault.WireFault.{WireFault}
 use Rattle.pagelog.specs.declared.fault.PlayFault.{PlayFault}
 use Rattle.pagelog.specs.declared.fault.PlayFault.TheVariants as faults
-use Rattle.hex.specs.Hex.{decode_of}
+use Rattle.hex.specs.Hex.{decode_of, encode_with}
 
 -- the lines of what was known are these, and then those of what is left
 abbrev pub LeavesLines : Option (List ℕ) → Option (List ℕ) → List (List ℕ) → Type 0
@@ -148,15 +156,47 @@ module _ {S : Type 0} (step : Steps S) (input left : Option (List ℕ)) (count :
         stop = (refl, more.long, LeavesBoth-refl now);
       }
 
--- the step is taken, and nothing is written
-pub loses_answer : {S : Type 0} (step : Steps S) (held : Option (List ℕ)) (before after : S) (line body reply : List ℕ)
-    → length line ≤ longest_line → decode_of line ≡ Ok body → step before body reply after
-    → LosesAnswer step line (moment held before) (moment held after)
-loses_answer step held before after line body reply fits reads stepped = record {
-  answer = answer_text reply;
-  answers = record { body = body; reply = reply; fits = fits; reads = reads; stepped = stepped; writes = refl };
-  output = Keeps-refl held;
+-- the line is answered as what its body was read as
+abbrev answers_line : (line body : List ℕ) (read : Result Query WireFault) (before after : History) → length line ≤ longest_line → decode_of line ≡ Ok body
+    → read ≡ request_reading body → (r : Replied read before after) → AnswersLine AnswersBody before line (answer_text r.reply) after
+answers_line line body read before after fits reads is r = record {
+  body = body;
+  reply = r.reply;
+  fits = fits;
+  reads = reads;
+  stepped = subst (λ now. AnswersReading now before r.reply after) is r.answers;
+  writes = refl;
 }
+
+-- what comes of the reading of a line's body comes of the line
+pub plays_line : (number : ℕ) (line body : List ℕ) (read : Result Query WireFault) (before after : Moment History) (result : Result (Unit {0}) PlayFault)
+    → length line ≤ longest_line → decode_of line ≡ Ok body → read ≡ request_reading body → AnswersRead read before after result
+    → PlaysLine AnswersBody number line before after result
+plays_line number line body read before after (Ok u) fits reads is done = record {
+  answer = answer_text done.0.reply;
+  answers = answers_line line body read before.state after.state fits reads is done.0;
+  written = done.1;
+}
+plays_line number line body read before after (Err faults.Write) fits reads is (r, count, partly, written) = λ others. record {
+  answer = answer_text r.reply;
+  count = count;
+  answers = answers_line line body read before.state after.state fits reads is r;
+  partly = partly;
+  written = written;
+}
+plays_line number line body read before after (Err faults.NoMemory) fits reads is (r, other, output) = λ others. inr (record {
+  answer = answer_text r.reply;
+  answers = answers_line line body read before.state after.state fits reads is r;
+  other = other;
+  output = output;
+})
+plays_line number line body read before after (Err faults.Read) fits reads is none = absurd none
+plays_line number line body read before after (Err (faults.Text n)) fits reads is none = absurd none
+plays_line number line body read before after (Err (faults.Long n)) fits reads is none = absurd none
+
+-- memory is refused before the line has its step
+pub refused_before : {S : Type 0} (step : Steps S) (number : ℕ) (line : List ℕ) (at : Moment S) → PlaysLine step number line at at (Err faults.NoMemory)
+refused_before step number line at = λ others. inl (LeavesBoth-refl at)
 
 -- no line is answered yet
 pub going_start : {S : Type 0} (step : Steps S) (input : Option (List ℕ)) (before : Moment S) → Going step input input 0 before before
@@ -168,3 +208,47 @@ going_start step input before = record {
   chain = refl;
   written = Appends-nil before.output;
 }
+
+-- the first of a list
+first_is : (a b : ℕ) (xs ys : List ℕ) → a ∷ xs ≡ b ∷ ys → a ≡ b
+first_is a b xs ys same = ap (λ (l : List ℕ). slice_index l 0) same
+
+-- a reply but that of refused memory has another spelling
+other_spelling : (r : Reply) → r ≢ replies.NoMemory → reply_spelling r ≢ no_memory
+other_spelling replies.Done other same = omega (arith, first_is 0 6 _ _ same)
+other_spelling (replies.Blocks next blocks) other same = omega (arith, first_is 1 6 _ _ same)
+other_spelling (replies.Denied section row value) other same = omega (arith, first_is 5 6 _ _ same)
+other_spelling replies.NoMemory other same = other refl
+other_spelling (replies.Status epoch primary hard pending landing) other same = omega (arith, first_is 4 6 _ _ same)
+other_spelling replies.AuditFull other same = omega (arith, first_is 7 6 _ _ same)
+other_spelling replies.Spent other same = omega (arith, first_is 8 6 _ _ same)
+other_spelling replies.NoDatabase other same = omega (arith, first_is 9 6 _ _ same)
+other_spelling (replies.Malformed code) other same = omega (arith, first_is 10 6 _ _ same)
+
+-- the line that tells that memory was refused
+pub no_memory_line : (r : Reply) → r ≡ replies.NoMemory → 48 ∷ 54 ∷ 10 ∷ [] ≡ answer_text (reply_spelling r)
+unfolding encode_with
+no_memory_line r is = ap (λ (x : Reply). answer_text (reply_spelling x)) (sym is)
+
+-- the line of a reply is written
+pub tells_whole : (read : Result Query WireFault) (before after : Moment History) (r : Reply) (line : List ℕ) → line ≡ answer_text (reply_spelling r)
+    → AnswersReading read before.state (reply_spelling r) after.state → Appends before.output after.output line
+    → AnswersRead read before after (Ok tt)
+tells_whole read before after r line is answers written =
+    (record { reply = reply_spelling r; answers = answers }, subst (λ (l : List ℕ). Appends before.output after.output l) is written)
+
+-- a beginning of the line of a reply is written
+pub tells_part : (read : Result Query WireFault) (before after : Moment History) (r : Reply) (line : List ℕ) → line ≡ answer_text (reply_spelling r)
+    → AnswersReading read before.state (reply_spelling r) after.state
+    → ((k : ℕ) × (k < length line) × Appends before.output after.output (take k line))
+    → AnswersRead read before after (Err faults.Write)
+tells_part read before after r line is answers part =
+    let cut = subst (λ (l : List ℕ). (k : ℕ) × (k < length l) × Appends before.output after.output (take k l)) is part in
+    (record { reply = reply_spelling r; answers = answers }, cut.0, cut.1, cut.2)
+
+-- the line of a reply is lost, which is not that memory was refused
+pub tells_nothing : (read : Result Query WireFault) (before after : Moment History) (r : Reply) → r ≢ replies.NoMemory
+    → AnswersReading read before.state (reply_spelling r) after.state → Keeps before.output after.output
+    → AnswersRead read before after (Err faults.NoMemory)
+tells_nothing read before after r other answers output =
+    (record { reply = reply_spelling r; answers = answers }, other_spelling r other, output)

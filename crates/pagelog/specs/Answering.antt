@@ -1,6 +1,8 @@
 -- What one body is answered, be it a request or not.
-use Rattle.std.specs.Prelude.{◌≡◌, ℕ, List, Result, Ok, Err}
+use Rattle.std.specs.Prelude.{◌≡◌, ◌⊎◌, ℕ, List, slice_index, Some, Result, Ok, Err}
 use Rattle.pl_table.specs.Request.{Query}
+use Rattle.pl_table.specs.Ops.{op_of_number}
+use Rattle.pl_table.specs.declared.op.Op.TheVariants as ops
 use Rattle.pl_core.specs.declared.reply.Reply.{Reply}
 use Rattle.pl_core.specs.declared.reply.Reply.TheVariants.{Malformed}
 use Rattle.pl_core.specs.History.{History}
@@ -36,3 +38,9 @@ AnswersReading (Err fault) before reply after = TellsFault fault before reply af
 -- a body that is read as a request takes its step; another is told its fault
 abbrev pub AnswersBody : History → List ℕ → List ℕ → History → Type 0
 AnswersBody before body reply after = AnswersReading (request_reading body) before reply after
+
+-- the body's operation is a write or a set_table, whose block or text is copied to be read
+abbrev pub IsCopied : List ℕ → Type 0
+IsCopied body =
+    let op = op_of_number (slice_index body 29) in
+    (op ≡ Some ops.Write) ⊎ (op ≡ Some ops.SetTable)

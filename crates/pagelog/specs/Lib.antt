@@ -4,3 +4,4 @@ pub mod Answering
 pub mod Start
 pub mod Played
 pub mod Texts
+pub mod CommandLine

@@ -1,8 +1,14 @@
 -- What `play` did: lines answered one after the other, and how that ended.
-use Rattle.std.specs.Prelude.{◌≡◌, ℕ, ◌+◌, ◌<◌, ◌≤◌, ◌⊎◌, List, [], ◌∷◌, ◌++◌, length, take, ⊤, Option, Some, None, Result, Ok, Err}
+use Rattle.std.specs.Prelude.{◌≡◌, ◌≢◌, ℕ, ◌+◌, ◌<◌, ◌≤◌, ◌⊎◌, List, [], ◌∷◌, ◌++◌, length, take, ⊤, Option, Some, None, Result, Ok, Err}
 use Rattle.std.specs.List.{concat}
 use Rattle.std.specs.Io.KnownBytes.{Keeps, Appends}
 use Rattle.hex.specs.Hex.{decode_of}
+use Rattle.pl_table.specs.Request.{Query}
+use Rattle.pl_core.specs.History.{History}
+use Rattle.pl_core.specs.declared.reply.Reply.TheVariants as replies
+use Rattle.pl_wire.specs.Replies.{reply_spelling}
+use Rattle.pl_wire.specs.declared.fault.WireFault.{WireFault}
+use Rattle.pagelog.specs.Answering.{AnswersReading}
 use Rattle.pagelog.specs.Lines.{lines_of, longest_line, IsLong, OnFirst}
 use Rattle.pagelog.specs.Text.{answer_text, IsNoText}
 use Rattle.pagelog.specs.declared.fault.PlayFault.{PlayFault}
@@ -11,6 +17,10 @@ use Rattle.pagelog.specs.declared.fault.PlayFault.TheVariants as faults
 -- whether a body may be answered by a reply, from the first state to the second
 abbrev pub Steps : Type 0 → Type 1
 Steps S = S → List ℕ → List ℕ → S → Type 0
+
+-- the reply that memory was refused
+abbrev pub no_memory : List ℕ
+no_memory = reply_spelling replies.NoMemory
 
 -- the body that a line spells is answered by a reply, and the answer is the text of that reply
 pub record AnswersLine {S : Type 0} (step : Steps S) (before : S) (line answer : List ℕ) (after : S)
@@ -80,11 +90,13 @@ pub record WritesPart {S : Type 0} (step : Steps S) (line : List ℕ) (before af
   pub partly : count < length answer
   pub written : Appends before.output after.output (take count answer)
 
--- the line is answered, and nothing of its answer is written
+-- the line is answered, and nothing of its answer is written: not that memory was refused, which
+-- is always told
 pub record LosesAnswer {S : Type 0} (step : Steps S) (line : List ℕ) (before after : Moment S)
     : Type 0 where
   pub answer : List ℕ
   pub answers : AnswersLine step before.state line answer after.state
+  pub other : answers.reply ≢ no_memory
   pub output : Keeps before.output after.output
 
 -- how a fault ends it at the line of this number, the first of those that are not answered
@@ -121,3 +133,23 @@ abbrev pub PlaysLine : {S : Type 0} → Steps S → ℕ → List ℕ → Moment 
 PlaysLine step number line before after (Ok _) = WritesAnswer step line before after
 PlaysLine step number line before after (Err fault) =
     (others : List (List ℕ)) → StopsAt step number (line ∷ others) before after fault
+
+-- what was read has this reply
+pub record Replied (read : Result Query WireFault) (before after : History) : Type 0 where
+  pub reply : List ℕ
+  pub answers : AnswersReading read before reply after
+
+-- what was read has its reply, and its line is written; or a fault cuts it or loses it, which never
+-- loses that memory was refused
+abbrev pub AnswersRead : Result Query WireFault → Moment History → Moment History
+    → Result (Unit {0}) PlayFault → Type 0
+AnswersRead read before after (Ok _) =
+    (r : Replied read before.state after.state)
+    × Appends before.output after.output (answer_text r.reply)
+AnswersRead read before after (Err faults.Write) =
+    (r : Replied read before.state after.state) × (count : ℕ) × (count < length (answer_text r.reply))
+    × Appends before.output after.output (take count (answer_text r.reply))
+AnswersRead read before after (Err faults.NoMemory) =
+    (r : Replied read before.state after.state) × (r.reply ≢ no_memory)
+    × Keeps before.output after.output
+AnswersRead read before after (Err _) = ⊥

@@ -1,12 +1,53 @@
--- What the database of `play` begins from.
-use Rattle.std.specs.Prelude.{[]}
-use Rattle.pl_table.specs.StartTable.{start_table}
+-- What the database of `play` begins from: the text of a table, and a primary.
+use Rattle.std.specs.Prelude.{◌≡◌, ◌<◌, ℕ, ⊤, List, [], length, Option, Some, None, Result, Ok, Err}
+use Rattle.pl_table.specs.Table.{WrittenTable, token_of}
+use Rattle.pl_table.specs.TableText.{table_reading}
+use Rattle.pl_table.specs.declared.fault.TableFault.{TableFault}
 use Rattle.pl_core.specs.History.{Start, History}
+use Rattle.pagelog.specs.declared.start.StartFault.{StartFault}
+use Rattle.pagelog.specs.declared.start.StartFault.TheVariants as faults
+use Rattle.pagelog.specs.declared.start.TextStop.{TextStop}
+use Rattle.pagelog.specs.declared.start.TextStop.TheVariants as stops
 
--- the table that is built in, primary 2, and at most 65,536 entries
-abbrev pub own_start : Start
-own_start = record { table = start_table; primary = 2; limit = 65536 }
+-- how many bytes the text of a table may have
+abbrev pub longest_text : ℕ
+longest_text = 65506
+
+-- the text is all that the reader has, where its bytes are known
+abbrev pub IsWhole : Option (List ℕ) → List ℕ → Type 0
+IsWhole None text = ⊤
+IsWhole (Some bytes) text = text ≡ bytes
+
+-- known bytes are more than a text may have
+abbrev pub IsTooLong : Option (List ℕ) → Type 0
+IsTooLong None = ⊤
+IsTooLong (Some bytes) = longest_text < length bytes
+
+-- a table and its first primary, and at most 65,536 entries
+abbrev pub start_with : WrittenTable → ℕ → Start
+start_with table primary = record { table = table; primary = primary; limit = 65536 }
 
 -- nothing was asked yet
-abbrev pub start_history : History
-start_history = record { start = own_start; entries = [] }
+abbrev pub new_history : WrittenTable → ℕ → History
+new_history table primary = record { start = start_with table primary; entries = [] }
+
+-- by the token that the table lists for the primary, if it lists one
+abbrev pub listed_start : WrittenTable → ℕ → Option (List ℕ) → Result History StartFault
+listed_start table primary None = Err faults.NotListed
+listed_start table primary (Some token) = Ok (new_history table primary)
+
+-- by what the text reads as
+abbrev pub read_start : Result WrittenTable TableFault → ℕ → Result History StartFault
+read_start (Err fault) primary = Err (faults.Table fault)
+read_start (Ok table) primary = listed_start table primary (token_of primary table.principals)
+
+-- the history that a database begins with, of the text of its table and its primary, or the fault
+-- that is told
+abbrev pub start_of : List ℕ → ℕ → Result History StartFault
+start_of text primary = read_start (table_reading text) primary
+
+-- the fault that is told where a file gave no text
+abbrev pub told_stop : TextStop → StartFault
+told_stop stops.Read = faults.File
+told_stop stops.Long = faults.File
+told_stop stops.NoMemory = faults.NoMemory

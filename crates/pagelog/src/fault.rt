@@ -1,12 +1,15 @@
 //! Why `play` stops.
 
-ghost use Rattle.std.specs.Prelude.{Some};
+ghost use Rattle.std.specs.Prelude.{◌≡◌, Some};
 ghost use Rattle.pagelog.specs.Texts.{fault_text};
 
+use crate::writing::Stopped;
+use std::alloc::AllocError;
 use std::fmt;
+use thiserror::Error;
 
 /// Why `play` stopped before the end of its input. Lines are numbered from 1.
-#[derive(Clone, Copy, Debug, PartialEq, Eq)]
+#[derive(Clone, Copy, Debug, PartialEq, Eq, Error)]
 pub enum PlayFault {
     /// A read failed, or the input has 4,294,967,296 lines or more.
     Read,
@@ -31,5 +34,25 @@ impl fmt::Display for PlayFault {
             PlayFault::Text(line) => write!(f, "line {line} is no hexadecimal text"),
             PlayFault::Long(line) => write!(f, "line {line} is too long"),
         }
+    }
+}
+
+impl From<Stopped> for PlayFault {
+    ghost use Rattle.pagelog.specs.declared.fault.PlayFault.TheVariants.{Write};
+
+    ghost from_gives = { λ _ e. e ≡ Write };
+
+    fn from(_stopped: Stopped) -> PlayFault {
+        PlayFault::Write
+    }
+}
+
+impl From<AllocError> for PlayFault {
+    ghost use Rattle.pagelog.specs.declared.fault.PlayFault.TheVariants.{NoMemory};
+
+    ghost from_gives = { λ _ e. e ≡ NoMemory };
+
+    fn from(_refused: AllocError) -> PlayFault {
+        PlayFault::NoMemory
     }
 }

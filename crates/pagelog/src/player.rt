@@ -5,11 +5,10 @@ ghost use Rattle.pagelog.specs.Answering.{AnswersBody};
 ghost use Rattle.pagelog.specs.Lines.{longest_line};
 ghost use Rattle.pagelog.specs.Played.{Played, PlaysLine, moment};
 
-use crate::answering::answer_body;
+use crate::answering::{answer_read, read_body};
 use crate::fault::PlayFault;
 use crate::lines::{LineStop, take_line};
-use crate::text::{LineFault, bytes_of_line, line_of_bytes};
-use crate::writing::write_whole;
+use crate::text::{LineFault, bytes_of_line};
 use pl_core::Db;
 use std::alloc::Global;
 use std::io::{BufRead, Write};
@@ -20,7 +19,8 @@ const MOST_LINES: u64 = 4_294_967_296;
 /// Answers each line of the input by one line, in order, and says how many they were. Each answer
 /// is written before the next line is read. The first fault ends it: the answers to the lines
 /// before it stand whole; after `Write` a beginning of the next one may follow, and after `Write`
-/// or `NoMemory` the database may have taken that line's step. An empty line is an empty body.
+/// or `NoMemory` the database may have taken that line's step. A step that lacks memory is answered
+/// like any other, and ends nothing. An empty line is an empty body.
 pub fn play<R: BufRead, W: Write>(
     alloc: Global,
     reader: &mut R,
@@ -61,14 +61,6 @@ fn play_line<W: Write>(
         Err(LineFault::Text) => return Err(PlayFault::Text(number)),
         Err(LineFault::NoMemory) => return Err(PlayFault::NoMemory),
     };
-    let Ok(reply) = answer_body(alloc, body.as_slice(), db) else {
-        return Err(PlayFault::NoMemory);
-    };
-    let Ok(answer) = line_of_bytes(alloc, reply.as_slice()) else {
-        return Err(PlayFault::NoMemory);
-    };
-    match write_whole(writer, answer.as_slice()) {
-        Ok(()) => Ok(()),
-        Err(_) => Err(PlayFault::Write),
-    }
+    let read = read_body(alloc, body.as_slice())?;
+    answer_read(alloc, read, writer, db)
 }

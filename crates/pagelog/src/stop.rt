@@ -1,27 +1,32 @@
-//! How the program ends where not all lines were answered.
+//! How the program ends where it does not do all that it was asked for.
 
 ghost use Rattle.std.specs.Prelude.{◌≡◌, Some};
 ghost use Rattle.pagelog.specs.Texts.{status_of, stop_text};
 
+use crate::command::CommandFault;
 use crate::fault::PlayFault;
+use crate::start::StartFault;
 use std::fmt;
 
-/// Why the program ends before all lines are answered. As text it is the line on standard error.
-#[derive(Clone, Copy, Debug, PartialEq, Eq)]
+/// Why the program ends early. As text it is what standard error is told, with its line feed.
+#[derive(Debug, Drop, PartialEq, Eq)]
 pub enum Stop {
-    /// The words are not `play` alone.
-    Usage,
-    Fault(PlayFault),
+    /// The words of the call.
+    Command(CommandFault),
+    /// What `play` begins with.
+    Start(StartFault),
+    /// The run of `play`.
+    Play(PlayFault),
 }
 
 impl Stop {
     /// The exit status.
-    pub fn status(self) -> u8
-        ensures { result ≡ status_of self }
+    pub fn status(&self) -> u8
+        ensures { result ≡ status_of self.now }
     {
         match self {
-            Stop::Usage => 2,
-            Stop::Fault(_) => 1,
+            Stop::Command(CommandFault::Usage(_)) => 2,
+            _ => 1,
         }
     }
 }
@@ -31,8 +36,40 @@ impl fmt::Display for Stop {
 
     fn fmt<W: fmt::Write>(&self, f: &mut fmt::Formatter<W>) -> fmt::Result {
         match self {
-            Stop::Usage => write!(f, "usage: pagelog play"),
-            Stop::Fault(fault) => write!(f, "fault: {fault}"),
+            Stop::Command(CommandFault::Usage(text)) => write!(f, "{text}"),
+            Stop::Command(CommandFault::NoMemory) => writeln!(f, "fault: no memory"),
+            Stop::Start(fault) => writeln!(f, "fault: {fault}"),
+            Stop::Play(fault) => writeln!(f, "fault: {fault}"),
         }
+    }
+}
+
+impl From<CommandFault> for Stop {
+    ghost use Rattle.pagelog.specs.declared.stop.Stop.TheVariants.{Command};
+
+    ghost from_gives = { λ fault e. e ≡ Command fault };
+
+    fn from(fault: CommandFault) -> Stop {
+        Stop::Command(fault)
+    }
+}
+
+impl From<StartFault> for Stop {
+    ghost use Rattle.pagelog.specs.declared.stop.Stop.TheVariants.{Start};
+
+    ghost from_gives = { λ fault e. e ≡ Start fault };
+
+    fn from(fault: StartFault) -> Stop {
+        Stop::Start(fault)
+    }
+}
+
+impl From<PlayFault> for Stop {
+    ghost use Rattle.pagelog.specs.declared.stop.Stop.TheVariants.{Play};
+
+    ghost from_gives = { λ fault e. e ≡ Play fault };
+
+    fn from(fault: PlayFault) -> Stop {
+        Stop::Play(fault)
     }
 }

@@ -1,12 +1,59 @@
 //! What no clause says: the stored run by hand, texts, and that each call can succeed.
 
 use super::*;
-use crate::answering::answer_body;
+use crate::answering::{answer_read, read_body};
 use pl_core::{Db, Limits};
-use pl_table::Table;
+use pl_table::read_table;
 use std::alloc::{AllocError, Global};
 use std::io::{BufRead, ErrorKind, Read, Write};
 use std::test::Fail;
+
+// The table of data/t0.toml: five principals, and what each may do.
+pub(crate) const T0: &str = r#"[[principal]]
+id = 1
+token = "11111111111111111111111111111111"
+[[principal]]
+id = 2
+token = "22222222222222222222222222222222"
+[[principal]]
+id = 3
+token = "33333333333333333333333333333333"
+[[principal]]
+id = 4
+token = "44444444444444444444444444444444"
+[[principal]]
+id = 5
+token = "55555555555555555555555555555555"
+
+[[row]]
+verdict = "allow"
+who = 1
+role = "operator"
+[[row]]
+verdict = "allow"
+who = 2
+role = "primary"
+[[row]]
+verdict = "deny"
+who = 3
+op = ["get"]
+from = 7
+to = 7
+[[row]]
+verdict = "allow"
+who = 3
+role = "secondary"
+[[row]]
+verdict = "allow"
+who = 4
+role = "page_server"
+from = 0
+to = 3
+[[row]]
+verdict = "allow"
+who = 5
+role = "primary"
+"#;
 
 // Block 1 is written in two copies, reported and pulled. The lines end at 111, 222, 299 and 388.
 const REQUESTS: &[u8] = b"\
@@ -30,6 +77,10 @@ const REPORT: [u8; 38] = [
     1, 0, 0, 0, 0, 0, 0, 0, 1, 3, // role, database, epoch, operation
     0, 0, 0, 0, 0, 0, 0, 0, // number
 ];
+
+// The same as a line.
+const REPORT_LINE: &[u8] =
+    b"0000000222222222222222222222222222222222010000000000000001030000000000000000\n";
 
 /// Fails at each read.
 #[derive(Drop)]
@@ -73,8 +124,13 @@ struct Outcome {
     result: Result<u64, PlayFault>,
 }
 
-fn run<R: BufRead>(alloc: Global, reader: &mut R) -> Result<Outcome, AllocError> {
-    let mut db = start_db(alloc)?;
+// A database of which nothing was asked, with primary 2.
+fn fresh(alloc: Global) -> Result<Db, StartFault> {
+    start_db(alloc, T0.as_bytes(), 2)
+}
+
+fn run<R: BufRead>(alloc: Global, reader: &mut R) -> Result<Outcome, StartFault> {
+    let mut db = fresh(alloc)?;
     let mut output = Vec::new(alloc);
     let result = play(alloc, reader, &mut output, &mut db);
     Ok(Outcome {
@@ -86,7 +142,7 @@ fn run<R: BufRead>(alloc: Global, reader: &mut R) -> Result<Outcome, AllocError>
 
 #[test]
 fn stored_run(rt: HostRuntime) -> Result<(), Fail> {
-    let mut db = start_db(rt.alloc())?;
+    let mut db = fresh(rt.alloc())?;
     let mut input = REQUESTS;
     let mut output = Vec::new(rt.alloc());
     let result = play(rt.alloc(), &mut input, &mut output, &mut db);
@@ -185,7 +241,10 @@ fn malformed_beside_full_list(rt: HostRuntime) -> Result<(), Fail> {
         audit: 1,
         chunks: 1,
     };
-    let Ok(mut db) = Db::new(rt.alloc(), Table::t0(rt.alloc())?, 2, limits) else {
+    let Ok(table) = read_table(rt.alloc(), T0.as_bytes()) else {
+        return Err(Fail::from(AllocError));
+    };
+    let Ok(mut db) = Db::new(rt.alloc(), table, 2, limits) else {
         return Err(Fail::from(AllocError));
     };
     let (one, _) = REQUESTS.split_at(111);
@@ -203,21 +262,38 @@ fn malformed_beside_full_list(rt: HostRuntime) -> Result<(), Fail> {
 
 #[test]
 fn body_of_a_request_and_of_none(rt: HostRuntime) -> Result<(), Fail> {
-    let mut db = start_db(rt.alloc())?;
-    let done = answer_body(rt.alloc(), &REPORT, &mut db)?;
-    assert_eq!(rt;
-        done.as_slice(),
-        [0].as_slice(),
-        "a report of what is hardened"
-    );
+    let mut db = fresh(rt.alloc())?;
     let (cut, _) = REPORT.split_at(37);
-    let short = answer_body(rt.alloc(), cut, &mut db)?;
-    assert_eq!(rt;
-        short.as_slice(),
-        [10, 4].as_slice(),
-        "a body that ends in its number"
-    );
+    let cases: [(&str, &[u8], &[u8]); 2] = [
+        ("a report of what is hardened", &REPORT, b"00\n"),
+        ("a body that ends in its number", cut, b"0a04\n"),
+    ];
+    for (name, body, answer) in cases {
+        let read = read_body(rt.alloc(), body)?;
+        let mut output = Vec::new(rt.alloc());
+        let result = answer_read(rt.alloc(), read, &mut output, &mut db);
+        assert_eq!(rt; result, Ok(()), "{name}");
+        assert_eq!(rt; output.as_slice(), answer, "{name}");
+    }
     assert_eq!(rt; db.audit_len(), 1);
+    Ok(())
+}
+
+// Holds whichever request for memory is refused: a step that lacks memory is answered, and `play`
+// goes on.
+#[test]
+fn write_and_report(rt: HostRuntime) -> Result<(), Fail> {
+    let mut db = fresh(rt.alloc())?;
+    let mut output = Vec::with_capacity(rt.alloc(), 6)?;
+    let (write, _) = REQUESTS.split_at(111);
+    let mut input = write.chain(REPORT_LINE);
+    match play(rt.alloc(), &mut input, &mut output, &mut db) {
+        Ok(count) => assert_eq!(rt; (count, output.len()), (2, 6)),
+        Err(fault) => assert_eq!(rt; fault, PlayFault::NoMemory),
+    }
+    for answer in output.as_slice().chunks(3) {
+        assert!(rt; answer == b"00\n".as_slice() || answer == b"06\n".as_slice());
+    }
     Ok(())
 }
 
@@ -275,8 +351,8 @@ fn steps_before(taken: usize) -> u64 {
     }
 }
 
-fn run_into(alloc: Global, pipe: &mut Pipe) -> Result<(u64, Result<u64, PlayFault>), AllocError> {
-    let mut db = start_db(alloc)?;
+fn run_into(alloc: Global, pipe: &mut Pipe) -> Result<(u64, Result<u64, PlayFault>), StartFault> {
+    let mut db = fresh(alloc)?;
     let mut input = REQUESTS;
     let result = play(alloc, &mut input, pipe, &mut db);
     Ok((db.audit_len(), result))

@@ -1,60 +1,38 @@
 //! The words that the program is called with.
 
-ghost use Rattle.std.specs.Prelude.{◌≡◌, ◌↔◌, IsTrue, IsOk, IsOkAnd, IfSome, Some, length, slice_get, string_bytes, codes};
+ghost use Rattle.std.specs.Prelude.{◌≡◌, Err, IfErr, IfOk, IsOkAnd, map, string_bytes};
+ghost use Rattle.std.specs.IoError.{error_kind};
+ghost use Rattle.pagelog.specs.CommandLine.{AsksFor};
 
-use crate::fault::PlayFault;
-use crate::stop::Stop;
-use std::alloc::AllocGlobal;
+use crate::command::{CommandFault, CommandLine, command};
+use std::alloc::{AllocGlobal, Global};
 use std::env;
 use std::io::{self, ErrorKind};
 use std::rt::Env;
 
-fn is_play(word: &str) -> bool
-    ensures { IsTrue result ↔ word.now ≡ codes "play" }
-{
-    word == "play"
-}
+/// What is told of words that are no text.
+const NO_TEXT: &str = "error: invalid UTF-8 was detected in one or more arguments
 
-/// Whether the words, of which the first is the program's name, are `play` alone.
-pub fn are_play(words: &[String]) -> bool
-    ensures { IsTrue result ↔ (length words.now ≡ 2)
-        × IfSome (slice_get words.now 1) (λ word. string_bytes word ≡ codes "play") }
-{
-    match words.get(1) {
-        Some(word) => words.len() == 2 && is_play(word.as_str()),
-        None => false,
-    }
-}
+Usage: pagelog <COMMAND>
 
-/// Whether the program was called with the word `play` alone. Words that are no UTF-8 are not.
-pub fn check_words(rt: &(impl Env + AllocGlobal)) -> Result<(), Stop> {
-    stop_of(words_of(rt))
-}
+For more information, try '--help'.
+";
 
-// Whether words that were got, or not, are `play` alone, or else why the program ends.
-fn stop_of(words: io::Result<Vec<String>>) -> Result<(), Stop>
-    ensures ok { IsOk result ↔ IsOkAnd words (λ ws. (length ws.items ≡ 2)
-        × IfSome (slice_get ws.items 1) (λ word. string_bytes word ≡ codes "play")) }
+/// What the words of a call ask for, where they could be had: words that are no text ask for
+/// nothing.
+pub fn asked(alloc: Global, words: io::Result<Vec<String>>) -> Result<CommandLine, CommandFault>
+    ensures ok { IfOk result (λ line. IsOkAnd words (λ ws. AsksFor (map string_bytes ws.items) line)) }
+    ensures memory { IfErr words (λ error. error_kind error ≡ ErrorKind.OutOfMemory →
+        result ≡ Err CommandFault.NoMemory) }
 {
     match words {
-        Ok(words) => {
-            if are_play(&words) {
-                Ok(())
-            } else {
-                Err(Stop::Usage)
-            }
-        }
-        Err(e) => {
-            if e.kind() == ErrorKind::OutOfMemory {
-                Err(Stop::Fault(PlayFault::NoMemory))
-            } else {
-                Err(Stop::Usage)
-            }
-        }
+        Ok(words) => command(alloc, words),
+        Err(error) if error.kind() == ErrorKind::OutOfMemory => Err(CommandFault::NoMemory),
+        Err(_) => Err(CommandFault::Usage(String::from_str(alloc, NO_TEXT)?)),
     }
 }
 
-fn words_of(rt: &(impl Env + AllocGlobal)) -> io::Result<Vec<String>> {
-    let words = env::args(rt)?.collect(rt.alloc())?;
-    Ok(words)
+/// The words of the call, the program's name first.
+pub fn words_of(rt: &(impl Env + AllocGlobal)) -> io::Result<Vec<String>> {
+    Ok(env::args(rt)?.collect(rt.alloc())?)
 }

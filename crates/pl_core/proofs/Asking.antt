@@ -13,13 +13,14 @@ use Rattle.pl_table.specs.declared.op.Op.TheVariants as ops
 use Rattle.pl_table.specs.Ops.{same_op}
 use Rattle.pl_table.specs.Request.{Query, op_of}
 use Rattle.pl_table.specs.Row.{row_matches}
-use Rattle.pl_table.specs.Table.{WrittenTable, first_match_from}
-use Rattle.pl_core.specs.declared.epochs.Epochs.{Epochs}
-use Rattle.pl_core.specs.declared.view.View.{View}
+use Rattle.pl_table.specs.Table.{WrittenTable}
+use Rattle.pl_table.specs.FirstMatch.{first_match_from}
+use Rattle.pl_decide.specs.declared.epochs.Epochs.{Epochs}
+use Rattle.pl_decide.specs.declared.view.View.{View}
 use Rattle.pl_core.specs.History.{History}
 use Rattle.pl_core.specs.Epoch.{table_of}
 use Rattle.pl_core.specs.Log.{hard_of}
-use Rattle.pl_core.specs.WrittenOrder.{Rule, a1, a2, a3, a4, a5, b as table_row, b0, section_c, behind_a, denies_at, is_unmatched, first_denial, decision}
+use Rattle.pl_decide.specs.WrittenOrder.{Rule, a1, a2, a3, a4, a5, b as table_row, b0, section_c, behind_a, denies_at, is_unmatched, first_denial, decision}
 use Rattle.pl_core.specs.Verdict.{epochs_of, view_of, verdict_of}
 use Rattle.pl_core.specs.Numbers.{first_number}
 use Rattle.pl_core.specs.Reach.{asked_at, IsAllowedTo}
@@ -78,6 +79,9 @@ above_of : (head : Head) (act : Act) (h : History) (k : ℕ) → same_op (op_of 
     → verdict_of (asked_at (record { head = head; act = act }) k) h ≡ verdicts.Denied sections.C 1 (hard_of h.entries)
 above_of head (acts.Write copy block) h k is_pull allowed lt = absurd cc
 above_of head (acts.Report lsn) h k is_pull allowed lt = absurd cc
+above_of head (acts.Failover primary) h k is_pull allowed lt = absurd cc
+above_of head acts.Status h k is_pull allowed lt = absurd cc
+above_of head (acts.SetTable text) h k is_pull allowed lt = absurd cc
 above_of head (acts.Pull lo hi lsn max) h k is_pull allowed lt = asked_above h head lo hi max lsn k allowed lt
 
 pub pulls_above : PullsAboveAreDenied
@@ -97,12 +101,18 @@ greatest_of h q is_pull allowed own k all =
 own_of : (head : Head) (act : Act) (h : History) → same_op (op_of act) ops.Pull ≡ true → verdict_of (record { head = head; act = act }) h ≡ verdicts.Allowed → first_number act ≤ hard_of h.entries
 own_of head (acts.Write copy block) h is_pull allowed = absurd cc
 own_of head (acts.Report lsn) h is_pull allowed = absurd cc
+own_of head (acts.Failover primary) h is_pull allowed = absurd cc
+own_of head acts.Status h is_pull allowed = absurd cc
+own_of head (acts.SetTable text) h is_pull allowed = absurd cc
 own_of head (acts.Pull lo hi lsn max) h is_pull allowed =
     ltb-false (hard_of h.entries) lsn (clear (pull head lo hi max lsn) (table_of h) (epochs_of h) (view_of (acts.Pull lo hi lsn max) h.entries) allowed).by1
 
 allowed_of : (head : Head) (act : Act) (h : History) → same_op (op_of act) ops.Pull ≡ true → verdict_of (record { head = head; act = act }) h ≡ verdicts.Allowed → IsAllowedTo h (record { head = head; act = act }) (hard_of h.entries)
 allowed_of head (acts.Write copy block) h is_pull allowed = absurd cc
 allowed_of head (acts.Report lsn) h is_pull allowed = absurd cc
+allowed_of head (acts.Failover primary) h is_pull allowed = absurd cc
+allowed_of head acts.Status h is_pull allowed = absurd cc
+allowed_of head (acts.SetTable text) h is_pull allowed = absurd cc
 allowed_of head (acts.Pull lo hi lsn max) h is_pull allowed = λ n low high. asked_below h head lo hi max lsn n allowed high
 
 pub pulls_reach : PullsReachTheHardenedEnd

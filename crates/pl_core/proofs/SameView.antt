@@ -8,10 +8,10 @@ use Rattle.pl_table.specs.declared.request.Act.TheVariants as acts
 use Rattle.pl_table.specs.declared.verdict.Verdict.{Verdict}
 use Rattle.pl_table.specs.Request.{Query}
 use Rattle.pl_table.specs.Table.{WrittenTable}
-use Rattle.pl_core.specs.declared.epochs.Epochs.{Epochs}
-use Rattle.pl_core.specs.declared.view.View.{View}
+use Rattle.pl_decide.specs.declared.epochs.Epochs.{Epochs}
+use Rattle.pl_decide.specs.declared.view.View.{View}
 use Rattle.pl_core.specs.Numbers.{first_number}
-use Rattle.pl_core.specs.WrittenOrder.{Rule, a1, a2, a3, a4, a5, b as table_row, b0, section_c, first_denial, decision, stands_against, denial}
+use Rattle.pl_decide.specs.WrittenOrder.{Rule, a1, a2, a3, a4, a5, b as table_row, b0, section_c, first_denial, decision, stands_against, denial}
 
 -- a view by its parts
 abbrev seen : ℕ → ℕ → Bool → Bool → View
@@ -21,7 +21,7 @@ seen hard copies can agrees = record { hard = hard; agrees = agrees; copies = co
 same_rows : (k n : ℕ) (rest : List Rule) (q : Query) (t : WrittenTable) (e : Epochs) (v v' : View) → first_denial rest q t e v ≡ first_denial rest q t e v' → first_denial (map table_row (range_with_len k n) ++ rest) q t e v ≡ first_denial (map table_row (range_with_len k n) ++ rest) q t e v'
 same_rows k zero rest q t e v v' same = same
 same_rows k (suc n) rest q t e v v' same =
-    ap (λ (x : Verdict). cond (stands_against (table_row k) q t e v) (denial (table_row k) e v) x) (same_rows (k + 1) n rest q t e v v' same)
+    ap (λ (x : Verdict). cond (stands_against (table_row k) q t e v) (denial (table_row k) q.act e v) x) (same_rows (k + 1) n rest q t e v v' same)
 
 same_log : (head : Head) (act : Act) (t : WrittenTable) (e : Epochs) (hard copies : ℕ) (can x y : Bool) → (hard < first_number act → first_number act ≤ hard + 64 → x ≡ y)
     → first_denial section_c (record { head = head; act = act }) t e (seen hard copies can x) ≡ first_denial section_c (record { head = head; act = act }) t e (seen hard copies can y)
@@ -35,16 +35,19 @@ same_log head (acts.Write copy block) t e hard copies can x y same =
     ]
 same_log head (acts.Report lsn) t e hard copies can x y same = refl
 same_log head (acts.Pull lo hi lsn max) t e hard copies can x y same = refl
+same_log head acts.Status t e hard copies can x y same = refl
+same_log head (acts.Failover primary) t e hard copies can x y same = refl
+same_log head (acts.SetTable text) t e hard copies can x y same = refl
 
 -- section A in front of a verdict
 abbrev behind_rules : Query → WrittenTable → Epochs → View → Verdict → Verdict
 behind_rules q t e v x =
-    cond (stands_against a1 q t e v) (denial a1 e v) (cond (stands_against a2 q t e v) (denial a2 e v) (cond (stands_against a3 q t e v) (denial a3 e v) (cond (stands_against a4 q t e v) (denial a4 e v) (cond (stands_against a5 q t e v) (denial a5 e v) x))))
+    cond (stands_against a1 q t e v) (denial a1 q.act e v) (cond (stands_against a2 q t e v) (denial a2 q.act e v) (cond (stands_against a3 q t e v) (denial a3 q.act e v) (cond (stands_against a4 q t e v) (denial a4 q.act e v) (cond (stands_against a5 q t e v) (denial a5 q.act e v) x))))
 
 decision-agrees : (q : Query) (t : WrittenTable) (e : Epochs) (hard copies : ℕ) (can x y : Bool) → (hard < first_number q.act → first_number q.act ≤ hard + 64 → x ≡ y) → decision q t e (seen hard copies can x) ≡ decision q t e (seen hard copies can y)
 decision-agrees q t e hard copies can x y same =
     let v = seen hard copies can x in
-    let log = ap (λ (d : Verdict). cond (stands_against b0 q t e v) (denial b0 e v) d) (same_log q.head q.act t e hard copies can x y same) in
+    let log = ap (λ (d : Verdict). cond (stands_against b0 q t e v) (denial b0 q.act e v) d) (same_log q.head q.act t e hard copies can x y same) in
     ap (behind_rules q t e v) (same_rows 1 (length t.rows) (b0 ∷ section_c) q t e v (seen hard copies can y) log)
 
 -- a view decides as another that has its numbers and tests, and its content inside the window

@@ -8,11 +8,14 @@ use Rattle.pl_core.specs.Numbers.{first_number}
 use Rattle.pl_core.specs.History.{History}
 use Rattle.pl_core.specs.Verdict.{verdict_of}
 
--- the act at another number
+-- the act at another number, where it has one
 abbrev pub act_at : Act → ℕ → Act
 act_at (acts.Write copy block) n = acts.Write copy (record { lsn = n; records = block.records })
 act_at (acts.Report lsn) n = acts.Report n
 act_at (acts.Pull lo hi lsn max) n = acts.Pull lo hi n max
+act_at acts.Status n = acts.Status
+act_at (acts.Failover primary) n = acts.Failover primary
+act_at (acts.SetTable text) n = acts.SetTable text
 
 -- the request asked at another number
 abbrev pub asked_at : Query → ℕ → Query

@@ -4,18 +4,25 @@
 ghost use Rattle.pl_core.specs.Laws.{DenialsChangeNothing, DeniedChangesNothing, LogsOnlyGrow};
 ghost use Rattle.pl_core.specs.Laws.{PullsReachTheHardenedEnd, PullsAboveAreDenied};
 ghost use Rattle.pl_core.specs.Laws.{ServedBlocksAreHardened, HardenedBlocksAreNumbered};
-ghost use Rattle.pl_core.specs.Laws.{HistoriesStayLegal};
+ghost use Rattle.pl_core.specs.Laws.{OlderEpochsAreFenced, HistoriesStayLegal};
 
-/// After a denial the hardened log, each number's content and the copies it stands in are what they
-/// were.
+/// After a denial the hardened log, each number's content and the copies it stands in, the epoch, its
+/// primary and the table in force are what they were.
 pub fn denials_change_nothing()
     ensures same { DenialsChangeNothing }
     ensures kept { DeniedChangesNothing }
 {}
 
-/// No entry takes a hardened block away, and a number that has a content keeps it.
+/// No entry takes a hardened block away, and a number that has a content keeps it to the end of the
+/// epoch.
 pub fn logs_only_grow()
     ensures { LogsOnlyGrow }
+{}
+
+/// A request of an older epoch is denied, and told the present one, without any wait: what it asks
+/// and what it would write make no difference.
+pub fn older_epochs_are_fenced()
+    ensures { OlderEpochsAreFenced }
 {}
 
 /// The hardened end is how far an allowed pull goes: asked at each number up to it, it is allowed,

@@ -8,30 +8,25 @@
 
 mod changes;
 mod db;
-mod decision;
-mod epochs;
+mod entry;
 mod laws;
 mod limits;
 mod line;
 mod reply;
 mod run;
-mod serving;
-mod slots;
 mod step;
 mod verdict;
-mod view;
 
 pub use db::{Db, DbFault};
-pub use epochs::Epochs;
 pub use laws::{
-    denials_change_nothing, histories_stay_legal, logs_only_grow, pulls_reach_the_hardened_end,
-    served_blocks_are_hardened,
+    denials_change_nothing, histories_stay_legal, logs_only_grow, older_epochs_are_fenced,
+    pulls_reach_the_hardened_end, served_blocks_are_hardened,
 };
 pub use limits::Limits;
 pub use line::Line;
 pub use pl_block::NoMemory;
+pub use pl_decide::Epochs;
 pub use reply::{Blocks, Reply};
-pub use view::View;
 
 #[cfg(test)]
 mod tests;

@@ -62,6 +62,15 @@ pub enum Reply {
         next: u64,
         blocks: Blocks,
     },
+    /// The current epoch and its primary, the number of the last hardened block, and how many
+    /// blocks were hardened from the pending area and from the landing zone.
+    Status {
+        epoch: u32,
+        primary: u32,
+        hard: u64,
+        pending: u64,
+        landing: u64,
+    },
     /// The first row of the written order that stands against the request, and the value that it
     /// tells. But for the entry of the denial nothing has changed.
     Denied {

@@ -6,7 +6,7 @@ use Rattle.std.proofs.lemmas.Option.{IfSome_then}
 use Rattle.pl_table.specs.declared.row.Row.{Row}
 use Rattle.pl_table.specs.Request.{Query}
 use Rattle.pl_table.specs.Row.{row_matches}
-use Rattle.pl_table.specs.Table.{IsFirstMatch, first_match_from}
+use Rattle.pl_table.specs.FirstMatch.{IsFirstMatch, first_match_from}
 
 -- how many rows stand above the one that is found, where the first of the list has the number k
 abbrev FirstFrom : ℕ → List Row → Query → ℕ × Bool → Type 0

@@ -8,19 +8,19 @@ use Rattle.toml.specs.declared.value.Value.{Value}
 use Rattle.pl_table.specs.declared.table.Principal.{Principal}
 use Rattle.pl_table.specs.declared.fault.TableFault.TheVariants.{PrincipalKeys, PrincipalId, PrincipalToken, RepeatedId, RowKeys, RowWord, RowNumber}
 use Rattle.pl_table.specs.Tree.{is_principal, is_row}
-use Rattle.pl_table.specs.Part.{id_of, token_of, principal_of, has_words, has_numbers, row_of}
+use Rattle.pl_table.specs.Part.{id_under, token_under, principal_of, has_words, has_numbers, row_of}
 use Rattle.pl_table.specs.TableText.{have_own_ids, principals_of, rows_of}
 use Rattle.pl_table.proofs.Trees.{all_data, read_data}
 
 -- the principals of some values, told of the values themselves
 pub principals_of-view : (vs : List Value) → principals_of (map view vs) ≡ (
     if not (list_all (λ v. is_principal (view v)) vs) then Err PrincipalKeys
-    else if not (list_all (λ v. is_some (id_of (view v))) vs) then Err PrincipalId
-    else if not (list_all (λ v. is_some (token_of (view v))) vs) then Err PrincipalToken
+    else if not (list_all (λ v. is_some (id_under (view v))) vs) then Err PrincipalId
+    else if not (list_all (λ v. is_some (token_under (view v))) vs) then Err PrincipalToken
     else if not (have_own_ids (filter_map (λ v. principal_of (view v)) vs)) then Err RepeatedId
     else Ok (filter_map (λ v. principal_of (view v)) vs))
 unfolding principals_of
-principals_of-view vs = rw (all_data is_principal vs, all_data (λ p. is_some (id_of p)) vs, all_data (λ p. is_some (token_of p)) vs, read_data principal_of vs) refl
+principals_of-view vs = rw (all_data is_principal vs, all_data (λ p. is_some (id_under p)) vs, all_data (λ p. is_some (token_under p)) vs, read_data principal_of vs) refl
 
 -- the rows of some values, told of the values themselves
 pub rows_of-view : (ps : List Principal) (vs : List Value) → rows_of ps (map view vs) ≡ (
@@ -40,7 +40,7 @@ or_parts true b h = cc
 or_parts false b h = (refl, h)
 
 -- where id and token read, the principal reads
-reads : (d : Data) (id : Option ℕ) (token : Option (List ℕ)) → id_of d ≡ id → token_of d ≡ token → is_some id ≡ true → is_some token ≡ true → is_some (principal_of d) ≡ true
+reads : (d : Data) (id : Option ℕ) (token : Option (List ℕ)) → id_under d ≡ id → token_under d ≡ token → is_some id ≡ true → is_some token ≡ true → is_some (principal_of d) ≡ true
 unfolding principal_of
 reads d (Some id) (Some token) i t h k = rw (i, t) refl
 reads d None token i t h k = cc
@@ -50,13 +50,13 @@ length-some : {A : Type 0} (o : Option A) (xs : List A) → is_some o ≡ true �
 length-some (Some x) xs h = refl
 length-some None xs h = cc
 
--- where each id and each token reads, there are as many principals as values
-pub length-principals : (vs : List Value) → list_all (λ v. is_some (id_of (view v))) vs ≡ true → list_all (λ v. is_some (token_of (view v))) vs ≡ true → length (filter_map (λ v. principal_of (view v)) vs) ≡ length vs
-length-principals [] i t = refl
-length-principals (v ∷ vs) i t =
+-- where each id and each token reads, there are as many principals as data
+pub length-principals : {X : Type 0} (read : X → Data) (xs : List X) → list_all (λ x. is_some (id_under (read x))) xs ≡ true → list_all (λ x. is_some (token_under (read x))) xs ≡ true → length (filter_map (λ x. principal_of (read x)) xs) ≡ length xs
+length-principals read [] i t = refl
+length-principals read (x ∷ xs) i t =
     let (i0, is) = and_parts _ _ i in
     let (t0, ts) = and_parts _ _ t in
-    length-some (principal_of (view v)) _ (reads (view v) _ _ refl refl i0 t0) ∙ ap suc (length-principals vs is ts)
+    length-some (principal_of (read x)) _ (reads (read x) _ _ refl refl i0 t0) ∙ ap suc (length-principals read xs is ts)
 
 length-at_most : {A : Type 0} (o : Option A) (xs : List A) (n : ℕ) → length xs ≤ n → length (cons_option o xs) ≤ suc n
 length-at_most (Some x) xs n h = omega arith
@@ -85,16 +85,16 @@ IsDistinct-own_ids (p ∷ ps) h =
 pub principals_of-keys : (vs : List Value) → list_all (λ v. is_principal (view v)) vs ≡ false → principals_of (map view vs) ≡ Err PrincipalKeys
 principals_of-keys vs k = rw (principals_of-view vs, k) refl
 
-pub principals_of-id : (vs : List Value) → list_all (λ v. is_principal (view v)) vs ≡ true → list_all (λ v. is_some (id_of (view v))) vs ≡ false → principals_of (map view vs) ≡ Err PrincipalId
+pub principals_of-id : (vs : List Value) → list_all (λ v. is_principal (view v)) vs ≡ true → list_all (λ v. is_some (id_under (view v))) vs ≡ false → principals_of (map view vs) ≡ Err PrincipalId
 principals_of-id vs k i = rw (principals_of-view vs, k, i) refl
 
-pub principals_of-token : (vs : List Value) → list_all (λ v. is_principal (view v)) vs ≡ true → list_all (λ v. is_some (id_of (view v))) vs ≡ true → list_all (λ v. is_some (token_of (view v))) vs ≡ false → principals_of (map view vs) ≡ Err PrincipalToken
+pub principals_of-token : (vs : List Value) → list_all (λ v. is_principal (view v)) vs ≡ true → list_all (λ v. is_some (id_under (view v))) vs ≡ true → list_all (λ v. is_some (token_under (view v))) vs ≡ false → principals_of (map view vs) ≡ Err PrincipalToken
 principals_of-token vs k i t = rw (principals_of-view vs, k, i, t) refl
 
-pub principals_of-repeated : (vs : List Value) → list_all (λ v. is_principal (view v)) vs ≡ true → list_all (λ v. is_some (id_of (view v))) vs ≡ true → list_all (λ v. is_some (token_of (view v))) vs ≡ true → have_own_ids (filter_map (λ v. principal_of (view v)) vs) ≡ false → principals_of (map view vs) ≡ Err RepeatedId
+pub principals_of-repeated : (vs : List Value) → list_all (λ v. is_principal (view v)) vs ≡ true → list_all (λ v. is_some (id_under (view v))) vs ≡ true → list_all (λ v. is_some (token_under (view v))) vs ≡ true → have_own_ids (filter_map (λ v. principal_of (view v)) vs) ≡ false → principals_of (map view vs) ≡ Err RepeatedId
 principals_of-repeated vs k i t o = rw (principals_of-view vs, k, i, t, o) refl
 
-pub principals_of-all : (vs : List Value) → list_all (λ v. is_principal (view v)) vs ≡ true → list_all (λ v. is_some (id_of (view v))) vs ≡ true → list_all (λ v. is_some (token_of (view v))) vs ≡ true → have_own_ids (filter_map (λ v. principal_of (view v)) vs) ≡ true → principals_of (map view vs) ≡ Ok (filter_map (λ v. principal_of (view v)) vs)
+pub principals_of-all : (vs : List Value) → list_all (λ v. is_principal (view v)) vs ≡ true → list_all (λ v. is_some (id_under (view v))) vs ≡ true → list_all (λ v. is_some (token_under (view v))) vs ≡ true → have_own_ids (filter_map (λ v. principal_of (view v)) vs) ≡ true → principals_of (map view vs) ≡ Ok (filter_map (λ v. principal_of (view v)) vs)
 principals_of-all vs k i t o = rw (principals_of-view vs, k, i, t, o) refl
 
 -- each fault of the rows, where those before it are not there

@@ -59,36 +59,36 @@ if_there read None = Some None
 if_there read (Some d) = option_map Some (read d)
 
 -- the id of a principal
-unfoldable pub id_of : Data → Option ℕ
-id_of p = option_and_then (number_up_to (2 ^ 32 - 1)) (get (codes "id") p)
+unfoldable pub id_under : Data → Option ℕ
+id_under p = option_and_then (number_up_to (2 ^ 32 - 1)) (get (codes "id") p)
 
 -- the token of a principal
-unfoldable pub token_of : Data → Option (List ℕ)
-token_of p = option_and_then token_in (get (codes "token") p)
+unfoldable pub token_under : Data → Option (List ℕ)
+token_under p = option_and_then token_in (get (codes "token") p)
 
 -- a principal, where both read
 unfoldable pub principal_of : Data → Option Principal
-principal_of p = option_and_then (λ id. option_map (λ token. record { id = id; token = token }) (token_of p)) (id_of p)
+principal_of p = option_and_then (λ id. option_map (λ token. record { id = id; token = token }) (token_under p)) (id_under p)
 
 -- whether a row allows
-unfoldable pub verdict_of : Data → Option Bool
-verdict_of row = option_and_then verdict_in (get (codes "verdict") row)
+unfoldable pub verdict_under : Data → Option Bool
+verdict_under row = option_and_then verdict_in (get (codes "verdict") row)
 
 -- the role of a row
-unfoldable pub role_of : Data → Option (Option Role)
-role_of row = if_there role_in (get (codes "role") row)
+unfoldable pub role_under : Data → Option (Option Role)
+role_under row = if_there role_in (get (codes "role") row)
 
 -- the operations of a row
-unfoldable pub ops_of : Data → Option (Option (List Op))
-ops_of row = if_there ops_in (get (codes "op") row)
+unfoldable pub ops_under : Data → Option (Option (List Op))
+ops_under row = if_there ops_in (get (codes "op") row)
 
 -- the id that a value is, if it is the id of a principal that is listed
 unfoldable pub listed_in : List Principal → Data → Option ℕ
 listed_in ps d = option_and_then (λ id. if list_any (λ p. p.id == id) ps then Some id else None) (number_up_to (2 ^ 32 - 1) d)
 
 -- the principal of a row
-unfoldable pub who_of : List Principal → Data → Option (Option ℕ)
-who_of ps row = if_there (listed_in ps) (get (codes "who") row)
+unfoldable pub who_under : List Principal → Data → Option (Option ℕ)
+who_under ps row = if_there (listed_in ps) (get (codes "who") row)
 
 -- the partitions between two numbers from 0 to 65535, the first at most the second
 unfoldable pub range_between : Option ℕ → Option ℕ → Option PartitionRange
@@ -102,16 +102,16 @@ range_from (Some from) (Some to) = option_map Some (range_between (number_up_to 
 range_from _ _ = None
 
 -- the partitions of a row
-unfoldable pub range_of : Data → Option (Option PartitionRange)
-range_of row = range_from (get (codes "from") row) (get (codes "to") row)
+unfoldable pub range_under : Data → Option (Option PartitionRange)
+range_under row = range_from (get (codes "from") row) (get (codes "to") row)
 
 -- the words of a row read: its verdict, its role and its operations
 unfoldable pub has_words : Data → Bool
-has_words row = is_some (verdict_of row) && (is_some (role_of row) && is_some (ops_of row))
+has_words row = is_some (verdict_under row) && (is_some (role_under row) && is_some (ops_under row))
 
 -- the numbers of a row read: its principal and its range
 unfoldable pub has_numbers : List Principal → Data → Bool
-has_numbers ps row = is_some (who_of ps row) && is_some (range_of row)
+has_numbers ps row = is_some (who_under ps row) && is_some (range_under row)
 
 -- the next part, where this one reads
 infixl 10 ◌>>=◌
@@ -121,9 +121,9 @@ o >>= f = option_and_then f o
 -- a row, where each part reads
 unfoldable pub row_of : List Principal → Data → Option Row
 row_of ps row = do
-  allows ← verdict_of row
-  who ← who_of ps row
-  role ← role_of row
-  range ← range_of row
-  op ← ops_of row
+  allows ← verdict_under row
+  who ← who_under ps row
+  role ← role_under row
+  range ← range_under row
+  op ← ops_under row
   Some (record { allows = allows; who = who; role = role; op = op; range = range })

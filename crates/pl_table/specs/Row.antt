@@ -1,15 +1,11 @@
 -- Which requests a row speaks of.
-use Rattle.std.specs.Prelude.{ℕ, Bool, true, ◌&&◌, ◌||◌, ◌==◌, nat_le, List, length, Option, Some, None, if◌then◌else◌}
+use Rattle.std.specs.Prelude.{ℕ, Bool, ◌&&◌, ◌||◌, ◌==◌, nat_le, List, length, if◌then◌else◌}
 use Rattle.std.specs.List.{list_all, list_any}
 use Rattle.pl_table.specs.declared.range.PartitionRange.{PartitionRange}
 use Rattle.pl_table.specs.declared.row.Row.{Row}
 use Rattle.pl_table.specs.Ops.{same_role, lists_op}
+use Rattle.pl_table.specs.Absent.{part_matches}
 use Rattle.pl_table.specs.Request.{Query, op_of, partitions_of}
-
--- a part of a row passes the test, and one that is absent passes each
-abbrev pub part_matches : {A : Type 0} → (A → Bool) → Option A → Bool
-part_matches test None = true
-part_matches test (Some part) = test part
 
 -- the range has the partition
 abbrev pub is_within : PartitionRange → ℕ → Bool

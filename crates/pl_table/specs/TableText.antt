@@ -1,19 +1,16 @@
 -- The table that a text writes down, or the first of its faults.
-use Rattle.std.specs.Prelude.{ℕ, ◌==◌, Bool, true, false, ◌&&◌, ◌||◌, not, nat_lt, List, [], ◌∷◌, length, find, filter_map, Option, Some, None, is_some, Result, Ok, Err, if◌then◌else◌, codes}
+use Rattle.std.specs.Prelude.{ℕ, ◌==◌, Bool, true, ◌&&◌, ◌||◌, not, nat_lt, List, [], ◌∷◌, length, filter_map, Option, Some, is_some, Result, Ok, Err, if◌then◌else◌, codes}
 use Rattle.std.specs.List.{list_all, list_any}
 use Rattle.toml.specs.Data.{Data, Members, get_member}
-use Rattle.pl_table.specs.declared.op.Role.TheVariants.{Operator}
-use Rattle.pl_table.specs.declared.op.Op.TheVariants.{SetTable}
 use Rattle.pl_table.specs.declared.row.Row.{Row}
 use Rattle.pl_table.specs.declared.table.Principal.{Principal}
 use Rattle.pl_table.specs.declared.fault.TableFault.{TableFault}
 use Rattle.pl_table.specs.declared.fault.TableFault.TheVariants.{UnknownKey, PrincipalCount, RowCount, PrincipalKeys, PrincipalId, PrincipalToken, RepeatedId, RowKeys, RowWord, RowNumber, NoOperator}
 use Rattle.pl_table.specs.Fault.{◌>>=◌}
-use Rattle.pl_table.specs.Ops.{same_role, lists_op}
-use Rattle.pl_table.specs.Row.{part_matches}
+use Rattle.pl_table.specs.Setting.{somebody_sets}
 use Rattle.pl_table.specs.Table.{WrittenTable}
 use Rattle.pl_table.specs.Tree.{tree_of, keys_of, is_top_key, tables_under, is_principal, is_row}
-use Rattle.pl_table.specs.Part.{id_of, token_of, principal_of, has_words, has_numbers, row_of}
+use Rattle.pl_table.specs.Part.{id_under, token_under, principal_of, has_words, has_numbers, row_of}
 
 -- the principals and the rows of a text, each still a table of the tree
 pub record Listed : Type 0 where
@@ -46,8 +43,8 @@ have_own_ids (p ∷ ps) = not (list_any (λ other. p.id == other.id) ps) && have
 unfoldable pub principals_of : List Data → Result (List Principal) TableFault
 principals_of ps =
     if not (list_all is_principal ps) then Err PrincipalKeys
-    else if not (list_all (λ p. is_some (id_of p)) ps) then Err PrincipalId
-    else if not (list_all (λ p. is_some (token_of p)) ps) then Err PrincipalToken
+    else if not (list_all (λ p. is_some (id_under p)) ps) then Err PrincipalId
+    else if not (list_all (λ p. is_some (token_under p)) ps) then Err PrincipalToken
     else if not (have_own_ids (filter_map principal_of ps)) then Err RepeatedId
     else Ok (filter_map principal_of ps)
 
@@ -58,20 +55,6 @@ rows_of ps rows =
     else if not (list_all has_words rows) then Err RowWord
     else if not (list_all (has_numbers ps) rows) then Err RowNumber
     else Ok (filter_map (row_of ps) rows)
-
--- The row speaks of a principal that sets the table as operator. That names no partition, so that
--- the row's range, if it has one, matches.
-abbrev pub speaks_of_setting : ℕ → Row → Bool
-speaks_of_setting id row = part_matches (λ who. who == id) row.who && (part_matches (same_role Operator) row.role && part_matches (lists_op SetTable) row.op)
-
--- the row is there, and allows
-abbrev pub allows : Option Row → Bool
-allows None = false
-allows (Some row) = row.allows
-
--- for a principal the first row that speaks of its setting the table allows it
-unfoldable pub somebody_sets : List Principal → List Row → Bool
-somebody_sets ps rows = list_any (λ p. allows (find (speaks_of_setting p.id) rows)) ps
 
 -- the table of its two lists
 unfoldable pub table_of : Listed → Result WrittenTable TableFault

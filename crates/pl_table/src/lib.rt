@@ -7,14 +7,15 @@
 #![tactic(auto)]
 
 mod fault;
+mod first_match;
 mod head;
+mod laws;
 mod op;
 mod part;
 mod range;
 mod reading;
 mod request;
 mod row;
-mod start_table;
 mod table;
 mod table_text;
 mod tree;
@@ -22,6 +23,7 @@ mod verdict;
 
 pub use fault::{ReadFault, TableFault};
 pub use head::Head;
+pub use laws::{setting_is_a_first_match, texts_read_as_tables};
 pub use op::{Op, Role};
 pub use pl_block::NoMemory;
 pub use range::PartitionRange;

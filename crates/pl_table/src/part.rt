@@ -3,7 +3,7 @@
 ghost use Rattle.std.specs.Prelude.{◌≡◌, ◌≤◌, ◌==◌, ◌&&◌, nat_le, length, IfSome, is_some, map, filter_map, option_map, IfOk};
 ghost use Rattle.std.specs.List.{list_any, list_all};
 ghost use Rattle.toml.specs.View.{view};
-ghost use Rattle.pl_table.specs.Part.{number_up_to, token_in, verdict_in, role_of_name, op_of_name, role_in, op_in, ops_in, id_of, token_of, principal_of, verdict_of, role_of, ops_of, listed_in, who_of, range_between, range_from, range_of, has_words, has_numbers, row_of};
+ghost use Rattle.pl_table.specs.Part.{number_up_to, token_in, verdict_in, role_of_name, op_of_name, role_in, op_in, ops_in, id_under, token_under, principal_of, verdict_under, role_under, ops_under, listed_in, who_under, range_between, range_from, range_under, has_words, has_numbers, row_of};
 
 use crate::op::{Op, Role};
 use crate::range::PartitionRange;
@@ -68,9 +68,9 @@ fn op_in(value: &Value) -> Option<Op>
     }
 }
 
-#[tactic(auto, unfolding(crate::specs::Part::id_of))]
-pub(crate) fn id_of(principal: &Value) -> Option<u32>
-    ensures { result ≡ id_of (view principal.now) }
+#[tactic(auto, unfolding(crate::specs::Part::id_under))]
+pub(crate) fn id_under(principal: &Value) -> Option<u32>
+    ensures { result ≡ id_under (view principal.now) }
 {
     match principal.get("id") {
         Some(value) => number_up_to(u32::MAX, value),
@@ -78,9 +78,9 @@ pub(crate) fn id_of(principal: &Value) -> Option<u32>
     }
 }
 
-#[tactic(auto, unfolding(crate::specs::Part::token_of))]
-pub(crate) fn token_of(principal: &Value) -> Option<[u8; 16]>
-    ensures { result ≡ token_of (view principal.now) }
+#[tactic(auto, unfolding(crate::specs::Part::token_under))]
+pub(crate) fn token_under(principal: &Value) -> Option<[u8; 16]>
+    ensures { result ≡ token_under (view principal.now) }
 {
     match principal.get("token") {
         Some(value) => token_in(value),
@@ -92,14 +92,14 @@ pub(crate) fn token_of(principal: &Value) -> Option<[u8; 16]>
 pub(crate) fn principal_of(principal: &Value) -> Option<Principal>
     ensures { result ≡ principal_of (view principal.now) }
 {
-    let id = id_of(principal)?;
-    let token = token_of(principal)?;
+    let id = id_under(principal)?;
+    let token = token_under(principal)?;
     Some(Principal { id, token })
 }
 
-#[tactic(auto, unfolding(crate::specs::Part::verdict_of))]
-pub(crate) fn verdict_of(row: &Value) -> Option<bool>
-    ensures { result ≡ verdict_of (view row.now) }
+#[tactic(auto, unfolding(crate::specs::Part::verdict_under))]
+pub(crate) fn verdict_under(row: &Value) -> Option<bool>
+    ensures { result ≡ verdict_under (view row.now) }
 {
     match row.get("verdict") {
         Some(value) => verdict_in(value),
@@ -108,9 +108,9 @@ pub(crate) fn verdict_of(row: &Value) -> Option<bool>
 }
 
 // The role of the row, which may be absent. `None` where it is there and is no role.
-#[tactic(auto, unfolding(crate::specs::Part::role_of, crate::specs::Part::if_there))]
-pub(crate) fn role_of(row: &Value) -> Option<Option<Role>>
-    ensures { result ≡ role_of (view row.now) }
+#[tactic(auto, unfolding(crate::specs::Part::role_under, crate::specs::Part::if_there))]
+pub(crate) fn role_under(row: &Value) -> Option<Option<Role>>
+    ensures { result ≡ role_under (view row.now) }
 {
     match row.get("role") {
         Some(value) => role_in(value).map(Some),
@@ -168,9 +168,9 @@ fn ops_in(alloc: Global, value: &Value) -> Result<Option<Ops>, AllocError>
 }
 
 // Whether the operations of the row are absent, or are some.
-#[tactic(auto, unfolding(crate::specs::Part::ops_of, crate::specs::Part::if_there))]
+#[tactic(auto, unfolding(crate::specs::Part::ops_under, crate::specs::Part::if_there))]
 pub(crate) fn has_ops(row: &Value) -> bool
-    ensures { result ≡ is_some (ops_of (view row.now)) }
+    ensures { result ≡ is_some (ops_under (view row.now)) }
 {
     match row.get("op") {
         Some(value) => lists_ops(value),
@@ -179,9 +179,9 @@ pub(crate) fn has_ops(row: &Value) -> bool
 }
 
 // The operations of the row, which may be absent. `None` where they are there and are none.
-#[tactic(auto, unfolding(crate::specs::Part::ops_of, crate::specs::Part::if_there))]
-fn ops_of(alloc: Global, row: &Value) -> Result<Option<Option<Ops>>, AllocError>
-    ensures { IfOk result (λ ops. ops ≡ ops_of (view row.now)) }
+#[tactic(auto, unfolding(crate::specs::Part::ops_under, crate::specs::Part::if_there))]
+fn ops_under(alloc: Global, row: &Value) -> Result<Option<Option<Ops>>, AllocError>
+    ensures { IfOk result (λ ops. ops ≡ ops_under (view row.now)) }
 {
     match row.get("op") {
         Some(value) => Ok(ops_in(alloc, value)?.map(Some)),
@@ -205,9 +205,9 @@ fn listed_in(principals: &[Principal], value: &Value) -> Option<u32>
 }
 
 // The principal of the row, which may be absent. `None` where it is there and is not listed.
-#[tactic(auto, unfolding(crate::specs::Part::who_of, crate::specs::Part::if_there))]
-pub(crate) fn who_of(principals: &[Principal], row: &Value) -> Option<Option<u32>>
-    ensures { result ≡ who_of principals.now (view row.now) }
+#[tactic(auto, unfolding(crate::specs::Part::who_under, crate::specs::Part::if_there))]
+pub(crate) fn who_under(principals: &[Principal], row: &Value) -> Option<Option<u32>>
+    ensures { result ≡ who_under principals.now (view row.now) }
 {
     match row.get("who") {
         Some(value) => listed_in(principals, value).map(Some),
@@ -234,9 +234,9 @@ fn range_between(from: &Value, to: &Value) -> Option<PartitionRange>
 
 // The range of the row, which may be absent. `None` where only one end is there, or an end is no
 // partition, or the first is above the last.
-#[tactic(auto, unfolding(crate::specs::Part::range_of, crate::specs::Part::range_from))]
-pub(crate) fn range_of(row: &Value) -> Option<Option<PartitionRange>>
-    ensures { result ≡ range_of (view row.now) }
+#[tactic(auto, unfolding(crate::specs::Part::range_under, crate::specs::Part::range_from))]
+pub(crate) fn range_under(row: &Value) -> Option<Option<PartitionRange>>
+    ensures { result ≡ range_under (view row.now) }
 {
     match (row.get("from"), row.get("to")) {
         (Some(from), Some(to)) => range_between(from, to).map(Some),
@@ -250,7 +250,7 @@ pub(crate) fn range_of(row: &Value) -> Option<Option<PartitionRange>>
 pub(crate) fn has_words(row: &Value) -> bool
     ensures { result ≡ has_words (view row.now) }
 {
-    verdict_of(row).is_some() && role_of(row).is_some() && has_ops(row)
+    verdict_under(row).is_some() && role_under(row).is_some() && has_ops(row)
 }
 
 // Whether the principal and the range of the row are written in their numbers.
@@ -258,7 +258,7 @@ pub(crate) fn has_words(row: &Value) -> bool
 pub(crate) fn has_numbers(principals: &[Principal], row: &Value) -> bool
     ensures { result ≡ has_numbers principals.now (view row.now) }
 {
-    who_of(principals, row).is_some() && range_of(row).is_some()
+    who_under(principals, row).is_some() && range_under(row).is_some()
 }
 
 // The row, where each of its parts reads.
@@ -270,19 +270,19 @@ pub(crate) fn row_of(
 ) -> Result<Option<Row>, AllocError>
     ensures { IfOk result (λ read. read ≡ row_of principals.now (view row.now)) }
 {
-    let Some(allows) = verdict_of(row) else {
+    let Some(allows) = verdict_under(row) else {
         return Ok(None);
     };
-    let Some(who) = who_of(principals, row) else {
+    let Some(who) = who_under(principals, row) else {
         return Ok(None);
     };
-    let Some(role) = role_of(row) else {
+    let Some(role) = role_under(row) else {
         return Ok(None);
     };
-    let Some(range) = range_of(row) else {
+    let Some(range) = range_under(row) else {
         return Ok(None);
     };
-    let Some(op) = ops_of(alloc, row)? else {
+    let Some(op) = ops_under(alloc, row)? else {
         return Ok(None);
     };
     Ok(Some(Row {

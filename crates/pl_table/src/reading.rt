@@ -1,12 +1,14 @@
 //! Reading the table that a text writes down.
 
-ghost use Rattle.std.specs.Prelude.{◌≡◌, ◌==◌, ◌&&◌, ◌<◌, ◌≤◌, is_some, nat_eq, length, map, find, filter_map, option_copied, IfOk, OnOk};
+ghost use Rattle.std.specs.Prelude.{◌≡◌, ◌==◌, ◌&&◌, ◌<◌, ◌≤◌, is_some, nat_eq, length, map, All, find, filter_map, option_copied, IfOk, OnOk};
 ghost use Rattle.std.specs.List.{list_all, list_any, IsDistinct};
 ghost use Rattle.toml.specs.View.{view, table_view};
 ghost use Rattle.pl_table.specs.Fault.{Gives};
-ghost use Rattle.pl_table.specs.Part.{id_of, token_of, principal_of, has_words, has_numbers, row_of};
+ghost use Rattle.pl_table.specs.Part.{id_under, token_under, principal_of, has_words, has_numbers, row_of};
 ghost use Rattle.pl_table.specs.Tree.{is_principal, is_row};
-ghost use Rattle.pl_table.specs.TableText.{listed_of, listed_in_tree, counts_of, have_own_ids, principals_of, rows_of, speaks_of_setting, allows, somebody_sets, table_of, table_reading};
+ghost use Rattle.pl_table.specs.Table.{IsRowOf};
+ghost use Rattle.pl_table.specs.TableText.{listed_of, listed_in_tree, counts_of, have_own_ids, principals_of, rows_of, table_of, table_reading};
+ghost use Rattle.pl_table.specs.Setting.{speaks_of_setting, allows, somebody_sets};
 
 use crate::fault::{ReadFault, TableFault};
 use crate::op::{Op, Role};
@@ -43,19 +45,19 @@ fn each_is_principal(listed: &[Value]) -> bool
 }
 
 fn each_has_id(listed: &[Value]) -> bool
-    ensures { result ≡ list_all (λ v. is_some (id_of (view v))) listed.now }
+    ensures { result ≡ list_all (λ v. is_some (id_under (view v))) listed.now }
 {
     listed
         .iter()
-        .all(|principal| part::id_of(principal).is_some())
+        .all(|principal| part::id_under(principal).is_some())
 }
 
 fn each_has_token(listed: &[Value]) -> bool
-    ensures { result ≡ list_all (λ v. is_some (token_of (view v))) listed.now }
+    ensures { result ≡ list_all (λ v. is_some (token_under (view v))) listed.now }
 {
     listed
         .iter()
-        .all(|principal| part::token_of(principal).is_some())
+        .all(|principal| part::token_under(principal).is_some())
 }
 
 fn principals_from(alloc: Global, listed: &[Value]) -> Result<Vec<Principal>, AllocError>
@@ -149,6 +151,7 @@ fn read_rows(
     ensures exact { Gives (λ rows. rows.items) result
         (rows_of principals.now (map view listed.now)) }
     ensures members { IfOk result (λ rows. length rows.items ≤ length listed.now) }
+    ensures each_row { IfOk result (λ rows. All (IsRowOf principals.now) rows.items) }
 {
     if !each_is_row(listed) {
         return Err(ReadFault::Malformed(TableFault::RowKeys));
@@ -179,7 +182,7 @@ fn may_set_table(rows: &[Row], id: u32) -> bool
     }
 }
 
-#[tactic(auto, unfolding(crate::specs::TableText::somebody_sets))]
+#[tactic(auto, unfolding(crate::specs::Setting::somebody_sets))]
 fn somebody_sets(principals: &[Principal], rows: &[Row]) -> bool
     ensures { result ≡ somebody_sets principals.now rows.now }
 {

@@ -5,6 +5,7 @@ ghost use Rattle.pl_table.specs.Request.{InRange, op_of};
 
 use crate::head::Head;
 use crate::op::Op;
+use crate::table_text::TableText;
 use pl_block::Block;
 use std::marker::Model;
 
@@ -13,6 +14,9 @@ pub(crate) const MAX_LSN: u64 = 1 << 48;
 
 /// The most blocks that one pull asks for.
 pub(crate) const MAX_PULLED: u16 = 16;
+
+/// The most bytes of a table's text.
+pub(crate) const MAX_TEXT: usize = 65_506;
 
 /// An operation with its arguments.
 #[derive(Debug, Drop)]
@@ -34,6 +38,16 @@ pub enum Act {
         lsn: u64,
         max: u16,
     },
+    /// Tell the epoch, the primary and how many blocks are hardened.
+    Status,
+    /// Begin the next epoch, with this principal as its primary.
+    Failover {
+        primary: u32,
+    },
+    /// Put the table that the text writes down in force. The text has at most 65,506 bytes.
+    SetTable {
+        text: TableText,
+    },
 }
 
 impl Act {
@@ -45,10 +59,13 @@ impl Act {
             Act::Write { .. } => Op::Write,
             Act::Report { .. } => Op::Report,
             Act::Pull { .. } => Op::Pull,
+            Act::Status => Op::Status,
+            Act::Failover { .. } => Op::Failover,
+            Act::SetTable { .. } => Op::SetTable,
         }
     }
 
-    // Whether each number is in its range.
+    // Whether each number, and the length of a text, is in its range.
     fn is_in_range(&self) -> bool
         ensures { IsTrue result ↔ InRange self.now }
     {
@@ -58,11 +75,13 @@ impl Act {
             Act::Pull { lo, hi, lsn, max } => {
                 lo <= hi && 1 <= *lsn && *lsn <= MAX_LSN && 1 <= *max && *max <= MAX_PULLED
             }
+            Act::Status | Act::Failover { .. } => true,
+            Act::SetTable { text } => text.text().len() <= MAX_TEXT,
         }
     }
 }
 
-/// An act, and who asks for it. Its numbers are in their ranges.
+/// An act, and who asks for it. Its numbers, and the length of a text, are in their ranges.
 #[derive(Debug, Drop)]
 pub struct Request {
     head: Head,
@@ -80,7 +99,8 @@ impl Model for Request {
 }
 
 impl Request {
-    /// The request, or `None` where a number of the act is out of its range.
+    /// The request, or `None` where a number of the act, or the length of its text, is out of its
+    /// range.
     pub fn new(head: Head, act: Act) -> Option<Request>
         ensures found { IsSome result ↔ InRange act }
         ensures some { IfSome result (λ r. (r.head ≡ head) × (r.act ≡ act)) }

@@ -2,7 +2,8 @@
 
 ghost use Rattle.std.specs.Prelude.{◌≡◌, ◌==◌, ◌&&◌, IfOk};
 ghost use Rattle.pl_table.specs.Request.{InRange, partitions_of};
-ghost use Rattle.pl_table.specs.Row.{part_matches, range_matches, row_matches};
+ghost use Rattle.pl_table.specs.Absent.{part_matches};
+ghost use Rattle.pl_table.specs.Row.{range_matches, row_matches};
 ghost use Rattle.pl_table.specs.Ops.{same_role, lists_op};
 
 use crate::op::{Op, Role};
@@ -179,7 +180,7 @@ fn range_covers(allows: bool, range: PartitionRange, act: &Act) -> bool
                 block.partitions().is_empty() || range.has_any(block.partitions())
             }
         }
-        Act::Report { .. } => true,
+        Act::Report { .. } | Act::Status | Act::Failover { .. } | Act::SetTable { .. } => true,
         Act::Pull { lo, hi, .. } => {
             if allows {
                 range.has_all_between(*lo, *hi)

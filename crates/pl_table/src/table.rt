@@ -1,10 +1,8 @@
 //! The written table.
 
-ghost use Rattle.std.specs.Prelude.{◌≡◌, ◌≤◌, ◌↔◌, All, Contains, IfNone, IfOk, IfSome, IsSome, false, length, map};
-ghost use Rattle.pl_table.specs.Table.{IsTable, IsFirstMatch, token_of, first_match_from};
-ghost use Rattle.pl_table.specs.Row.{row_matches};
+ghost use Rattle.std.specs.Prelude.{◌≡◌, ◌↔◌, All, Contains, IfOk, IsSome, map};
+ghost use Rattle.pl_table.specs.Table.{IsTable, token_of};
 
-use crate::request::Request;
 use crate::row::Row;
 use std::alloc::{AllocError, Global};
 use std::marker::Model;
@@ -18,11 +16,13 @@ pub struct Principal {
     pub token: [u8; 16],
 }
 
-/// The principals, each with an id of its own, and the rows that say in order what they may do.
+/// The principals, each with an id of its own, and the rows that say in order what they may do. A
+/// row speaks of no principal that is not listed, its range has a partition, and for some principal
+/// the first row that speaks of its setting the table as operator allows that.
 #[derive(Debug, Drop)]
 pub struct Table {
     principals: Vec<Principal>,
-    rows: Vec<Row>,
+    pub(crate) rows: Vec<Row>,
 }
 
 impl Model for Table {
@@ -81,18 +81,6 @@ impl Table {
     {
         token_in(&self.principals, id)
     }
-
-    /// The first row that speaks of the request: its number, from 1, and whether it allows. `None`
-    /// where no row speaks of it. Each row up to that one is looked at once, without memory.
-    pub fn first_match(&self, request: &Request) -> Option<(u16, bool)>
-        ensures value { result ≡ first_match_from 1 self.now.rows request.now }
-        ensures some { IfSome result (IsFirstMatch self.now.rows request.now) }
-        ensures none { IfNone result
-            (All (λ row. row_matches row request.now ≡ false) self.now.rows) }
-        ensures valid { IsTable self.now }
-    {
-        first_in(&self.rows, request)
-    }
 }
 
 fn copy_of_principals(alloc: Global, principals: &[Principal]) -> Result<Vec<Principal>, AllocError>
@@ -117,18 +105,6 @@ fn token_in(principals: &[Principal], id: u32) -> Option<[u8; 16]>
     for principal in principals {
         if principal.id == id {
             return Some(principal.token);
-        }
-    }
-    None
-}
-
-fn first_in(rows: &[Row], request: &Request) -> Option<(u16, bool)>
-    requires { length rows.now ≤ 256 }
-    ensures { result ≡ first_match_from 1 rows.now request.now }
-{
-    for (index, row) in rows.iter().enumerate() {
-        if row.matches(request) {
-            return Some((index as u16 + 1, row.allows));
         }
     }
     None

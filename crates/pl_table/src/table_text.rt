@@ -54,4 +54,12 @@ impl TableText {
     {
         &self.reading
     }
+
+    /// The table that the text writes down, or the first of its faults. The text is dropped.
+    pub fn into_reading(self) -> Result<Table, TableFault>
+        ensures { result ≡ table_reading self }
+    {
+        let TableText { reading, .. } = self;
+        reading
+    }
 }

@@ -1,10 +1,10 @@
 -- Arguments that are read are those of their spelling, and spelled arguments are read again.
 use Rattle.std.proofs.Common.{◌≡◌, ℕ, suc, ◌^◌, Bool, true, false, cond, ltb, List, [], ◌∷◌, ◌++◌, length, drop, Some, Result, Ok, Err, refl, ap, subst, ◌∙◌, arith}
-use Rattle.std.specs.Int.{w16, w64, to_be_bytes}
+use Rattle.std.specs.Int.{w16, w32, w64, to_be_bytes}
 use Rattle.std.proofs.lemmas.Bool.{ltb-false}
 use Rattle.std.proofs.lemmas.Bool.Decides.{nat_tests}
 use Rattle.std.proofs.lemmas.List.{length-drop, nil_from_length}
-use Rattle.std.proofs.lemmas.Nat.{from_be_bytes-to_be_bytes_2, from_be_bytes-to_be_bytes_8}
+use Rattle.std.proofs.lemmas.Nat.{from_be_bytes-to_be_bytes_2, from_be_bytes-to_be_bytes_4, from_be_bytes-to_be_bytes_8}
 use Rattle.pl_block.specs.Block.{Content}
 use Rattle.pl_block.specs.Laws.{AreBytes, OneSpelling}
 use Rattle.pl_block.specs.Reading.{block_reading}
@@ -12,14 +12,14 @@ use Rattle.pl_block.specs.declared.fault.Fault.{Fault}
 use Rattle.pl_table.specs.declared.op.Op.{Op}
 use Rattle.pl_table.specs.declared.op.Op.TheVariants as ops
 use Rattle.pl_table.specs.declared.request.Act.{Act}
-use Rattle.pl_table.specs.declared.request.Act.TheVariants.{Write, Report, Pull}
+use Rattle.pl_table.specs.declared.request.Act.TheVariants.{Write, Report, Pull, Status, Failover, SetTable}
 use Rattle.pl_table.specs.Ops.{op_number, op_of_number}
 use Rattle.pl_table.specs.Request.{op_of}
 use Rattle.pl_wire.specs.declared.fault.WireFault.{WireFault}
 use Rattle.pl_wire.specs.declared.fault.WireFault.TheVariants.{EndsInField, BytesAfterEnd}
 use Rattle.pl_wire.specs.Spelling.{FitsActFields, act_spelling}
-use Rattle.pl_wire.specs.Reading.{number_in, sized, write_to, write_reading, report_reading, pull_reading, act_reading}
-use Rattle.pl_wire.proofs.Places.{wide16, wide64, number_cut, number_below}
+use Rattle.pl_wire.specs.Reading.{number_in, sized, write_to, write_reading, report_reading, pull_reading, status_reading, failover_reading, set_table_reading, act_reading}
+use Rattle.pl_wire.proofs.Places.{wide16, wide32, wide64, number_cut, number_below}
 
 abbrev pub done : {X : Type 0} → X → Result X WireFault
 done x = Ok x
@@ -81,16 +81,31 @@ pull_takes bytes act fits e =
     let below = λ (at : ℕ). number_below w16 (2 ^ 16) wide16 at bytes fits in
     subst (IsRead ops.Pull bytes) s.1 (record { of_op = refl; fields = (below 0, below 2, number_below w64 (2 ^ 64) wide64 4 bytes fits, below 12); spelled = whole })
 
+status_takes : (bytes : List ℕ) (act : Act) → status_reading bytes ≡ Ok act → IsRead ops.Status bytes act
+status_takes bytes act e =
+    let s = sized_ok 0 bytes Status act e in
+    subst (IsRead ops.Status bytes) s.1 (record { of_op = refl; fields = tt; spelled = nil_from_length bytes s.0 })
+
+failover_takes : (bytes : List ℕ) (act : Act) → AreBytes bytes → failover_reading bytes ≡ Ok act → IsRead ops.Failover bytes act
+failover_takes bytes act fits e =
+    let primary = number_in w32 0 bytes in
+    let s = sized_ok 4 bytes (Failover primary) act e in
+    let whole : bytes ≡ to_be_bytes w32 primary = number_cut w32 (2 ^ 32) wide32 0 bytes fits (omega (arith, s.0)) ∙ ap (λ (t : List ℕ). to_be_bytes w32 primary ++ t) (nothing_behind 4 bytes s.0) in
+    subst (IsRead ops.Failover bytes) s.1 (record { of_op = refl; fields = number_below w32 (2 ^ 32) wide32 0 bytes fits; spelled = whole })
+
+set_table_takes : (bytes : List ℕ) (act : Act) → set_table_reading bytes ≡ Ok act → IsRead ops.SetTable bytes act
+set_table_takes bytes act e = subst (IsRead ops.SetTable bytes) (ok_is (SetTable bytes) act e) (record { of_op = refl; fields = tt; spelled = refl })
+
 pub act_takes : OneSpelling → (op : Op) (bytes : List ℕ) (act : Act) → AreBytes bytes → act_reading op bytes ≡ Ok act → IsRead op bytes act
 act_takes law ops.Write bytes act fits e = write_takes law bytes act fits e
 act_takes law ops.Report bytes act fits e = report_takes bytes act fits e
 act_takes law ops.Pull bytes act fits e = pull_takes bytes act fits e
+act_takes law ops.Status bytes act fits e = status_takes bytes act e
+act_takes law ops.SetTable bytes act fits e = set_table_takes bytes act e
 act_takes law ops.Offer bytes act fits e = absurd cc
 act_takes law ops.Get bytes act fits e = absurd cc
 act_takes law ops.Advance bytes act fits e = absurd cc
-act_takes law ops.Status bytes act fits e = absurd cc
-act_takes law ops.Failover bytes act fits e = absurd cc
-act_takes law ops.SetTable bytes act fits e = absurd cc
+act_takes law ops.Failover bytes act fits e = failover_takes bytes act fits e
 act_takes law ops.Audit bytes act fits e = absurd cc
 act_takes law ops.Tidy bytes act fits e = absurd cc
 
@@ -98,14 +113,23 @@ pub act_again : OneSpelling → (act : Act) → FitsActFields act → act_readin
 act_again law (Write copy block) h = ap (write_to copy) (law.again block h.1)
 act_again law (Report lsn) h = ap (λ (n : ℕ). done (Report n)) (from_be_bytes-to_be_bytes_8 lsn h)
 act_again law (Pull lo hi lsn max) h = rw (from_be_bytes-to_be_bytes_2 lo h.0, from_be_bytes-to_be_bytes_2 hi h.1, from_be_bytes-to_be_bytes_8 lsn h.2, from_be_bytes-to_be_bytes_2 max h.3) refl
+act_again law Status h = refl
+act_again law (Failover primary) h = ap (λ (n : ℕ). done (Failover n)) (from_be_bytes-to_be_bytes_4 primary h)
+act_again law (SetTable text) h = refl
 
 -- the operation of an act that can be read, by its number
 pub op_told : (n : ℕ) (act : Act) → op_of_number n ≡ Some (op_of act) → n ≡ op_number (op_of act)
 op_told n (Write copy block) e = grind (arith, nat_tests)
 op_told n (Report lsn) e = grind (arith, nat_tests)
 op_told n (Pull lo hi lsn max) e = grind (arith, nat_tests)
+op_told n Status e = grind (arith, nat_tests)
+op_told n (Failover primary) e = grind (arith, nat_tests)
+op_told n (SetTable text) e = grind (arith, nat_tests)
 
 pub op_again : (act : Act) → op_of_number (op_number (op_of act)) ≡ Some (op_of act)
 op_again (Write copy block) = refl
 op_again (Report lsn) = refl
 op_again (Pull lo hi lsn max) = refl
+op_again Status = refl
+op_again (Failover primary) = refl
+op_again (SetTable text) = refl

@@ -3,7 +3,7 @@ use Rattle.std.proofs.Common.{◌≡◌, ◌^◌, Bool, true, false, leb, ◌&&�
 use Rattle.std.specs.Bool.{Decides}
 use Rattle.std.proofs.lemmas.Bool.{leb-true, le-leb}
 use Rattle.pl_table.specs.declared.request.Act.{Act}
-use Rattle.pl_table.specs.declared.request.Act.TheVariants.{Write, Report, Pull}
+use Rattle.pl_table.specs.declared.request.Act.TheVariants.{Write, Report, Pull, Status, Failover, SetTable}
 use Rattle.pl_table.specs.Request.{InRange}
 use Rattle.pl_wire.specs.Reading.{is_in_range}
 
@@ -14,6 +14,9 @@ both-true false b e = absurd cc
 pub is_in_range-Decides : (act : Act) → Decides (is_in_range act) (InRange act)
 is_in_range-Decides (Write copy block) = (λ _. tt, λ _. refl)
 is_in_range-Decides (Report lsn) = (λ e. leb-true _ _ e, λ h. le-leb _ _ h)
+is_in_range-Decides Status = (λ _. tt, λ _. refl)
+is_in_range-Decides (Failover primary) = (λ _. tt, λ _. refl)
+is_in_range-Decides (SetTable text) = (λ e. leb-true _ _ e, λ h. le-leb _ _ h)
 is_in_range-Decides (Pull lo hi lsn max) = (
   λ e.
       let a = both-true (leb lo hi) (leb 1 lsn && (leb lsn (2 ^ 48) && (leb 1 max && leb max 16))) e in

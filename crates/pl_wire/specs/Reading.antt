@@ -9,7 +9,7 @@ use Rattle.pl_table.specs.declared.op.Op.{Op}
 use Rattle.pl_table.specs.declared.op.Op.TheVariants as ops
 use Rattle.pl_table.specs.declared.op.Role.{Role}
 use Rattle.pl_table.specs.declared.request.Act.{Act}
-use Rattle.pl_table.specs.declared.request.Act.TheVariants.{Write, Report, Pull}
+use Rattle.pl_table.specs.declared.request.Act.TheVariants.{Write, Report, Pull, Status, Failover, SetTable}
 use Rattle.pl_table.specs.Ops.{role_of_number, op_of_number}
 use Rattle.pl_table.specs.Request.{Query}
 use Rattle.pl_wire.specs.declared.fault.WireFault.{WireFault}
@@ -57,20 +57,38 @@ report_reading bytes = sized 8 bytes (Report (number_in w64 0 bytes))
 abbrev pub pull_reading : List ℕ → Result Act WireFault
 pull_reading bytes = sized 14 bytes (Pull (number_in w16 0 bytes) (number_in w16 2 bytes) (number_in w64 4 bytes) (number_in w16 12 bytes))
 
+-- nothing
+abbrev pub status_reading : List ℕ → Result Act WireFault
+status_reading bytes = sized 0 bytes Status
+
+-- a principal, and no more
+abbrev pub failover_reading : List ℕ → Result Act WireFault
+failover_reading bytes = sized 4 bytes (Failover (number_in w32 0 bytes))
+
+-- a text to the end, whether it is a table's or not
+abbrev pub set_table_reading : List ℕ → Result Act WireFault
+set_table_reading bytes = Ok (SetTable bytes)
+
 -- the arguments of an operation
 abbrev pub act_reading : Op → List ℕ → Result Act WireFault
 act_reading ops.Write bytes = write_reading bytes
 act_reading ops.Report bytes = report_reading bytes
 act_reading ops.Pull bytes = pull_reading bytes
+act_reading ops.Status bytes = status_reading bytes
+act_reading ops.Failover bytes = failover_reading bytes
+act_reading ops.SetTable bytes = set_table_reading bytes
 act_reading _ bytes = Err UnknownKind
 
--- a test whether an act's numbers are in their ranges
+-- a test whether an act's numbers are in their ranges, and the length of its text
 abbrev pub is_in_range : Act → Bool
 is_in_range (Write copy block) = true
 is_in_range (Report lsn) = nat_le lsn (2 ^ 48)
 is_in_range (Pull lo hi lsn max) = nat_le lo hi && (nat_le 1 lsn && (nat_le lsn (2 ^ 48) && (nat_le 1 max && nat_le max 16)))
+is_in_range Status = true
+is_in_range (Failover primary) = true
+is_in_range (SetTable text) = nat_le (length text) 65506
 
--- a request of a head and an act, where the act's numbers are in their ranges
+-- a request of a head and an act, where the act is in its ranges
 abbrev pub ranged : Head → Act → Result Query WireFault
 ranged head act = if is_in_range act then Ok (record { head = head; act = act }) else Err OutOfRange
 

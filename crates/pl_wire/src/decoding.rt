@@ -1,17 +1,17 @@
 //! A request, read from its bytes.
 
-ghost use Rattle.std.specs.Prelude.{◌≡◌, ◌≤◌, IfOk, Ok, drop, length, slice_index, take};
+ghost use Rattle.std.specs.Prelude.{◌≡◌, ◌≤◌, ◌⊎◌, IfOk, Ok, drop, length, slice_index, take};
 ghost use Rattle.pl_block.specs.Laws.{AreBytes};
 ghost use Rattle.pl_table.specs.Ops.{op_of_number};
 ghost use Rattle.pl_table.specs.Request.{Query};
 ghost use Rattle.pl_wire.specs.Spelling.{IsRequest, request_spelling};
-ghost use Rattle.pl_wire.specs.Reading.{Gives, head_in, sized, write_reading, report_reading, pull_reading, act_reading, ranged, request_reading};
+ghost use Rattle.pl_wire.specs.Reading.{Gives, head_in, sized, write_reading, report_reading, pull_reading, status_reading, failover_reading, set_table_reading, act_reading, ranged, request_reading};
 
 use crate::fault::{BodyFault, WireFault};
 use crate::numbers::{u16_in, u32_in, u64_in};
 use bytes::{Buf, Bytes};
 use pl_block::{decode, one_spelling};
-use pl_table::{Act, Head, Op, Request, Role};
+use pl_table::{Act, Head, Op, Request, Role, TableText};
 use std::alloc::Global;
 
 /// The bytes of a head.
@@ -87,14 +87,40 @@ fn pull_of(arguments: &[u8]) -> Result<Act, WireFault>
     })
 }
 
+fn status_of(arguments: &[u8]) -> Result<Act, WireFault>
+    ensures { result ≡ status_reading arguments.now }
+{
+    check_size(arguments, 0)?;
+    Ok(Act::Status)
+}
+
+fn failover_of(arguments: &[u8]) -> Result<Act, WireFault>
+    ensures { result ≡ failover_reading arguments.now }
+{
+    check_size(arguments, 4)?;
+    Ok(Act::Failover {
+        primary: u32_in(arguments, 0),
+    })
+}
+
+fn set_table_of(alloc: Global, arguments: &[u8]) -> Result<Act, BodyFault>
+    ensures { Gives result (set_table_reading arguments.now) }
+{
+    let text = TableText::new(alloc, Vec::from_slice(alloc, arguments)?)?;
+    Ok(Act::SetTable { text })
+}
+
 fn act_of(alloc: Global, op: Op, arguments: &[u8]) -> Result<Act, BodyFault>
     ensures exact { Gives result (act_reading op arguments.now) }
-    ensures full { result ≡ Err BodyFault.NoMemory → op ≡ Op.Write }
+    ensures full { result ≡ Err BodyFault.NoMemory → (op ≡ Op.Write) ⊎ (op ≡ Op.SetTable) }
 {
     match op {
         Op::Write => write_of(alloc, arguments),
         Op::Report => Ok(report_of(arguments)?),
         Op::Pull => Ok(pull_of(arguments)?),
+        Op::Status => Ok(status_of(arguments)?),
+        Op::Failover => Ok(failover_of(arguments)?),
+        Op::SetTable => set_table_of(alloc, arguments),
         _ => Err(BodyFault::Malformed(WireFault::UnknownKind)),
     }
 }
@@ -108,8 +134,9 @@ fn ranged_request(head: Head, act: Act) -> Result<Request, WireFault>
 #[tactic(auto, unfolding(crate::specs::Reading::request_reading))]
 fn request_of(alloc: Global, body: &[u8]) -> Result<Request, BodyFault>
     ensures exact { Gives result (request_reading body.now) }
-    ensures full { result ≡ Err BodyFault.NoMemory →
-        op_of_number (slice_index body.now 29) ≡ Some Op.Write }
+    ensures full { result ≡ Err BodyFault.NoMemory → (
+        let op = op_of_number (slice_index body.now 29) in
+        (op ≡ Some Op.Write) ⊎ (op ≡ Some Op.SetTable)) }
 {
     if body.len() < HEAD_BYTES {
         return Err(BodyFault::Malformed(WireFault::TooShort));
@@ -133,7 +160,9 @@ fn each_is_byte(bytes: &[u8])
 }
 
 /// The request that the bytes spell. The bytes of a write's block are copied once, and the block
-/// keeps the copy. The other requests ask for no memory.
+/// keeps the copy. So are those of a table's text, which is read here, once, before its length is
+/// tested: a text that writes down no table is a request all the same. The other requests ask for
+/// no memory.
 ///
 /// Of the body's faults the one of the least code is told.
 #[tactic(auto, using(crate::proofs::Requests::is_found, crate::proofs::Requests::is_only))]
@@ -144,9 +173,10 @@ pub fn decode_request(alloc: Global, body: &[u8]) -> Result<Request, BodyFault>
     ensures only { (q : Query) → IsRequest q → body.now ≡ request_spelling q → Gives result (Ok q) }
     // Which fault it is.
     ensures exact { Gives result (request_reading body.now) }
-    // Memory is refused to a write alone.
-    ensures full { result ≡ Err BodyFault.NoMemory →
-        op_of_number (slice_index body.now 29) ≡ Some Op.Write }
+    // Memory is refused to a write or a set_table alone.
+    ensures full { result ≡ Err BodyFault.NoMemory → (
+        let op = op_of_number (slice_index body.now 29) in
+        (op ≡ Some Op.Write) ⊎ (op ≡ Some Op.SetTable)) }
 {
     each_is_byte(body);
     one_spelling();

@@ -50,6 +50,32 @@ fn put_served(
     put_blocks(alloc, out, blocks.as_slice())
 }
 
+fn put_counts(out: &mut Vec<u8>, hard: u64, pending: u64, landing: u64) -> Result<(), AllocError>
+    ensures { OnOk result (out.new.items ≡ out.old.items
+        ++ (to_be_bytes w64 hard ++ (to_be_bytes w64 pending ++ to_be_bytes w64 landing))) }
+{
+    out.put_u64(hard)?;
+    out.put_u64(pending)?;
+    out.put_u64(landing)
+}
+
+fn put_status(
+    out: &mut Vec<u8>,
+    epoch: u32,
+    primary: u32,
+    hard: u64,
+    pending: u64,
+    landing: u64,
+) -> Result<(), AllocError>
+    ensures { OnOk result (out.new.items ≡ out.old.items
+        ++ reply_spelling (Reply.Status epoch primary hard pending landing)) }
+{
+    out.put_u8(Kind::Status as u8)?;
+    out.put_u32(epoch)?;
+    out.put_u32(primary)?;
+    put_counts(out, hard, pending, landing)
+}
+
 fn put_denied(out: &mut Vec<u8>, section: Section, row: u16, value: u64) -> Result<(), AllocError>
     ensures { OnOk result (out.new.items ≡ out.old.items
         ++ reply_spelling (Reply.Denied section row value)) }
@@ -74,6 +100,13 @@ fn put_reply(alloc: Global, out: &mut Vec<u8>, reply: &Reply) -> Result<(), Allo
     match reply {
         Reply::Done => out.put_u8(Kind::Done as u8),
         Reply::Blocks { next, blocks } => put_served(alloc, out, *next, blocks),
+        Reply::Status {
+            epoch,
+            primary,
+            hard,
+            pending,
+            landing,
+        } => put_status(out, *epoch, *primary, *hard, *pending, *landing),
         Reply::Denied {
             section,
             row,
@@ -104,6 +137,16 @@ fn each_number_fits(reply: &Reply)
         Reply::Blocks { next, blocks } => {
             let _next = *next;
             each_is_block(blocks.as_slice());
+        }
+        Reply::Status {
+            epoch,
+            primary,
+            hard,
+            pending,
+            landing,
+        } => {
+            let _of_epoch = (*epoch, *primary);
+            let _counts = (*hard, *pending, *landing);
         }
         Reply::Denied { row, value, .. } => {
             let _row = *row;

@@ -4,6 +4,7 @@
 pub(crate) enum Kind {
     Done = 0,
     Blocks = 1,
+    Status = 4,
     Denied = 5,
     NoMemory = 6,
     AuditFull = 7,

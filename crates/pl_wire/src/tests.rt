@@ -1,4 +1,6 @@
 // What no clause says: bytes written by hand from the format, and that each call can succeed.
+mod texts;
+
 use super::*;
 use bytes::Bytes;
 use pl_block::{Block, decode};
@@ -70,16 +72,23 @@ fn one_put(alloc: Global) -> Result<Block, pl_block::BlockFault> {
 #[test]
 fn faults_of_the_body(rt: HostRuntime) -> Result<(), Fail> {
     let alloc = rt.alloc();
-    let cases: [(&str, u8, u8, u8, &[u8]); 17] = [
+    let cases: [(&str, u8, u8, u8, &[u8]); 26] = [
         ("role 0", 2, 0, 1, &ONE_PUT),
         ("role 5", 2, 5, 1, &ONE_PUT),
         ("operation 0", 3, 1, 0, &[]),
         ("operation 12", 3, 1, 12, &[]),
-        ("a table's text", 3, 4, 9, &[0x61]),
+        ("offer", 3, 1, 2, &ONE_PUT),
+        ("get", 3, 2, 4, &[0; 13]),
+        ("advance", 3, 3, 6, &[0, 0, 0, 1]),
+        ("audit", 3, 4, 10, &[0, 0, 0, 0, 0, 0, 0, 1, 0, 1]),
+        ("tidy", 3, 4, 11, &[]),
         ("a write without copy", 4, 1, 1, &[]),
         ("a report of 7 bytes", 4, 1, 3, &[0, 0, 0, 0, 0, 0, 1]),
         ("a pull without its max", 4, 2, 5, &PULL[..12]),
+        ("a failover of 3 bytes", 4, 4, 8, &[0, 0, 2]),
+        ("a failover and a byte", 5, 4, 8, &[0, 0, 0, 2, 0]),
         ("a report and a byte", 5, 1, 3, &[0, 0, 0, 0, 0, 0, 0, 1, 0]),
+        ("a status and a byte", 5, 4, 7, &[0]),
         ("a report of 2^48 + 1", 6, 1, 3, &[0, 1, 0, 0, 0, 0, 0, 1]),
         (
             "a pull from 2 to 1",
@@ -116,6 +125,8 @@ fn faults_of_the_body(rt: HostRuntime) -> Result<(), Fail> {
             5,
             &[0, 0, 0, 1, 0, 0, 0, 0, 0, 0, 0, 1, 0, 17],
         ),
+        ("a status", 0, 4, 7, &[]),
+        ("a failover to 2", 0, 4, 8, &[0, 0, 0, 2]),
         ("a report of 0", 0, 1, 3, &[0, 0, 0, 0, 0, 0, 0, 0]),
         ("a report of 2^48", 0, 1, 3, &[0, 1, 0, 0, 0, 0, 0, 0]),
     ];
@@ -313,8 +324,25 @@ fn replies_as_bytes(rt: HostRuntime) -> Result<(), Fail> {
         row: 0x0102,
         value: 0x0304_0506_0708_090a,
     };
-    let cases: [(&str, Reply, &[u8]); 9] = [
+    let status = Reply::Status {
+        epoch: 0x0102_0304,
+        primary: 0x1112_1314,
+        hard: 0x2122_2324_2526_2728,
+        pending: 0x3132_3334_3536_3738,
+        landing: 0x4142_4344_4546_4748,
+    };
+    let cases: [(&str, Reply, &[u8]); 10] = [
         ("done", Reply::Done, &[0]),
+        (
+            "status",
+            status,
+            &[
+                4, 1, 2, 3, 4, 0x11, 0x12, 0x13, 0x14, // epoch and primary
+                0x21, 0x22, 0x23, 0x24, 0x25, 0x26, 0x27, 0x28, // hard
+                0x31, 0x32, 0x33, 0x34, 0x35, 0x36, 0x37, 0x38, // pending
+                0x41, 0x42, 0x43, 0x44, 0x45, 0x46, 0x47, 0x48, // landing
+            ],
+        ),
         ("C1", denied, &[5, 3, 0, 1, 0, 0, 0, 0, 0, 0, 0, 0]),
         ("A258", other, &[5, 1, 1, 2, 3, 4, 5, 6, 7, 8, 9, 10]),
         ("no memory", Reply::NoMemory, &[6]),

@@ -3,32 +3,28 @@
 ghost use Rattle.std.specs.Prelude.{◌<◌, ◌≤◌, ◌^◌};
 
 use super::reference::Reference;
+use super::texts::{ANOTHER_TOKEN, DENIES_A_PARTITION, DENIES_WRITES, WITHOUT_OPERATOR};
 use super::*;
-use pl_table::{ReadFault, read_table};
 
 /// How many requests are made, and how many entries both databases may have.
 const REQUESTS: u32 = 900;
 
-const ENTRIES: u64 = 800;
+const ENTRIES: u64 = 700;
 
-/// The table of both: row 2 denies pulls that touch partition 6, and what no row speaks of is denied.
-const TABLE: &str = "
-principal = [
-  { id = 1, token = '11111111111111111111111111111111' },
-  { id = 2, token = '22222222222222222222222222222222' },
-  { id = 3, token = '33333333333333333333333333333333' },
-  { id = 4, token = '44444444444444444444444444444444' },
-  { id = 5, token = '55555555555555555555555555555555' },
-]
-row = [
-  { verdict = 'allow', who = 1, role = 'operator' },
-  { verdict = 'deny', op = ['pull'], from = 6, to = 6 },
-  { verdict = 'allow', who = 2, role = 'primary' },
-  { verdict = 'allow', who = 3, role = 'secondary' },
-  { verdict = 'allow', who = 4, role = 'page_server', from = 0, to = 3 },
-  { verdict = 'allow', who = 5, role = 'primary' },
-]
-";
+/// The table of both, and what is set later on.
+const TABLES: [Pieces; 3] = [DENIES_A_PARTITION, DENIES_WRITES, ANOTHER_TOKEN];
+
+/// Texts that are no table: with the faults 1, 2, 3, 12 and 10.
+const FAULTY: [Pieces; 5] = [
+    &["x"],
+    &["x = 1"],
+    &[],
+    WITHOUT_OPERATOR,
+    &[
+        "principal = [{ id = 1, token = '11111111111111111111111111111111' }]
+        row = [{ verdict = 'maybe' }]",
+    ],
+];
 
 /// What a request may meet: a row of the written order, or a way to be served.
 #[derive(Clone, Copy, Debug, PartialEq, Eq)]
@@ -38,16 +34,20 @@ enum Met {
     Reported,
     Served,
     ServedNone,
+    Told,
+    FailedOver,
+    Set,
     Full,
 }
 
-const TO_MEET: [Met; 18] = [
+const TO_MEET: [Met; 24] = [
     Met::Row(Section::A, 1),
     Met::Row(Section::A, 2),
     Met::Row(Section::A, 3),
     Met::Row(Section::A, 4),
     Met::Row(Section::A, 5),
     Met::Row(Section::B, 0),
+    Met::Row(Section::B, 1),
     Met::Row(Section::B, 2),
     Met::Row(Section::C, 1),
     Met::Row(Section::C, 2),
@@ -55,10 +55,15 @@ const TO_MEET: [Met; 18] = [
     Met::Row(Section::C, 4),
     Met::Row(Section::C, 5),
     Met::Row(Section::C, 6),
+    Met::Row(Section::C, 7),
+    Met::Row(Section::C, 8),
     Met::Written,
     Met::Reported,
     Met::Served,
     Met::ServedNone,
+    Met::Told,
+    Met::FailedOver,
+    Met::Set,
     Met::Full,
 ];
 
@@ -68,6 +73,9 @@ fn met_by(what: What, reply: &Reply) -> Option<Met> {
         (_, Reply::AuditFull) => Some(Met::Full),
         (What::Write { .. }, Reply::Done) => Some(Met::Written),
         (What::Report(_), Reply::Done) => Some(Met::Reported),
+        (What::SetTable(_), Reply::Done) => Some(Met::Set),
+        (What::Failover(_), Reply::Done) => Some(Met::FailedOver),
+        (What::Status, Reply::Status { .. }) => Some(Met::Told),
         (What::Pull { .. }, Reply::Blocks { blocks, .. }) => {
             if blocks.as_slice().is_empty() {
                 Some(Met::ServedNone)
@@ -98,6 +106,25 @@ fn same(one: &Reply, other: &Reply) -> bool {
                     .iter()
                     .zip(others)
                     .all(|(block, other)| block.same(other))
+        }
+        (
+            Reply::Status {
+                epoch,
+                primary,
+                hard,
+                pending,
+                landing,
+            },
+            Reply::Status {
+                epoch: other_epoch,
+                primary: other_primary,
+                hard: other_hard,
+                pending: other_pending,
+                landing: other_landing,
+            },
+        ) => {
+            (epoch, primary) == (other_epoch, other_primary)
+                && (hard, pending, landing) == (other_hard, other_pending, other_landing)
         }
         (
             Reply::Denied {
@@ -173,7 +200,7 @@ impl Numbers {
     fn pull(&mut self, hard: u64) -> Ask
         requires { hard ≤ 2 ^ 48 }
     {
-        let lo = self.below(5) as u16;
+        let lo = self.below(6) as u16;
         let hi = lo + self.below(3) as u16;
         let max = if self.below(3) == 0 {
             16
@@ -186,19 +213,44 @@ impl Numbers {
             what,
             ..pull_from(1)
         };
-        if self.below(3) == 0 {
-            ask.by(4, 0x44, Role::PageServer)
-        } else {
-            ask
+        match self.below(6) {
+            0 | 1 => ask.by(4, 0x44, Role::PageServer),
+            2 => ask.by(3, 0x66, Role::Secondary),
+            _ => ask,
         }
     }
 
-    // What its principal may ask in the current epoch, so that the table or the log decides.
+    // A table, or a text that is none.
+    fn set_table(&mut self) -> Ask {
+        let good = self.below(3) as usize;
+        let faulty = self.below(5) as usize;
+        if self.below(2) == 0 {
+            set_table(TABLES[good])
+        } else {
+            set_table(FAULTY[faulty])
+        }
+    }
+
+    // To a principal that may be primary, or to one that no table lists.
+    fn fail_over(&mut self) -> Ask {
+        match self.below(5) {
+            0 => fail_over(9),
+            1 | 2 => fail_over(5),
+            _ => fail_over(2),
+        }
+    }
+
+    // What its principal may ask in the first epoch, so that the table or the log decides.
     fn usual(&mut self, hard: u64) -> Ask
         requires { hard ≤ 2 ^ 48 }
     {
-        match self.below(16) {
+        if self.below(40) == 0 {
+            return self.fail_over();
+        }
+        match self.below(18) {
             0 | 1 => self.pull(hard),
+            16 => status(),
+            17 => self.set_table(),
             2 => report(self.number(hard)),
             3 | 4 => report(hard + 1),
             5 => report(hard + 2),
@@ -207,18 +259,18 @@ impl Numbers {
     }
 
     // Now and then with a wrong token, by another principal, in another epoch or role.
-    fn ask(&mut self, hard: u64) -> Ask
+    fn ask(&mut self, hard: u64, epochs: Epochs) -> Ask
         requires { hard ≤ 2 ^ 48 }
     {
-        let ask = self.usual(hard);
+        let ask = by_primary(self.usual(hard), epochs.primary).in_epoch(epochs.epoch);
         match self.below(24) {
             0 => Ask { token: 0x66, ..ask },
             1 => Ask {
                 principal: 1 + self.below(6) as u32,
                 ..ask
             },
-            2 => ask.in_epoch(0),
-            3 => ask.in_epoch(2),
+            2 => ask.in_epoch(epochs.epoch.saturating_sub(1)),
+            3 => ask.in_epoch(epochs.epoch.saturating_add(1)),
             4 => ask.by(5, 0x55, Role::Primary),
             5 => ask.by(3, 0x33, Role::Secondary),
             6 => ask.by(1, 0x11, Role::Operator),
@@ -228,67 +280,74 @@ impl Numbers {
     }
 }
 
-// The table that is written down above. Where memory was refused, it is read again.
-fn table(alloc: Global) -> Result<Table, Fail> {
-    let read = match read_table(alloc, TABLE.as_bytes()) {
-        Err(ReadFault::NoMemory) => read_table(alloc, TABLE.as_bytes()),
-        read => read,
-    };
-    read.map_err(|_| Fail::from("the text is no table"))
+// What 2 asks as primary, asked by the present primary: 2 or 5.
+fn by_primary(ask: Ask, primary: u32) -> Ask {
+    if ask.role == Role::Primary && primary == 5 {
+        return ask.by(5, 0x55, Role::Primary);
+    }
+    ask
 }
 
-fn database_of(alloc: Global, table: Table) -> Result<Db, DbFault> {
-    let limits = Limits {
-        audit: ENTRIES,
-        chunks: 16,
-    };
-    Db::new(alloc, table, PRIMARY, limits)
+/// What the plain database tells of a request.
+#[derive(Drop)]
+struct PlainAnswer {
+    reply: Reply,
+    /// The verdict row by row is the same.
+    agrees: bool,
+    /// By the table of the start it would be another.
+    differs: bool,
 }
 
-// What the plain database answers, and whether its verdict is the one row by row. Where memory was
-// refused, it is asked again.
-fn expected(alloc: Global, plain: &mut Reference, ask: Ask) -> Result<(Reply, bool), Fail> {
+fn try_expected(plain: &mut Reference, request: &Request) -> Result<PlainAnswer, AllocError> {
+    let (agrees, differs) = plain.compare(request)?;
+    let reply = plain.step(1, request)?;
+    Ok(PlainAnswer {
+        reply,
+        agrees,
+        differs,
+    })
+}
+
+// Where memory was refused nothing has changed, and it is asked again.
+fn expected(alloc: Global, plain: &mut Reference, ask: Ask) -> Result<PlainAnswer, Fail> {
     let request = ask.request(alloc)?;
-    let agrees = match plain.agrees_by_rows(&request) {
-        Ok(agrees) => agrees,
-        Err(_) => plain.agrees_by_rows(&request)?,
-    };
-    match plain.step(1, &request) {
-        Ok(reply) => Ok((reply, agrees)),
-        Err(_) => Ok((plain.step(1, &request)?, agrees)),
+    match try_expected(plain, &request) {
+        Ok(expected) => Ok(expected),
+        Err(_) => Ok(try_expected(plain, &request)?),
     }
 }
 
 #[test]
 fn reference_agrees(rt: HostRuntime) -> Result<(), Fail> {
-    let made = match database_of(rt.alloc(), table(rt.alloc())?) {
-        Err(DbFault::NoMemory) => database_of(rt.alloc(), table(rt.alloc())?),
-        made => made,
-    };
-    let mut db = made?;
-    let mut plain = Reference::new(rt.alloc(), table(rt.alloc())?, PRIMARY, ENTRIES);
+    let mut db = database_with(rt.alloc(), TABLES[0], PRIMARY, ENTRIES)??;
+    let table = table_of(rt.alloc(), TABLES[0])?;
+    let mut plain = Reference::new(rt.alloc(), table, PRIMARY, ENTRIES);
     let mut numbers = Numbers { state: 1 };
-    let mut seen = [false; 18];
+    let mut seen = [false; 24];
+    let mut differs = false;
     for turn in 0..REQUESTS {
-        let ask = numbers.ask(db.hard());
-        let (told, agrees) = expected(rt.alloc(), &mut plain, ask)?;
+        let ask = numbers.ask(db.hard(), db.epochs());
+        let told = expected(rt.alloc(), &mut plain, ask)?;
         assert!(rt;
-            agrees,
+            told.agrees,
             "{turn}: {ask:?}: row by row the verdict is another"
         );
         let reply = answer(&rt, rt.alloc(), &mut db, ask)?;
         assert!(rt;
-            same(&reply, &told),
-            "{turn}: {ask:?} was told {reply:?}, not {told:?}"
+            same(&reply, &told.reply),
+            "{turn}: {ask:?} was told {reply:?}, not {:?}",
+            told.reply
         );
         assert_eq!(rt; db.audit_len(), plain.audit_len(), "{turn}: {ask:?}");
         let met = met_by(ask.what, &reply);
-        for place in 0..18 {
+        for place in 0..24 {
             seen[place] = seen[place] || met == Some(TO_MEET[place]);
         }
+        differs = differs || told.differs;
     }
     assert!(rt; 16 < db.hard(), "no pull came upon more than 16 blocks");
-    for place in 0..18 {
+    assert!(rt; differs, "no verdict is another by a table that was set");
+    for place in 0..24 {
         assert!(rt; seen[place], "{:?} was not met", TO_MEET[place]);
     }
     Ok(())

@@ -1,10 +1,11 @@
 //! The worked rows of one database: each test is the transcript of its name.
 
+use super::texts::{ANOTHER_TOKEN, OTHER_TABLE, WITHOUT_OPERATOR};
 use super::*;
 
 // A database of principal 2, after the transcript.
 fn after(rt: &impl Abort, alloc: Global, transcript: &[(Ask, Told)]) -> Result<Db, Fail> {
-    let mut db = database(alloc, PRIMARY, AUDIT)?;
+    let mut db = database(alloc, AUDIT)?;
     plays(rt, alloc, &mut db, transcript)?;
     Ok(db)
 }
@@ -42,6 +43,28 @@ fn report_below_quorum(rt: HostRuntime) -> Result<(), Fail> {
 }
 
 #[test]
+fn blocks_in_any_order(rt: HostRuntime) -> Result<(), Fail> {
+    let told = Told::Status {
+        epoch: 1,
+        primary: 2,
+        hard: 2,
+        pending: 0,
+        landing: 2,
+    };
+    let transcript = [
+        (write(2, 0xbb, 0), Told::Done),
+        (write(2, 0xbb, 1), Told::Done),
+        (write(1, 0xaa, 0), Told::Done),
+        (write(1, 0xaa, 1), Told::Done),
+        (report(2), Told::Done),
+        (status(), told),
+    ];
+    let db = after(&rt, rt.alloc(), &transcript)?;
+    assert_eq!(rt; db.hard(), 2);
+    Ok(())
+}
+
+#[test]
 fn window_of_sixty_four(rt: HostRuntime) -> Result<(), Fail> {
     let transcript = [
         (write(64, 0xaa, 0), Told::Done),
@@ -66,13 +89,13 @@ fn content_is_fixed(rt: HostRuntime) -> Result<(), Fail> {
 #[test]
 fn no_row_matches(rt: HostRuntime) -> Result<(), Fail> {
     let pull = pull_between(4, 4, 1).by(4, 0x44, Role::PageServer);
-    after(&rt, rt.alloc(), &[(pull, Told::Denied(Section::B, 0, 0))])?;
+    after(&rt, rt.alloc(), &[(pull, b(0))])?;
     Ok(())
 }
 
 #[test]
 fn pull_in_parts(rt: HostRuntime) -> Result<(), Fail> {
-    let mut db = database(rt.alloc(), PRIMARY, AUDIT)?;
+    let mut db = database(rt.alloc(), AUDIT)?;
     let mut blocks = [put(0, 0); 20];
     for number in 1..=20 {
         let block = put(number, number as u8);
@@ -113,7 +136,7 @@ fn block_without_records(rt: HostRuntime) -> Result<(), Fail> {
 
 #[test]
 fn primary_not_listed(rt: HostRuntime) -> Result<(), Fail> {
-    let made = database(rt.alloc(), 9, AUDIT);
+    let made = database_with(rt.alloc(), START_TABLE, 9, AUDIT)?;
     assert!(rt; matches!(&made, Err(DbFault::NotListed)));
     Ok(())
 }
@@ -121,7 +144,7 @@ fn primary_not_listed(rt: HostRuntime) -> Result<(), Fail> {
 // The replies of a new database's run, or `None` where memory was refused: to the run itself, which
 // then takes no step, or to one of its steps.
 fn try_run(rt: &impl Abort, alloc: Global, asks: &[Ask]) -> Result<Option<Vec<Reply>>, Fail> {
-    let mut db = database(alloc, PRIMARY, AUDIT)?;
+    let mut db = database(alloc, AUDIT)?;
     let mut requests = Vec::new(alloc);
     for ask in asks {
         if requests.push((1, ask.request(alloc)?)).is_err() {
@@ -155,29 +178,114 @@ fn run_of_two(rt: HostRuntime) -> Result<(), Fail> {
 
 #[test]
 fn token_then_epoch(rt: HostRuntime) -> Result<(), Fail> {
-    let mut db = database(rt.alloc(), PRIMARY, AUDIT)?;
-    let token_of_another = report(0).by(2, 0x11, Role::Primary);
+    let mut db = database(rt.alloc(), AUDIT)?;
+    let token_of_another = status().by(2, 0x11, Role::Primary);
     let unknown = [
         (token_of_another, a(1, 0)),
         (token_of_another.in_epoch(0), a(1, 0)),
-        (report(0).by(9, 0x99, Role::Primary), a(1, 0)),
+        (status().by(9, 0x99, Role::Primary), a(1, 0)),
     ];
     plays(&rt, rt.alloc(), &mut db, &unknown)?;
     assert_eq!(rt; db.audit_len(), 0, "an unknown principal makes no entry");
-    plays(
-        &rt,
-        rt.alloc(),
-        &mut db,
-        &[(report(0).in_epoch(0), a(2, 1))],
-    )?;
+    let below = (status().in_epoch(0), a(2, 1));
+    plays(&rt, rt.alloc(), &mut db, &[below])?;
     assert_eq!(rt; db.audit_len(), 1);
+    let above = (status().in_epoch(2), a(3, 1));
+    plays(&rt, rt.alloc(), &mut db, &[above])?;
+    assert_eq!(rt; db.audit_len(), 2);
+    Ok(())
+}
+
+// A database with one hardened block.
+fn with_one_block(rt: &impl Abort, alloc: Global) -> Result<Db, Fail> {
+    let transcript = [
+        (write(1, 0xaa, 0), Told::Done),
+        (write(1, 0xaa, 1), Told::Done),
+        (report(1), Told::Done),
+    ];
+    after(rt, alloc, &transcript)
+}
+
+#[test]
+fn new_table_in_force(rt: HostRuntime) -> Result<(), Fail> {
+    let mut db = with_one_block(&rt, rt.alloc())?;
+    expects(&rt, rt.alloc(), &mut db, set_table(OTHER_TABLE), Told::Done)?;
+    expects(&rt, rt.alloc(), &mut db, pull_from(1), b(1))?;
+    let none = Told::Blocks(2, &[]);
+    expects(&rt, rt.alloc(), &mut db, pull_between(4, 4, 1), none)?;
+    let block = [put(1, 0xaa)];
+    let served = Told::Blocks(2, &block);
+    expects(&rt, rt.alloc(), &mut db, pull_between(0, 0, 1), served)?;
+    assert_eq!(rt; db.audit_len(), 7);
+    Ok(())
+}
+
+#[test]
+fn first_table_set_again(rt: HostRuntime) -> Result<(), Fail> {
+    let mut db = with_one_block(&rt, rt.alloc())?;
+    let by_4 = pull_between(0, 0, 1).by(4, 0x44, Role::PageServer);
+    let transcript = [
+        (set_table(OTHER_TABLE), Told::Done),
+        (by_4, b(0)),
+        (pull_from(1), b(1)),
+        (set_table(START_TABLE), Told::Done),
+    ];
+    plays(&rt, rt.alloc(), &mut db, &transcript)?;
+    let block = [put(1, 0xaa)];
+    let served = Told::Blocks(2, &block);
     plays(
         &rt,
         rt.alloc(),
         &mut db,
-        &[(report(0).in_epoch(2), a(3, 1))],
-    )?;
-    assert_eq!(rt; db.audit_len(), 2);
+        &[(by_4, served), (pull_from(1), served)],
+    )
+}
+
+#[test]
+fn token_of_a_new_table(rt: HostRuntime) -> Result<(), Fail> {
+    let with_new_token = pull_from(1).by(3, 0x66, Role::Secondary);
+    let transcript = [
+        (with_new_token, a(1, 0)),
+        (pull_from(1), c(1, 0)),
+        (set_table(ANOTHER_TOKEN), Told::Done),
+        (pull_from(1), a(1, 0)),
+        (with_new_token, c(1, 0)),
+        (status().by(5, 0x55, Role::Primary), a(1, 0)),
+        (set_table(OTHER_TABLE), Told::Done),
+        (with_new_token, a(1, 0)),
+        (pull_from(1), b(1)),
+        (status().by(5, 0x55, Role::Primary), a(4, 0)),
+    ];
+    let db = after(&rt, rt.alloc(), &transcript)?;
+    assert_eq!(rt; db.audit_len(), 6);
+    Ok(())
+}
+
+#[test]
+fn faulty_tables_change_nothing(rt: HostRuntime) -> Result<(), Fail> {
+    let told = Told::Status {
+        epoch: 1,
+        primary: 2,
+        hard: 0,
+        pending: 0,
+        landing: 0,
+    };
+    let transcript = [
+        (set_table(WITHOUT_OPERATOR), c(7, 12)),
+        (set_table(&["x"]), c(7, 1)),
+        (set_table(&["x = 1"]), c(7, 2)),
+        (set_table(&[]), c(7, 3)),
+        (status().by(1, 0x11, Role::Operator), told),
+        (set_table(&["x"]).by(2, 0x22, Role::Primary), a(5, 0)),
+        (set_table(&["x"]).by(3, 0x33, Role::Operator), b(0)),
+        (set_table(OTHER_TABLE).by(3, 0x33, Role::Operator), b(0)),
+        (pull_from(1), c(1, 0)),
+        (set_table(OTHER_TABLE), Told::Done),
+        (set_table(WITHOUT_OPERATOR), c(7, 12)),
+        (pull_from(1), b(1)),
+    ];
+    let db = after(&rt, rt.alloc(), &transcript)?;
+    assert_eq!(rt; db.audit_len(), 12);
     Ok(())
 }
 
@@ -185,27 +293,132 @@ fn token_then_epoch(rt: HostRuntime) -> Result<(), Fail> {
 fn roles_and_primaries(rt: HostRuntime) -> Result<(), Fail> {
     let transcript = [
         (write(1, 0xaa, 0).by(3, 0x33, Role::Secondary), a(5, 0)),
-        (report(0).by(5, 0x55, Role::Primary), a(4, 0)),
+        (status().by(5, 0x55, Role::Primary), a(4, 0)),
         (pull_from(1).by(5, 0x55, Role::Primary), a(4, 0)),
+        (report(0).by(5, 0x55, Role::Primary), a(4, 0)),
         (pull_from(1).by(2, 0x22, Role::Primary), a(5, 0)),
         (pull_from(1).by(1, 0x11, Role::Operator), a(5, 0)),
-        (
-            pull_from(1).by(4, 0x44, Role::Secondary),
-            Told::Denied(Section::B, 0, 0),
-        ),
+        (set_table(OTHER_TABLE).by(5, 0x55, Role::Primary), a(4, 0)),
+        (pull_from(1).by(4, 0x44, Role::Secondary), b(0)),
+        (fail_over(9), c(8, 0)),
+        (fail_over(5).by(2, 0x22, Role::Primary), a(5, 0)),
+        (fail_over(5).by(5, 0x55, Role::Operator), b(0)),
     ];
-    after(&rt, rt.alloc(), &transcript)?;
+    let db = after(&rt, rt.alloc(), &transcript)?;
+    assert_eq!(rt; db.epochs().epoch, 1, "no denied failover raises the epoch");
+    Ok(())
+}
+
+// Asked by 5 as primary in the second epoch.
+fn by_5(ask: Ask) -> Ask {
+    ask.by(5, 0x55, Role::Primary).in_epoch(2)
+}
+
+// What status tells where all blocks came from the landing zone.
+fn told(epoch: u32, primary: u32, hard: u64) -> Told<'static> {
+    Told::Status {
+        epoch,
+        primary,
+        hard,
+        pending: 0,
+        landing: hard,
+    }
+}
+
+#[test]
+fn failover_hardens_quorum_run(rt: HostRuntime) -> Result<(), Fail> {
+    let before = [
+        (write(1, 1, 0), Told::Done),
+        (write(1, 1, 1), Told::Done),
+        (write(2, 2, 0), Told::Done),
+        (write(2, 2, 1), Told::Done),
+        (write(3, 3, 0), Told::Done),
+        (fail_over(5), Told::Done),
+    ];
+    let mut db = after(&rt, rt.alloc(), &before)?;
+    let by_1 = status().by(1, 0x11, Role::Operator).in_epoch(2);
+    let later = [
+        (by_1, told(2, 5, 2)),
+        (by_5(write(3, 0x33, 0)), Told::Done),
+        (by_5(write(3, 0x33, 1)), Told::Done),
+        (write(3, 3, 0), a(2, 2)),
+        (write(3, 3, 0).in_epoch(2), a(4, 0)),
+        (by_5(report(3)), Told::Done),
+        (pull_from(3), a(2, 2)),
+    ];
+    plays(&rt, rt.alloc(), &mut db, &later)?;
+    let served = [put(3, 0x33)];
+    let told = Told::Blocks(4, &served);
+    expects(&rt, rt.alloc(), &mut db, pull_from(3).in_epoch(2), told)?;
+    assert_eq!(rt;
+        read(&db),
+        (
+            14,
+            3,
+            Epochs {
+                epoch: 2,
+                primary: 5
+            }
+        )
+    );
+    Ok(())
+}
+
+#[test]
+fn failover_stops_at_gap(rt: HostRuntime) -> Result<(), Fail> {
+    let before = [
+        (write(1, 1, 0), Told::Done),
+        (write(1, 1, 1), Told::Done),
+        (write(3, 3, 0), Told::Done),
+        (write(3, 3, 1), Told::Done),
+        (write(2, 2, 2), Told::Done),
+        (fail_over(2), Told::Done),
+        (status().in_epoch(2), told(2, 2, 1)),
+        (write(2, 2, 0).in_epoch(2), Told::Done),
+        (write(2, 2, 1).in_epoch(2), Told::Done),
+        (write(3, 0x44, 0).in_epoch(2), Told::Done),
+        (write(3, 0x44, 1).in_epoch(2), Told::Done),
+        (report(3).in_epoch(2), Told::Done),
+    ];
+    let mut db = after(&rt, rt.alloc(), &before)?;
+    let served = [put(1, 1), put(2, 2), put(3, 0x44)];
+    let told = Told::Blocks(4, &served);
+    expects(&rt, rt.alloc(), &mut db, pull_from(1).in_epoch(2), told)
+}
+
+// What was written before a failover and not hardened is annulled, even where it is written anew:
+// the copies of the old epoch count no more.
+#[test]
+fn old_copies_count_no_more(rt: HostRuntime) -> Result<(), Fail> {
+    let before = [
+        (write(1, 1, 0), Told::Done),
+        (fail_over(2), Told::Done),
+        (write(1, 1, 1).in_epoch(2), Told::Done),
+        (report(1).in_epoch(2), c(6, 0)),
+        (fail_over(2).in_epoch(2), Told::Done),
+        (status().in_epoch(3), told(3, 2, 0)),
+        (write(1, 1, 1), a(2, 3)),
+    ];
+    after(&rt, rt.alloc(), &before)?;
     Ok(())
 }
 
 #[test]
 fn audit_list_fills(rt: HostRuntime) -> Result<(), Fail> {
-    let mut db = database(rt.alloc(), PRIMARY, 2)?;
+    let mut db = database(rt.alloc(), 2)?;
+    let told = Told::Status {
+        epoch: 1,
+        primary: 2,
+        hard: 0,
+        pending: 0,
+        landing: 0,
+    };
     let transcript = [
-        (report(0), Told::Done),
-        (report(0), Told::Done),
-        (report(0), Told::AuditFull),
-        (report(0).by(2, 0x11, Role::Primary), Told::AuditFull),
+        (status(), told),
+        (status(), told),
+        (status(), Told::AuditFull),
+        (status().by(2, 0x11, Role::Primary), Told::AuditFull),
+        (set_table(OTHER_TABLE), Told::AuditFull),
     ];
     plays(&rt, rt.alloc(), &mut db, &transcript)?;
     assert_eq!(rt; db.audit_len(), 2);

@@ -1,75 +1,76 @@
 //! Two texts and the tables that they write down, field by field.
 
-use crate::{Op, PartitionRange, Principal, Role, Table, TableFault, TableText, read_table};
+use crate::{
+    Op, PartitionRange, Principal, ReadFault, Role, Table, TableFault, TableText, read_table,
+};
 use std::alloc::{AllocError, Global};
 use std::test::Fail;
 
-const PRINCIPALS: &str = "[[principal]]
+// The table that the program begins with.
+pub(super) const START_TABLE: &str = r#"[[principal]]
 id = 1
-token = \"11111111111111111111111111111111\"
+token = "11111111111111111111111111111111"
 [[principal]]
 id = 2
-token = \"22222222222222222222222222222222\"
+token = "22222222222222222222222222222222"
 [[principal]]
 id = 3
-token = \"33333333333333333333333333333333\"
+token = "33333333333333333333333333333333"
 [[principal]]
 id = 4
-token = \"44444444444444444444444444444444\"
+token = "44444444444444444444444444444444"
 [[principal]]
 id = 5
-token = \"55555555555555555555555555555555\"
+token = "55555555555555555555555555555555"
 
-";
-
-const ROWS: &str = "[[row]]
-verdict = \"allow\"
+[[row]]
+verdict = "allow"
 who = 1
-role = \"operator\"
+role = "operator"
 [[row]]
-verdict = \"allow\"
+verdict = "allow"
 who = 2
-role = \"primary\"
+role = "primary"
 [[row]]
-verdict = \"deny\"
+verdict = "deny"
 who = 3
-op = [\"get\"]
+op = ["get"]
 from = 7
 to = 7
 [[row]]
-verdict = \"allow\"
+verdict = "allow"
 who = 3
-role = \"secondary\"
+role = "secondary"
 [[row]]
-verdict = \"allow\"
+verdict = "allow"
 who = 4
-role = \"page_server\"
+role = "page_server"
 from = 0
 to = 3
 [[row]]
-verdict = \"allow\"
+verdict = "allow"
 who = 5
-role = \"primary\"
-";
+role = "primary"
+"#;
 
-const OTHER_ROWS: &str = "[[row]]
-verdict = \"deny\"
+const OTHER_ROWS: &str = r#"[[row]]
+verdict = "deny"
 who = 3
-op = [\"pull\"]
+op = ["pull"]
 from = 5
 to = 5
 [[row]]
-verdict = \"allow\"
+verdict = "allow"
 who = 3
 [[row]]
-verdict = \"allow\"
+verdict = "allow"
 who = 1
-role = \"operator\"
+role = "operator"
 [[row]]
-verdict = \"allow\"
+verdict = "allow"
 who = 2
-role = \"primary\"
-";
+role = "primary"
+"#;
 
 // A row by its parts, with the one operation that it lists.
 type Parts = (
@@ -139,19 +140,32 @@ const START: [Parts; 6] = [
     (true, Some(5), Some(Role::Primary), None, None),
 ];
 
-fn start_text(alloc: Global) -> Result<String, AllocError> {
-    format!(in alloc; "{PRINCIPALS}{ROWS}")
+// The table of the text.
+pub(super) fn table_of(alloc: Global, text: &str) -> Result<Table, &'static str> {
+    read_table(alloc, text.as_bytes()).map_err(|fault| match fault {
+        ReadFault::NoMemory => "memory",
+        ReadFault::Malformed(_) => "the text is no table",
+    })
+}
+
+// The principals of the first table, and other rows.
+pub(super) fn other_text(alloc: Global) -> Result<String, AllocError> {
+    let principals = match START_TABLE.split_once("[[row]]") {
+        Some((principals, _)) => principals,
+        None => START_TABLE,
+    };
+    format!(in alloc; "{principals}{OTHER_ROWS}")
 }
 
 #[test]
 fn text_of_start_table(rt: HostRuntime) -> Result<(), Fail> {
-    let text = start_text(rt.alloc())?;
-    let table = read_table(rt.alloc(), text.as_bytes()).map_err(|_| "a table")?;
+    let table = table_of(rt.alloc(), START_TABLE)?;
     assert!(rt; is_table(&table, &START));
-    assert!(rt;
-        is_table(&Table::t0(rt.alloc())?, &START),
-        "the one that is built in"
-    );
+    for Principal { id, token } in five_principals() {
+        assert_eq!(rt; table.token(id), Some(token), "the token of {id}");
+    }
+    assert_eq!(rt; table.token(0), None);
+    assert_eq!(rt; table.token(6), None);
     Ok(())
 }
 
@@ -163,8 +177,8 @@ fn text_of_other_table(rt: HostRuntime) -> Result<(), Fail> {
         (true, Some(1), Some(Role::Operator), None, None),
         (true, Some(2), Some(Role::Primary), None, None),
     ];
-    let text = format!(in rt.alloc(); "{PRINCIPALS}{OTHER_ROWS}")?;
-    let table = read_table(rt.alloc(), text.as_bytes()).map_err(|_| "a table")?;
+    let text = other_text(rt.alloc())?;
+    let table = table_of(rt.alloc(), text.as_str())?;
     assert!(rt; is_table(&table, &rows));
     Ok(())
 }
@@ -173,7 +187,7 @@ fn text_of_other_table(rt: HostRuntime) -> Result<(), Fail> {
 fn inline_tables(rt: HostRuntime) -> Result<(), Fail> {
     let text = "row = [{verdict = 'allow', op = ['tidy', 'set_table', 'tidy']}]
         principal = [{id = 4294967295, token = 'aAbBcCdDeEfF00112233445566778899'}]";
-    let table = read_table(rt.alloc(), text.as_bytes()).map_err(|_| "a table")?;
+    let table = table_of(rt.alloc(), text)?;
     let token = [
         0xaa, 0xbb, 0xcc, 0xdd, 0xee, 0xff, 0x00, 0x11, 0x22, 0x33, 0x44, 0x55, 0x66, 0x77, 0x88,
         0x99,
@@ -190,22 +204,43 @@ fn inline_tables(rt: HostRuntime) -> Result<(), Fail> {
 
 #[test]
 fn copy_of_a_table(rt: HostRuntime) -> Result<(), Fail> {
-    let text = start_text(rt.alloc())?;
-    let table = read_table(rt.alloc(), text.as_bytes()).map_err(|_| "a table")?;
+    let table = table_of(rt.alloc(), START_TABLE)?;
     let copy = table.clone_table()?;
     assert!(rt; is_table(&copy, &START));
     Ok(())
 }
 
+// The text with its reading.
+fn text_read(alloc: Global, text: &str) -> Result<TableText, AllocError> {
+    let text = format!(in alloc; "{text}")?;
+    TableText::new(alloc, text.into_bytes())
+}
+
 #[test]
 fn text_with_its_reading(rt: HostRuntime) -> Result<(), Fail> {
-    let start = start_text(rt.alloc())?;
-    let read = TableText::new(rt.alloc(), start.into_bytes())?;
-    assert!(rt; read.text().starts_with(PRINCIPALS.as_bytes()));
-    assert!(rt; read.text().ends_with(ROWS.as_bytes()));
-    assert!(rt; matches!(read.reading(), Ok(table) if is_table(table, &START)));
-    let bad = TableText::new(rt.alloc(), vec![in rt.alloc(); b'x']?)?;
-    assert_eq!(rt; bad.text(), b"x".as_slice());
-    assert!(rt; matches!(bad.reading(), Err(TableFault::NoDocument)));
+    let good = text_read(rt.alloc(), START_TABLE)?;
+    assert_eq!(rt; good.text(), START_TABLE.as_bytes());
+    assert!(rt; matches!(good.reading(), Ok(table) if is_table(table, &START)));
+    assert!(rt; matches!(good.into_reading(), Ok(table) if is_table(&table, &START)));
+    let faulty = [
+        ("x", TableFault::NoDocument),
+        ("", TableFault::PrincipalCount),
+        (
+            "[[row]]\n[[principal]]\nid = 1\n",
+            TableFault::PrincipalKeys,
+        ),
+    ];
+    for (text, fault) in faulty {
+        let read = text_read(rt.alloc(), text)?;
+        assert_eq!(rt; read.text(), text.as_bytes());
+        assert!(rt;
+            matches!(read.reading(), Err(told) if *told == fault),
+            "{text}"
+        );
+        assert!(rt;
+            matches!(read.into_reading(), Err(told) if told == fault),
+            "{text}"
+        );
+    }
     Ok(())
 }

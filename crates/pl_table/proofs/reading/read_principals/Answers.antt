@@ -1,3 +1,4 @@
+use Rattle.toml.specs.View.{view}
 use Rattle.pl_table.proofs.Listings.{principals_of-keys, principals_of-id, principals_of-token, principals_of-repeated, principals_of-all, length-principals, IsDistinct-own_ids}
 use Rattle.pl_table.proofs.reading.read_principals.Goals as goal
 
@@ -23,7 +24,7 @@ returns-clause-exact c =
 
 pub returns-clause-members : goal.returns-clause-members
 returns-clause-members c =
-    rw c.in_ok-principals.ensures (length-principals _ (rw (← c.each_has_id.ensures) c.if-not-each_has_id.false) (rw (← c.each_has_token.ensures) c.if-not-each_has_token.false))
+    rw c.in_ok-principals.ensures (length-principals view _ (rw (← c.each_has_id.ensures) c.if-not-each_has_id.false) (rw (← c.each_has_token.ensures) c.if-not-each_has_token.false))
 
 pub returns-clause-only : goal.returns-clause-only
 returns-clause-only c =

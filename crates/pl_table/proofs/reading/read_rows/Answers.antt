@@ -1,4 +1,6 @@
 use Rattle.pl_table.proofs.Listings.{rows_of-keys, rows_of-word, rows_of-number, rows_of-all, length-filter_map}
+use Rattle.toml.specs.View.{view}
+use Rattle.pl_table.proofs.Rows.{All-IsRowOf}
 use Rattle.pl_table.proofs.reading.read_rows.Goals as goal
 
 pub returns-then-not-each_is_row-clause-exact : goal.returns-then-not-each_is_row-clause-exact
@@ -19,3 +21,6 @@ returns-clause-exact c =
 
 pub returns-clause-members : goal.returns-clause-members
 returns-clause-members c = rw c.in_ok-rows_from.ensures (length-filter_map _ _)
+
+pub returns-clause-each_row : goal.returns-clause-each_row
+returns-clause-each_row c = rw c.in_ok-rows_from.ensures (All-IsRowOf view _ _)

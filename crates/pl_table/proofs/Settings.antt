@@ -1,0 +1,79 @@
+-- Setting the table, told by rows and by the requests that they match.
+use Rattle.std.proofs.Common.{◌≡◌, ℕ, ◌+◌, Bool, true, false, List, [], ◌∷◌, find, Option, Some, None, IsTrue, IsSomeAnd, refl, sym, ◌∙◌}
+use Rattle.std.specs.List.{Any}
+use Rattle.std.proofs.Math.Bool.{and-true}
+use Rattle.std.proofs.lemmas.List.Folds.{Any-from_list_any, list_any-from_Any}
+use Rattle.pl_table.specs.declared.op.Role.TheVariants.{Operator}
+use Rattle.pl_table.specs.declared.op.Op.TheVariants as ops
+use Rattle.pl_table.specs.declared.range.PartitionRange.{PartitionRange}
+use Rattle.pl_table.specs.declared.request.Act.{Act}
+use Rattle.pl_table.specs.declared.request.Act.TheVariants.{Write, Report, Pull, Status, Failover, SetTable}
+use Rattle.pl_table.specs.declared.row.Row.{Row}
+use Rattle.pl_table.specs.declared.table.Principal.{Principal}
+use Rattle.pl_table.specs.Ops.{lists_op}
+use Rattle.pl_table.specs.Absent.{part_matches}
+use Rattle.pl_table.specs.Request.{Query, op_of, partitions_of}
+use Rattle.pl_table.specs.Row.{row_matches, range_matches}
+use Rattle.pl_table.specs.FirstMatch.{first_match_from}
+use Rattle.pl_table.specs.Setting.{speaks_of_setting, allows, somebody_sets}
+use Rattle.pl_table.specs.Laws.{AsksToSet, RowsSpeakOfSetting, SomebodyIsAllowed}
+
+-- what sets a table names no partition
+names_none : (act : Act) → op_of act ≡ ops.SetTable → partitions_of act ≡ []
+names_none (Write copy block) e = cc
+names_none (Report lsn) e = refl
+names_none (Pull lo hi lsn max) e = cc
+names_none Status e = refl
+names_none (Failover primary) e = refl
+names_none (SetTable text) e = refl
+
+-- where none is named each range matches
+each_range : (allows : Bool) (range : Option PartitionRange) → part_matches (range_matches allows []) range ≡ true
+each_range allows None = refl
+each_range true (Some range) = refl
+each_range false (Some range) = refl
+
+pub row_of_setting : RowsSpeakOfSetting
+row_of_setting id q row asks =
+    rw (asks.who, asks.role, asks.op, names_none q.act asks.op, each_range row.allows row.range, and-true (part_matches (lists_op ops.SetTable) row.op)) refl
+
+-- whether the row that is found allows
+abbrev found_allows : Option (ℕ × Bool) → Bool
+found_allows None = false
+found_allows (Some found) = found.1
+
+first_at : (k id : ℕ) (q : Query) (row : Row) (rows : List Row) (b : Bool) → speaks_of_setting id row ≡ b → row_matches row q ≡ b → allows (find (speaks_of_setting id) rows) ≡ found_allows (first_match_from (k + 1) rows q) → allows (find (speaks_of_setting id) (row ∷ rows)) ≡ found_allows (first_match_from k (row ∷ rows) q)
+first_at k id q row rows true speaks matches later = rw (speaks, matches) refl
+first_at k id q row rows false speaks matches later = rw (speaks, matches) later
+
+-- the first row that speaks of it allows where the first that matches does
+first_allows : (k id : ℕ) (q : Query) (rows : List Row) → AsksToSet id q → allows (find (speaks_of_setting id) rows) ≡ found_allows (first_match_from k rows q)
+first_allows k id q [] asks = refl
+first_allows k id q (row ∷ rows) asks = first_at k id q row rows (row_matches row q) (row_of_setting id q row asks) refl (first_allows (k + 1) id q rows asks)
+
+is_allowed : (found : Option (ℕ × Bool)) → found_allows found ≡ true → IsSomeAnd found (λ f. IsTrue f.1)
+is_allowed None h = cc
+is_allowed (Some f) h = h
+
+found_allowed : (found : Option (ℕ × Bool)) → IsSomeAnd found (λ f. IsTrue f.1) → found_allows found ≡ true
+found_allowed None h = absurd h
+found_allowed (Some f) h = h
+
+any_weaker : {X : Type 0} (P Q : X → Type 0) → ((x : X) → P x → Q x) → (xs : List X) → Any P xs → Any Q xs
+any_weaker P Q f xs any = (any.0, any.1, any.2, any.3, f any.1 any.4)
+
+-- a request of the principal to set a table
+abbrev asking : ℕ → Query
+asking id = record { head = record { principal = id; token = []; role = Operator; database = 0; epoch = 0 }; act = SetTable [] }
+
+asks : (id : ℕ) → AsksToSet id (asking id)
+asks id = record { who = refl; role = refl; op = refl }
+
+pub somebody_is_allowed : SomebodyIsAllowed
+unfolding somebody_sets
+somebody_is_allowed ps rows =
+    let sets = λ (p : Principal). allows (find (speaks_of_setting p.id) rows) in
+    let is_allowed_all = λ (p : Principal). (q : Query) → AsksToSet p.id q → IsSomeAnd (first_match_from 1 rows q) (λ found. IsTrue found.1) in (
+      λ h. any_weaker (λ p. sets p ≡ true) is_allowed_all (λ p e q a. is_allowed _ (sym (first_allows 1 p.id q rows a) ∙ e)) ps (Any-from_list_any sets ps h),
+      λ any. list_any-from_Any sets ps (any_weaker is_allowed_all (λ p. sets p ≡ true) (λ p each. first_allows 1 p.id (asking p.id) rows (asks p.id) ∙ found_allowed _ (each (asking p.id) (asks p.id))) ps any),
+    )

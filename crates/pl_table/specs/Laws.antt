@@ -1,0 +1,34 @@
+-- What a text reads as, and what it means that somebody may set the table, told of requests and the
+-- rows that match them.
+use Rattle.std.specs.Prelude.{◌≡◌, ◌↔◌, ℕ, List, Ok, IsTrue, IsSomeAnd}
+use Rattle.std.specs.List.{Any}
+use Rattle.pl_table.specs.declared.op.Role.TheVariants.{Operator}
+use Rattle.pl_table.specs.declared.op.Op.TheVariants.{SetTable}
+use Rattle.pl_table.specs.declared.row.Row.{Row}
+use Rattle.pl_table.specs.declared.table.Principal.{Principal}
+use Rattle.pl_table.specs.Request.{Query, op_of}
+use Rattle.pl_table.specs.Row.{row_matches}
+use Rattle.pl_table.specs.FirstMatch.{first_match_from}
+use Rattle.pl_table.specs.Table.{WrittenTable, IsTable}
+use Rattle.pl_table.specs.TableText.{table_reading}
+use Rattle.pl_table.specs.Setting.{speaks_of_setting, somebody_sets}
+
+-- what a text reads as is a table
+abbrev pub TextsReadAsTables : Type 0
+TextsReadAsTables = (text : List ℕ) (t : WrittenTable) → table_reading text ≡ Ok t → IsTable t
+
+-- the principal of this id asks, as operator, to set a table
+pub record AsksToSet (id : ℕ) (q : Query) : Type 0 where
+  pub who : q.head.principal ≡ id
+  pub role : q.head.role ≡ Operator
+  pub op : op_of q.act ≡ SetTable
+
+-- a row speaks of the principal's setting the table exactly where it matches that request
+abbrev pub RowsSpeakOfSetting : Type 0
+RowsSpeakOfSetting = (id : ℕ) (q : Query) (row : Row) → AsksToSet id q
+    → speaks_of_setting id row ≡ row_matches row q
+
+-- somebody sets the table exactly where a principal is listed whose request is allowed by the first row that matches it
+abbrev pub SomebodyIsAllowed : Type 0
+SomebodyIsAllowed = (ps : List Principal) (rows : List Row) → IsTrue (somebody_sets ps rows)
+    ↔ Any (λ p. (q : Query) → AsksToSet p.id q → IsSomeAnd (first_match_from 1 rows q) (λ found. IsTrue found.1)) ps

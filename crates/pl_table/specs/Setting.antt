@@ -1,0 +1,23 @@
+-- Who may put another table in force: a principal that the rows let set the table as operator.
+use Rattle.std.specs.Prelude.{ℕ, ◌==◌, Bool, false, ◌&&◌, List, find, Option, Some, None}
+use Rattle.std.specs.List.{list_any}
+use Rattle.pl_table.specs.declared.op.Role.TheVariants.{Operator}
+use Rattle.pl_table.specs.declared.op.Op.TheVariants.{SetTable}
+use Rattle.pl_table.specs.declared.row.Row.{Row}
+use Rattle.pl_table.specs.declared.table.Principal.{Principal}
+use Rattle.pl_table.specs.Ops.{same_role, lists_op}
+use Rattle.pl_table.specs.Absent.{part_matches}
+
+-- The row speaks of a principal that sets the table as operator. That names no partition, so that
+-- the row's range, if it has one, matches.
+abbrev pub speaks_of_setting : ℕ → Row → Bool
+speaks_of_setting id row = part_matches (λ who. who == id) row.who && (part_matches (same_role Operator) row.role && part_matches (lists_op SetTable) row.op)
+
+-- the row is there, and allows
+abbrev pub allows : Option Row → Bool
+allows None = false
+allows (Some row) = row.allows
+
+-- for a principal the first row that speaks of its setting the table allows it
+unfoldable pub somebody_sets : List Principal → List Row → Bool
+somebody_sets ps rows = list_any (λ p. allows (find (speaks_of_setting p.id) rows)) ps
