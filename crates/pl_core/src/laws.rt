@@ -3,7 +3,7 @@
 
 ghost use Rattle.pl_core.specs.Laws.{DenialsChangeNothing, DeniedChangesNothing, LogsOnlyGrow};
 ghost use Rattle.pl_core.specs.Laws.{PullsReachTheHardenedEnd, PullsAboveAreDenied};
-ghost use Rattle.pl_core.specs.Laws.{ServedBlocksAreHardened, HardenedBlocksAreNumbered};
+ghost use Rattle.pl_core.specs.Laws.{ServedBlocksAreHardened, HardenedBlocksAreNumbered, PullsMissNothing};
 ghost use Rattle.pl_core.specs.Laws.{OlderEpochsAreFenced, HistoriesStayLegal};
 
 /// After a denial the hardened log, each number's content and the copies it stands in, the epoch, its
@@ -37,6 +37,13 @@ pub fn pulls_reach_the_hardened_end()
 pub fn served_blocks_are_hardened()
     ensures members { ServedBlocksAreHardened }
     ensures rising { HardenedBlocksAreNumbered }
+{}
+
+/// Who goes on pulling where the last reply says gets each hardened block of the partitions once:
+/// whatever was asked for below that number was served, each served block is below it, and it is
+/// above the number that was asked, so that each pull gets further.
+pub fn pulls_miss_nothing()
+    ensures { PullsMissNothing }
 {}
 
 /// A legal history stays legal with a request in its ranges, and a reply that it may have.
