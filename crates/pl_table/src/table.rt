@@ -5,15 +5,24 @@ ghost use Rattle.pl_table.specs.Table.{IsTable, token_of};
 
 use crate::row::Row;
 use std::alloc::{AllocError, Global};
+use std::fmt;
 use std::marker::Model;
 
-/// Who may ask at all.
-#[derive(Clone, Copy, Debug, PartialEq, Eq)]
+/// Who may ask at all. Its debug text does not have the token.
+#[derive(Clone, Copy, PartialEq, Eq)]
 pub struct Principal {
     /// The id by which rows and requests name the principal.
     pub id: u32,
     /// What shows that a request is the principal's.
     pub token: [u8; 16],
+}
+
+impl fmt::Debug for Principal {
+    fn fmt<W: fmt::Write>(&self, f: &mut fmt::Formatter<W>) -> fmt::Result {
+        f.debug_struct("Principal")
+            .field("id", &self.id)
+            .finish_non_exhaustive()
+    }
 }
 
 /// The principals, each with an id of its own, and the rows that say in order what they may do. A

@@ -7,14 +7,24 @@ use crate::fault::{ReadFault, TableFault};
 use crate::reading::read_table;
 use crate::table::Table;
 use std::alloc::{AllocError, Global};
+use std::fmt;
 use std::marker::Model;
 
 /// A text that was read once: it keeps the table that it writes down, or the fault for which it is
-/// no table. A contract sees the text alone, since that says what it reads as.
-#[derive(Debug, Drop)]
+/// no table. A contract sees the text alone, since that says what it reads as. Its debug text does
+/// not have the text, which has tokens.
+#[derive(Drop)]
 pub struct TableText {
     text: Vec<u8>,
     reading: Result<Table, TableFault>,
+}
+
+impl fmt::Debug for TableText {
+    fn fmt<W: fmt::Write>(&self, f: &mut fmt::Formatter<W>) -> fmt::Result {
+        f.debug_struct("TableText")
+            .field("reading", &self.reading)
+            .finish_non_exhaustive()
+    }
 }
 
 impl Model for TableText {

@@ -175,3 +175,29 @@ fn operations_of_a_row(rt: HostRuntime) -> Result<(), Fail> {
     assert_eq!(rt; ops.into_vec().as_slice(), listed.as_slice());
     Ok(())
 }
+
+const ONE_OPERATOR: &str = r#"[[principal]]
+id = 7
+token = "abababababababababababababababab"
+[[row]]
+verdict = "allow"
+role = "operator"
+"#;
+
+// A token is a secret, and debug texts go into logs.
+#[test]
+fn debug_texts_have_no_token(rt: HostRuntime) -> Result<(), Fail> {
+    let alloc = rt.alloc();
+    let asks = head(3, Role::Secondary);
+    assert_eq!(rt;
+        format!(in alloc; "{asks:?}")?.as_str(),
+        "Head { principal: 3, role: Secondary, database: 0, epoch: 1, .. }"
+    );
+    let text = TableText::new(alloc, Vec::from_slice(alloc, ONE_OPERATOR.as_bytes())?)?;
+    assert_eq!(rt;
+        format!(in alloc; "{text:?}")?.as_str(),
+        "TableText { reading: Ok(Table { principals: [Principal { id: 7, .. }], rows: [Row { \
+         allows: true, who: None, role: Some(Operator), op: None, range: None }] }), .. }"
+    );
+    Ok(())
+}

@@ -317,38 +317,68 @@ fn expected(alloc: Global, plain: &mut Reference, ask: Ask) -> Result<PlainAnswe
     }
 }
 
-#[test]
-fn reference_agrees(rt: HostRuntime) -> Result<(), Fail> {
-    let mut db = database_with(rt.alloc(), TABLES[0], PRIMARY, ENTRIES)??;
-    let table = table_of(rt.alloc(), TABLES[0])?;
-    let mut plain = Reference::new(rt.alloc(), table, PRIMARY, ENTRIES);
-    let mut numbers = Numbers { state: 1 };
-    let mut seen = [false; 24];
-    let mut differs = false;
-    for turn in 0..REQUESTS {
-        let ask = numbers.ask(db.hard(), db.epochs());
-        let told = expected(rt.alloc(), &mut plain, ask)?;
-        assert!(rt;
-            told.agrees,
-            "{turn}: {ask:?}: row by row the verdict is another"
-        );
-        let reply = answer(&rt, rt.alloc(), &mut db, ask)?;
+/// A database and the plain one, which are asked the same, with what was met on the way.
+#[derive(Drop)]
+struct Pair {
+    db: Db,
+    plain: Reference,
+    seen: [bool; 24],
+    differs: bool,
+}
+
+impl Pair {
+    // Both with the first table, and nothing asked of them.
+    fn new(alloc: Global) -> Result<Pair, Fail> {
+        let db = database_with(alloc, TABLES[0], PRIMARY, ENTRIES)??;
+        let table = table_of(alloc, TABLES[0])?;
+        let plain = Reference::new(alloc, table, PRIMARY, ENTRIES);
+        Ok(Pair {
+            db,
+            plain,
+            seen: [false; 24],
+            differs: false,
+        })
+    }
+
+    // Asks both, and expects the same reply and as many entries.
+    fn asks(&mut self, rt: &impl Abort, alloc: Global, ask: Ask) -> Result<(), Fail> {
+        let told = expected(alloc, &mut self.plain, ask)?;
+        assert!(rt; told.agrees, "{ask:?}: row by row the verdict is another");
+        let reply = answer(rt, alloc, &mut self.db, ask)?;
         assert!(rt;
             same(&reply, &told.reply),
-            "{turn}: {ask:?} was told {reply:?}, not {:?}",
+            "{ask:?} was told {reply:?}, not {:?}",
             told.reply
         );
-        assert_eq!(rt; db.audit_len(), plain.audit_len(), "{turn}: {ask:?}");
-        let met = met_by(ask.what, &reply);
+        assert_eq!(rt; self.db.audit_len(), self.plain.audit_len(), "{ask:?}");
+        self.meets(met_by(ask.what, &reply));
+        self.differs = self.differs || told.differs;
+        Ok(())
+    }
+
+    fn meets(&mut self, met: Option<Met>) {
         for place in 0..24 {
-            seen[place] = seen[place] || met == Some(TO_MEET[place]);
+            self.seen[place] = self.seen[place] || met == Some(TO_MEET[place]);
         }
-        differs = differs || told.differs;
     }
-    assert!(rt; 16 < db.hard(), "no pull came upon more than 16 blocks");
-    assert!(rt; differs, "no verdict is another by a table that was set");
-    for place in 0..24 {
-        assert!(rt; seen[place], "{:?} was not met", TO_MEET[place]);
+
+    fn expects_all_met(&self, rt: &impl Abort) {
+        assert!(rt; 16 < self.db.hard(), "no pull came upon more than 16 blocks");
+        assert!(rt; self.differs, "no verdict is another by a table that was set");
+        for place in 0..24 {
+            assert!(rt; self.seen[place], "{:?} was not met", TO_MEET[place]);
+        }
     }
+}
+
+#[test]
+fn reference_agrees(rt: HostRuntime) -> Result<(), Fail> {
+    let mut pair = Pair::new(rt.alloc())?;
+    let mut numbers = Numbers { state: 1 };
+    for _ in 0..REQUESTS {
+        let ask = numbers.ask(pair.db.hard(), pair.db.epochs());
+        pair.asks(&rt, rt.alloc(), ask)?;
+    }
+    pair.expects_all_met(&rt);
     Ok(())
 }
