@@ -12,7 +12,7 @@ use thiserror::Error;
 /// What the words of a call ask for: one variant for each subcommand.
 #[derive(Debug, Drop, PartialEq, Eq)]
 pub enum CommandLine {
-    /// `help`, or `--help` wherever it stands: to show this text.
+    /// `help`, or `--help` or `-h` where an option may stand: to show this text.
     Help {
         text: String,
     },

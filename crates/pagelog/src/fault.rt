@@ -19,7 +19,7 @@ pub enum PlayFault {
     NoMemory,
     /// The line of this number has an odd number of digits, or a byte that is none.
     Text(u64),
-    /// The line of this number has more than 131,072 bytes before its line feed.
+    /// The line of this number has more than 131,072 bytes before its line feed or the end.
     Long(u64),
 }
 

@@ -42,7 +42,7 @@ pub enum Op {
     SetTable = 9,
     /// Reads the list of what was decided.
     Audit = 10,
-    /// Moves old blocks out of the broker.
+    /// Moves old blocks to where they are kept for long.
     Tidy = 11,
 }
 

@@ -363,8 +363,14 @@ impl Pair {
     }
 
     fn expects_all_met(&self, rt: &impl Abort) {
-        assert!(rt; 16 < self.db.hard(), "no pull came upon more than 16 blocks");
-        assert!(rt; self.differs, "no verdict is another by a table that was set");
+        assert!(rt;
+            16 < self.db.hard(),
+            "no pull came upon more than 16 blocks"
+        );
+        assert!(rt;
+            self.differs,
+            "no verdict is another by a table that was set"
+        );
         for place in 0..24 {
             assert!(rt; self.seen[place], "{:?} was not met", TO_MEET[place]);
         }

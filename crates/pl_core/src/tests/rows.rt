@@ -1,4 +1,4 @@
-//! The worked rows of one database: each test is the transcript of its name.
+//! The worked rows of one database, each the transcript of its name, and some more.
 
 use super::texts::{ANOTHER_TOKEN, OTHER_TABLE, WITHOUT_OPERATOR};
 use super::*;
