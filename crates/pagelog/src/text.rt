@@ -27,11 +27,14 @@ pub(crate) fn bytes_of_line(alloc: Global, line: &[u8]) -> Result<Vec<u8>, LineF
     }
 }
 
-/// The line that a body is written as: digits in lower case, and a line feed.
+/// The line that a body is written as: digits in lower case, and a line feed. Memory is asked for
+/// once, and for no more bytes than the line has.
 pub(crate) fn line_of_bytes(alloc: Global, body: &[u8]) -> Result<Vec<u8>, AllocError>
     ensures { IfOk result (λ line. line.items ≡ answer_text body.now) }
 {
-    let mut line = hex::encode(alloc, body)?.into_bytes();
-    line.push(b'\n')?;
+    let count = 2 * body.len();
+    let mut line = vec![in alloc; b'\n'; count + 1]?;
+    let (digits, _feed) = line.split_at_mut(count);
+    hex::encode_to_slice(body, digits).unwrap();
     Ok(line)
 }

@@ -23,7 +23,7 @@ pub use laws::{one_spelling, same_blocks_are_equal};
 pub use reading::decode;
 pub use record::{PAGE_BYTES, PAGES_PER_PARTITION, Record};
 pub use std::alloc::AllocError as NoMemory;
-pub use writing::encode;
+pub use writing::{encode, encode_onto, encoded_len};
 
 #[cfg(test)]
 mod tests;

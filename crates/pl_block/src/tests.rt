@@ -175,6 +175,23 @@ fn reads_and_writes_the_bytes(rt: HostRuntime) -> Result<(), Fail> {
 }
 
 #[test]
+fn writes_behind_what_stands(rt: HostRuntime) -> Result<(), Fail> {
+    let alloc = rt.alloc();
+    let one = decoded(alloc, &ONE_PUT)?;
+    let none = decoded(alloc, &NO_RECORDS)?;
+    assert_eq!(rt; (encoded_len(&one), encoded_len(&none)), (24, 12));
+    let mut out = Vec::from_slice(alloc, &[7, 9])?;
+    encode_onto(&mut out, &none)?;
+    encode_onto(&mut out, &one)?;
+    let (front, blocks) = out.as_slice().split_at(2);
+    let (first, second) = blocks.split_at(12);
+    assert_eq!(rt; front, [7, 9].as_slice());
+    assert_eq!(rt; first, NO_RECORDS.as_slice());
+    assert_eq!(rt; second, ONE_PUT.as_slice());
+    Ok(())
+}
+
+#[test]
 fn making_tells_the_first_fault(rt: HostRuntime) -> Result<(), Fail> {
     let alloc = rt.alloc();
     let cases = [

@@ -1,6 +1,6 @@
 //! A block, written as its bytes.
 
-ghost use Rattle.std.specs.Prelude.{◌≡◌, ◌+◌, ◌*◌, ◌<◌, ◌≤◌, ◌^◌, ◌++◌, length, IfOk, OnOk};
+ghost use Rattle.std.specs.Prelude.{◌≡◌, ◌+◌, ◌*◌, ◌<◌, ◌≤◌, ◌^◌, ◌++◌, length, take, IfOk, OnOk, OnErr};
 ghost use Rattle.std.specs.List.{flat_map};
 ghost use Rattle.std.specs.Int.{w16, to_be_bytes};
 ghost use Rattle.pl_block.specs.Spelling.{annotations, record_spelling, block_spelling};
@@ -40,7 +40,8 @@ pub(crate) fn spelling_len(partitions: &[u16], records: &[Record]) -> usize
 
 fn put_partitions(out: &mut Vec<u8>, partitions: &[u16]) -> Result<(), AllocError>
     requires { length partitions.now < 2 ^ 16 }
-    ensures { OnOk result (out.new.items ≡ out.old.items ++ annotations partitions.now) }
+    ensures ok { OnOk result (out.new.items ≡ out.old.items ++ annotations partitions.now) }
+    ensures kept { take (length out.old.items) out.new.items ≡ out.old.items }
 {
     out.put_u16(partitions.len() as u16)?;
     for partition in partitions {
@@ -51,7 +52,8 @@ fn put_partitions(out: &mut Vec<u8>, partitions: &[u16]) -> Result<(), AllocErro
 
 fn put_record(out: &mut Vec<u8>, entry: &Record) -> Result<(), AllocError>
     requires { length (record_spelling entry.now) ≤ 32768 }
-    ensures { OnOk result (out.new.items ≡ out.old.items ++ record_spelling entry.now) }
+    ensures ok { OnOk result (out.new.items ≡ out.old.items ++ record_spelling entry.now) }
+    ensures kept { take (length out.old.items) out.new.items ≡ out.old.items }
 {
     let Record::Put {
         page,
@@ -68,8 +70,9 @@ fn put_record(out: &mut Vec<u8>, entry: &Record) -> Result<(), AllocError>
 fn put_records(out: &mut Vec<u8>, records: &[Record]) -> Result<(), AllocError>
     requires few { length records.now < 2 ^ 16 }
     requires short { length (flat_map record_spelling records.now) ≤ 32768 }
-    ensures { OnOk result (out.new.items ≡ out.old.items
+    ensures ok { OnOk result (out.new.items ≡ out.old.items
         ++ (to_be_bytes w16 (length records.now) ++ flat_map record_spelling records.now)) }
+    ensures kept { take (length out.old.items) out.new.items ≡ out.old.items }
 {
     out.put_u16(records.len() as u16)?;
     for entry in records {
@@ -78,16 +81,47 @@ fn put_records(out: &mut Vec<u8>, records: &[Record]) -> Result<(), AllocError>
     Ok(())
 }
 
+/// How many bytes the spelling of the block has, at least 12. No record's bytes are looked at.
+pub fn encoded_len(block: &Block) -> usize
+    ensures value { result ≡ length (block_spelling block.now) }
+    ensures short { result ≤ 32768 }
+{
+    spelling_len(block.partitions(), block.records())
+}
+
+fn put_block(out: &mut Vec<u8>, block: &Block) -> Result<(), AllocError>
+    ensures ok { OnOk result (out.new.items ≡ out.old.items ++ block_spelling block.now) }
+    ensures kept { take (length out.old.items) out.new.items ≡ out.old.items }
+{
+    let partitions = block.partitions();
+    let records = block.records();
+    out.put_u64(block.lsn())?;
+    put_partitions(out, partitions)?;
+    put_records(out, records)
+}
+
+/// Puts the one spelling of the block behind what `out` has. Memory is asked for once, and for no
+/// more bytes than the spelling has; where it is refused, `out` has what it had.
+pub fn encode_onto(out: &mut Vec<u8>, block: &Block) -> Result<(), AllocError>
+    ensures ok { OnOk result (out.new.items ≡ out.old.items ++ block_spelling block.now) }
+    ensures err { OnErr result (out.new.items ≡ out.old.items) }
+    ensures short { length (block_spelling block.now) ≤ 32768 }
+{
+    out.reserve(encoded_len(block))?;
+    let before = out.len();
+    let put = put_block(out, block);
+    if put.is_err() {
+        out.truncate(before);
+    }
+    put
+}
+
 /// The one spelling of the block. Memory is asked for once, and for no more bytes than it has.
 pub fn encode(alloc: Global, block: &Block) -> Result<Vec<u8>, AllocError>
     ensures exact { IfOk result (λ bytes. bytes.items ≡ block_spelling block.now) }
     ensures short { IfOk result (λ bytes. length bytes.items ≤ 32768) }
 {
-    let partitions = block.partitions();
-    let records = block.records();
-    let mut out = Vec::with_capacity(alloc, spelling_len(partitions, records))?;
-    out.put_u64(block.lsn())?;
-    put_partitions(&mut out, partitions)?;
-    put_records(&mut out, records)?;
+    let mut out = Vec::new(alloc);
+    encode_onto(&mut out, block)?;
     Ok(out)
 }

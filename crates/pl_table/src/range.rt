@@ -16,28 +16,28 @@ impl PartitionRange {
     ghost use Rattle.pl_table.specs.Row.{is_within};
 
     /// Whether the partition is one of the range.
-    pub fn has(&self, partition: u16) -> bool
+    pub(crate) fn has(&self, partition: u16) -> bool
         ensures { result ≡ is_within self.now partition }
     {
         self.from <= partition && partition <= self.to
     }
 
     /// Whether all of the partitions are in the range.
-    pub fn has_all(&self, partitions: &[u16]) -> bool
+    pub(crate) fn has_all(&self, partitions: &[u16]) -> bool
         ensures { result ≡ list_all (is_within self.now) partitions.now }
     {
         partitions.iter().all(|partition| self.has(*partition))
     }
 
     /// Whether at least one of the partitions is in the range.
-    pub fn has_any(&self, partitions: &[u16]) -> bool
+    pub(crate) fn has_any(&self, partitions: &[u16]) -> bool
         ensures { result ≡ list_any (is_within self.now) partitions.now }
     {
         partitions.iter().any(|partition| self.has(*partition))
     }
 
     /// Whether all of the partitions from `lo` to `hi` are in the range.
-    pub fn has_all_between(&self, lo: u16, hi: u16) -> bool
+    pub(crate) fn has_all_between(&self, lo: u16, hi: u16) -> bool
         requires { lo ≤ hi }
         ensures { result ≡ list_all (is_within self.now) (range_with_len lo (hi + 1 - lo)) }
     {
@@ -45,7 +45,7 @@ impl PartitionRange {
     }
 
     /// Whether at least one of the partitions from `lo` to `hi` is in the range.
-    pub fn has_any_between(&self, lo: u16, hi: u16) -> bool
+    pub(crate) fn has_any_between(&self, lo: u16, hi: u16) -> bool
         requires { lo ≤ hi }
         ensures { result ≡ list_any (is_within self.now) (range_with_len lo (hi + 1 - lo)) }
     {

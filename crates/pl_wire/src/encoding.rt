@@ -9,45 +9,54 @@ ghost use Rattle.pl_wire.specs.Replies.{served, reply_spelling, FitsReplyFields,
 
 use crate::kind::Kind;
 use bytes::BufMut;
-use pl_block::{Block, encode};
+use pl_block::{Block, encode_onto, encoded_len};
 use pl_core::{Blocks, Reply};
 use pl_table::Section;
 use std::alloc::{AllocError, Global};
 
+// How many bytes the blocks take in a reply.
 #[tactic(auto, unfolding(crate::specs::Replies::served))]
-fn put_block(alloc: Global, out: &mut Vec<u8>, block: &Block) -> Result<(), AllocError>
-    ensures { OnOk result (out.new.items ≡ out.old.items ++ served block.now) }
+fn blocks_len(blocks: &[Block]) -> usize
+    requires { length blocks.now ≤ 16 }
+    ensures value { result ≡ length (flat_map served blocks.now) }
+    ensures short { result ≤ 2 ^ 20 }
 {
-    let bytes = encode(alloc, block)?;
-    out.put_u32(bytes.len() as u32)?;
-    out.put_slice(&bytes)
+    let mut len = 0;
+    for block in blocks {
+        len += 4 + encoded_len(block);
+    }
+    len
 }
 
-fn put_blocks(alloc: Global, out: &mut Vec<u8>, blocks: &[Block]) -> Result<(), AllocError>
+#[tactic(auto, unfolding(crate::specs::Replies::served))]
+fn put_block(out: &mut Vec<u8>, block: &Block) -> Result<(), AllocError>
+    ensures { OnOk result (out.new.items ≡ out.old.items ++ served block.now) }
+{
+    out.put_u32(encoded_len(block) as u32)?;
+    encode_onto(out, block)
+}
+
+fn put_blocks(out: &mut Vec<u8>, blocks: &[Block]) -> Result<(), AllocError>
     requires { length blocks.now ≤ 16 }
     ensures { OnOk result (out.new.items ≡ out.old.items
         ++ (to_be_bytes w16 (length blocks.now) ++ flat_map served blocks.now)) }
 {
+    out.reserve(2 + blocks_len(blocks))?;
     out.put_u16(blocks.len() as u16)?;
     for block in blocks {
-        put_block(alloc, out, block)?;
+        put_block(out, block)?;
     }
     Ok(())
 }
 
-fn put_served(
-    alloc: Global,
-    out: &mut Vec<u8>,
-    next: u64,
-    blocks: &Blocks,
-) -> Result<(), AllocError>
+fn put_served(out: &mut Vec<u8>, next: u64, blocks: &Blocks) -> Result<(), AllocError>
     requires { length blocks.now ≤ 16 }
     ensures { OnOk result (out.new.items ≡ out.old.items
         ++ reply_spelling (Reply.Blocks next blocks.now)) }
 {
     out.put_u8(Kind::Blocks as u8)?;
     out.put_u64(next)?;
-    put_blocks(alloc, out, blocks.as_slice())
+    put_blocks(out, blocks.as_slice())
 }
 
 fn put_counts(out: &mut Vec<u8>, hard: u64, pending: u64, landing: u64) -> Result<(), AllocError>
@@ -93,13 +102,13 @@ fn put_malformed(out: &mut Vec<u8>, code: u8) -> Result<(), AllocError>
     out.put_u8(code)
 }
 
-fn put_reply(alloc: Global, out: &mut Vec<u8>, reply: &Reply) -> Result<(), AllocError>
+fn put_reply(out: &mut Vec<u8>, reply: &Reply) -> Result<(), AllocError>
     requires { FitsReply reply.now }
     ensures { OnOk result (out.new.items ≡ out.old.items ++ reply_spelling reply.now) }
 {
     match reply {
         Reply::Done => out.put_u8(Kind::Done as u8),
-        Reply::Blocks { next, blocks } => put_served(alloc, out, *next, blocks),
+        Reply::Blocks { next, blocks } => put_served(out, *next, blocks),
         Reply::Status {
             epoch,
             primary,
@@ -159,7 +168,7 @@ fn each_number_fits(reply: &Reply)
 /// The one spelling of the reply: its kind in a byte, and what the kind has. Whether the reply can
 /// be written is told by [`Reply::fits`], and what is written can travel in a frame.
 ///
-/// Each block's bytes are made once, and then copied behind those before them.
+/// Room for the blocks of a reply is made at once, and the bytes of each are copied into it once.
 #[tactic(auto, using(crate::proofs::ReplyLemmas::reply_fits_frame))]
 pub fn encode_reply(alloc: Global, reply: &Reply) -> Result<Vec<u8>, AllocError>
     requires { FitsReply reply.now }
@@ -170,6 +179,6 @@ pub fn encode_reply(alloc: Global, reply: &Reply) -> Result<Vec<u8>, AllocError>
 {
     each_number_fits(reply);
     let mut out = Vec::new(alloc);
-    put_reply(alloc, &mut out, reply)?;
+    put_reply(&mut out, reply)?;
     Ok(out)
 }
