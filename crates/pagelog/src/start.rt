@@ -15,7 +15,7 @@ use thiserror::Error;
 /// How many bytes the text of a table may have.
 const LONGEST_TEXT: usize = 65_506;
 
-/// The most entries of the list of what was decided.
+/// The most entries of the list of decisions.
 const AUDIT_LIMIT: u64 = 65_536;
 
 /// The chunks of page versions.

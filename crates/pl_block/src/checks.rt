@@ -8,7 +8,7 @@ use crate::record::PAGE_BYTES;
 /// The last number that a block can have.
 pub const LAST_LSN: u64 = 1 << 48;
 
-/// The bytes that a block can have.
+/// The most bytes that a block can have.
 pub const MAX_BLOCK_BYTES: usize = 32_768;
 
 /// Whether a block can have the number.

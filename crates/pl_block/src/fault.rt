@@ -44,7 +44,7 @@ impl Fault {
 /// Why a call gave no block.
 #[derive(Debug, Drop)]
 pub enum BlockFault {
-    /// The input is no block: the first fault, in the order of the block format.
+    /// What was handed in is no block: the first fault, in the order that the call tells.
     Malformed(Fault),
     /// Memory was refused.
     NoMemory,

@@ -56,9 +56,11 @@ fn parts_of(alloc: Global, lsn: u64, records: Vec<Record>) -> Result<Parts, Bloc
 }
 
 impl Block {
-    /// A block of the number and the records, which are kept as they stand.
+    /// A block of the number, 1 to 2^48, and the records, which are kept as they stand: each Put has
+    /// at least one byte and ends within its page, and the spelling has at most 32,768 bytes.
     ///
     /// The number is tested first, then each record in turn, and the length of the spelling last.
+    /// After a fault the records are dropped.
     pub fn new(alloc: Global, lsn: u64, records: Vec<Record>) -> Result<Block, BlockFault>
         ensures valid { IfOk result (λ b. IsBlock b) }
         // What is a block is made, unless memory runs out.

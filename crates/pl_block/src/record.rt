@@ -17,7 +17,8 @@ pub(crate) const PUT: u8 = 1;
 /// A change to one page.
 #[derive(Debug, Drop, PartialEq)]
 pub enum Record {
-    /// Replaces the bytes of the page from `offset` on by `bytes`.
+    /// Replaces the bytes of the page from `offset` on by `bytes`. In a block they are 1 to 8,192
+    /// bytes, and end within the page.
     Put {
         page: u32,
         offset: u16,

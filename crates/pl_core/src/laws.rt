@@ -19,7 +19,7 @@ pub fn logs_only_grow()
     ensures { LogsOnlyGrow }
 {}
 
-/// A request of an older epoch is denied, and told the present one, without any wait: what it asks
+/// A known principal's request of an older epoch is denied A2 and told the present one: what it asks
 /// and what it would write make no difference.
 pub fn older_epochs_are_fenced()
     ensures { OlderEpochsAreFenced }
@@ -39,9 +39,9 @@ pub fn served_blocks_are_hardened()
     ensures rising { HardenedBlocksAreNumbered }
 {}
 
-/// Who goes on pulling where the last reply says gets each hardened block of the partitions once:
-/// whatever was asked for below that number was served, each served block is below it, and it is
-/// above the number that was asked, so that each pull gets further.
+/// Of one pull of a legal history: whatever was asked for below the number to go on from was served,
+/// each served block is below it, and it is above the number that was asked, so that each pull gets
+/// further.
 pub fn pulls_miss_nothing()
     ensures { PullsMissNothing }
 {}

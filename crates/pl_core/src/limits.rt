@@ -6,9 +6,9 @@ ghost use Rattle.pl_core.specs.Limits.{AreLimits};
 /// How much a database may hold.
 #[derive(Clone, Copy, Debug, PartialEq, Eq)]
 pub struct Limits {
-    /// The entries of the list of what was decided, at least 1.
+    /// The entries of the list of decisions, at least 1.
     pub audit: u64,
-    /// The chunks of 64 page versions, 1 to 65,536. No page is kept yet.
+    /// The chunks of 64 page versions, 1 to 65,536. A database keeps no page.
     pub chunks: usize,
 }
 

@@ -57,13 +57,13 @@ impl Blocks {
 pub enum Reply {
     /// The request was carried out.
     Done,
-    /// The blocks of a pull, and the number from which to go on.
+    /// The blocks of a pull, at most 16, and the number from which to go on.
     Blocks {
         next: u64,
         blocks: Blocks,
     },
-    /// The current epoch and its primary, the number of the last hardened block, and how many
-    /// blocks were hardened from the pending area and from the landing zone.
+    /// The current epoch and its primary, the number of the last hardened block, 0 where there is
+    /// none, and how many blocks were hardened from the pending area and from the landing zone.
     Status {
         epoch: u32,
         primary: u32,
@@ -80,11 +80,11 @@ pub enum Reply {
     },
     /// Memory was refused. Nothing has changed.
     NoMemory,
-    /// The list of what was decided holds as many entries as it may. Nothing has changed.
+    /// The list of decisions holds as many entries as it may. Nothing has changed.
     AuditFull,
-    /// The database's turns were all given. Never from a step of the database.
+    /// Has a number in the format. Never from a step of the database.
     Spent,
-    /// There is no such database. Never from a step of a database.
+    /// There is no such database. Never from a step of the database.
     NoDatabase,
     /// The body is no request, by this code, 1 to 15. Never from a step of the database.
     Malformed {

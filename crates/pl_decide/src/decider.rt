@@ -37,8 +37,8 @@ impl Decider {
     /// Tells that another table is in force from now on. Nothing of an older one is kept.
     pub fn new_table(&mut self) {}
 
-    /// The verdict on the request of a principal that the table lists: the first row of the written
-    /// order that stands against it, or that none does.
+    /// The verdict on the request of a principal that the table lists with this token ([`known`]): the
+    /// first row of the written order that stands against it, or that none does.
     ///
     /// Section A is fixed, and asks for the epoch, the primary and the role. Section B is the rows
     /// of the table, each of which is looked at once up to the first that matches. Section C is

@@ -15,11 +15,13 @@ pub enum Role {
     Secondary = 2,
     /// Follows the log of its partitions, and applies it.
     PageServer = 3,
-    /// Names the primary, sets the table and reads the audit list.
+    /// Names the primary, sets the table and reads the list of decisions.
     Operator = 4,
 }
 
-/// What a request asks for. The discriminant is the operation's number in a request.
+/// What a request asks for. The discriminant is the operation's number in a request. There is an
+/// [`Act`](crate::Act) for write, report, pull, status, failover and set_table alone; the others have
+/// a number and a word.
 #[derive(Clone, Copy, Debug, PartialEq, Eq)]
 pub enum Op {
     /// Puts a block into one copy of the landing zone.
@@ -40,7 +42,7 @@ pub enum Op {
     Failover = 8,
     /// Puts another table in force.
     SetTable = 9,
-    /// Reads the list of what was decided.
+    /// Reads the list of decisions.
     Audit = 10,
     /// Moves old blocks to where they are kept for long.
     Tidy = 11,

@@ -36,7 +36,7 @@ impl PartitionRange {
         partitions.iter().any(|partition| self.has(*partition))
     }
 
-    /// Whether all of the partitions from `lo` to `hi` are in the range.
+    /// Whether all of the partitions from `lo` to `hi`, which is not below it, are in the range.
     pub(crate) fn has_all_between(&self, lo: u16, hi: u16) -> bool
         requires { lo ≤ hi }
         ensures { result ≡ list_all (is_within self.now) (range_with_len lo (hi + 1 - lo)) }
@@ -44,7 +44,8 @@ impl PartitionRange {
         self.from <= lo && hi <= self.to
     }
 
-    /// Whether at least one of the partitions from `lo` to `hi` is in the range.
+    /// Whether at least one of the partitions from `lo` to `hi`, which is not below it, is in the
+    /// range.
     pub(crate) fn has_any_between(&self, lo: u16, hi: u16) -> bool
         requires { lo ≤ hi }
         ensures { result ≡ list_any (is_within self.now) (range_with_len lo (hi + 1 - lo)) }

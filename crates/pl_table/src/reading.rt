@@ -21,7 +21,8 @@ use toml::{Table as Tree, Value};
 /// Reads the table that a text writes down, in TOML: an array of tables `principal`, each with its
 /// `id` and `token`, and an array of tables `row`, each with its `verdict` and such of `who`,
 /// `role`, `op`, and `from` with `to`, as it speaks of. Where the text is no table, the fault is
-/// the first in the order of the faults' codes, whichever principal or row it is in.
+/// the first in the order of the faults' codes, whichever principal or row it is in. The text may
+/// have any length; `NoMemory` comes where memory is refused.
 #[tactic(auto, unfolding(crate::specs::TableText::table_reading))]
 pub fn read_table(alloc: Global, text: &[u8]) -> Result<Table, ReadFault>
     ensures { Gives (λ t. t) result (table_reading text.now) }

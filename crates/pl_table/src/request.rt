@@ -21,7 +21,7 @@ pub(crate) const MAX_TEXT: usize = 65_506;
 /// An operation with its arguments.
 #[derive(Debug, Drop)]
 pub enum Act {
-    /// Put the block into the copy.
+    /// Put the block into the copy. A database has the copies 0 to 2.
     Write {
         copy: u8,
         block: Block,
@@ -100,7 +100,7 @@ impl Model for Request {
 
 impl Request {
     /// The request, or `None` where a number of the act, or the length of its text, is out of its
-    /// range.
+    /// range; what was handed in is dropped then.
     pub fn new(head: Head, act: Act) -> Option<Request>
         ensures found { IsSome result ↔ InRange act }
         ensures some { IfSome result (λ r. (r.head ≡ head) × (r.act ≡ act)) }

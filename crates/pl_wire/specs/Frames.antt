@@ -1,4 +1,4 @@
--- The frames in which bodies travel.
+-- The frames in which served blocks stand.
 use Rattle.std.specs.Prelude.{ℕ, List, ◌++◌, length}
 use Rattle.std.specs.Int.{w32, to_be_bytes}
 

@@ -165,8 +165,8 @@ fn each_number_fits(reply: &Reply)
     }
 }
 
-/// The one spelling of the reply: its kind in a byte, and what the kind has. Whether the reply can
-/// be written is told by [`Reply::fits`], and what is written can travel in a frame.
+/// The one spelling of the reply: its kind in a byte, and what the kind has, at most 2^20 bytes.
+/// Whether the reply can be written is told by [`Reply::fits`]; it fails only for want of memory.
 ///
 /// Room for the blocks of a reply is made at once, and the bytes of each are copied into it once.
 #[tactic(auto, using(crate::proofs::ReplyLemmas::reply_fits_frame))]

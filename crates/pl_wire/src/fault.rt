@@ -23,7 +23,7 @@ pub enum WireFault {
     EndsInField,
     /// Bytes follow the last field: code 5.
     BytesAfterEnd,
-    /// A number is out of its range: code 6.
+    /// A number, or the length of a table's text, is out of its range: code 6.
     OutOfRange,
     /// What should be a block is none: the code of the block's fault, and 6 more, so 7 to 15.
     Block(Fault),

@@ -1,4 +1,4 @@
-//! Requests and replies as bytes, and the frames in which they travel.
+//! Requests and replies as bytes, and the frame in which a served block stands.
 //!
 //! Each request and each reply that fits has one spelling. What is read is the request of its
 //! spelling, and bytes that spell none are told the fault of the least code.
