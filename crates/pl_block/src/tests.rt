@@ -181,7 +181,11 @@ fn writes_behind_what_stands(rt: HostRuntime) -> Result<(), Fail> {
     let none = decoded(alloc, &NO_RECORDS)?;
     assert_eq!(rt; (encoded_len(&one), encoded_len(&none)), (24, 12));
     let mut out = Vec::from_slice(alloc, &[7, 9])?;
-    encode_onto(&mut out, &none)?;
+    if encode_onto(&mut out, &none).is_err() {
+        // What stood there stands there alone, and the next call finds it so.
+        assert_eq!(rt; out.as_slice(), [7, 9].as_slice());
+        encode_onto(&mut out, &none)?;
+    }
     encode_onto(&mut out, &one)?;
     let (front, blocks) = out.as_slice().split_at(2);
     let (first, second) = blocks.split_at(12);
