@@ -2,3 +2,5 @@ mod Feeds
 mod Pieces
 mod Turns
 pub mod Matching
+pub mod Passes
+pub mod TakesPlay

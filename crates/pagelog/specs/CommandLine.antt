@@ -1,6 +1,8 @@
 -- What the words of a call ask for: how `clap` matches them with the program's subcommands.
 use Rattle.std.specs.Prelude.{◌≡◌, ◌<◌, ◌^◌, ℕ, ⊤, true, List, Option, Some, pos, codes, string_bytes}
 use Rattle.std.specs.Str.Parse.{digits_value, without_leading_plus}
+use Rattle.clap.specs.Lexer.{without_minus}
+use Rattle.clap.specs.Values.{IsSignedIn}
 use Rattle.clap.specs.Walk.{Row, Rule, Text, first_of, one_of}
 use Rattle.clap.specs.Simple.{App, new_app, new_rule, on_top, subcommand_of, with_rule}
 use Rattle.clap.specs.Simple.{with_subcommand}
@@ -50,6 +52,16 @@ pub record NamesPlay (found : Option (Text × List Row)) (table : Text) (primary
   pub value : one_of (codes "primary") rows ≡ Some digits
   pub number : primary ≡ digits_value 10 (without_leading_plus digits)
   pub in_range : primary < 2 ^ 32
+
+-- `play` was named with both its options, where the value of the primary is a number of 32 bits
+pub record GivesPlay (found : Option (Text × List Row)) : Type 0 where
+  pub rows : List Row
+  pub subcommand : found ≡ Some (codes "play", rows)
+  pub table : Text
+  pub file : first_of (codes "table") rows ≡ Some table
+  pub digits : Text
+  pub value : one_of (codes "primary") rows ≡ Some (without_minus digits)
+  pub number : IsSignedIn (pos 0) (pos 4294967295) digits
 
 -- the subcommand that was named, with its options, is this line
 abbrev pub Names : Option (Text × List Row) → CommandLine → Type 0

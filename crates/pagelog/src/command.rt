@@ -1,8 +1,8 @@
 //! What the words of a call ask for, read with `clap`.
 
-ghost use Rattle.std.specs.Prelude.{◌≡◌, ◌≢◌, false, IfErr, IfOk, IfSome, map, string_bytes};
-ghost use Rattle.clap.specs.Words.{IsAmong, app_of, fault_of, kind_of, rule_of, subcommand_of, subcommand_rows_of};
-ghost use Rattle.pagelog.specs.CommandLine.{AsksFor, IsHelp, IsUsage, Names, own_app, primary_rule, table_rule};
+ghost use Rattle.std.specs.Prelude.{◌≡◌, ◌≢◌, false, true, IfErr, IfOk, IfSome, IsNone, map, string_bytes};
+ghost use Rattle.clap.specs.Words.{IsAmong, app_of, fault_of, kind_of, rule_of, subcommand_of, subcommand_rows_of, takes};
+ghost use Rattle.pagelog.specs.CommandLine.{AsksFor, GivesPlay, IsHelp, IsUsage, Names, own_app, primary_rule, table_rule};
 
 use clap::error::ErrorKind;
 use clap::{Arg, ArgMatches, Command, value_parser};
@@ -87,7 +87,8 @@ fn program<'a>(alloc: Global) -> Result<Command<'a>, AllocError>
 
 // The subcommand that was matched, with its options.
 fn line_of(alloc: Global, matches: &ArgMatches<'_>) -> Result<Option<CommandLine>, AllocError>
-    ensures { IfOk result (λ line. IfSome line (Names (subcommand_rows_of matches.now))) }
+    ensures ok { IfOk result (λ line. IfSome line (Names (subcommand_rows_of matches.now))) }
+    ensures none { IfOk result (λ line. IsNone line → GivesPlay (subcommand_rows_of matches.now) → ⊥) }
 {
     let Some(play) = matches.subcommand_matches("play") else {
         return Ok(None);
@@ -109,6 +110,10 @@ fn match_words<'a>(
     requires { app_of program.old ≡ own_app }
     ensures ok { IfOk result (λ line. IfSome line
         (Names (subcommand_of own_app (map string_bytes words.entry.now)))) }
+    ensures none { IfOk result (λ line. IsNone line →
+        takes own_app (map string_bytes words.entry.now) ≢ true) }
+    ensures passes { IfErr result (λ error. takes own_app (map string_bytes words.entry.now) ≡ true →
+        kind_of error ≡ ErrorKind.OutOfMemory) }
     ensures help { IfErr result (λ error. kind_of error ≡ ErrorKind.DisplayHelp →
         IsAmong ErrorKind.DisplayHelp (fault_of own_app (map string_bytes words.entry.now))) }
 {
@@ -138,7 +143,9 @@ fn told(alloc: Global, error: &clap::Error) -> Result<CommandLine, CommandFault>
 /// `Usage` comes where `clap` takes the words for none of the subcommands, and `NoMemory` where
 /// memory was refused.
 pub fn command(alloc: Global, words: Vec<String>) -> Result<CommandLine, CommandFault>
-    ensures { IfOk result (AsksFor (map string_bytes words.items)) }
+    ensures ok { IfOk result (AsksFor (map string_bytes words.items)) }
+    ensures usage { IfErr result (λ fault. IsUsage fault →
+        takes own_app (map string_bytes words.items) ≢ true) }
 {
     let mut program = program(alloc)?;
     match match_words(alloc, &mut program, words.as_slice()) {

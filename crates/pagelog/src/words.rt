@@ -1,8 +1,9 @@
 //! The words that the program is called with.
 
-ghost use Rattle.std.specs.Prelude.{◌≡◌, Err, IfErr, IfOk, IsOkAnd, map, string_bytes};
+ghost use Rattle.std.specs.Prelude.{◌≡◌, true, Err, IfErr, IfOk, IsOkAnd, map, string_bytes};
 ghost use Rattle.std.specs.IoError.{error_kind};
-ghost use Rattle.pagelog.specs.CommandLine.{AsksFor};
+ghost use Rattle.clap.specs.Words.{takes};
+ghost use Rattle.pagelog.specs.CommandLine.{AsksFor, IsUsage, own_app};
 
 use crate::command::{CommandFault, CommandLine, command};
 use std::alloc::{AllocGlobal, Global};
@@ -22,6 +23,8 @@ For more information, try '--help'.
 /// nothing.
 pub fn asked(alloc: Global, words: io::Result<Vec<String>>) -> Result<CommandLine, CommandFault>
     ensures ok { IfOk result (λ line. IsOkAnd words (λ ws. AsksFor (map string_bytes ws.items) line)) }
+    ensures usage { IfErr result (λ fault. IsUsage fault →
+        IsOkAnd words (λ ws. takes own_app (map string_bytes ws.items) ≡ true) → ⊥) }
     ensures memory { IfErr words (λ error. error_kind error ≡ ErrorKind.OutOfMemory →
         result ≡ Err CommandFault.NoMemory) }
 {

@@ -1,0 +1,17 @@
+use Rattle.std.proofs.Common.{◌≡◌, ◌∙◌, ap, is_some, false, map}
+use Rattle.std.specs.Prelude.{string_bytes}
+use Rattle.std.proofs.lemmas.Result.{IfErr-weaker}
+use Rattle.clap.specs.Words.{takes}
+use Rattle.pagelog.specs.CommandLine.{own_app}
+use Rattle.pagelog.proofs.command.command.Goals as goal
+
+pub returns-in-Ok-None-clause-usage : goal.returns-in-Ok-None-clause-usage
+returns-in-Ok-None-clause-usage c =
+    let same = ap (λ ws. takes own_app (map string_bytes ws)) c.as_slice.ensures.value in
+    let empty : is_some c.in-Ok-None.field-0 ≡ false = ap is_some c.in-Ok-None.field-0-is in
+    IfErr-weaker c.told.result _ _ (λ fault told usage taken. c.in-Ok-None.ensures.none empty (same ∙ taken)) c.told.ensures.usage
+
+pub returns-clause-usage : goal.returns-clause-usage
+returns-clause-usage c =
+    let same = ap (λ ws. takes own_app (map string_bytes ws)) c.as_slice.ensures.value in
+    IfErr-weaker c.told-in-Err.result _ _ (λ fault told usage taken. (told usage).1 (c.in-Err.ensures.passes (same ∙ taken))) c.told-in-Err.ensures.usage
