@@ -3,7 +3,7 @@
 
 ghost use Rattle.pl_core.specs.Laws.{DenialsChangeNothing, DeniedChangesNothing, LogsOnlyGrow};
 ghost use Rattle.pl_core.specs.Laws.{PullsReachTheHardenedEnd, PullsAboveAreDenied};
-ghost use Rattle.pl_core.specs.Laws.{ServedBlocksAreHardened, HardenedBlocksAreNumbered, PullsMissNothing};
+ghost use Rattle.pl_core.specs.Laws.{ServedBlocksAreHardened, HardenedBlocksAreNumbered, PullsMissNothing, PullsJoin};
 ghost use Rattle.pl_core.specs.Laws.{OlderEpochsAreFenced, HistoriesStayLegal};
 
 /// After a denial the hardened log, each number's content and the copies it stands in, the epoch, its
@@ -45,6 +45,15 @@ pub fn served_blocks_are_hardened()
 pub fn pulls_miss_nothing()
     ensures { PullsMissNothing }
 {}
+
+/// Two pulls in a row, the second asked where the first said to go on, serve what one pull would, also
+/// where the history has grown in between. So who goes on pulling where the last reply says gets each
+/// hardened block of the partitions once, in order.
+pub fn pulls_join()
+    ensures { PullsJoin }
+{
+    pl_log::pulls_join();
+}
 
 /// A legal history stays legal with a request in its ranges, and a reply that it may have.
 pub fn histories_stay_legal()

@@ -20,7 +20,7 @@ mod verdict;
 pub use db::{Db, DbFault};
 pub use laws::{
     denials_change_nothing, histories_stay_legal, logs_only_grow, older_epochs_are_fenced,
-    pulls_miss_nothing, pulls_reach_the_hardened_end, served_blocks_are_hardened,
+    pulls_join, pulls_miss_nothing, pulls_reach_the_hardened_end, served_blocks_are_hardened,
 };
 pub use limits::Limits;
 pub use line::Line;
