@@ -79,7 +79,7 @@ fn program<'a>(alloc: Global) -> Result<Command<'a>, AllocError>
         .arg(table_option(alloc))?
         .arg(primary_option(alloc))?;
     Command::new(alloc, "pagelog")
-        .about("A log and page service that databases share")
+        .about("A log service for databases")
         .subcommand_required(true)
         .arg_required_else_help(true)
         .subcommand(play)

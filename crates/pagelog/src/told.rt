@@ -153,7 +153,7 @@ fn words_that_ask_for_nothing(rt: HostRuntime) -> Result<(), Fail> {
     Ok(())
 }
 
-const HELP: &str = "A log and page service that databases share
+const HELP: &str = "A log service for databases
 
 Usage: pagelog <COMMAND>
 
