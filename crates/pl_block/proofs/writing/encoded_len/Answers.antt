@@ -1,4 +1,4 @@
-use Rattle.std.proofs.Common.{◌∙◌, ◌≤◌, sym, arith}
+use Rattle.std.proofs.Common.{◌∙◌, sym, arith}
 use Rattle.pl_block.proofs.Spellings.{length-counted}
 use Rattle.pl_block.proofs.writing.encoded_len.Goals as goal
 

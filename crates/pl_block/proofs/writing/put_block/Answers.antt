@@ -1,4 +1,3 @@
-use Rattle.std.proofs.Common.{◌∙◌}
 use Rattle.pl_block.proofs.Kept.{kept_front}
 use Rattle.pl_block.proofs.Spellings.{counts}
 use Rattle.pl_block.proofs.writing.put_block.Goals as goal
