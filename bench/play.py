@@ -1,7 +1,6 @@
-#!/usr/bin/env python3
 """Times `pagelog play` on made lines beside plain tools that decode and encode the same text.
 
-Usage: bench/play.py [LINES] [BYTES ...]     (100000 lines; blocks of 100 and of 16384 bytes)
+Usage: python3 bench/play.py [LINES] [BYTES ...]     (100000 lines; blocks of 100 and of 16384 bytes)
 
 For each block of so many bytes: a write to copy 0, a write to copy 1, a report and a pull of that
 block; and the same with a failover behind each twenty blocks, over a window of eight numbers that

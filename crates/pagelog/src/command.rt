@@ -28,8 +28,8 @@ pub enum CommandLine {
 /// Why the words of a call ask for nothing.
 #[derive(Debug, Drop, PartialEq, Eq, Error)]
 pub enum CommandFault {
-    /// They name no subcommand, lack an option or have another, or an option has a value that it
-    /// does not take. The text says which, with a line feed at its end.
+    /// They name no subcommand, lack an option or have another, an option has a value that it does
+    /// not take, or they are no UTF-8. The text says which, with a line feed at its end.
     #[error("{0}")]
     Usage(String),
     /// Memory was refused.

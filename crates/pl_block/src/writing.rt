@@ -100,8 +100,8 @@ fn put_block(out: &mut Vec<u8>, block: &Block) -> Result<(), AllocError>
     put_records(out, records)
 }
 
-/// Puts the one spelling of the block behind what `out` has. Memory is asked for once, and for no
-/// more bytes than the spelling has; where it is refused, `out` has what it had.
+/// Puts the one spelling of the block behind what `out` has. Memory is asked for once, where `out`
+/// lacks room for the whole of it; where it is refused, `out` has what it had.
 pub fn encode_onto(out: &mut Vec<u8>, block: &Block) -> Result<(), AllocError>
     ensures ok { OnOk result (out.new.items ≡ out.old.items ++ block_spelling block.now) }
     ensures err { OnErr result (out.new.items ≡ out.old.items) }

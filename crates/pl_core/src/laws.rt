@@ -1,5 +1,5 @@
 //! What follows from the definitions, for the crates above. Each function is a law: its clauses
-//! hold of all histories, and its body does nothing.
+//! hold of all histories, and its body does nothing but to call on a law of the log.
 
 ghost use Rattle.pl_core.specs.Laws.{DenialsChangeNothing, DeniedChangesNothing, LogsOnlyGrow};
 ghost use Rattle.pl_core.specs.Laws.{PullsReachTheHardenedEnd, PullsAboveAreDenied};

@@ -1,7 +1,6 @@
-#!/usr/bin/env python3
 """Plays some thousand made lines on pagelog, and compares each reply with a plain model.
 
-Usage: scripts/trial [LINES] [SEED]     (3000 lines, seed 1)
+Usage: python3 scripts/trial.py [LINES] [SEED]     (3000 lines, seed 1)
 
 The lines hold writes, reports, pulls, status, failovers and tables, most of them by who may ask in
 the present epoch, some by others, with wrong tokens, in other epochs, or with bytes cut off or
