@@ -2,6 +2,7 @@
 use Rattle.std.specs.Prelude.{ℕ, ◌+◌, ◌/◌, ◌^◌, ◌<◌, ◌≤◌, Bool, ◌&&◌, ◌==◌, nat_lt, if◌then◌else◌, List, [], ◌∷◌, length, fold}
 use Rattle.std.specs.Cmp.Lexicographic.{pointwise}
 use Rattle.std.specs.Str.{bytes_eq}
+use Rattle.pl_block.specs.Bounds.{page_size}
 use Rattle.pl_block.specs.declared.record.Record.{Record}
 use Rattle.pl_block.specs.declared.record.Record.TheVariants.{Put}
 
@@ -33,4 +34,4 @@ touched records = fold (λ ps r. with_partition (partition_of r) ps) [] records
 
 -- a Put has bytes, and they end within its page
 abbrev pub IsRecord : Record → Type 0
-IsRecord (Put page offset bytes) = (page < 2 ^ 32) × (0 < length bytes) × (offset + length bytes ≤ 8192)
+IsRecord (Put page offset bytes) = (page < 2 ^ 32) × (0 < length bytes) × (offset + length bytes ≤ page_size)

@@ -1,7 +1,8 @@
 -- Reading a block from left to right, with the first fault that is met.
-use Rattle.std.specs.Prelude.{◌≡◌, ℕ, zero, suc, ◌+◌, ◌^◌, ◌||◌, List, [], ◌∷◌, length, take, drop, Result, Ok, Err, nat_eq, nat_lt, ◌==◌, if◌then◌else◌}
+use Rattle.std.specs.Prelude.{◌≡◌, ℕ, zero, suc, ◌+◌, ◌||◌, List, [], ◌∷◌, length, take, drop, Result, Ok, Err, nat_eq, nat_lt, ◌==◌, if◌then◌else◌}
 use Rattle.std.specs.Cmp.Lexicographic.{pointwise}
 use Rattle.std.specs.Int.{Width, w16, w32, w64, byte_len, from_be_bytes}
+use Rattle.pl_block.specs.Bounds.{last_lsn, longest_block, page_size}
 use Rattle.pl_block.specs.declared.fault.Fault.{Fault}
 use Rattle.pl_block.specs.declared.fault.Fault.TheVariants.{EndsInField, NumberOutOfRange, PartitionNotAbove, UnknownKind, EmptyPut, PutPastPage, BytesAfterEnd, WrongAnnotations, TooLong}
 use Rattle.pl_block.specs.declared.fault.BlockFault.{BlockFault}
@@ -34,17 +35,17 @@ Takes view result rest read = Gives (λ x. (view x, rest)) result read
 abbrev pub number_at : Width → List ℕ → Result (ℕ × List ℕ) Fault
 number_at w bytes = if nat_lt (length bytes) (byte_len w) then Err EndsInField else Ok (from_be_bytes w (take (byte_len w) bytes), drop (byte_len w) bytes)
 
--- the fault of a block's number, if any: it is 1 to 2 ^ 48
+-- the fault of a block's number, if any: it is 1 to last_lsn
 abbrev pub lsn_fault : ℕ → Result (Unit {0}) Fault
-lsn_fault lsn = if lsn == 0 || nat_lt (2 ^ 48) lsn then Err NumberOutOfRange else Ok tt
+lsn_fault lsn = if lsn == 0 || nat_lt last_lsn lsn then Err NumberOutOfRange else Ok tt
 
 -- the fault of a Put of so many bytes at an offset, if any: it has bytes, and they end within its page
 abbrev pub put_fault : ℕ → ℕ → Result (Unit {0}) Fault
-put_fault offset len = if len == 0 then Err EmptyPut else if nat_lt 8192 (offset + len) then Err PutPastPage else Ok tt
+put_fault offset len = if len == 0 then Err EmptyPut else if nat_lt page_size (offset + len) then Err PutPastPage else Ok tt
 
--- the fault of so many bytes of a block, if any: they are at most 32768
+-- the fault of so many bytes of a block, if any: they are at most longest_block
 abbrev pub len_fault : ℕ → Result (Unit {0}) Fault
-len_fault len = if nat_lt 32768 len then Err TooLong else Ok tt
+len_fault len = if nat_lt longest_block len then Err TooLong else Ok tt
 
 -- the block's number
 unfoldable pub lsn_at : List ℕ → Result (ℕ × List ℕ) Fault

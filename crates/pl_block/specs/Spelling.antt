@@ -1,7 +1,8 @@
 -- The one spelling of a block.
-use Rattle.std.specs.Prelude.{ℕ, ◌^◌, ◌<◌, ◌≤◌, List, ◌∷◌, ◌++◌, length}
+use Rattle.std.specs.Prelude.{ℕ, ◌<◌, ◌≤◌, List, ◌∷◌, ◌++◌, length}
 use Rattle.std.specs.List.{flat_map, AllByRecursion}
 use Rattle.std.specs.Int.{w16, w32, w64, to_be_bytes}
+use Rattle.pl_block.specs.Bounds.{last_lsn, longest_block}
 use Rattle.pl_block.specs.declared.record.Record.{Record}
 use Rattle.pl_block.specs.declared.record.Record.TheVariants.{Put}
 use Rattle.pl_block.specs.Block.{Content, touched, IsRecord}
@@ -21,6 +22,6 @@ block_spelling b = to_be_bytes w64 b.lsn ++ (annotations (touched b.records) ++ 
 -- the number is in its range, each record is one, and the spelling is not too long
 pub record IsBlock (b : Content) : Type 0 where
   pub positive : 0 < b.lsn
-  pub in_range : b.lsn ≤ 2 ^ 48
+  pub in_range : b.lsn ≤ last_lsn
   pub each : AllByRecursion IsRecord b.records
-  pub short : length (block_spelling b) ≤ 32768
+  pub short : length (block_spelling b) ≤ longest_block

@@ -2,14 +2,8 @@
 
 ghost use Rattle.pl_block.specs.Reading.{Gives, len_fault, lsn_fault, put_fault};
 
+use crate::bounds::{LAST_LSN, LONGEST_BLOCK, PAGE_SIZE};
 use crate::fault::{BlockFault, Fault};
-use crate::record::PAGE_BYTES;
-
-/// The last number that a block can have.
-pub const LAST_LSN: u64 = 1 << 48;
-
-/// The most bytes that a block can have.
-pub const MAX_BLOCK_BYTES: usize = 32_768;
 
 /// Whether a block can have the number.
 pub(crate) fn check_lsn(lsn: u64) -> Result<(), BlockFault>
@@ -28,7 +22,7 @@ pub(crate) fn check_put(offset: u16, len: usize) -> Result<(), BlockFault>
     if len == 0 {
         return Err(BlockFault::Malformed(Fault::EmptyPut));
     }
-    if usize::from(offset).saturating_add(len) > PAGE_BYTES {
+    if usize::from(offset).saturating_add(len) > PAGE_SIZE {
         return Err(BlockFault::Malformed(Fault::PutPastPage));
     }
     Ok(())
@@ -38,7 +32,7 @@ pub(crate) fn check_put(offset: u16, len: usize) -> Result<(), BlockFault>
 pub(crate) fn check_len(len: usize) -> Result<(), BlockFault>
     ensures { Gives (λ x. x) result (len_fault len) }
 {
-    if len > MAX_BLOCK_BYTES {
+    if len > LONGEST_BLOCK {
         return Err(BlockFault::Malformed(Fault::TooLong));
     }
     Ok(())

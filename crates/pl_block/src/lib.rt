@@ -6,6 +6,7 @@
 #![tactic(auto)]
 
 mod block;
+mod bounds;
 mod checks;
 mod content;
 mod fault;
@@ -17,13 +18,10 @@ mod record;
 mod writing;
 
 pub use block::Block;
-pub use checks::{LAST_LSN, MAX_BLOCK_BYTES};
+pub use bounds::{LAST_LSN, LONGEST_BLOCK, PAGE_SIZE, WINDOW};
 pub use fault::{BlockFault, Fault};
 pub use laws::{one_spelling, same_blocks_are_equal};
 pub use reading::decode;
-pub use record::{PAGE_BYTES, PAGES_PER_PARTITION, Record};
+pub use record::{PAGES_PER_PARTITION, Record};
 pub use std::alloc::AllocError as NoMemory;
 pub use writing::{encode, encode_onto, encoded_len};
-
-#[cfg(test)]
-mod tests;

@@ -5,9 +5,6 @@ ghost use Rattle.pl_block.specs.Block.{partition_of};
 
 use bytes::Bytes;
 
-/// The bytes of a page.
-pub const PAGE_BYTES: usize = 8_192;
-
 /// The pages of a partition, which follow one another.
 pub const PAGES_PER_PARTITION: u32 = 65_536;
 

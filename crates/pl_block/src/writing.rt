@@ -3,10 +3,11 @@
 ghost use Rattle.std.specs.Prelude.{◌≡◌, ◌+◌, ◌*◌, ◌<◌, ◌≤◌, ◌^◌, ◌++◌, length, take, IfOk, OnOk, OnErr};
 ghost use Rattle.std.specs.List.{flat_map};
 ghost use Rattle.std.specs.Int.{w16, to_be_bytes};
+ghost use Rattle.pl_block.specs.Bounds.{longest_block};
 ghost use Rattle.pl_block.specs.Spelling.{annotations, record_spelling, block_spelling};
 
 use crate::block::Block;
-use crate::checks::MAX_BLOCK_BYTES;
+use crate::bounds::LONGEST_BLOCK;
 use crate::record::{PUT, Record};
 use bytes::BufMut;
 use std::alloc::{AllocError, Global};
@@ -22,15 +23,15 @@ fn record_len(entry: &Record) -> usize
 /// The length of the spelling of a block with these partitions and records, where a block can
 /// have it; otherwise some length that no block can have.
 pub(crate) fn spelling_len(partitions: &[u16], records: &[Record]) -> usize
-    ensures value { result ≤ 32768 →
+    ensures value { result ≤ longest_block →
         result ≡ 12 + 2 * length partitions.now + length (flat_map record_spelling records.now) }
-    ensures full { 32768 < result →
-        32768 < 12 + 2 * length partitions.now + length (flat_map record_spelling records.now) }
+    ensures full { longest_block < result →
+        longest_block < 12 + 2 * length partitions.now + length (flat_map record_spelling records.now) }
 {
     let mut len = 12 + 2 * partitions.len();
     for entry in records {
         // What is too long is not counted on, so that no sum wraps.
-        if len > MAX_BLOCK_BYTES {
+        if len > LONGEST_BLOCK {
             return len;
         }
         len += record_len(entry);
@@ -51,7 +52,7 @@ fn put_partitions(out: &mut Vec<u8>, partitions: &[u16]) -> Result<(), AllocErro
 }
 
 fn put_record(out: &mut Vec<u8>, entry: &Record) -> Result<(), AllocError>
-    requires { length (record_spelling entry.now) ≤ 32768 }
+    requires { length (record_spelling entry.now) ≤ longest_block }
     ensures ok { OnOk result (out.new.items ≡ out.old.items ++ record_spelling entry.now) }
     ensures kept { take (length out.old.items) out.new.items ≡ out.old.items }
 {
@@ -69,7 +70,7 @@ fn put_record(out: &mut Vec<u8>, entry: &Record) -> Result<(), AllocError>
 
 fn put_records(out: &mut Vec<u8>, records: &[Record]) -> Result<(), AllocError>
     requires few { length records.now < 2 ^ 16 }
-    requires short { length (flat_map record_spelling records.now) ≤ 32768 }
+    requires short { length (flat_map record_spelling records.now) ≤ longest_block }
     ensures ok { OnOk result (out.new.items ≡ out.old.items
         ++ (to_be_bytes w16 (length records.now) ++ flat_map record_spelling records.now)) }
     ensures kept { take (length out.old.items) out.new.items ≡ out.old.items }
@@ -84,7 +85,7 @@ fn put_records(out: &mut Vec<u8>, records: &[Record]) -> Result<(), AllocError>
 /// How many bytes the spelling of the block has, at least 12. No record's bytes are looked at.
 pub fn encoded_len(block: &Block) -> usize
     ensures value { result ≡ length (block_spelling block.now) }
-    ensures short { result ≤ 32768 }
+    ensures short { result ≤ longest_block }
 {
     spelling_len(block.partitions(), block.records())
 }
@@ -105,7 +106,7 @@ fn put_block(out: &mut Vec<u8>, block: &Block) -> Result<(), AllocError>
 pub fn encode_onto(out: &mut Vec<u8>, block: &Block) -> Result<(), AllocError>
     ensures ok { OnOk result (out.new.items ≡ out.old.items ++ block_spelling block.now) }
     ensures err { OnErr result (out.new.items ≡ out.old.items) }
-    ensures short { length (block_spelling block.now) ≤ 32768 }
+    ensures short { length (block_spelling block.now) ≤ longest_block }
 {
     out.reserve(encoded_len(block))?;
     let before = out.len();
@@ -119,7 +120,7 @@ pub fn encode_onto(out: &mut Vec<u8>, block: &Block) -> Result<(), AllocError>
 /// The one spelling of the block. Memory is asked for once, and for no more bytes than it has.
 pub fn encode(alloc: Global, block: &Block) -> Result<Vec<u8>, AllocError>
     ensures exact { IfOk result (λ bytes. bytes.items ≡ block_spelling block.now) }
-    ensures short { IfOk result (λ bytes. length bytes.items ≤ 32768) }
+    ensures short { IfOk result (λ bytes. length bytes.items ≤ longest_block) }
 {
     let mut out = Vec::new(alloc);
     encode_onto(&mut out, block)?;

@@ -16,6 +16,3 @@ pub use encoding::encode_reply;
 pub use fault::{BodyFault, WireFault};
 pub use laws::{frames_end_themselves, one_reply_spelling, one_request_spelling};
 pub use pl_block::NoMemory;
-
-#[cfg(test)]
-mod tests;
