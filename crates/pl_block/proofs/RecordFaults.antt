@@ -1,5 +1,5 @@
 -- The first fault of a number and records, as tests that are made one after the other find it.
-use Rattle.std.proofs.Common.{◌≡◌, ℕ, ◌+◌, ◌*◌, ◌<◌, ◌≤◌, true, false, ltb, List, [], ◌∷◌, ◌++◌, length, get_or, take, drop, Result, Ok, refl, sym, ap, subst, ◌∙◌, inl, inr}
+use Rattle.std.proofs.Common.{◌≡◌, ℕ, ◌+◌, ◌*◌, ◌<◌, ◌≤◌, true, false, ltb, List, [], ◌∷◌, ◌++◌, length, get_or, take, drop, Result, Ok, Err, refl, sym, ap, subst, ◌∙◌, inl, inr}
 use Rattle.std.specs.List.{flat_map, AllByRecursion}
 use Rattle.std.proofs.lemmas.Bool.{cases_lt, lt-ltb, le-ltb, ltb-false}
 use Rattle.std.proofs.lemmas.List.{at_drop_more, at_drop_all, take_more}
@@ -8,36 +8,35 @@ use Rattle.pl_block.specs.declared.fault.Fault.TheVariants.{TooLong}
 use Rattle.pl_block.specs.declared.fault.BlockFault.{BlockFault}
 use Rattle.pl_block.specs.declared.fault.BlockFault.TheVariants as faults
 use Rattle.pl_block.specs.declared.record.Record.{Record}
+use Rattle.pl_block.specs.Bounds.{last_lsn}
 use Rattle.pl_block.specs.Block.{Content, touched, IsRecord}
 use Rattle.pl_block.specs.Spelling.{record_spelling, block_spelling, IsBlock}
-use Rattle.pl_block.specs.Reading.{◌>>=◌, Fails, Gives, lsn_fault, len_fault}
+use Rattle.pl_block.specs.Reading.{◌>>=◌, Gives, lsn_fault, len_fault}
 use Rattle.pl_block.specs.Making.{record_fault, records_fault, block_made}
 use Rattle.pl_block.specs.declared.record.Record.TheVariants.{Put}
-use Rattle.pl_block.proofs.Fields.{guard_ok}
+use Rattle.pl_block.proofs.Fields.{bind_ok, guard_ok}
 use Rattle.pl_block.proofs.Puts.{put_fault-none}
-use Rattle.pl_block.proofs.Spellings.{length-counted, lsn_fault-none}
-
--- a fault is not changed by what would have come after it
-Fails-then : {A B : Type 0} (e : BlockFault) (r : Result A Fault) (f : A → Result B Fault) → Fails e r → Fails e (r >>= f)
-Fails-then faults.NoMemory r f h = tt
-Fails-then (faults.Malformed d) r f h = rw h refl
+use Rattle.pl_block.proofs.Spellings.{length-counted, lsn_fault-ok, lsn_fault-none}
 
 -- the record at a place, and those after it
 records_fault-drop : (records : List Record) (i : ℕ) (entry : Record) → i < length records → entry ≡ get_or records i entry → records_fault (drop i records) ≡ (record_fault entry >>= λ _. records_fault (drop (i + 1) records))
 unfolding records_fault
 records_fault-drop records i entry lt is = at_drop_more records_fault records i entry lt ∙ ap (λ (r : Record). record_fault r >>= λ _. records_fault (drop (i + 1) records)) (sym is)
 
-pub records_fail : (e : BlockFault) (records : List Record) (i : ℕ) (entry : Record) → i < length records → entry ≡ get_or records i entry → Fails e (record_fault entry) → records_fault (drop i records) ≡ records_fault records → Fails e (records_fault records)
-records_fail e records i entry lt is fails so_far =
-    subst (λ (read : Result (Unit {0}) Fault). Fails e read) (sym (records_fault-drop records i entry lt is) ∙ so_far) (Fails-then e (record_fault entry) (λ _. records_fault (drop (i + 1) records)) fails)
+-- the faults of the records, by that of the record at a place
+records_fault-by : (records : List Record) (i : ℕ) (entry : Record) (r : Result (Unit {0}) Fault) → i < length records → entry ≡ get_or records i entry → r ≡ record_fault entry → records_fault (drop i records) ≡ records_fault records → records_fault records ≡ (r >>= λ _. records_fault (drop (i + 1) records))
+records_fault-by records i entry r lt is tested so_far =
+    sym so_far ∙ records_fault-drop records i entry lt is ∙ ap (λ (x : Result (Unit {0}) Fault). x >>= λ _. records_fault (drop (i + 1) records)) (sym tested)
 
-pub records_pass : (records : List Record) (i : ℕ) (entry : Record) (u : Unit {0}) → i < length records → entry ≡ get_or records i entry → record_fault entry ≡ Ok u → records_fault (drop i records) ≡ records_fault records → records_fault (drop (i + 1) records) ≡ records_fault records
-records_pass records i entry u lt is passes so_far =
-    sym (ap (λ (r : Result (Unit {0}) Fault). r >>= λ _. records_fault (drop (i + 1) records)) passes) ∙ sym (records_fault-drop records i entry lt is) ∙ so_far
+pub records_fail : (records : List Record) (i : ℕ) (entry : Record) (fault : Fault) → i < length records → entry ≡ get_or records i entry → Err fault ≡ record_fault entry → records_fault (drop i records) ≡ records_fault records → Err fault ≡ records_fault records
+records_fail records i entry fault lt is tested so_far = sym (records_fault-by records i entry (Err fault) lt is tested so_far)
 
-pub records_are_sound : (records : List Record) (i : ℕ) → length records ≤ i → records_fault (drop i records) ≡ records_fault records → records_fault records ≡ Ok tt
+pub records_pass : (records : List Record) (i : ℕ) (entry : Record) (u : Unit {0}) → i < length records → entry ≡ get_or records i entry → Ok u ≡ record_fault entry → records_fault (drop i records) ≡ records_fault records → records_fault (drop (i + 1) records) ≡ records_fault records
+records_pass records i entry u lt is tested so_far = sym (records_fault-by records i entry (Ok u) lt is tested so_far)
+
+pub records_are_sound : (records : List Record) (i : ℕ) → length records ≤ i → records_fault (drop i records) ≡ records_fault records → Ok tt ≡ records_fault records
 unfolding records_fault
-records_are_sound records i le so_far = sym so_far ∙ at_drop_all records_fault records i le
+records_are_sound records i le so_far = sym (at_drop_all records_fault records i le) ∙ so_far
 
 AllByRecursion-push : {X : Type 0} (P : X → Type 0) (xs : List X) (x : X) → AllByRecursion P xs → P x → AllByRecursion P (xs ++ x ∷ [])
 AllByRecursion-push P [] x all one = (one, tt)
@@ -50,21 +49,22 @@ records_more records i entry lt is one all =
 
 -- ---- what is made
 
-pub made_fails-number : (e : BlockFault) (lsn : ℕ) (records : List Record) → Fails e (lsn_fault lsn) → Fails e (block_made lsn records)
+pub made_fails-length : (fault : Fault) (lsn : ℕ) (records : List Record) (u v : Unit {0}) → lsn_fault lsn ≡ Ok u → records_fault records ≡ Ok v → len_fault (length (block_spelling (record { lsn = lsn; records = records }))) ≡ Err fault → block_made lsn records ≡ Err fault
 unfolding block_made
-made_fails-number e lsn records fails = Fails-then e (lsn_fault lsn) _ fails
-
-pub made_fails-record : (e : BlockFault) (lsn : ℕ) (records : List Record) (u : Unit {0}) → lsn_fault lsn ≡ Ok u → Fails e (records_fault records) → Fails e (block_made lsn records)
-unfolding block_made
-made_fails-record e lsn records u ranged fails = rw ranged (Fails-then e (records_fault records) _ fails)
-
-pub made_fails-length : (e : BlockFault) (lsn : ℕ) (records : List Record) (u v : Unit {0}) → lsn_fault lsn ≡ Ok u → records_fault records ≡ Ok v → Fails e (len_fault (length (block_spelling (record { lsn = lsn; records = records })))) → Fails e (block_made lsn records)
-unfolding block_made
-made_fails-length e lsn records u v ranged sound fails = rw (ranged, sound) (Fails-then e (len_fault (length (block_spelling (record { lsn = lsn; records = records })))) _ fails)
+made_fails-length fault lsn records u v ranged sound fails = rw (ranged, sound, fails) refl
 
 pub made : (lsn : ℕ) (records : List Record) (u v w : Unit {0}) → lsn_fault lsn ≡ Ok u → records_fault records ≡ Ok v → len_fault (length (block_spelling (record { lsn = lsn; records = records }))) ≡ Ok w → block_made lsn records ≡ Ok (record { lsn = lsn; records = records })
 unfolding block_made
 made lsn records u v w ranged sound short = rw (ranged, sound, short) refl
+
+-- what is made has passed the tests of the number and of the records
+pub made_tested : (lsn : ℕ) (records : List Record) (b : Content) → block_made lsn records ≡ Ok b → (1 ≤ lsn) × (lsn ≤ last_lsn) × (records_fault records ≡ Ok tt)
+unfolding block_made
+made_tested lsn records b e =
+    let number = bind_ok (lsn_fault lsn) _ b e in
+    let ranged = lsn_fault-ok lsn number.value number.first in
+    let sound = bind_ok (records_fault records) _ b number.next in
+    (ranged.0, ranged.1, sound.first)
 
 -- ---- what is a block is made
 

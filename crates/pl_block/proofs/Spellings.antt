@@ -13,6 +13,7 @@ use Rattle.pl_block.specs.declared.fault.Fault.{Fault}
 use Rattle.pl_block.specs.declared.fault.Fault.TheVariants.{NumberOutOfRange, TooLong, BytesAfterEnd, WrongAnnotations}
 use Rattle.pl_block.specs.declared.record.Record.{Record}
 use Rattle.pl_block.specs.declared.record.Record.TheVariants.{Put}
+use Rattle.pl_block.specs.Bounds.{longest_block}
 use Rattle.pl_block.specs.Block.{Content, touched, IsRecord}
 use Rattle.pl_block.specs.Spelling.{annotations, record_spelling, block_spelling, IsBlock}
 use Rattle.pl_block.specs.Laws.{AreBytes, OneSpelling}
@@ -113,6 +114,13 @@ block_takes bytes b fits e =
     let closed = subst (λ (t : List ℕ). IsFront n.value.1 (flat_map record_spelling r.value.0) t) nothing four.0 in
     let whole = whole_block bytes l.value.0 p.value.0 r.value.0 l.value.1 p.value.1 n.value.1 short (one.1, one.2) four.2 same one.0 two counted closed in
     subst (λ (x : Content). IsBlock x × (bytes ≡ block_spelling x)) told.1 whole
+
+-- what is read as a block is not too long
+pub reading_short : (bytes : List ℕ) (b : Content) → block_reading bytes ≡ Ok b → length bytes ≤ longest_block
+unfolding block_reading
+reading_short bytes b e =
+    let g = bind_ok (len_fault (length bytes)) _ b e in
+    ltb-false _ _ (guard_ok (ltb longest_block (length bytes)) TooLong (Ok tt) g.value g.first).0
 
 pub block_again : (b : Content) → IsBlock b → block_reading (block_spelling b) ≡ Ok b
 unfolding block_reading

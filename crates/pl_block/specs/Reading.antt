@@ -31,6 +31,10 @@ Gives view (Err e) read = Fails e read
 abbrev pub Takes : {X Y : Type 0} → (X → Y) → Result X BlockFault → List ℕ → Result (Y × List ℕ) Fault → Type 0
 Takes view result rest read = Gives (λ x. (view x, rest)) result read
 
+-- a reader that needs no memory gave what is read, and left what follows it
+abbrev pub Reads : {X : Type 0} → Result X Fault → List ℕ → Result (X × List ℕ) Fault → Type 0
+Reads result rest read = read ≡ (result >>= λ x. Ok (x, rest))
+
 -- a number of so many bytes
 abbrev pub number_at : Width → List ℕ → Result (ℕ × List ℕ) Fault
 number_at w bytes = if nat_lt (length bytes) (byte_len w) then Err EndsInField else Ok (from_be_bytes w (take (byte_len w) bytes), drop (byte_len w) bytes)

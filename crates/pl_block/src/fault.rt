@@ -50,6 +50,22 @@ pub enum BlockFault {
     NoMemory,
 }
 
+impl From<TryGetError> for Fault {
+    ghost from_gives = { λ _ e. e ≡ EndsInField };
+
+    fn from(_missing: TryGetError) -> Fault {
+        Fault::EndsInField
+    }
+}
+
+impl From<Fault> for BlockFault {
+    ghost from_gives = { λ fault e. e ≡ Malformed fault };
+
+    fn from(fault: Fault) -> BlockFault {
+        BlockFault::Malformed(fault)
+    }
+}
+
 impl From<TryGetError> for BlockFault {
     ghost from_gives = { λ _ e. e ≡ Malformed EndsInField };
 

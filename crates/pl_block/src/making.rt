@@ -1,8 +1,9 @@
 //! A block, made of a number and records.
 
-ghost use Rattle.std.specs.Prelude.{IfOk, Ok};
+ghost use Rattle.std.specs.Prelude.{◌≡◌, ◌≤◌, IfOk, Ok};
 ghost use Rattle.std.specs.List.{AllByRecursion};
 ghost use Rattle.pl_block.specs.Block.{IsRecord};
+ghost use Rattle.pl_block.specs.Bounds.{last_lsn};
 ghost use Rattle.pl_block.specs.Spelling.{IsBlock};
 ghost use Rattle.pl_block.specs.Reading.{Gives};
 ghost use Rattle.pl_block.specs.Making.{record_fault, records_fault, block_made};
@@ -10,14 +11,14 @@ ghost use Rattle.pl_block.specs.Making.{record_fault, records_fault, block_made}
 use crate::block::Block;
 use crate::checks::{check_len, check_lsn, check_put};
 use crate::content::Parts;
-use crate::fault::BlockFault;
+use crate::fault::{BlockFault, Fault};
 use crate::partitions::touched_partitions;
 use crate::record::Record;
 use crate::writing::spelling_len;
 use std::alloc::Global;
 
-fn check_record(entry: &Record) -> Result<(), BlockFault>
-    ensures exact { Gives (λ x. x) result (record_fault entry.now) }
+fn check_record(entry: &Record) -> Result<(), Fault>
+    ensures value { result ≡ record_fault entry.now }
     ensures valid { IfOk result (λ _. IsRecord entry.now) }
 {
     let Record::Put {
@@ -30,8 +31,8 @@ fn check_record(entry: &Record) -> Result<(), BlockFault>
     check_put(*offset, bytes.len())
 }
 
-fn check_records(records: &[Record]) -> Result<(), BlockFault>
-    ensures exact { Gives (λ x. x) result (records_fault records.now) }
+fn check_records(records: &[Record]) -> Result<(), Fault>
+    ensures value { result ≡ records_fault records.now }
     ensures valid { IfOk result (λ _. AllByRecursion IsRecord records.now) }
 {
     for entry in records {
@@ -41,8 +42,11 @@ fn check_records(records: &[Record]) -> Result<(), BlockFault>
 }
 
 // What the number and the records make, with the partitions that they touch.
+#[tactic(auto, unfolding(crate::specs::Making::block_made))]
 fn parts_of(alloc: Global, lsn: u64, records: Vec<Record>) -> Result<Parts, BlockFault>
-    ensures { Gives (λ x. x) result (block_made lsn records.items) }
+    ensures exact { Gives (λ x. x) result (block_made lsn records.items) }
+    ensures no_memory { result ≡ Err BlockFault.NoMemory →
+        (1 ≤ lsn) × (lsn ≤ last_lsn) × (records_fault records.items ≡ Ok tt) }
 {
     check_lsn(lsn)?;
     check_records(&records)?;
@@ -68,6 +72,9 @@ impl Block {
             Gives (λ x. x) result (Ok (record { lsn = lsn; records = records.items })) }
         // Which fault it is.
         ensures exact { Gives (λ x. x) result (block_made lsn records.items) }
+        // Memory runs out only where the number and each record are in their ranges.
+        ensures no_memory { result ≡ Err BlockFault.NoMemory →
+            (1 ≤ lsn) × (lsn ≤ last_lsn) × (records_fault records.items ≡ Ok tt) }
     {
         Block::of_parts(alloc, parts_of(alloc, lsn, records)?)
     }

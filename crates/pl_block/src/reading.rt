@@ -1,10 +1,11 @@
 //! A block, read from its bytes.
 
-ghost use Rattle.std.specs.Prelude.{◌≡◌, IfOk, Ok};
+ghost use Rattle.std.specs.Prelude.{◌≡◌, ◌≤◌, length, IfOk, Ok};
 ghost use Rattle.pl_block.specs.Block.{Content, touched};
+ghost use Rattle.pl_block.specs.Bounds.{longest_block};
 ghost use Rattle.pl_block.specs.Laws.{AreBytes};
 ghost use Rattle.pl_block.specs.Spelling.{IsBlock, block_spelling};
-ghost use Rattle.pl_block.specs.Reading.{Gives, Takes, lsn_at, rising_at, annotations_at, put_at, record_at, records_at, block_reading};
+ghost use Rattle.pl_block.specs.Reading.{Gives, Reads, Takes, lsn_at, rising_at, annotations_at, put_at, record_at, records_at, block_reading};
 
 use crate::block::Block;
 use crate::checks::{check_len, check_lsn, check_put};
@@ -16,8 +17,8 @@ use bytes::{Buf, Bytes};
 use std::alloc::Global;
 
 #[tactic(auto, unfolding(crate::specs::Reading::lsn_at))]
-fn take_lsn(rest: &mut Bytes) -> Result<u64, BlockFault>
-    ensures { Takes (λ x. x) result rest.new (lsn_at rest.old) }
+fn take_lsn(rest: &mut Bytes) -> Result<u64, Fault>
+    ensures { Reads result rest.new (lsn_at rest.old) }
 {
     let lsn = rest.try_get_u64()?;
     check_lsn(lsn)?;
@@ -96,6 +97,7 @@ fn fields_of(alloc: Global, input: Bytes) -> Result<(u64, Vec<u16>, Vec<Record>)
     ensures exact { Gives (λ x. record { lsn = x.0; records = x.2.items }) result
         (block_reading input) }
     ensures value { IfOk result (λ x. x.1.items ≡ touched x.2.items) }
+    ensures no_memory { result ≡ Err BlockFault.NoMemory → length input ≤ longest_block }
 {
     check_len(input.len())?;
     let mut rest = input;
@@ -132,6 +134,8 @@ pub fn decode(alloc: Global, input: Bytes) -> Result<Block, BlockFault>
         Gives (λ x. x) result (Ok b) }
     // Which fault it is.
     ensures exact { Gives (λ x. x) result (block_reading input) }
+    // What is too long is refused before memory is asked for.
+    ensures no_memory { result ≡ Err BlockFault.NoMemory → length input ≤ longest_block }
 {
     each_is_byte(input.as_slice());
     let (lsn, partitions, records) = fields_of(alloc, input)?;

@@ -2,7 +2,7 @@ use Rattle.std.proofs.Common.{Err, subst}
 use Rattle.std.proofs.lemmas.Result.{err_from_is_err_and}
 use Rattle.pl_block.specs.Laws.{AreBytes}
 use Rattle.pl_block.specs.Reading.{Gives, block_reading}
-use Rattle.pl_block.proofs.Spellings.{block_takes, is_found, is_only}
+use Rattle.pl_block.proofs.Spellings.{block_takes, reading_short, is_found, is_only}
 use Rattle.pl_block.proofs.reading.decode.Goals as goal
 
 pub returns-in_err-lsn-clause-only : goal.returns-in_err-lsn-clause-only
@@ -21,6 +21,9 @@ given c = rw c.in_ok-lsn.ensures.exact c.of_parts.ensures.exact
 
 pub returns-clause-found : goal.returns-clause-found
 returns-clause-found c = is_found c.args.input c.of_parts.result (subst AreBytes c.as_slice.ensures c.each_is_byte.ensures) (given c)
+
+pub returns-clause-no_memory : goal.returns-clause-no_memory
+returns-clause-no_memory c = λ _. reading_short c.args.input _ c.in_ok-lsn.ensures.exact
 
 pub returns-clause-only : goal.returns-clause-only
 returns-clause-only c = λ b is_block e. is_only c.args.input c.of_parts.result b (given c) is_block e
