@@ -3,7 +3,7 @@ pub mod Equality
 pub mod Fields
 pub mod Fronts
 pub mod Annotations
-pub mod Kept
+pub mod Spare
 pub mod Puts
 pub mod Spellings
 pub mod RecordFaults

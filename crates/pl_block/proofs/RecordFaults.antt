@@ -6,7 +6,6 @@ use Rattle.std.proofs.lemmas.List.{at_drop_more, at_drop_all, take_more}
 use Rattle.pl_block.specs.declared.fault.Fault.{Fault}
 use Rattle.pl_block.specs.declared.fault.Fault.TheVariants.{TooLong}
 use Rattle.pl_block.specs.declared.fault.BlockFault.{BlockFault}
-use Rattle.pl_block.specs.declared.fault.BlockFault.TheVariants as faults
 use Rattle.pl_block.specs.declared.record.Record.{Record}
 use Rattle.pl_block.specs.Bounds.{last_lsn}
 use Rattle.pl_block.specs.Block.{Content, touched, IsRecord}

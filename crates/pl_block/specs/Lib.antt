@@ -1,4 +1,5 @@
 pub mod Bounds
+pub mod Spare
 pub mod Codes
 pub mod Block
 pub mod Spelling

@@ -1,10 +1,11 @@
 //! A block, written as its bytes.
 
-ghost use Rattle.std.specs.Prelude.{◌≡◌, ◌+◌, ◌*◌, ◌<◌, ◌≤◌, ◌^◌, ◌++◌, length, take, IfOk, OnOk, OnErr};
+ghost use Rattle.std.specs.Prelude.{◌≡◌, ◌+◌, ◌*◌, ◌<◌, ◌≤◌, ◌^◌, ◌++◌, length, IfOk, OnOk, OnErr};
 ghost use Rattle.std.specs.List.{flat_map};
 ghost use Rattle.std.specs.Int.{w16, to_be_bytes};
 ghost use Rattle.pl_block.specs.Bounds.{longest_block};
 ghost use Rattle.pl_block.specs.Spelling.{annotations, record_spelling, block_spelling};
+ghost use Rattle.pl_block.specs.Spare.{UsesSpare};
 
 use crate::block::Block;
 use crate::bounds::LONGEST_BLOCK;
@@ -42,7 +43,7 @@ pub(crate) fn spelling_len(partitions: &[u16], records: &[Record]) -> usize
 fn put_partitions(out: &mut Vec<u8>, partitions: &[u16]) -> Result<(), AllocError>
     requires { length partitions.now < 2 ^ 16 }
     ensures ok { OnOk result (out.new.items ≡ out.old.items ++ annotations partitions.now) }
-    ensures kept { take (length out.old.items) out.new.items ≡ out.old.items }
+    ensures spare { UsesSpare result out.old out.new (2 + 2 * length partitions.now) }
 {
     out.put_u16(partitions.len() as u16)?;
     for partition in partitions {
@@ -54,7 +55,7 @@ fn put_partitions(out: &mut Vec<u8>, partitions: &[u16]) -> Result<(), AllocErro
 fn put_record(out: &mut Vec<u8>, entry: &Record) -> Result<(), AllocError>
     requires { length (record_spelling entry.now) ≤ longest_block }
     ensures ok { OnOk result (out.new.items ≡ out.old.items ++ record_spelling entry.now) }
-    ensures kept { take (length out.old.items) out.new.items ≡ out.old.items }
+    ensures spare { UsesSpare result out.old out.new (length (record_spelling entry.now)) }
 {
     let Record::Put {
         page,
@@ -70,10 +71,11 @@ fn put_record(out: &mut Vec<u8>, entry: &Record) -> Result<(), AllocError>
 
 fn put_records(out: &mut Vec<u8>, records: &[Record]) -> Result<(), AllocError>
     requires few { length records.now < 2 ^ 16 }
-    requires short { length (flat_map record_spelling records.now) ≤ longest_block }
+    requires fits { length (flat_map record_spelling records.now) ≤ longest_block }
     ensures ok { OnOk result (out.new.items ≡ out.old.items
         ++ (to_be_bytes w16 (length records.now) ++ flat_map record_spelling records.now)) }
-    ensures kept { take (length out.old.items) out.new.items ≡ out.old.items }
+    ensures spare { UsesSpare result out.old out.new
+        (2 + length (flat_map record_spelling records.now)) }
 {
     out.put_u16(records.len() as u16)?;
     for entry in records {
@@ -85,14 +87,14 @@ fn put_records(out: &mut Vec<u8>, records: &[Record]) -> Result<(), AllocError>
 /// How many bytes the spelling of the block has, at least 12. No record's bytes are looked at.
 pub fn encoded_len(block: &Block) -> usize
     ensures value { result ≡ length (block_spelling block.now) }
-    ensures short { result ≤ longest_block }
+    ensures fits { result ≤ longest_block }
 {
     spelling_len(block.partitions(), block.records())
 }
 
 fn put_block(out: &mut Vec<u8>, block: &Block) -> Result<(), AllocError>
     ensures ok { OnOk result (out.new.items ≡ out.old.items ++ block_spelling block.now) }
-    ensures kept { take (length out.old.items) out.new.items ≡ out.old.items }
+    ensures spare { UsesSpare result out.old out.new (length (block_spelling block.now)) }
 {
     let partitions = block.partitions();
     let records = block.records();
@@ -101,26 +103,23 @@ fn put_block(out: &mut Vec<u8>, block: &Block) -> Result<(), AllocError>
     put_records(out, records)
 }
 
-/// Puts the one spelling of the block behind what `out` has. Memory is asked for once, where `out`
-/// lacks room for the whole of it; where it is refused, `out` has what it had.
+/// Appends the one spelling of the block to `out`. Memory is asked for once, where `out` lacks
+/// room for the whole of it; where the allocation fails, `out` has what it had.
 pub fn encode_onto(out: &mut Vec<u8>, block: &Block) -> Result<(), AllocError>
     ensures ok { OnOk result (out.new.items ≡ out.old.items ++ block_spelling block.now) }
     ensures err { OnErr result (out.new.items ≡ out.old.items) }
-    ensures short { length (block_spelling block.now) ≤ longest_block }
+    // It fails only where `out` lacks room for the spelling, and takes no more room than that.
+    ensures spare { UsesSpare result out.old out.new (length (block_spelling block.now)) }
+    ensures fits { length (block_spelling block.now) ≤ longest_block }
 {
     out.reserve(encoded_len(block))?;
-    let before = out.len();
-    let put = put_block(out, block);
-    if put.is_err() {
-        out.truncate(before);
-    }
-    put
+    put_block(out, block)
 }
 
 /// The one spelling of the block. Memory is asked for once, and for no more bytes than it has.
 pub fn encode(alloc: Global, block: &Block) -> Result<Vec<u8>, AllocError>
     ensures exact { IfOk result (λ bytes. bytes.items ≡ block_spelling block.now) }
-    ensures short { IfOk result (λ bytes. length bytes.items ≤ longest_block) }
+    ensures fits { IfOk result (λ bytes. length bytes.items ≤ longest_block) }
 {
     let mut out = Vec::new(alloc);
     encode_onto(&mut out, block)?;

@@ -2,8 +2,8 @@ use Rattle.std.proofs.Common.{◌∙◌, sym, arith}
 use Rattle.pl_block.proofs.Spellings.{length-counted}
 use Rattle.pl_block.proofs.writing.encoded_len.Goals as goal
 
-pub returns-clause-short : goal.returns-clause-short
-returns-clause-short c =
+pub returns-clause-fits : goal.returns-clause-fits
+returns-clause-fits c =
     let counted = length-counted c.args.block.now.lsn c.args.block.now.records _ _ c.partitions.ensures.value c.records.ensures.value in
     let short = c.records.ensures.valid.short in
     let full = c.spelling_len.ensures.full in
@@ -12,4 +12,4 @@ returns-clause-short c =
 pub returns-clause-value : goal.returns-clause-value
 returns-clause-value c =
     let counted = length-counted c.args.block.now.lsn c.args.block.now.records _ _ c.partitions.ensures.value c.records.ensures.value in
-    c.spelling_len.ensures.value (returns-clause-short c) ∙ sym counted
+    c.spelling_len.ensures.value (returns-clause-fits c) ∙ sym counted

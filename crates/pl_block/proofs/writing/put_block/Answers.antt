@@ -1,15 +1,27 @@
-use Rattle.pl_block.proofs.Kept.{kept_front}
-use Rattle.pl_block.proofs.Spellings.{counts}
+use Rattle.std.proofs.Common.{◌+◌, ◌*◌, length, arith}
+use Rattle.std.proofs.lemmas.Result.{err_from_is_err_and}
+use Rattle.pl_block.specs.Spelling.{block_spelling}
+use Rattle.pl_block.proofs.Spellings.{counts, length-counted}
+use Rattle.pl_block.proofs.Spare.{UsesSpare-then}
 use Rattle.pl_block.proofs.writing.put_block.Goals as goal
 
 pub put_partitions-requires : goal.put_partitions-requires
 put_partitions-requires c = rw c.partitions-partitions.ensures.value (counts c.args.block.now c.lsn.ensures.valid).0
 
-pub returns-in_err-put_partitions-clause-kept : goal.returns-in_err-put_partitions-clause-kept
-returns-in_err-put_partitions-clause-kept c = kept_front _ _ _ _ (c.in_ok-put_u64.ensures.ok) c.put_partitions.ensures.kept
-
 pub put_records-requires-clause-few : goal.put_records-requires-clause-few
 put_records-requires-clause-few c = rw c.records-records.ensures.value (counts c.args.block.now c.lsn.ensures.valid).1
 
-pub returns-clause-kept : goal.returns-clause-kept
-returns-clause-kept c = kept_front _ _ _ _ (c.in_ok-put_u64.ensures.ok) (kept_front _ _ _ _ (c.in_ok-put_partitions.ensures.ok) c.put_records.ensures.kept)
+pub returns-in_err-put_partitions-clause-spare : goal.returns-in_err-put_partitions-clause-spare
+returns-in_err-put_partitions-clause-spare c =
+    let p = err_from_is_err_and c.from_residual-in_err-put_partitions.result c.from_residual-in_err-put_partitions.ensures.1 in
+    let whole = length-counted c.args.block.now.lsn c.args.block.now.records _ _ c.partitions-partitions.ensures.value c.records-records.ensures.value in
+    let number = c.in_ok-put_u64.ensures.spare in
+    let lacked = c.in_err-put_partitions.ensures.spare in
+    rw p.1 (omega (arith, whole, number, lacked))
+
+pub returns-clause-spare : goal.returns-clause-spare
+returns-clause-spare c =
+    let whole = length-counted c.args.block.now.lsn c.args.block.now.records _ _ c.partitions-partitions.ensures.value c.records-records.ensures.value in
+    let number = c.in_ok-put_u64.ensures.spare in
+    let told = c.in_ok-put_partitions.ensures.spare in
+    UsesSpare-then c.put_records.result c.args.out.now c.put_partitions.new.out c.put_records.new.out (8 + (2 + 2 * length c.partitions-partitions.result.now)) _ (length (block_spelling c.args.block.now)) (omega (arith, number, told)) (omega (arith, whole)) c.put_records.ensures.spare
