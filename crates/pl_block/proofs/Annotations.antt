@@ -10,7 +10,8 @@ use Rattle.pl_block.specs.declared.record.Record.TheVariants.{Put}
 use Rattle.pl_block.specs.Block.{partition_of, touched, IsRecord}
 use Rattle.pl_block.specs.Spelling.{annotations}
 use Rattle.pl_block.specs.Laws.{AreBytes}
-use Rattle.pl_block.specs.Reading.{◌>>=◌, number_at, rising_at, annotations_at}
+use Rattle.pl_block.specs.Faults.{◌>>=◌}
+use Rattle.pl_block.specs.Reading.{number_at, rising_at, annotations_at}
 use Rattle.pl_block.proofs.Fields.{bind_ok, guard_ok, ok_is, IsFront, IsFront-then, wide16, number_takes, number_again}
 use Rattle.pl_block.proofs.Touched.{RisesFrom, In, In-from_Contains, Contains-from_In, touched_members}
 

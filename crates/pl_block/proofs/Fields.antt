@@ -7,7 +7,8 @@ use Rattle.std.proofs.lemmas.Nat.{be_bytes_2, be_bytes_4, be_bytes_8, from_be_by
 use Rattle.pl_block.specs.declared.fault.Fault.{Fault}
 use Rattle.pl_block.specs.declared.fault.Fault.TheVariants.{EndsInField}
 use Rattle.pl_block.specs.Laws.{AreBytes}
-use Rattle.pl_block.specs.Reading.{◌>>=◌, number_at}
+use Rattle.pl_block.specs.Faults.{◌>>=◌}
+use Rattle.pl_block.specs.Reading.{number_at}
 
 pub AreBytes-drop : (n : ℕ) (bytes : List ℕ) → AreBytes bytes → AreBytes (drop n bytes)
 AreBytes-drop n bytes h i = rw get_or-drop (h (n + i))

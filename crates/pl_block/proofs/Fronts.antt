@@ -5,10 +5,11 @@ use Rattle.std.proofs.lemmas.Bool.{lt-ltb, le-ltb}
 use Rattle.std.proofs.lemmas.List.{append-nil}
 use Rattle.pl_block.specs.declared.fault.Fault.{Fault}
 use Rattle.pl_block.specs.declared.fault.Fault.TheVariants.{EndsInField, PartitionNotAbove}
-use Rattle.pl_block.specs.declared.fault.BlockFault.{BlockFault}
-use Rattle.pl_block.specs.declared.fault.BlockFault.TheVariants as faults
+use Rattle.pl_block.specs.declared.fault.Failed.{Failed}
+use Rattle.pl_block.specs.declared.fault.Failed.TheVariants as faults
 use Rattle.pl_block.specs.declared.record.Record.{Record}
-use Rattle.pl_block.specs.Reading.{◌>>=◌, Fails, number_at, rising_at, record_at, records_at}
+use Rattle.pl_block.specs.Faults.{◌>>=◌, Fails}
+use Rattle.pl_block.specs.Reading.{number_at, rising_at, record_at, records_at}
 
 -- what was read before, and what is still read
 abbrev pub with_front : {X : Type 0} → List X → Result (List X × List ℕ) Fault → Result (List X × List ℕ) Fault
@@ -71,7 +72,7 @@ records_go_on front count i bytes first after total lt read so_far =
     sym one ∙ so_far
 
 -- the fault of a record is the fault of all
-pub records_end : (e : BlockFault) (front : List Record) (count i : ℕ) (bytes : List ℕ) (total : Result (List Record × List ℕ) Fault) → i < count → Fails e (record_at bytes)
+pub records_end : (e : Failed Fault) (front : List Record) (count i : ℕ) (bytes : List ℕ) (total : Result (List Record × List ℕ) Fault) → i < count → Fails e (record_at bytes)
     → with_front front (records_at (count - i) bytes) ≡ total → Fails e total
 unfolding records_at
 records_end faults.NoMemory front count i bytes total lt fails so_far = tt

@@ -13,7 +13,8 @@ use Rattle.pl_block.specs.declared.record.Record.TheVariants.{Put}
 use Rattle.pl_block.specs.Block.{IsRecord}
 use Rattle.pl_block.specs.Spelling.{record_spelling}
 use Rattle.pl_block.specs.Laws.{AreBytes}
-use Rattle.pl_block.specs.Reading.{◌>>=◌, number_at, put_fault, put_at, record_at, records_at}
+use Rattle.pl_block.specs.Faults.{◌>>=◌}
+use Rattle.pl_block.specs.Reading.{number_at, put_fault, put_at, record_at, records_at}
 use Rattle.pl_block.proofs.Fields.{AreBytes-drop, bind_ok, guard_ok, ok_is, IsFront, IsFront-then, wide16, wide32, number_takes, number_again}
 
 -- what the test of a Put tells

@@ -5,12 +5,13 @@ use Rattle.std.proofs.lemmas.Bool.{cases_lt, lt-ltb, le-ltb, ltb-false}
 use Rattle.std.proofs.lemmas.List.{at_drop_more, at_drop_all, take_more}
 use Rattle.pl_block.specs.declared.fault.Fault.{Fault}
 use Rattle.pl_block.specs.declared.fault.Fault.TheVariants.{TooLong}
-use Rattle.pl_block.specs.declared.fault.BlockFault.{BlockFault}
+use Rattle.pl_block.specs.declared.fault.Failed.{Failed}
 use Rattle.pl_block.specs.declared.record.Record.{Record}
 use Rattle.pl_block.specs.Bounds.{last_lsn}
 use Rattle.pl_block.specs.Block.{Content, touched, IsRecord}
 use Rattle.pl_block.specs.Spelling.{record_spelling, block_spelling, IsBlock}
-use Rattle.pl_block.specs.Reading.{◌>>=◌, Gives, lsn_fault, len_fault}
+use Rattle.pl_block.specs.Faults.{◌>>=◌, Gives}
+use Rattle.pl_block.specs.Reading.{lsn_fault, len_fault}
 use Rattle.pl_block.specs.Making.{record_fault, records_fault, block_made}
 use Rattle.pl_block.specs.declared.record.Record.TheVariants.{Put}
 use Rattle.pl_block.proofs.Fields.{bind_ok, guard_ok}
@@ -103,5 +104,5 @@ records_fault-none (r ∷ rs) h = rw (record_fault-none r h.0) (records_fault-no
 pub made_again : (b : Content) → IsBlock b → block_made b.lsn b.records ≡ Ok b
 made_again b h = made b.lsn b.records tt tt tt (lsn_fault-none b.lsn h.positive h.in_range) (records_fault-none b.records h.each) (len_fault-none (length (block_spelling b)) h.short)
 
-pub is_made : (lsn : ℕ) (records : List Record) (r : Result Content BlockFault) → Gives (λ x. x) r (block_made lsn records) → IsBlock (record { lsn = lsn; records = records }) → Gives (λ x. x) r (Ok (record { lsn = lsn; records = records }))
+pub is_made : (lsn : ℕ) (records : List Record) (r : Result Content (Failed Fault)) → Gives (λ x. x) r (block_made lsn records) → IsBlock (record { lsn = lsn; records = records }) → Gives (λ x. x) r (Ok (record { lsn = lsn; records = records }))
 is_made lsn records r given is_block = subst (λ (read : Result Content Fault). Gives (λ x. x) r read) (made_again (record { lsn = lsn; records = records }) is_block) given

@@ -17,8 +17,9 @@ use Rattle.pl_block.specs.Bounds.{longest_block}
 use Rattle.pl_block.specs.Block.{Content, touched, IsRecord}
 use Rattle.pl_block.specs.Spelling.{annotations, record_spelling, block_spelling, IsBlock}
 use Rattle.pl_block.specs.Laws.{AreBytes, OneSpelling}
-use Rattle.pl_block.specs.declared.fault.BlockFault.{BlockFault}
-use Rattle.pl_block.specs.Reading.{◌>>=◌, Gives, number_at, lsn_fault, len_fault, lsn_at, annotations_at, records_at, block_reading}
+use Rattle.pl_block.specs.declared.fault.Failed.{Failed}
+use Rattle.pl_block.specs.Faults.{◌>>=◌, Gives}
+use Rattle.pl_block.specs.Reading.{number_at, lsn_fault, len_fault, lsn_at, annotations_at, records_at, block_reading}
 use Rattle.pl_block.proofs.Fields.{bind_ok, guard_ok, ok_is, IsFront, IsFront-then, wide16, wide64, number_takes, number_again}
 use Rattle.pl_block.proofs.Touched.{RisesFrom-touched}
 use Rattle.pl_block.proofs.Annotations.{length-partitions, annotations_take, annotations_again, touched_small}
@@ -145,9 +146,9 @@ one_spelling = record { again = block_again; spelled = block_takes; same = same_
 
 -- ---- as a call answers
 
-pub is_found : (bytes : List ℕ) (r : Result Content BlockFault) → AreBytes bytes → Gives (λ x. x) r (block_reading bytes) → IfOk r (λ b. IsBlock b × (bytes ≡ block_spelling b))
+pub is_found : (bytes : List ℕ) (r : Result Content (Failed Fault)) → AreBytes bytes → Gives (λ x. x) r (block_reading bytes) → IfOk r (λ b. IsBlock b × (bytes ≡ block_spelling b))
 is_found bytes (Ok b) fits given = block_takes bytes b fits given
 is_found bytes (Err e) fits given = tt
 
-pub is_only : (bytes : List ℕ) (r : Result Content BlockFault) (b : Content) → Gives (λ x. x) r (block_reading bytes) → IsBlock b → bytes ≡ block_spelling b → Gives (λ x. x) r (Ok b)
+pub is_only : (bytes : List ℕ) (r : Result Content (Failed Fault)) (b : Content) → Gives (λ x. x) r (block_reading bytes) → IsBlock b → bytes ≡ block_spelling b → Gives (λ x. x) r (Ok b)
 is_only bytes r b given is_block e = subst (λ (read : Result Content Fault). Gives (λ x. x) r read) (ap block_reading e ∙ block_again b is_block) given

@@ -3,6 +3,7 @@ pub mod Spare
 pub mod Codes
 pub mod Block
 pub mod Spelling
+pub mod Faults
 pub mod Reading
 pub mod Making
 pub mod Laws

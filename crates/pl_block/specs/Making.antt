@@ -4,8 +4,9 @@ use Rattle.pl_block.specs.declared.fault.Fault.{Fault}
 use Rattle.pl_block.specs.declared.record.Record.{Record}
 use Rattle.pl_block.specs.declared.record.Record.TheVariants.{Put}
 use Rattle.pl_block.specs.Block.{Content}
+use Rattle.pl_block.specs.Faults.{◌>>=◌}
 use Rattle.pl_block.specs.Spelling.{block_spelling}
-use Rattle.pl_block.specs.Reading.{◌>>=◌, lsn_fault, put_fault, len_fault}
+use Rattle.pl_block.specs.Reading.{lsn_fault, put_fault, len_fault}
 
 -- the fault of one record, if any
 abbrev pub record_fault : Record → Result (Unit {0}) Fault

@@ -1,39 +1,14 @@
 -- Reading a block from left to right, with the first fault that is met.
-use Rattle.std.specs.Prelude.{◌≡◌, ℕ, zero, suc, ◌+◌, ◌||◌, List, [], ◌∷◌, length, take, drop, Result, Ok, Err, nat_eq, nat_lt, ◌==◌, if◌then◌else◌}
+use Rattle.std.specs.Prelude.{ℕ, zero, suc, ◌+◌, ◌||◌, List, [], ◌∷◌, length, take, drop, Result, Ok, Err, nat_eq, nat_lt, ◌==◌, if◌then◌else◌}
 use Rattle.std.specs.Cmp.Lexicographic.{pointwise}
 use Rattle.std.specs.Int.{Width, w16, w32, w64, byte_len, from_be_bytes}
 use Rattle.pl_block.specs.Bounds.{last_lsn, longest_block, page_size}
 use Rattle.pl_block.specs.declared.fault.Fault.{Fault}
 use Rattle.pl_block.specs.declared.fault.Fault.TheVariants.{EndsInField, NumberOutOfRange, PartitionNotAbove, UnknownKind, EmptyPut, PutPastPage, BytesAfterEnd, WrongAnnotations, TooLong}
-use Rattle.pl_block.specs.declared.fault.BlockFault.{BlockFault}
-use Rattle.pl_block.specs.declared.fault.BlockFault.TheVariants as faults
 use Rattle.pl_block.specs.declared.record.Record.{Record}
 use Rattle.pl_block.specs.declared.record.Record.TheVariants.{Put}
 use Rattle.pl_block.specs.Block.{Content, touched}
-
--- the next step, unless there was a fault
-infixl 10 ◌>>=◌
-abbrev pub ◌>>=◌ : {A B : Type 0} → Result A Fault → (A → Result B Fault) → Result B Fault
-(Ok x) >>= f = f x
-(Err e) >>= f = Err e
-
--- a call failed with the fault that is told, or for want of memory
-abbrev pub Fails : {Y : Type 0} → BlockFault → Result Y Fault → Type 0
-Fails faults.NoMemory read = Unit {0}
-Fails (faults.Malformed f) read = read ≡ Err f
-
--- a call gave what is told, seen by view, or failed with its fault or for want of memory
-abbrev pub Gives : {X Y : Type 0} → (X → Y) → Result X BlockFault → Result Y Fault → Type 0
-Gives view (Ok x) read = read ≡ Ok (view x)
-Gives view (Err e) read = Fails e read
-
--- a reader gave a value, and left what follows it
-abbrev pub Takes : {X Y : Type 0} → (X → Y) → Result X BlockFault → List ℕ → Result (Y × List ℕ) Fault → Type 0
-Takes view result rest read = Gives (λ x. (view x, rest)) result read
-
--- a reader that needs no memory gave what is read, and left what follows it
-abbrev pub Reads : {X : Type 0} → Result X Fault → List ℕ → Result (X × List ℕ) Fault → Type 0
-Reads result rest read = read ≡ (result >>= λ x. Ok (x, rest))
+use Rattle.pl_block.specs.Faults.{◌>>=◌}
 
 -- a number of so many bytes
 abbrev pub number_at : Width → List ℕ → Result (ℕ × List ℕ) Fault

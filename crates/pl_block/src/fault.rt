@@ -2,7 +2,7 @@
 
 ghost use Rattle.std.specs.Prelude.{◌≡◌, ◌≤◌};
 ghost use Rattle.pl_block.specs.declared.fault.Fault.TheVariants.{EndsInField};
-ghost use Rattle.pl_block.specs.declared.fault.BlockFault.TheVariants.{Malformed, NoMemory};
+ghost use Rattle.pl_block.specs.declared.fault.Failed.TheVariants.{Malformed, NoMemory};
 ghost use Rattle.pl_block.specs.Codes.{code_of};
 
 use bytes::TryGetError;
@@ -41,20 +41,31 @@ impl Fault {
     }
 }
 
-/// Why a call gave no block.
+/// Why a call gave no value.
 #[derive(Debug, Drop)]
-pub enum BlockFault {
-    /// What was handed in is no block: the first fault, in the order that the call tells.
-    Malformed(Fault),
-    /// Memory was refused.
+pub enum Failed<F> {
+    /// What was handed in is malformed: the first fault, in the order that the call tells.
+    Malformed(F),
+    /// Out of memory: an allocation failed.
     NoMemory,
 }
 
-impl From<TryGetError> for Fault {
-    ghost from_gives = { λ _ e. e ≡ EndsInField };
+/// Why a call gave no block.
+pub type BlockFault = Failed<Fault>;
 
-    fn from(_missing: TryGetError) -> Fault {
-        Fault::EndsInField
+impl<F: Drop> From<AllocError> for Failed<F> {
+    ghost from_gives = { λ _ e. e ≡ NoMemory };
+
+    fn from(_refused: AllocError) -> Failed<F> {
+        Failed::NoMemory
+    }
+}
+
+impl<T: Drop, F: Drop> From<AllocFailed<T>> for Failed<F> {
+    ghost from_gives = { λ _ e. e ≡ NoMemory };
+
+    fn from(_refused: AllocFailed<T>) -> Failed<F> {
+        Failed::NoMemory
     }
 }
 
@@ -66,26 +77,18 @@ impl From<Fault> for BlockFault {
     }
 }
 
+impl From<TryGetError> for Fault {
+    ghost from_gives = { λ _ e. e ≡ EndsInField };
+
+    fn from(_missing: TryGetError) -> Fault {
+        Fault::EndsInField
+    }
+}
+
 impl From<TryGetError> for BlockFault {
     ghost from_gives = { λ _ e. e ≡ Malformed EndsInField };
 
     fn from(_missing: TryGetError) -> BlockFault {
         BlockFault::Malformed(Fault::EndsInField)
-    }
-}
-
-impl From<AllocError> for BlockFault {
-    ghost from_gives = { λ _ e. e ≡ NoMemory };
-
-    fn from(_refused: AllocError) -> BlockFault {
-        BlockFault::NoMemory
-    }
-}
-
-impl<T: Drop> From<AllocFailed<T>> for BlockFault {
-    ghost from_gives = { λ _ e. e ≡ NoMemory };
-
-    fn from(_refused: AllocFailed<T>) -> BlockFault {
-        BlockFault::NoMemory
     }
 }

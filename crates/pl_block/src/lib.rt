@@ -19,7 +19,7 @@ mod writing;
 
 pub use block::Block;
 pub use bounds::{LAST_LSN, LONGEST_BLOCK, PAGE_SIZE, WINDOW};
-pub use fault::{BlockFault, Fault};
+pub use fault::{BlockFault, Failed, Fault};
 pub use laws::{one_spelling, same_blocks_are_equal};
 pub use reading::decode;
 pub use record::{PAGES_PER_PARTITION, Record};

@@ -5,7 +5,8 @@ ghost use Rattle.std.specs.List.{AllByRecursion};
 ghost use Rattle.pl_block.specs.Block.{IsRecord};
 ghost use Rattle.pl_block.specs.Bounds.{last_lsn};
 ghost use Rattle.pl_block.specs.Spelling.{IsBlock};
-ghost use Rattle.pl_block.specs.Reading.{Gives};
+ghost use Rattle.pl_block.specs.declared.fault.Failed.TheVariants.{NoMemory};
+ghost use Rattle.pl_block.specs.Faults.{Gives};
 ghost use Rattle.pl_block.specs.Making.{record_fault, records_fault, block_made};
 
 use crate::block::Block;
@@ -45,7 +46,7 @@ fn check_records(records: &[Record]) -> Result<(), Fault>
 #[tactic(auto, unfolding(crate::specs::Making::block_made))]
 fn parts_of(alloc: Global, lsn: u64, records: Vec<Record>) -> Result<Parts, BlockFault>
     ensures exact { Gives (λ x. x) result (block_made lsn records.items) }
-    ensures no_memory { result ≡ Err BlockFault.NoMemory →
+    ensures no_memory { result ≡ Err NoMemory →
         (1 ≤ lsn) × (lsn ≤ last_lsn) × (records_fault records.items ≡ Ok tt) }
 {
     check_lsn(lsn)?;
@@ -73,7 +74,7 @@ impl Block {
         // Which fault it is.
         ensures exact { Gives (λ x. x) result (block_made lsn records.items) }
         // Memory runs out only where the number and each record are in their ranges.
-        ensures no_memory { result ≡ Err BlockFault.NoMemory →
+        ensures no_memory { result ≡ Err NoMemory →
             (1 ≤ lsn) × (lsn ≤ last_lsn) × (records_fault records.items ≡ Ok tt) }
     {
         Block::of_parts(alloc, parts_of(alloc, lsn, records)?)

@@ -5,7 +5,9 @@ ghost use Rattle.pl_block.specs.Block.{Content, touched};
 ghost use Rattle.pl_block.specs.Bounds.{longest_block};
 ghost use Rattle.pl_block.specs.Laws.{AreBytes};
 ghost use Rattle.pl_block.specs.Spelling.{IsBlock, block_spelling};
-ghost use Rattle.pl_block.specs.Reading.{Gives, Reads, Takes, lsn_at, rising_at, annotations_at, put_at, record_at, records_at, block_reading};
+ghost use Rattle.pl_block.specs.declared.fault.Failed.TheVariants.{NoMemory};
+ghost use Rattle.pl_block.specs.Faults.{Gives, Reads, Takes};
+ghost use Rattle.pl_block.specs.Reading.{lsn_at, rising_at, annotations_at, put_at, record_at, records_at, block_reading};
 
 use crate::block::Block;
 use crate::checks::{check_len, check_lsn, check_put};
@@ -97,7 +99,7 @@ fn fields_of(alloc: Global, input: Bytes) -> Result<(u64, Vec<u16>, Vec<Record>)
     ensures exact { Gives (λ x. record { lsn = x.0; records = x.2.items }) result
         (block_reading input) }
     ensures value { IfOk result (λ x. x.1.items ≡ touched x.2.items) }
-    ensures no_memory { result ≡ Err BlockFault.NoMemory → length input ≤ longest_block }
+    ensures no_memory { result ≡ Err NoMemory → length input ≤ longest_block }
 {
     check_len(input.len())?;
     let mut rest = input;
@@ -135,7 +137,7 @@ pub fn decode(alloc: Global, input: Bytes) -> Result<Block, BlockFault>
     // Which fault it is.
     ensures exact { Gives (λ x. x) result (block_reading input) }
     // What is too long is refused before memory is asked for.
-    ensures no_memory { result ≡ Err BlockFault.NoMemory → length input ≤ longest_block }
+    ensures no_memory { result ≡ Err NoMemory → length input ≤ longest_block }
 {
     each_is_byte(input.as_slice());
     let (lsn, partitions, records) = fields_of(alloc, input)?;

@@ -1,7 +1,8 @@
 use Rattle.std.proofs.Common.{Err, subst}
 use Rattle.std.proofs.lemmas.Result.{err_from_is_err_and}
 use Rattle.pl_block.specs.Laws.{AreBytes}
-use Rattle.pl_block.specs.Reading.{Gives, block_reading}
+use Rattle.pl_block.specs.Faults.{Gives}
+use Rattle.pl_block.specs.Reading.{block_reading}
 use Rattle.pl_block.proofs.Spellings.{block_takes, reading_short, is_found, is_only}
 use Rattle.pl_block.proofs.reading.decode.Goals as goal
 
