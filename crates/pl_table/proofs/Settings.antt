@@ -12,7 +12,8 @@ use Rattle.pl_table.specs.declared.row.Row.{Row}
 use Rattle.pl_table.specs.declared.table.Principal.{Principal}
 use Rattle.pl_table.specs.Ops.{lists_op}
 use Rattle.pl_table.specs.Absent.{part_matches}
-use Rattle.pl_table.specs.Request.{Query, op_of, partitions_of}
+use Rattle.pl_table.specs.Request.{Query, op_of}
+use Rattle.pl_table.specs.Acts.{partitions_of}
 use Rattle.pl_table.specs.Row.{row_matches, range_matches}
 use Rattle.pl_table.specs.FirstMatch.{first_match_from}
 use Rattle.pl_table.specs.Setting.{speaks_of_setting, allows, somebody_sets}

@@ -35,3 +35,8 @@ Fails (faults.Malformed f) reading = reading ≡ Err f
 abbrev pub Gives : {X Y : Type 0} → (X → Y) → Result X ReadFault → Result Y TableFault → Type 0
 Gives view (Ok x) reading = reading ≡ Ok (view x)
 Gives view (Err e) reading = Fails e reading
+
+-- what a reader returned that read so, with no failed allocation
+abbrev pub returned : {X : Type 0} → Result X TableFault → Result X ReadFault
+returned (Ok x) = Ok x
+returned (Err f) = Err (faults.Malformed f)

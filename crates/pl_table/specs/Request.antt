@@ -1,12 +1,12 @@
--- What a request is, and what it names.
-use Rattle.std.specs.Prelude.{ℕ, ◌+◌, ◌-◌, ◌^◌, ◌≤◌, List, [], length}
-use Rattle.std.specs.List.{range_with_len}
-use Rattle.pl_block.specs.Block.{touched}
+-- What a request is: who asks and what, and which numbers it may have.
+use Rattle.std.specs.Prelude.{◌≡◌, ℕ, ◌^◌, ◌<◌, Bool, true, ◌&&◌, nat_le, length, IsTrue}
+use Rattle.pl_block.specs.Spelling.{IsBlock}
 use Rattle.pl_table.specs.declared.head.Head.{Head}
 use Rattle.pl_table.specs.declared.op.Op.{Op}
 use Rattle.pl_table.specs.declared.op.Op.TheVariants as ops
 use Rattle.pl_table.specs.declared.request.Act.{Act}
 use Rattle.pl_table.specs.declared.request.Act.TheVariants.{Write, Report, Pull, Status, Failover, SetTable}
+use Rattle.pl_table.specs.Bounds.{longest_text, most_pulled}
 
 -- who asks, and what
 pub record Query : Type 0 where
@@ -22,20 +22,37 @@ op_of Status = ops.Status
 op_of (Failover primary) = ops.Failover
 op_of (SetTable text) = ops.SetTable
 
--- each number of the act is in its range, and the length of its text
-abbrev pub InRange : Act → Type 0
-InRange (Write copy block) = Unit {0}
-InRange (Report lsn) = lsn ≤ 2 ^ 48
-InRange (Pull lo hi lsn max) = (lo ≤ hi) × (1 ≤ lsn) × (lsn ≤ 2 ^ 48) × (1 ≤ max) × (max ≤ 16)
-InRange Status = Unit {0}
-InRange (Failover primary) = Unit {0}
-InRange (SetTable text) = length text ≤ 65506
+-- a test whether the numbers of an act are in their ranges, and the length of its text
+abbrev pub is_in_range : Act → Bool
+is_in_range (Write copy block) = true
+is_in_range (Report lsn) = nat_le lsn (2 ^ 48)
+is_in_range (Pull lo hi lsn max) = nat_le lo hi && (nat_le 1 lsn && (nat_le lsn (2 ^ 48) && (nat_le 1 max && nat_le max most_pulled)))
+is_in_range Status = true
+is_in_range (Failover primary) = true
+is_in_range (SetTable text) = nat_le (length text) longest_text
 
--- the partitions that an act names: those that the block touches, all from lo to hi, or none
-abbrev pub partitions_of : Act → List ℕ
-partitions_of (Write copy block) = touched block.records
-partitions_of (Report lsn) = []
-partitions_of (Pull lo hi lsn max) = range_with_len lo (hi + 1 - lo)
-partitions_of Status = []
-partitions_of (Failover primary) = []
-partitions_of (SetTable text) = []
+-- the numbers of an act are in their ranges, and the length of its text
+abbrev pub InRange : Act → Type 0
+InRange act = IsTrue (is_in_range act)
+
+-- each part of a head fits its field
+pub record IsHead (h : Head) : Type 0 where
+  pub principal : h.principal < 2 ^ 32
+  pub token : length h.token ≡ 16
+  pub database : h.database < 2 ^ 32
+  pub epoch : h.epoch < 2 ^ 32
+
+-- each argument of an act fits its field, and a block is one by the grammar
+abbrev pub FitsActFields : Act → Type 0
+FitsActFields (Write copy block) = (copy < 256) × IsBlock block
+FitsActFields (Report lsn) = lsn < 2 ^ 64
+FitsActFields (Pull lo hi lsn max) = (lo < 2 ^ 16) × (hi < 2 ^ 16) × (lsn < 2 ^ 64) × (max < 2 ^ 16)
+FitsActFields Status = Unit {0}
+FitsActFields (Failover primary) = primary < 2 ^ 32
+FitsActFields (SetTable text) = Unit {0}
+
+-- a request in range: its head and its act fit their fields, and the act is in its ranges
+pub record IsRequest (q : Query) : Type 0 where
+  pub head : IsHead q.head
+  pub fields : FitsActFields q.act
+  pub in_range : InRange q.act

@@ -5,7 +5,8 @@ use Rattle.pl_table.specs.declared.range.PartitionRange.{PartitionRange}
 use Rattle.pl_table.specs.declared.row.Row.{Row}
 use Rattle.pl_table.specs.Ops.{same_role, lists_op}
 use Rattle.pl_table.specs.Absent.{part_matches}
-use Rattle.pl_table.specs.Request.{Query, op_of, partitions_of}
+use Rattle.pl_table.specs.Request.{Query, op_of}
+use Rattle.pl_table.specs.Acts.{partitions_of}
 
 -- the range has the partition
 abbrev pub is_within : PartitionRange → ℕ → Bool

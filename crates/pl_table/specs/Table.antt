@@ -3,6 +3,7 @@ use Rattle.std.specs.Prelude.{ℕ, ◌<◌, ◌≤◌, ◌==◌, nat_eq, List, [
 use Rattle.std.specs.List.{All, Contains, IsDistinct}
 use Rattle.pl_table.specs.declared.row.Row.{Row}
 use Rattle.pl_table.specs.declared.table.Principal.{Principal}
+use Rattle.pl_table.specs.Bounds.{most_principals, most_rows}
 use Rattle.pl_table.specs.Setting.{somebody_sets}
 
 -- the principals, and the rows in their order
@@ -15,11 +16,11 @@ pub record IsRowOf (ps : List Principal) (row : Row) : Type 0 where
   pub who : IfSome row.who (Contains (map (λ p. p.id) ps))
   pub range : IfSome row.range (λ range. range.from ≤ range.to)
 
--- there are 1 to 64 principals, no two of one id, and at most 256 rows, which let somebody set the table
+-- there are 1 to 64 principals, no two with one id, and at most 256 rows, which let somebody set the table
 pub record IsTable (t : WrittenTable) : Type 0 where
   pub some : 0 < length t.principals
-  pub few : length t.principals ≤ 64
-  pub few_rows : length t.rows ≤ 256
+  pub few : length t.principals ≤ most_principals
+  pub few_rows : length t.rows ≤ most_rows
   pub distinct : IsDistinct nat_eq (map (λ p. p.id) t.principals)
   pub each_row : All (IsRowOf t.principals) t.rows
   pub setter : IsTrue (somebody_sets t.principals t.rows)

@@ -6,6 +6,7 @@ use Rattle.pl_table.specs.declared.row.Row.{Row}
 use Rattle.pl_table.specs.declared.table.Principal.{Principal}
 use Rattle.pl_table.specs.declared.fault.TableFault.{TableFault}
 use Rattle.pl_table.specs.declared.fault.TableFault.TheVariants.{UnknownKey, PrincipalCount, RowCount, PrincipalKeys, PrincipalId, PrincipalToken, RepeatedId, RowKeys, RowWord, RowNumber, NoOperator}
+use Rattle.pl_table.specs.Bounds.{most_principals, most_rows}
 use Rattle.pl_table.specs.Fault.{◌>>=◌}
 use Rattle.pl_table.specs.Setting.{somebody_sets}
 use Rattle.pl_table.specs.Table.{WrittenTable}
@@ -32,7 +33,7 @@ listed_in_tree tree = if list_all is_top_key (keys_of tree) then both_lists (tab
 
 -- there are 1 to 64 principals, and at most 256 rows
 unfoldable pub counts_of : ℕ → ℕ → Result (Unit {0}) TableFault
-counts_of principals rows = if principals == 0 || nat_lt 64 principals then Err PrincipalCount else if nat_lt 256 rows then Err RowCount else Ok tt
+counts_of principals rows = if principals == 0 || nat_lt most_principals principals then Err PrincipalCount else if nat_lt most_rows rows then Err RowCount else Ok tt
 
 -- no two of the principals have one id
 abbrev pub have_own_ids : List Principal → Bool

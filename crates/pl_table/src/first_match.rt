@@ -1,6 +1,7 @@
 //! The first row that speaks of a request.
 
 ghost use Rattle.std.specs.Prelude.{◌≡◌, ◌≤◌, All, IfNone, IfSome, false, length};
+ghost use Rattle.pl_table.specs.Bounds.{most_rows};
 ghost use Rattle.pl_table.specs.Table.{IsTable};
 ghost use Rattle.pl_table.specs.FirstMatch.{IsFirstMatch, first_match_from};
 ghost use Rattle.pl_table.specs.Row.{row_matches};
@@ -24,8 +25,8 @@ impl Table {
 }
 
 fn first_in(rows: &[Row], request: &Request) -> Option<(u16, bool)>
-    requires { length rows.now ≤ 256 }
-    ensures { result ≡ first_match_from 1 rows.now request.now }
+    requires { length rows.now ≤ most_rows }
+    ensures value { result ≡ first_match_from 1 rows.now request.now }
 {
     for (index, row) in rows.iter().enumerate() {
         if row.matches(request) {

@@ -13,5 +13,5 @@ pub fn setting_is_a_first_match()
 /// What a text reads as is a table, as each `Table` is: the definition of the reading lets nothing
 /// else through.
 pub fn texts_read_as_tables()
-    ensures { TextsReadAsTables }
+    ensures table { TextsReadAsTables }
 {}

@@ -9,7 +9,8 @@
 mod fault;
 mod first_match;
 mod head;
-mod laws;
+mod known;
+pub mod laws;
 mod op;
 mod part;
 mod range;
@@ -23,14 +24,13 @@ mod verdict;
 
 pub use fault::{ReadFault, TableFault};
 pub use head::Head;
-pub use laws::{setting_is_a_first_match, texts_read_as_tables};
 pub use op::{Op, Role};
 pub use pl_block::NoMemory;
 pub use range::PartitionRange;
 pub use reading::read_table;
-pub use request::{Act, Request};
+pub use request::{Act, LONGEST_TEXT, MOST_PULLED, Request};
 pub use row::{Ops, Row};
-pub use table::{Principal, Table};
+pub use table::{MOST_PRINCIPALS, MOST_ROWS, Principal, Table};
 pub use table_text::TableText;
 pub use verdict::{Section, Verdict};
 

@@ -51,14 +51,14 @@ pub enum Op {
 impl Role {
     /// The role's number in a request, 1 to 4.
     pub fn number(self) -> u8
-        ensures { result ≡ role_number self }
+        ensures value { result ≡ role_number self }
     {
         self as u8
     }
 
     /// The role of this number, if there is one.
     pub fn of_number(number: u8) -> Option<Role>
-        ensures { result ≡ role_of_number number }
+        ensures value { result ≡ role_of_number number }
     {
         match number {
             1 => Some(Role::Primary),
@@ -71,7 +71,7 @@ impl Role {
 
     /// The word for the role, as it is printed.
     pub fn name(self) -> &'static str
-        ensures { result.now ≡ role_name self }
+        ensures value { result.now ≡ role_name self }
     {
         match self {
             Role::Primary => "primary",
@@ -84,7 +84,7 @@ impl Role {
     /// The role that the word names, if there is one.
     #[tactic(auto, unfolding(crate::specs::Part::role_of_name))]
     pub fn of_name(name: &str) -> Option<Role>
-        ensures { result ≡ role_of_name name.now }
+        ensures value { result ≡ role_of_name name.now }
     {
         let roles = [
             Role::Primary,
@@ -97,7 +97,7 @@ impl Role {
 
     /// Whether a principal in this role has the operation, whatever the table says.
     pub fn has(self, op: Op) -> bool
-        ensures { result ≡ has_op self op }
+        ensures value { result ≡ has_op self op }
     {
         match self {
             Role::Primary => matches!(
@@ -117,14 +117,14 @@ impl Role {
 impl Op {
     /// The operation's number in a request, 1 to 11.
     pub fn number(self) -> u8
-        ensures { result ≡ op_number self }
+        ensures value { result ≡ op_number self }
     {
         self as u8
     }
 
     /// The operation of this number, if there is one.
     pub fn of_number(number: u8) -> Option<Op>
-        ensures { result ≡ op_of_number number }
+        ensures value { result ≡ op_of_number number }
     {
         match number {
             1 => Some(Op::Write),
@@ -144,7 +144,7 @@ impl Op {
 
     /// The word for the operation, as it is printed.
     pub fn name(self) -> &'static str
-        ensures { result.now ≡ op_name self }
+        ensures value { result.now ≡ op_name self }
     {
         match self {
             Op::Write => "write",
@@ -164,7 +164,7 @@ impl Op {
     /// The operation that the word names, if there is one.
     #[tactic(auto, unfolding(crate::specs::Part::op_of_name))]
     pub fn of_name(name: &str) -> Option<Op>
-        ensures { result ≡ op_of_name name.now }
+        ensures value { result ≡ op_of_name name.now }
     {
         let ops = [
             Op::Write,

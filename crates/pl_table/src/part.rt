@@ -29,7 +29,7 @@ fn number_up_to(most: u32, value: &Value) -> Option<u32>
 
 #[tactic(auto, unfolding(crate::specs::Part::token_in))]
 fn token_in(value: &Value) -> Option<[u8; 16]>
-    ensures { result ≡ token_in (view value.now) }
+    ensures value { result ≡ token_in (view value.now) }
 {
     match value {
         Value::String(digits) => <[u8; 16]>::from_hex(digits.as_str()).ok(),
@@ -39,7 +39,7 @@ fn token_in(value: &Value) -> Option<[u8; 16]>
 
 #[tactic(auto, unfolding(crate::specs::Part::verdict_in))]
 fn verdict_in(value: &Value) -> Option<bool>
-    ensures { result ≡ verdict_in (view value.now) }
+    ensures value { result ≡ verdict_in (view value.now) }
 {
     match value {
         Value::String(word) if word.as_str() == "allow" => Some(true),
@@ -50,7 +50,7 @@ fn verdict_in(value: &Value) -> Option<bool>
 
 #[tactic(auto, unfolding(crate::specs::Part::role_in))]
 fn role_in(value: &Value) -> Option<Role>
-    ensures { result ≡ role_in (view value.now) }
+    ensures value { result ≡ role_in (view value.now) }
 {
     match value {
         Value::String(word) => Role::of_name(word.as_str()),
@@ -60,7 +60,7 @@ fn role_in(value: &Value) -> Option<Role>
 
 #[tactic(auto, unfolding(crate::specs::Part::op_in))]
 fn op_in(value: &Value) -> Option<Op>
-    ensures { result ≡ op_in (view value.now) }
+    ensures value { result ≡ op_in (view value.now) }
 {
     match value {
         Value::String(word) => Op::of_name(word.as_str()),
@@ -70,7 +70,7 @@ fn op_in(value: &Value) -> Option<Op>
 
 #[tactic(auto, unfolding(crate::specs::Part::id_under))]
 pub(crate) fn id_under(principal: &Value) -> Option<u32>
-    ensures { result ≡ id_under (view principal.now) }
+    ensures value { result ≡ id_under (view principal.now) }
 {
     match principal.get("id") {
         Some(value) => number_up_to(u32::MAX, value),
@@ -80,7 +80,7 @@ pub(crate) fn id_under(principal: &Value) -> Option<u32>
 
 #[tactic(auto, unfolding(crate::specs::Part::token_under))]
 pub(crate) fn token_under(principal: &Value) -> Option<[u8; 16]>
-    ensures { result ≡ token_under (view principal.now) }
+    ensures value { result ≡ token_under (view principal.now) }
 {
     match principal.get("token") {
         Some(value) => token_in(value),
@@ -90,7 +90,7 @@ pub(crate) fn token_under(principal: &Value) -> Option<[u8; 16]>
 
 #[tactic(auto, unfolding(crate::specs::Part::principal_of))]
 pub(crate) fn principal_of(principal: &Value) -> Option<Principal>
-    ensures { result ≡ principal_of (view principal.now) }
+    ensures value { result ≡ principal_of (view principal.now) }
 {
     let id = id_under(principal)?;
     let token = token_under(principal)?;
@@ -99,7 +99,7 @@ pub(crate) fn principal_of(principal: &Value) -> Option<Principal>
 
 #[tactic(auto, unfolding(crate::specs::Part::verdict_under))]
 pub(crate) fn verdict_under(row: &Value) -> Option<bool>
-    ensures { result ≡ verdict_under (view row.now) }
+    ensures value { result ≡ verdict_under (view row.now) }
 {
     match row.get("verdict") {
         Some(value) => verdict_in(value),
@@ -110,7 +110,7 @@ pub(crate) fn verdict_under(row: &Value) -> Option<bool>
 // The role of the row, which may be absent. `None` where it is there and is no role.
 #[tactic(auto, unfolding(crate::specs::Part::role_under, crate::specs::Part::if_there))]
 pub(crate) fn role_under(row: &Value) -> Option<Option<Role>>
-    ensures { result ≡ role_under (view row.now) }
+    ensures value { result ≡ role_under (view row.now) }
 {
     match row.get("role") {
         Some(value) => role_in(value).map(Some),
@@ -119,14 +119,14 @@ pub(crate) fn role_under(row: &Value) -> Option<Option<Role>>
 }
 
 fn are_ops(values: &[Value]) -> bool
-    ensures { result ≡ list_all (λ v. is_some (op_in (view v))) values.now }
+    ensures value { result ≡ list_all (λ v. is_some (op_in (view v))) values.now }
 {
     values.iter().all(|value| op_in(value).is_some())
 }
 
 // Whether there are values, each an operation.
 fn are_some_ops(values: &[Value]) -> bool
-    ensures { result
+    ensures value { result
         ≡ (nat_le 1 (length values.now)
         && list_all (λ v. is_some (op_in (view v))) values.now) }
 {
@@ -134,7 +134,7 @@ fn are_some_ops(values: &[Value]) -> bool
 }
 
 fn ops_from(alloc: Global, values: &[Value]) -> Result<Vec<Op>, AllocError>
-    ensures { IfOk result (λ ops. ops.items ≡ filter_map (λ v. op_in (view v)) values.now) }
+    ensures ok { IfOk result (λ ops. ops.items ≡ filter_map (λ v. op_in (view v)) values.now) }
 {
     values.iter().filter_map(op_in).collect(alloc)
 }
@@ -142,7 +142,7 @@ fn ops_from(alloc: Global, values: &[Value]) -> Result<Vec<Op>, AllocError>
 // Whether the value lists operations.
 #[tactic(auto, unfolding(crate::specs::Part::ops_in))]
 fn lists_ops(value: &Value) -> bool
-    ensures { result ≡ is_some (ops_in (view value.now)) }
+    ensures value { result ≡ is_some (ops_in (view value.now)) }
 {
     match value {
         Value::Array(values) => are_some_ops(values),
@@ -153,7 +153,7 @@ fn lists_ops(value: &Value) -> bool
 // The operations that the value lists, if it lists some.
 #[tactic(auto, unfolding(crate::specs::Part::ops_in))]
 fn ops_in(alloc: Global, value: &Value) -> Result<Option<Ops>, AllocError>
-    ensures { IfOk result (λ ops. ops ≡ ops_in (view value.now)) }
+    ensures ok { IfOk result (λ ops. ops ≡ ops_in (view value.now)) }
 {
     match value {
         Value::Array(values) => {
@@ -170,7 +170,7 @@ fn ops_in(alloc: Global, value: &Value) -> Result<Option<Ops>, AllocError>
 // Whether the operations of the row are absent, or are some.
 #[tactic(auto, unfolding(crate::specs::Part::ops_under, crate::specs::Part::if_there))]
 pub(crate) fn has_ops(row: &Value) -> bool
-    ensures { result ≡ is_some (ops_under (view row.now)) }
+    ensures value { result ≡ is_some (ops_under (view row.now)) }
 {
     match row.get("op") {
         Some(value) => lists_ops(value),
@@ -181,7 +181,7 @@ pub(crate) fn has_ops(row: &Value) -> bool
 // The operations of the row, which may be absent. `None` where they are there and are none.
 #[tactic(auto, unfolding(crate::specs::Part::ops_under, crate::specs::Part::if_there))]
 fn ops_under(alloc: Global, row: &Value) -> Result<Option<Option<Ops>>, AllocError>
-    ensures { IfOk result (λ ops. ops ≡ ops_under (view row.now)) }
+    ensures ok { IfOk result (λ ops. ops ≡ ops_under (view row.now)) }
 {
     match row.get("op") {
         Some(value) => Ok(ops_in(alloc, value)?.map(Some)),
@@ -190,7 +190,7 @@ fn ops_under(alloc: Global, row: &Value) -> Result<Option<Option<Ops>>, AllocErr
 }
 
 fn is_listed(principals: &[Principal], id: u32) -> bool
-    ensures { result ≡ list_any (λ p. p.id == id) principals.now }
+    ensures value { result ≡ list_any (λ p. p.id == id) principals.now }
 {
     principals.iter().any(|principal| principal.id == id)
 }
@@ -198,7 +198,7 @@ fn is_listed(principals: &[Principal], id: u32) -> bool
 // The principal whose id the value is, if it is that of one which is listed.
 #[tactic(auto, unfolding(crate::specs::Part::listed_in))]
 fn listed_in(principals: &[Principal], value: &Value) -> Option<u32>
-    ensures { result ≡ listed_in principals.now (view value.now) }
+    ensures value { result ≡ listed_in principals.now (view value.now) }
 {
     let id = number_up_to(u32::MAX, value)?;
     is_listed(principals, id).then_some(id)
@@ -207,7 +207,7 @@ fn listed_in(principals: &[Principal], value: &Value) -> Option<u32>
 // The principal of the row, which may be absent. `None` where it is there and is not listed.
 #[tactic(auto, unfolding(crate::specs::Part::who_under, crate::specs::Part::if_there))]
 pub(crate) fn who_under(principals: &[Principal], row: &Value) -> Option<Option<u32>>
-    ensures { result ≡ who_under principals.now (view row.now) }
+    ensures value { result ≡ who_under principals.now (view row.now) }
 {
     match row.get("who") {
         Some(value) => listed_in(principals, value).map(Some),
@@ -217,7 +217,7 @@ pub(crate) fn who_under(principals: &[Principal], row: &Value) -> Option<Option<
 
 #[tactic(auto, unfolding(crate::specs::Part::range_between))]
 fn range_between(from: &Value, to: &Value) -> Option<PartitionRange>
-    ensures { result ≡ range_between (number_up_to 65535 (view from.now))
+    ensures value { result ≡ range_between (number_up_to 65535 (view from.now))
         (number_up_to 65535 (view to.now)) }
 {
     let from = number_up_to(65_535, from)?;
@@ -236,7 +236,7 @@ fn range_between(from: &Value, to: &Value) -> Option<PartitionRange>
 // partition, or the first is above the last.
 #[tactic(auto, unfolding(crate::specs::Part::range_under, crate::specs::Part::range_from))]
 pub(crate) fn range_under(row: &Value) -> Option<Option<PartitionRange>>
-    ensures { result ≡ range_under (view row.now) }
+    ensures value { result ≡ range_under (view row.now) }
 {
     match (row.get("from"), row.get("to")) {
         (Some(from), Some(to)) => range_between(from, to).map(Some),
@@ -248,7 +248,7 @@ pub(crate) fn range_under(row: &Value) -> Option<Option<PartitionRange>>
 // Whether the verdict, the role and the operations of the row are written in their words.
 #[tactic(auto, unfolding(crate::specs::Part::has_words))]
 pub(crate) fn has_words(row: &Value) -> bool
-    ensures { result ≡ has_words (view row.now) }
+    ensures value { result ≡ has_words (view row.now) }
 {
     verdict_under(row).is_some() && role_under(row).is_some() && has_ops(row)
 }
@@ -256,7 +256,7 @@ pub(crate) fn has_words(row: &Value) -> bool
 // Whether the principal and the range of the row are written in their numbers.
 #[tactic(auto, unfolding(crate::specs::Part::has_numbers))]
 pub(crate) fn has_numbers(principals: &[Principal], row: &Value) -> bool
-    ensures { result ≡ has_numbers principals.now (view row.now) }
+    ensures value { result ≡ has_numbers principals.now (view row.now) }
 {
     who_under(principals, row).is_some() && range_under(row).is_some()
 }
@@ -268,7 +268,7 @@ pub(crate) fn row_of(
     principals: &[Principal],
     row: &Value,
 ) -> Result<Option<Row>, AllocError>
-    ensures { IfOk result (λ read. read ≡ row_of principals.now (view row.now)) }
+    ensures ok { IfOk result (λ read. read ≡ row_of principals.now (view row.now)) }
 {
     let Some(allows) = verdict_under(row) else {
         return Ok(None);

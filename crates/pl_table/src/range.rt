@@ -17,21 +17,21 @@ impl PartitionRange {
 
     /// Whether the partition is one of the range.
     pub(crate) fn has(&self, partition: u16) -> bool
-        ensures { result ≡ is_within self.now partition }
+        ensures value { result ≡ is_within self.now partition }
     {
         self.from <= partition && partition <= self.to
     }
 
     /// Whether all of the partitions are in the range.
     pub(crate) fn has_all(&self, partitions: &[u16]) -> bool
-        ensures { result ≡ list_all (is_within self.now) partitions.now }
+        ensures value { result ≡ list_all (is_within self.now) partitions.now }
     {
         partitions.iter().all(|partition| self.has(*partition))
     }
 
     /// Whether at least one of the partitions is in the range.
     pub(crate) fn has_any(&self, partitions: &[u16]) -> bool
-        ensures { result ≡ list_any (is_within self.now) partitions.now }
+        ensures value { result ≡ list_any (is_within self.now) partitions.now }
     {
         partitions.iter().any(|partition| self.has(*partition))
     }
@@ -39,7 +39,7 @@ impl PartitionRange {
     /// Whether all of the partitions from `lo` to `hi`, which is not below it, are in the range.
     pub(crate) fn has_all_between(&self, lo: u16, hi: u16) -> bool
         requires { lo ≤ hi }
-        ensures { result ≡ list_all (is_within self.now) (range_with_len lo (hi + 1 - lo)) }
+        ensures value { result ≡ list_all (is_within self.now) (range_with_len lo (hi + 1 - lo)) }
     {
         self.from <= lo && hi <= self.to
     }
@@ -48,7 +48,7 @@ impl PartitionRange {
     /// range.
     pub(crate) fn has_any_between(&self, lo: u16, hi: u16) -> bool
         requires { lo ≤ hi }
-        ensures { result ≡ list_any (is_within self.now) (range_with_len lo (hi + 1 - lo)) }
+        ensures value { result ≡ list_any (is_within self.now) (range_with_len lo (hi + 1 - lo)) }
     {
         self.from.max(lo) <= self.to.min(hi)
     }

@@ -3,6 +3,7 @@
 ghost use Rattle.std.specs.Prelude.{◌≡◌, ◌==◌, ◌&&◌, ◌<◌, ◌≤◌, is_some, nat_eq, length, map, All, find, filter_map, option_copied, IfOk, OnOk};
 ghost use Rattle.std.specs.List.{list_all, list_any, IsDistinct};
 ghost use Rattle.toml.specs.View.{view, table_view};
+ghost use Rattle.pl_table.specs.Bounds.{most_principals, most_rows};
 ghost use Rattle.pl_table.specs.Fault.{Gives};
 ghost use Rattle.pl_table.specs.Part.{id_under, token_under, principal_of, has_words, has_numbers, row_of};
 ghost use Rattle.pl_table.specs.Tree.{is_principal, is_row};
@@ -13,7 +14,7 @@ ghost use Rattle.pl_table.specs.Setting.{speaks_of_setting, allows, somebody_set
 use crate::fault::{ReadFault, TableFault};
 use crate::op::{Op, Role};
 use crate::row::Row;
-use crate::table::{Principal, Table};
+use crate::table::{MOST_PRINCIPALS, MOST_ROWS, Principal, Table};
 use crate::{part, tree};
 use std::alloc::{AllocError, Global};
 use toml::{Table as Tree, Value};
@@ -25,7 +26,7 @@ use toml::{Table as Tree, Value};
 /// have any length; `NoMemory` comes where memory is refused.
 #[tactic(auto, unfolding(crate::specs::TableText::table_reading))]
 pub fn read_table(alloc: Global, text: &[u8]) -> Result<Table, ReadFault>
-    ensures { Gives (λ t. t) result (table_reading text.now) }
+    ensures exact { Gives (λ t. t) result (table_reading text.now) }
 {
     let tree = tree::read_tree(alloc, text)?;
     let lists = lists_in(&tree)?;
@@ -40,13 +41,13 @@ struct Lists<'a> {
 }
 
 fn each_is_principal(listed: &[Value]) -> bool
-    ensures { result ≡ list_all (λ v. is_principal (view v)) listed.now }
+    ensures value { result ≡ list_all (λ v. is_principal (view v)) listed.now }
 {
     listed.iter().all(tree::is_principal)
 }
 
 fn each_has_id(listed: &[Value]) -> bool
-    ensures { result ≡ list_all (λ v. is_some (id_under (view v))) listed.now }
+    ensures value { result ≡ list_all (λ v. is_some (id_under (view v))) listed.now }
 {
     listed
         .iter()
@@ -54,7 +55,7 @@ fn each_has_id(listed: &[Value]) -> bool
 }
 
 fn each_has_token(listed: &[Value]) -> bool
-    ensures { result ≡ list_all (λ v. is_some (token_under (view v))) listed.now }
+    ensures value { result ≡ list_all (λ v. is_some (token_under (view v))) listed.now }
 {
     listed
         .iter()
@@ -62,19 +63,19 @@ fn each_has_token(listed: &[Value]) -> bool
 }
 
 fn principals_from(alloc: Global, listed: &[Value]) -> Result<Vec<Principal>, AllocError>
-    ensures { IfOk result (λ ps. ps.items ≡ filter_map (λ v. principal_of (view v)) listed.now) }
+    ensures ok { IfOk result (λ ps. ps.items ≡ filter_map (λ v. principal_of (view v)) listed.now) }
 {
     listed.iter().filter_map(part::principal_of).collect(alloc)
 }
 
 fn is_listed_by(principals: &[Principal], id: u32) -> bool
-    ensures { result ≡ list_any (λ p. id == p.id) principals.now }
+    ensures value { result ≡ list_any (λ p. id == p.id) principals.now }
 {
     principals.iter().any(|principal| id == principal.id)
 }
 
 fn have_own_ids(principals: &[Principal]) -> bool
-    ensures { result ≡ have_own_ids principals.now }
+    ensures value { result ≡ have_own_ids principals.now }
 {
     let mut rest = principals;
     while let Some((first, others)) = rest.split_first() {
@@ -109,19 +110,19 @@ fn read_principals(alloc: Global, listed: &[Value]) -> Result<Vec<Principal>, Re
 }
 
 fn each_is_row(listed: &[Value]) -> bool
-    ensures { result ≡ list_all (λ v. is_row (view v)) listed.now }
+    ensures value { result ≡ list_all (λ v. is_row (view v)) listed.now }
 {
     listed.iter().all(tree::is_row)
 }
 
 fn each_has_words(listed: &[Value]) -> bool
-    ensures { result ≡ list_all (λ v. has_words (view v)) listed.now }
+    ensures value { result ≡ list_all (λ v. has_words (view v)) listed.now }
 {
     listed.iter().all(part::has_words)
 }
 
 fn each_has_numbers(principals: &[Principal], listed: &[Value]) -> bool
-    ensures { result ≡ list_all (λ v. has_numbers principals.now (view v)) listed.now }
+    ensures value { result ≡ list_all (λ v. has_numbers principals.now (view v)) listed.now }
 {
     listed.iter().all(|row| part::has_numbers(principals, row))
 }
@@ -131,7 +132,7 @@ fn rows_from(
     principals: &[Principal],
     listed: &[Value],
 ) -> Result<Vec<Row>, AllocError>
-    ensures { IfOk result
+    ensures ok { IfOk result
         (λ rows. rows.items ≡ filter_map (λ v. row_of principals.now (view v)) listed.now) }
 {
     let mut rows = Vec::new(alloc);
@@ -168,14 +169,14 @@ fn read_rows(
 
 // The first row that speaks of the principal's setting the table as operator.
 fn row_on_setting(rows: &[Row], id: u32) -> Option<&Row>
-    ensures { option_copied result ≡ find (speaks_of_setting id) rows.now }
+    ensures value { option_copied result ≡ find (speaks_of_setting id) rows.now }
 {
     rows.iter()
         .find(|row| row.speaks_of(id, Role::Operator, Op::SetTable))
 }
 
 fn may_set_table(rows: &[Row], id: u32) -> bool
-    ensures { result ≡ allows (find (speaks_of_setting id) rows.now) }
+    ensures value { result ≡ allows (find (speaks_of_setting id) rows.now) }
 {
     match row_on_setting(rows, id) {
         Some(row) => row.allows,
@@ -185,7 +186,7 @@ fn may_set_table(rows: &[Row], id: u32) -> bool
 
 #[tactic(auto, unfolding(crate::specs::Setting::somebody_sets))]
 fn somebody_sets(principals: &[Principal], rows: &[Row]) -> bool
-    ensures { result ≡ somebody_sets principals.now rows.now }
+    ensures value { result ≡ somebody_sets principals.now rows.now }
 {
     principals
         .iter()
@@ -195,7 +196,7 @@ fn somebody_sets(principals: &[Principal], rows: &[Row]) -> bool
 // The lists of a tree that has no other key.
 #[tactic(auto, unfolding(crate::specs::TableText::listed_in_tree))]
 fn lists_in(tree: &Tree) -> Result<Lists<'_>, ReadFault>
-    ensures { Gives
+    ensures exact { Gives
         (λ l. listed_of (map view l.principals.now) (map view l.rows.now))
         result (listed_in_tree (table_view tree.now)) }
 {
@@ -215,13 +216,13 @@ fn lists_in(tree: &Tree) -> Result<Lists<'_>, ReadFault>
 fn check_counts(principals: usize, rows: usize) -> Result<(), ReadFault>
     ensures exact { Gives (λ u. u) result (counts_of principals rows) }
     ensures some { OnOk result (0 < principals) }
-    ensures few { OnOk result (principals ≤ 64) }
-    ensures few_rows { OnOk result (rows ≤ 256) }
+    ensures few { OnOk result (principals ≤ most_principals) }
+    ensures few_rows { OnOk result (rows ≤ most_rows) }
 {
-    if principals == 0 || 64 < principals {
+    if principals == 0 || MOST_PRINCIPALS < principals {
         return Err(ReadFault::Malformed(TableFault::PrincipalCount));
     }
-    if 256 < rows {
+    if MOST_ROWS < rows {
         return Err(ReadFault::Malformed(TableFault::RowCount));
     }
     Ok(())
@@ -230,7 +231,7 @@ fn check_counts(principals: usize, rows: usize) -> Result<(), ReadFault>
 // The table of the two lists.
 #[tactic(auto, unfolding(crate::specs::TableText::table_of))]
 fn read_lists(alloc: Global, principals: &[Value], rows: &[Value]) -> Result<Table, ReadFault>
-    ensures { Gives (λ t. t) result
+    ensures exact { Gives (λ t. t) result
         (table_of (listed_of (map view principals.now) (map view rows.now))) }
 {
     check_counts(principals.len(), rows.len())?;

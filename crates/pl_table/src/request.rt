@@ -1,22 +1,20 @@
 //! What is asked.
 
-ghost use Rattle.std.specs.Prelude.{◌≡◌, ◌↔◌, IsSome, IfSome, IsTrue};
-ghost use Rattle.pl_table.specs.Request.{InRange, op_of};
+ghost use Rattle.std.specs.Prelude.{◌≡◌, ◌↔◌, IsSome, IfSome};
+ghost use Rattle.pl_table.specs.Request.{InRange, IsHead, IsRequest, is_in_range, op_of};
 
 use crate::head::Head;
+use crate::known::{act_fits, head_fits};
 use crate::op::Op;
 use crate::table_text::TableText;
-use pl_block::Block;
+use pl_block::{Block, LAST_LSN};
 use std::marker::Model;
 
-/// The greatest number of a block.
-pub(crate) const MAX_LSN: u64 = 1 << 48;
-
 /// The most blocks that one pull asks for.
-pub(crate) const MAX_PULLED: u16 = 16;
+pub const MOST_PULLED: u16 = 16;
 
 /// The most bytes of a table's text.
-pub(crate) const MAX_TEXT: usize = 65_506;
+pub const LONGEST_TEXT: usize = 65_506;
 
 /// An operation with its arguments.
 #[derive(Debug, Drop)]
@@ -53,7 +51,7 @@ pub enum Act {
 impl Act {
     /// Which operation it is.
     pub fn op(&self) -> Op
-        ensures { result ≡ op_of self.now }
+        ensures value { result ≡ op_of self.now }
     {
         match self {
             Act::Write { .. } => Op::Write,
@@ -65,23 +63,26 @@ impl Act {
         }
     }
 
-    // Whether each number, and the length of a text, is in its range.
-    fn is_in_range(&self) -> bool
-        ensures { IsTrue result ↔ InRange self.now }
+    /// Whether the numbers of the act are in their ranges, and the length of its text: the LSN of a
+    /// report is at most 2^48; a pull names a partition, an LSN from 1 to 2^48 and 1 to 16 blocks; a
+    /// text has at most 65,506 bytes. The other acts have no range but that of their fields.
+    pub fn is_in_range(&self) -> bool
+        ensures value { result ≡ is_in_range self.now }
     {
         match self {
             Act::Write { .. } => true,
-            Act::Report { lsn } => *lsn <= MAX_LSN,
+            Act::Report { lsn } => *lsn <= LAST_LSN,
             Act::Pull { lo, hi, lsn, max } => {
-                lo <= hi && 1 <= *lsn && *lsn <= MAX_LSN && 1 <= *max && *max <= MAX_PULLED
+                lo <= hi && 1 <= *lsn && *lsn <= LAST_LSN && 1 <= *max && *max <= MOST_PULLED
             }
             Act::Status | Act::Failover { .. } => true,
-            Act::SetTable { text } => text.text().len() <= MAX_TEXT,
+            Act::SetTable { text } => text.text().len() <= LONGEST_TEXT,
         }
     }
 }
 
-/// An act, and who asks for it. Its numbers, and the length of a text, are in their ranges.
+/// An act, and who asks for it. The act is in its ranges, and the block of a write is one by the
+/// grammar of blocks.
 #[derive(Debug, Drop)]
 pub struct Request {
     head: Head,
@@ -89,32 +90,35 @@ pub struct Request {
 }
 
 impl Model for Request {
-    ghost use Rattle.pl_table.specs.Request.{Query, InRange};
+    ghost use Rattle.pl_table.specs.Request.{Query, IsRequest};
 
     ghost Value = { Query };
 
     ghost view = { λ r. record { head = r.head; act = r.act } };
 
-    ghost invariant = { λ r. InRange r.act };
+    ghost invariant = { λ r. IsRequest (record { head = r.head; act = r.act }) };
 }
 
 impl Request {
-    /// The request, or `None` where a number of the act, or the length of its text, is out of its
-    /// range; what was handed in is dropped then.
+    /// The request of this principal for this act. `None` where the act is not in its ranges; the
+    /// arguments are dropped then.
     pub fn new(head: Head, act: Act) -> Option<Request>
         ensures found { IsSome result ↔ InRange act }
         ensures some { IfSome result (λ r. (r.head ≡ head) × (r.act ≡ act)) }
+        ensures valid { IfSome result (λ r. IsRequest r) }
     {
-        if act.is_in_range() {
-            Some(Request { head, act })
-        } else {
-            None
+        if !act.is_in_range() {
+            return None;
         }
+        head_fits(&head);
+        act_fits(&act);
+        Some(Request { head, act })
     }
 
     /// Who asks.
     pub fn head(&self) -> &Head
-        ensures { result.now ≡ self.now.head }
+        ensures value { result.now ≡ self.now.head }
+        ensures valid { IsRequest self.now }
     {
         &self.head
     }
@@ -122,7 +126,7 @@ impl Request {
     /// What is asked.
     pub fn act(&self) -> &Act
         ensures value { result.now ≡ self.now.act }
-        ensures in_range { InRange self.now.act }
+        ensures valid { IsRequest self.now }
     {
         &self.act
     }
@@ -131,7 +135,7 @@ impl Request {
     pub fn into_parts(self) -> (Head, Act)
         ensures head { result.0 ≡ self.head }
         ensures act { result.1 ≡ self.act }
-        ensures in_range { InRange self.act }
+        ensures valid { IsRequest self }
     {
         let Request { head, act } = self;
         (head, act)

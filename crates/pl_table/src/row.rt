@@ -1,7 +1,8 @@
 //! A row of the table.
 
 ghost use Rattle.std.specs.Prelude.{◌≡◌, ◌==◌, ◌&&◌, IfOk};
-ghost use Rattle.pl_table.specs.Request.{InRange, partitions_of};
+ghost use Rattle.pl_table.specs.Request.{InRange};
+ghost use Rattle.pl_table.specs.Acts.{partitions_of};
 ghost use Rattle.pl_table.specs.Absent.{part_matches};
 ghost use Rattle.pl_table.specs.Row.{range_matches, row_matches};
 ghost use Rattle.pl_table.specs.Ops.{same_role, lists_op};
@@ -30,21 +31,21 @@ impl Model for Ops {
 impl Ops {
     /// The operations in this order.
     pub fn new(items: Vec<Op>) -> Ops
-        ensures { result ≡ items.items }
+        ensures value { result ≡ items.items }
     {
         Ops { items }
     }
 
     /// The operations in their order.
     pub fn as_slice(&self) -> &[Op]
-        ensures { result.now ≡ self.now }
+        ensures value { result.now ≡ self.now }
     {
         &self.items
     }
 
     // The same operations, in memory of their own.
     pub(crate) fn clone_ops(&self) -> Result<Ops, AllocError>
-        ensures { IfOk result (λ ops. ops ≡ self.now) }
+        ensures ok { IfOk result (λ ops. ops ≡ self.now) }
     {
         Ok(Ops {
             items: copy_of(*self.items.allocator(), &self.items)?,
@@ -53,14 +54,14 @@ impl Ops {
 
     /// The operations in their order, given back with the memory that they stand in.
     pub fn into_vec(self) -> Vec<Op>
-        ensures { result.items ≡ self }
+        ensures value { result.items ≡ self }
     {
         self.items
     }
 }
 
 fn copy_of(alloc: Global, ops: &[Op]) -> Result<Vec<Op>, AllocError>
-    ensures { IfOk result (λ copy. copy.items ≡ ops.now) }
+    ensures ok { IfOk result (λ copy. copy.items ≡ ops.now) }
 {
     ops.iter().copied().collect(alloc)
 }
@@ -86,7 +87,7 @@ pub struct Row {
 impl Row {
     /// Whether the row speaks of the request.
     pub fn matches(&self, request: &Request) -> bool
-        ensures { result ≡ row_matches self.now request.now }
+        ensures value { result ≡ row_matches self.now request.now }
     {
         let head = request.head();
         matches_who(self.who, head.principal)
@@ -97,7 +98,7 @@ impl Row {
 
     // The same row, in memory of its own.
     pub(crate) fn clone_row(&self) -> Result<Row, AllocError>
-        ensures { IfOk result (λ row. row ≡ self.now) }
+        ensures ok { IfOk result (λ row. row ≡ self.now) }
     {
         let op = match &self.op {
             Some(ops) => Some(ops.clone_ops()?),
@@ -115,7 +116,7 @@ impl Row {
     // Whether the row speaks of an operation without partitions that the principal asks for in the
     // role: the range, if there is one, matches.
     pub(crate) fn speaks_of(&self, principal: u32, role: Role, op: Op) -> bool
-        ensures { result ≡ (part_matches (λ who. who == principal) self.now.who
+        ensures value { result ≡ (part_matches (λ who. who == principal) self.now.who
             && (part_matches (same_role role) self.now.role
             && part_matches (lists_op op) self.now.op)) }
     {
@@ -126,7 +127,7 @@ impl Row {
 }
 
 fn matches_who(who: Option<u32>, principal: u32) -> bool
-    ensures { result ≡ part_matches (λ id. id == principal) who }
+    ensures value { result ≡ part_matches (λ id. id == principal) who }
 {
     match who {
         Some(id) => id == principal,
@@ -135,7 +136,7 @@ fn matches_who(who: Option<u32>, principal: u32) -> bool
 }
 
 fn matches_role(part: Option<Role>, role: Role) -> bool
-    ensures { result ≡ part_matches (same_role role) part }
+    ensures value { result ≡ part_matches (same_role role) part }
 {
     match part {
         Some(listed) => listed.number() == role.number(),
@@ -144,7 +145,7 @@ fn matches_role(part: Option<Role>, role: Role) -> bool
 }
 
 fn matches_op(part: &Option<Ops>, op: Op) -> bool
-    ensures { result ≡ part_matches (lists_op op) part.now }
+    ensures value { result ≡ part_matches (lists_op op) part.now }
 {
     match part {
         Some(ops) => has_op_of(ops.as_slice(), op),
@@ -153,14 +154,14 @@ fn matches_op(part: &Option<Ops>, op: Op) -> bool
 }
 
 fn has_op_of(ops: &[Op], op: Op) -> bool
-    ensures { result ≡ lists_op op ops.now }
+    ensures value { result ≡ lists_op op ops.now }
 {
     ops.iter().any(|listed| listed.number() == op.number())
 }
 
 fn matches_range(allows: bool, part: Option<PartitionRange>, act: &Act) -> bool
     requires { InRange act.now }
-    ensures { result ≡ part_matches (range_matches allows (partitions_of act.now)) part }
+    ensures value { result ≡ part_matches (range_matches allows (partitions_of act.now)) part }
 {
     match part {
         Some(range) => range_covers(allows, range, act),
@@ -170,7 +171,7 @@ fn matches_range(allows: bool, part: Option<PartitionRange>, act: &Act) -> bool
 
 fn range_covers(allows: bool, range: PartitionRange, act: &Act) -> bool
     requires { InRange act.now }
-    ensures { result ≡ range_matches allows (partitions_of act.now) range }
+    ensures value { result ≡ range_matches allows (partitions_of act.now) range }
 {
     match act {
         Act::Write { block, .. } => {

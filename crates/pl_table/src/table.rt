@@ -8,6 +8,12 @@ use std::alloc::{AllocError, Global};
 use std::fmt;
 use std::marker::Model;
 
+/// The most principals of a table.
+pub const MOST_PRINCIPALS: usize = 64;
+
+/// The most rows of a table.
+pub const MOST_ROWS: usize = 256;
+
 /// Who may ask at all. Its debug text does not have the token.
 #[derive(Clone, Copy, PartialEq, Eq)]
 pub struct Principal {
@@ -49,7 +55,7 @@ impl Table {
     // The table with these principals and rows.
     pub(crate) fn of_parts(principals: Vec<Principal>, rows: Vec<Row>) -> Table
         requires { IsTable (record { principals = principals.items; rows = rows.items }) }
-        ensures { result ≡ record { principals = principals.items; rows = rows.items } }
+        ensures value { result ≡ record { principals = principals.items; rows = rows.items } }
     {
         Table { principals, rows }
     }
@@ -72,7 +78,7 @@ impl Table {
 
     /// An equal table, in memory of its own.
     pub fn clone_table(&self) -> Result<Table, AllocError>
-        ensures { IfOk result (λ t. t ≡ self.now) }
+        ensures ok { IfOk result (λ t. t ≡ self.now) }
     {
         let alloc = *self.rows.allocator();
         let principals = copy_of_principals(alloc, &self.principals)?;
@@ -93,13 +99,13 @@ impl Table {
 }
 
 fn copy_of_principals(alloc: Global, principals: &[Principal]) -> Result<Vec<Principal>, AllocError>
-    ensures { IfOk result (λ copy. copy.items ≡ principals.now) }
+    ensures ok { IfOk result (λ copy. copy.items ≡ principals.now) }
 {
     principals.iter().copied().collect(alloc)
 }
 
 fn copy_of_rows(alloc: Global, rows: &[Row]) -> Result<Vec<Row>, AllocError>
-    ensures { IfOk result (λ copy. copy.items ≡ rows.now) }
+    ensures ok { IfOk result (λ copy. copy.items ≡ rows.now) }
 {
     let mut copy = Vec::new(alloc);
     for row in rows {
@@ -109,7 +115,7 @@ fn copy_of_rows(alloc: Global, rows: &[Row]) -> Result<Vec<Row>, AllocError>
 }
 
 fn token_in(principals: &[Principal], id: u32) -> Option<[u8; 16]>
-    ensures { result ≡ token_of id principals.now }
+    ensures value { result ≡ token_of id principals.now }
 {
     for principal in principals {
         if principal.id == id {

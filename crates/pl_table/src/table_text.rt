@@ -1,6 +1,7 @@
 //! A text, beside what it reads as.
 
-ghost use Rattle.std.specs.Prelude.{◌≡◌, IfOk};
+ghost use Rattle.std.specs.Prelude.{◌≡◌, Err, IfOk, OnErr};
+ghost use Rattle.pl_table.specs.Fault.{returned};
 ghost use Rattle.pl_table.specs.TableText.{table_reading};
 
 use crate::fault::{ReadFault, TableFault};
@@ -38,36 +39,45 @@ impl Model for TableText {
     ghost invariant = { λ t. t.reading ≡ table_reading t.text.items };
 }
 
+// The reading that a call of the reader returned, unless an allocation failed.
+fn reading_of(read: Result<Table, ReadFault>) -> Result<Result<Table, TableFault>, AllocError>
+    ensures ok { IfOk result (λ reading. read ≡ returned reading) }
+    ensures err { OnErr result (read ≡ Err ReadFault.NoMemory) }
+{
+    match read {
+        Ok(table) => Ok(Ok(table)),
+        Err(ReadFault::Malformed(fault)) => Ok(Err(fault)),
+        Err(ReadFault::NoMemory) => Err(AllocError),
+    }
+}
+
 impl TableText {
-    /// Reads the text. Where memory is refused the text is dropped.
+    /// Reads the text. `Err` where an allocation of the reader failed; the text is dropped then. A
+    /// text with a fault is a `TableText` too: [`reading`](TableText::reading) has the fault.
     pub fn new(alloc: Global, text: Vec<u8>) -> Result<TableText, AllocError>
-        ensures { IfOk result (λ t. t ≡ text.items) }
+        ensures ok { IfOk result (λ t. t ≡ text.items) }
     {
-        let reading = match read_table(alloc, &text) {
-            Ok(table) => Ok(table),
-            Err(ReadFault::Malformed(fault)) => Err(fault),
-            Err(ReadFault::NoMemory) => return Err(AllocError),
-        };
+        let reading = reading_of(read_table(alloc, &text))?;
         Ok(TableText { text, reading })
     }
 
     /// The text, byte for byte.
     pub fn text(&self) -> &[u8]
-        ensures { result.now ≡ self.now }
+        ensures value { result.now ≡ self.now }
     {
         &self.text
     }
 
     /// The table that the text writes down, or the first of its faults.
     pub fn reading(&self) -> &Result<Table, TableFault>
-        ensures { result.now ≡ table_reading self.now }
+        ensures value { result.now ≡ table_reading self.now }
     {
         &self.reading
     }
 
     /// The table that the text writes down, or the first of its faults. The text is dropped.
     pub fn into_reading(self) -> Result<Table, TableFault>
-        ensures { result ≡ table_reading self }
+        ensures value { result ≡ table_reading self }
     {
         let TableText { reading, .. } = self;
         reading

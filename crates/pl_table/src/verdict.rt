@@ -17,7 +17,7 @@ pub enum Section {
 impl Section {
     /// The section's number in a reply, 1 to 3.
     pub fn number(self) -> u8
-        ensures { result ≡ section_number self }
+        ensures value { result ≡ section_number self }
     {
         self as u8
     }

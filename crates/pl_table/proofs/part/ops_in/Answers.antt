@@ -8,10 +8,10 @@ use Rattle.pl_table.proofs.part.ops_in.Goals as goal
 pub returns-in_ok-ops_from-in-Array : goal.returns-in_ok-ops_from-in-Array
 returns-in_ok-ops_from-in-Array c =
     let t : (nat_le 1 (length c.in-Array.values.items) && list_all (λ x. is_some (op_in (view x))) c.in-Array.values.items) ≡ true = cc in
-    rw (c.new.ensures, c.in_ok-ops_from-in-Array.ensures, c.deref-then-are_some_ops.ensures.value, c.in-Array.is, ops_in-Array c.in-Array.values true t) refl
+    record { ok = rw (c.new.ensures.value, c.in_ok-ops_from-in-Array.ensures.ok, c.deref-then-are_some_ops.ensures.value, c.in-Array.is, ops_in-Array c.in-Array.values true t) refl }
 
 pub returns-else-are_some_ops : goal.returns-else-are_some_ops
 returns-else-are_some_ops c =
     let t : (nat_le 1 (length c.in-Array.values.items) && list_all (λ x. is_some (op_in (view x))) c.in-Array.values.items) ≡ false = cc in
     let e = ops_in-Array c.in-Array.values false t in
-    cc
+    record { ok = cc }

@@ -6,10 +6,8 @@ use Rattle.pl_table.proofs.reading.lists_in.Goals as goal
 
 pub returns-then-not-has_top_keys : goal.returns-then-not-has_top_keys
 unfolding listed_in_tree
-returns-then-not-has_top_keys c =
-    rw (← known_keys is_top_key c.args.tree.now.entries, ← c.has_top_keys.ensures, c.if-not-has_top_keys.true) refl
+returns-then-not-has_top_keys c = record { exact = rw (← known_keys is_top_key c.args.tree.now.entries, ← c.has_top_keys.ensures.value, c.if-not-has_top_keys.true) refl }
 
 pub returns-in-Some-Some : goal.returns-in-Some-Some
 unfolding listed_in_tree
-returns-in-Some-Some c =
-    rw (← known_keys is_top_key c.args.tree.now.entries, ← c.has_top_keys.ensures, c.if-not-has_top_keys.false, ← c.tables_under.ensures, ← c.tables_under-2.ensures, c.in-Some-Some.is-0, c.in-Some-Some.is-1) refl
+returns-in-Some-Some c = record { exact = rw (← known_keys is_top_key c.args.tree.now.entries, ← c.has_top_keys.ensures.value, c.if-not-has_top_keys.false, ← c.tables_under.ensures.value, ← c.tables_under-2.ensures.value, c.in-Some-Some.is-0, c.in-Some-Some.is-1) refl }

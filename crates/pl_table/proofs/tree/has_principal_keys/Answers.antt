@@ -4,4 +4,4 @@ use Rattle.pl_table.proofs.Trees.{has_only-Table}
 use Rattle.pl_table.proofs.tree.has_principal_keys.Goals as goal
 
 pub returns-in-Table : goal.returns-in-Table
-returns-in-Table c = c.are_principal_keys.ensures ∙ rw c.in-Table.is (sym (has_only-Table is_principal_key c.in-Table.members))
+returns-in-Table c = record { value = c.are_principal_keys.ensures.value ∙ rw c.in-Table.is (sym (has_only-Table is_principal_key c.in-Table.members)) }

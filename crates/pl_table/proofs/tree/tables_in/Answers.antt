@@ -9,10 +9,10 @@ pub returns-then-are_tables : goal.returns-then-are_tables
 returns-then-are_tables c =
     let t : list_all (λ x. is_table (view x)) c.in-Array.values.items ≡ true = cc in
     let e = tables_in-Array c.in-Array.values true t in
-    cc
+    record { value = cc }
 
 pub returns-else-are_tables : goal.returns-else-are_tables
 returns-else-are_tables c =
     let t : list_all (λ x. is_table (view x)) c.in-Array.values.items ≡ false = cc in
     let e = tables_in-Array c.in-Array.values false t in
-    cc
+    record { value = cc }

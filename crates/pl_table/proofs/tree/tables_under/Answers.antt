@@ -7,10 +7,10 @@ pub returns-in-Some : goal.returns-in-Some
 unfolding tables_under
 returns-in-Some c =
     let found = table_get c.get.result c.args.key.now c.args.tree.now.entries c.get.ensures.value in
-    c.tables_in.ensures ∙ rw (← rw c.in-Some.is at found)
+    record { value = c.tables_in.ensures.value ∙ rw (← rw c.in-Some.is at found) }
 
 pub returns-in-None : goal.returns-in-None
 unfolding tables_under
 returns-in-None c =
     let found = table_get c.get.result c.args.key.now c.args.tree.now.entries c.get.ensures.value in
-    rw (← rw c.in-None.is at found)
+    record { value = rw (← rw c.in-None.is at found) }

@@ -6,4 +6,4 @@ use Rattle.pl_table.proofs.range.PartitionRange.has_all_between.Goals as goal
 pub returns-then-self-lo : goal.returns-then-self-lo
 returns-then-self-lo c =
     let all = list_all-between c.args.self.now c.args.lo c.args.hi c.requires in
-    grind (arith, nat_tests)
+    record { value = grind (arith, nat_tests) }

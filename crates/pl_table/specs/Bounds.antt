@@ -1,0 +1,18 @@
+-- The bounds of a request and of a table.
+use Rattle.std.specs.Prelude.{ℕ}
+
+-- the most bytes of a table's text
+abbrev pub longest_text : ℕ
+longest_text = 65506
+
+-- the most blocks that one pull asks for
+abbrev pub most_pulled : ℕ
+most_pulled = 16
+
+-- the most principals of a table
+abbrev pub most_principals : ℕ
+most_principals = 64
+
+-- the most rows of a table
+abbrev pub most_rows : ℕ
+most_rows = 256

@@ -1,0 +1,41 @@
+//! What is read is known. A number behind a reference is known to be in the range of its type once
+//! the body reads it, and a block to be one by its grammar once it is asked for its LSN. The
+//! functions here only read, so that their callers may rest on those facts.
+
+ghost use Rattle.pl_table.specs.Request.{IsHead, FitsActFields};
+
+use crate::head::Head;
+use crate::request::Act;
+
+// Each part of a head fits its field.
+pub(crate) fn head_fits(head: &Head)
+    ensures fits { IsHead head.now }
+{
+    let _principal = head.principal;
+    let _token = head.token;
+    let _database = head.database;
+    let _epoch = head.epoch;
+}
+
+// Each argument of an act fits its field.
+pub(crate) fn act_fits(act: &Act)
+    ensures fits { FitsActFields act.now }
+{
+    match act {
+        Act::Write { copy, block } => {
+            let _copy = *copy;
+            let _lsn = block.lsn();
+        }
+        Act::Report { lsn } => {
+            let _lsn = *lsn;
+        }
+        Act::Pull { lo, hi, lsn, max } => {
+            let _partitions = (*lo, *hi);
+            let _blocks = (*lsn, *max);
+        }
+        Act::Failover { primary } => {
+            let _primary = *primary;
+        }
+        Act::Status | Act::SetTable { .. } => {}
+    }
+}
