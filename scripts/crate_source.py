@@ -1,0 +1,164 @@
+"""Reads what the crates define, for scripts/pages: functions with the labels of their clauses, laws, edits, names."""
+
+import functools
+import pathlib
+import re
+
+ROOT = pathlib.Path(__file__).resolve().parent.parent
+
+
+class Function:
+    """A function with the labels of its clauses; of a method, `owner` is its type."""
+
+    def __init__(self, file, owner, name, is_public, requires, ensures):
+        self.file, self.owner, self.name, self.is_public = file, owner, name, is_public
+        self.requires, self.ensures = requires, ensures
+
+    @property
+    def is_law(self):
+        return "laws" in self.file.with_suffix("").parts
+
+    @property
+    def has_contract(self):
+        return bool(self.requires or self.ensures)
+
+    @property
+    def path(self):
+        return f"{self.owner}::{self.name}" if self.owner else self.name
+
+    @property
+    def labels(self):
+        return [label for label in self.ensures if label]
+
+
+def without_comments(text):
+    """The text with comments and the insides of string literals blanked, at its length."""
+    blank = lambda found: re.sub(r"[^\n]", " ", found.group())
+    pattern = r"""//[^\n]*|/\*.*?\*/|r#".*?"#|"(?:\\.|[^"\\])*"|'(?:\\.|[^'\\])'"""
+    return re.sub(pattern, blank, text, flags=re.S)
+
+
+def end_of(text, at, opening, closing):
+    """The place behind the bracket that closes the one at `at`."""
+    depth = 0
+    for place in range(at, len(text)):
+        if text[place] == opening:
+            depth += 1
+        elif text[place] == closing:
+            depth -= 1
+            if depth == 0:
+                return place + 1
+    return len(text)
+
+
+CLAUSE = re.compile(r"\s*(requires|ensures)\*?(?:\s+([a-z_][A-Za-z0-9_]*))?\s*\{")
+GHOST = re.compile(r"\s*ghost\s+\w+\s*:\s*\{")
+
+
+def clauses_at(text, at):
+    """The labels of the clauses from here on: of requires, and of ensures; '' for a clause with none."""
+    found = {"requires": [], "ensures": []}
+    while True:
+        clause, ghost = CLAUSE.match(text, at), GHOST.match(text, at)
+        if clause:
+            found[clause.group(1)].append(clause.group(2) or "")
+        elif not ghost:
+            return found["requires"], found["ensures"]
+        at = end_of(text, (clause or ghost).end() - 1, "{", "}")
+
+
+def impls_of(text):
+    """Each impl block: its type, the trait if it has one, and where it begins and ends."""
+    for found in re.finditer(r"^\s*impl\b([^{;]*)\{", text, flags=re.M):
+        head = re.sub(r"<[^<>]*>", "", re.sub(r"<[^<>]*>", "", found.group(1))).split(" where ")[0]
+        trait, _, owner = head.rpartition(" for ")
+        owner = owner.strip().split("::")[-1]
+        yield owner, trait.strip(), found.end(), end_of(text, found.end() - 1, "{", "}")
+
+
+def without_tests(text):
+    """The text up to and without what is compiled for tests alone."""
+    for found in reversed(list(re.finditer(r"#\[cfg\(test\)\]\s*(?:pub )?mod \w+\s*\{", text))):
+        end = end_of(text, found.end() - 1, "{", "}")
+        text = text[: found.start()] + re.sub(r"[^\n]", " ", text[found.start():end]) + text[end:]
+    return text
+
+
+def test_files(crate):
+    """The files that a crate compiles for tests alone: those of `#[cfg(test)] mod NAME;`."""
+    for file in (crate / "src").rglob("*.rt"):
+        for name in re.findall(r"#\[cfg\(test\)\]\s*mod (\w+);", file.read_text()):
+            folder = file.parent if file.stem in ("lib", "main") else file.parent / file.stem
+            yield folder / f"{name}.rt"
+            yield from (folder / name).rglob("*.rt")
+
+
+@functools.lru_cache(maxsize=None)
+def functions_of(crate):
+    """All functions of a crate outside its tests."""
+    tests, functions = set(test_files(crate)), []
+    for file in sorted(set((crate / "src").rglob("*.rt")) - tests):
+        text = without_tests(without_comments(file.read_text()))
+        impls = list(impls_of(text))
+        for found in re.finditer(r"\b(pub(?:\([a-z]+\))?\s+)?fn\s+(\w+)", text):
+            owner, trait = "", ""
+            for kind, of, first, last in impls:
+                if first <= found.start() < last:
+                    owner, trait = kind, of
+            at = end_of(text, text.index("(", found.end()), "(", ")")
+            start = re.compile(r"\b(?:requires|ensures|ghost)\b|[{;]").search(text, at)
+            requires, ensures = clauses_at(text, start.start()) if start else ([], [])
+            is_public = (found.group(1) or "").strip() == "pub" and not trait
+            functions.append(Function(file.relative_to(crate), owner, found.group(2), is_public, requires, ensures))
+    return functions
+
+
+def edits_of(crate):
+    return sorted(file.stem for file in (crate / "must-fail").glob("*.edit"))
+
+
+def has_impl(crate, name):
+    """Whether a name such as `Display for Stop` or `From<AllocError>` is an impl or a type of the crate."""
+    plain = re.sub(r"<[^<>]*>", "", name)
+    wanted = plain.split(" for ")[-1].split("::")[0].strip()
+    for file in (crate / "src").rglob("*.rt"):
+        text = file.read_text()
+        if re.search(rf"\b(?:struct|enum|trait|type)\s+{re.escape(wanted)}\b", text):
+            return True
+        if " for " not in plain and re.search(rf"\bimpl\b[^{{]*\b{re.escape(wanted)}\b[^{{]*\bfor\b", text):
+            return True
+    return False
+
+
+def defines(text, name):
+    """Whether a file of specs/ or src/ defines the name."""
+    name = re.escape(name)
+    in_specs = rf"^(?:(?:abbrev|unfoldable) )?pub (?:(?:record|data) )?{name}\b"
+    in_source = rf"\b(?:struct|enum|trait|type|const|static|fn)\s+{name}\b"
+    return bool(re.search(in_specs, text, flags=re.M) or re.search(in_source, text))
+
+
+class Source:
+    """What all crates define: functions by name, laws, names of functions in tests too, and all words."""
+
+    def __init__(self, crates):
+        self.functions, self.tests, self.words = {}, set(), set()
+        for crate in crates:
+            for f in functions_of(crate):
+                self.functions.setdefault(f.name, []).append(f)
+            self.words.update(edits_of(crate))
+            for file in list((crate / "src").rglob("*.rt")) + list((crate / "specs").rglob("*.antt")):
+                text = file.read_text()
+                self.tests.update(re.findall(r"\bfn (\w+)", text))
+                self.words.update(re.findall(r"\w+", text))
+                self.words.add(file.stem)
+            self.words.add(crate.name)
+        for file in (ROOT / "scripts").glob("*"):
+            if file.is_file() and file.name != "pages":
+                self.words.update(re.findall(r"\w+", file.read_text()))
+
+    def named(self, name):
+        """The functions that a name such as `Db::step` may mean."""
+        parts = name.split("::")
+        found = self.functions.get(parts[-1], [])
+        return [f for f in found if len(parts) == 1 or not parts[-2][:1].isupper() or f.owner == parts[-2]]
