@@ -1,4 +1,9 @@
+pub mod Acts
+pub mod Asked
+pub mod Rules
 pub mod WrittenOrder
+pub mod Agreement
+pub mod Laws
 pub use Rattle.pl_block.specs.Block
 pub use Rattle.pl_table.specs.Ops
 pub use Rattle.pl_table.specs.Request

@@ -1,22 +1,24 @@
-//! The decision: the first row of the written order that stands against a request.
+//! The decision: the first rule of the written order that stands against a request.
 
-ghost use Rattle.std.specs.Prelude.{◌≡◌, ◌==◌, ◌&&◌, not, true, length};
+ghost use Rattle.std.specs.Prelude.{◌≡◌, ◌≢◌, ◌==◌, ◌&&◌, ◌↔◌, ◌++◌, not, true, length};
 ghost use Rattle.pl_block.specs.Block.{Content};
 ghost use Rattle.pl_table.specs.Ops.{same_role};
 ghost use Rattle.pl_table.specs.Table.{WrittenTable};
-ghost use Rattle.pl_decide.specs.WrittenOrder.{is_known, decision, behind_a, section_c, first_denial};
+ghost use Rattle.pl_decide.specs.Asked.{is_known};
+ghost use Rattle.pl_decide.specs.WrittenOrder.{decision, section_b, section_c, order_of, first_denial, NoneStands, IsFirstDenial};
+ghost use Rattle.pl_decide.specs.Agreement.{AgreesWith};
 
-use crate::epochs::Epochs;
-use crate::view::View;
-use pl_table::{Act, Head, Request, Role, Section, Table, Verdict};
+use crate::rule::Rule;
+use crate::view::{Epochs, View};
+use pl_table::{Act, Head, Request, Role, Table, Verdict};
 
-/// How many numbers above the hardened ones may be written.
+/// How many LSNs above the hardened end may be written.
 const WINDOW: u64 = 64;
 
-/// Whether the table lists the principal with this token, which is what the first row of the
-/// written order asks. The principals are looked at one by one, without memory.
+/// Whether the table lists the principal with this token, which is what the first rule asks. The
+/// principals, at most 64, are looked at one by one, without memory.
 pub fn known(table: &Table, head: &Head) -> bool
-    ensures { result ≡ is_known table.now head.now }
+    ensures value { result ≡ is_known table.now head.now }
 {
     match table.token(head.principal) {
         Some(token) => token == head.token,
@@ -25,24 +27,29 @@ pub fn known(table: &Table, head: &Head) -> bool
 }
 
 /// Decides on requests, one after the other. What was asked before makes no difference.
-#[derive(Clone, Copy, Debug, PartialEq, Eq)]
+// It keeps nothing yet. Its calls have the form that a cache of verdicts by table needs.
+#[derive(Debug, Drop)]
 pub struct Decider;
 
 impl Decider {
-    /// A decider that was asked nothing.
-    pub fn new() -> Decider {
+    /// A decider that was asked nothing, for any table.
+    #[tactic(auto, unfolding(crate::specs::Agreement::AgreesWith))]
+    pub fn new() -> Decider
+        ensures agrees { (table : WrittenTable) → AgreesWith result table }
+    {
         Decider
     }
 
-    /// Tells that another table is in force from now on. Nothing of an older one is kept.
-    pub fn new_table(&mut self) {}
+    /// To be called when another table comes into force. Nothing of an older one is kept.
+    #[tactic(auto, unfolding(crate::specs::Agreement::AgreesWith))]
+    pub fn new_table(&mut self)
+        ensures agrees { (table : WrittenTable) → AgreesWith self.new table }
+    {}
 
-    /// The verdict on the request of a principal that the table lists with this token ([`known`]): the
-    /// first row of the written order that stands against it, or that none does.
+    /// The verdict on any request: the denial of the first rule of the written order that stands
+    /// against it, or that none does.
     ///
-    /// Section A is fixed, and asks for the epoch, the primary and the role. Section B is the rows
-    /// of the table, each of which is looked at once up to the first that matches. Section C is
-    /// read from the view. It takes no memory.
+    /// Each row of the table is looked at once, up to the first that matches. No memory is taken.
     pub fn decide(
         &mut self,
         table: &Table,
@@ -50,39 +57,67 @@ impl Decider {
         view: &View,
         request: &Request,
     ) -> Verdict
-        requires { is_known table.now request.now.head ≡ true }
-        ensures { result ≡ decision request.now table.now epochs.now view.now }
+        requires agrees { AgreesWith self.old table.now }
+        ensures value { result ≡ decision request.now table.now epochs.now view.now }
+        ensures allowed { (result ≡ Verdict.Allowed)
+            ↔ NoneStands (order_of table.now) request.now table.now epochs.now view.now }
+        ensures first { result ≢ Verdict.Allowed → IsFirstDenial result
+            (order_of table.now) request.now table.now epochs.now view.now }
+        ensures agrees { AgreesWith self.new table.now }
     {
-        let head = request.head();
-        if head.epoch < epochs.epoch {
-            return denied(Section::A, 2, u64::from(epochs.epoch));
+        if known(table, request.head()) {
+            self.decide_known(table, epochs, view, request)
+        } else {
+            Rule::UnknownPrincipal.denial(0)
         }
-        if epochs.epoch < head.epoch {
-            return denied(Section::A, 3, u64::from(epochs.epoch));
-        }
-        if is_other_primary(head, epochs.primary) {
-            return denied(Section::A, 4, 0);
-        }
-        if !head.role.has(request.act().op()) {
-            return denied(Section::A, 5, 0);
-        }
-        decide_by_table(table, *epochs, *view, request)
+    }
+
+    /// The verdict on the request of a principal that the table lists with this token ([`known`]),
+    /// which is not looked up again. In all else it is [`decide`](Decider::decide).
+    pub fn decide_known(
+        &mut self,
+        table: &Table,
+        epochs: &Epochs,
+        view: &View,
+        request: &Request,
+    ) -> Verdict
+        requires agrees { AgreesWith self.old table.now }
+        requires known { is_known table.now request.now.head ≡ true }
+        ensures value { result ≡ decision request.now table.now epochs.now view.now }
+        ensures allowed { (result ≡ Verdict.Allowed)
+            ↔ NoneStands (order_of table.now) request.now table.now epochs.now view.now }
+        ensures first { result ≢ Verdict.Allowed → IsFirstDenial result
+            (order_of table.now) request.now table.now epochs.now view.now }
+        ensures agrees { AgreesWith self.new table.now }
+    {
+        decide_by_head(table, *epochs, *view, request)
     }
 }
 
-fn denied(section: Section, row: u16, value: u64) -> Verdict
-    ensures { result ≡ Verdict.Denied section row value }
+// The verdict on a known principal's request.
+fn decide_by_head(table: &Table, epochs: Epochs, view: View, request: &Request) -> Verdict
+    requires known { is_known table.now request.now.head ≡ true }
+    ensures value { result ≡ decision request.now table.now epochs view }
 {
-    Verdict::Denied {
-        section,
-        row,
-        value,
+    let head = request.head();
+    if head.epoch < epochs.epoch {
+        return Rule::OlderEpoch.denial(u64::from(epochs.epoch));
     }
+    if epochs.epoch < head.epoch {
+        return Rule::NewerEpoch.denial(u64::from(epochs.epoch));
+    }
+    if is_other_primary(head, epochs.primary) {
+        return Rule::OtherPrimary.denial(0);
+    }
+    if !head.role.has(request.act().op()) {
+        return Rule::RoleLacksOperation.denial(0);
+    }
+    decide_by_table(table, epochs, view, request)
 }
 
-// Whether it asks as a primary, and another is.
+// Whether it asks as primary, and another one is the primary.
 fn is_other_primary(head: &Head, primary: u32) -> bool
-    ensures { result ≡
+    ensures value { result ≡
         (same_role head.now.role Role.Primary && not (head.now.principal == primary)) }
 {
     head.role.number() == Role::Primary.number() && head.principal != primary
@@ -90,16 +125,16 @@ fn is_other_primary(head: &Head, primary: u32) -> bool
 
 // The verdict of sections B and C.
 fn decide_by_table(table: &Table, epochs: Epochs, view: View, request: &Request) -> Verdict
-    ensures { result ≡
-        first_denial (behind_a (length table.now.rows)) request.now table.now epochs view }
+    ensures value { result ≡ first_denial (section_b (length table.now.rows) ++ section_c)
+        request.now table.now epochs view }
 {
     match table.first_match(request) {
-        None => denied(Section::B, 0, 0),
+        None => Rule::NoRowMatches.denial(0),
         Some((row, allows)) => {
             if allows {
                 decide_by_log(table, epochs, view, request.act())
             } else {
-                denied(Section::B, row, 0)
+                Rule::TableRow(row).denial(0)
             }
         }
     }
@@ -107,8 +142,8 @@ fn decide_by_table(table: &Table, epochs: Epochs, view: View, request: &Request)
 
 // The verdict of section C, which does not look at who asks.
 fn decide_by_log(table: &Table, epochs: Epochs, view: View, act: &Act) -> Verdict
-    ensures { (head : Head) →
-        result ≡ first_denial section_c (record { head = head; act = act.now }) table.now epochs view }
+    ensures value { (head : Head) → result ≡ first_denial section_c
+        (record { head = head; act = act.now }) table.now epochs view }
 {
     match act {
         Act::Write { copy, block } => decide_write(view, *copy, block.lsn()),
@@ -116,12 +151,12 @@ fn decide_by_log(table: &Table, epochs: Epochs, view: View, act: &Act) -> Verdic
             if view.can_harden {
                 Verdict::Allowed
             } else {
-                denied(Section::C, 6, view.hard)
+                Rule::BelowQuorum.denial(view.hard)
             }
         }
         Act::Pull { lsn, .. } => {
             if view.hard < *lsn {
-                denied(Section::C, 1, view.hard)
+                Rule::AboveTheEnd.denial(view.hard)
             } else {
                 Verdict::Allowed
             }
@@ -130,41 +165,42 @@ fn decide_by_log(table: &Table, epochs: Epochs, view: View, act: &Act) -> Verdic
         Act::Failover { primary } => decide_failover(table, epochs, *primary),
         Act::SetTable { text } => match text.reading() {
             Ok(_) => Verdict::Allowed,
-            Err(fault) => denied(Section::C, 7, u64::from(fault.code())),
+            Err(fault) => Rule::NoTable.denial(u64::from(fault.code())),
         },
     }
 }
 
 // The verdict of section C on a failover.
 fn decide_failover(table: &Table, epochs: Epochs, primary: u32) -> Verdict
-    ensures { (head : Head) (v : View) →
-        result ≡ first_denial section_c (record { head = head; act = Act.Failover primary }) table.now epochs v }
+    ensures value { (head : Head) (v : View) → result ≡ first_denial section_c
+        (record { head = head; act = Act.Failover primary }) table.now epochs v }
 {
     if table.token(primary).is_none() {
-        return denied(Section::C, 8, 0);
+        return Rule::UnlistedPrimary.denial(0);
     }
     if epochs.epoch == u32::MAX {
-        return denied(Section::C, 9, 0);
+        return Rule::LastEpoch.denial(0);
     }
     Verdict::Allowed
 }
 
+// The verdict of section C on a write of a block with this LSN.
 fn decide_write(view: View, copy: u8, lsn: u64) -> Verdict
-    ensures { (head : Head) (t : WrittenTable) (e : Epochs) (block : Content) → block.lsn ≡ lsn →
-        result ≡
-        first_denial section_c (record { head = head; act = Act.Write copy block }) t e view }
+    ensures value { (head : Head) (t : WrittenTable) (e : Epochs) (block : Content) →
+        block.lsn ≡ lsn → result ≡ first_denial section_c
+        (record { head = head; act = Act.Write copy block }) t e view }
 {
     if lsn <= view.hard {
-        return denied(Section::C, 2, view.hard);
+        return Rule::HardenedAlready.denial(view.hard);
     }
     if lsn - view.hard > WINDOW {
-        return denied(Section::C, 3, view.hard);
+        return Rule::AboveTheWindow.denial(view.hard);
     }
     if !view.agrees {
-        return denied(Section::C, 4, 0);
+        return Rule::OtherContent.denial(0);
     }
     if view.copies <= copy {
-        return denied(Section::C, 5, 0);
+        return Rule::NoSuchCopy.denial(0);
     }
     Verdict::Allowed
 }

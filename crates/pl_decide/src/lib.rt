@@ -1,17 +1,16 @@
-//! The decision on a request: the first row of the written order that stands against it.
+//! The decision on a request: the first rule of the written order that stands against it.
 //!
-//! The written order is section A, the rows of the table in force, the row for what none of them
-//! matches, and section C. What section C looks at of a log is handed in as a [`View`], so that the
-//! decision knows of no log and no history; what a view has to say is the matter of the crate above.
+//! The written order is section A (who asks, in which epoch and role), section B (the rows of the
+//! table in force) and section C (what the log has). Section C is read from a [`View`], which the
+//! caller fills, so that the decision knows of no log and no history. [`laws`] has what follows from
+//! the order.
 #![tactic(auto)]
 
 mod decider;
-mod epochs;
+pub mod laws;
+mod rule;
 mod view;
 
 pub use decider::{Decider, known};
-pub use epochs::Epochs;
-pub use view::View;
-
-#[cfg(test)]
-mod tests;
+pub use rule::Rule;
+pub use view::{Epochs, View};

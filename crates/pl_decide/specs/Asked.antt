@@ -1,0 +1,73 @@
+-- What the rules ask: of the principal, of the table's rows, of the arguments of the act.
+use Rattle.std.specs.Prelude.{ℕ, ◌-◌, ◌^◌, Bool, false, not, ◌&&◌, nat_lt, List, take, slice_get, Option, Some, None, Result, Ok, Err}
+use Rattle.std.specs.List.{list_all}
+use Rattle.std.specs.Str.{bytes_eq}
+use Rattle.pl_table.specs.declared.head.Head.{Head}
+use Rattle.pl_table.specs.declared.request.Act.{Act}
+use Rattle.pl_table.specs.declared.request.Act.TheVariants as acts
+use Rattle.pl_table.specs.declared.row.Row.{Row}
+use Rattle.pl_table.specs.Request.{Query}
+use Rattle.pl_table.specs.Row.{row_matches}
+use Rattle.pl_table.specs.Table.{WrittenTable, token_of}
+use Rattle.pl_table.specs.declared.fault.TableFault.{TableFault}
+use Rattle.pl_table.specs.Fault.{fault_number}
+
+-- the last epoch, from which there is no failover
+abbrev pub last_epoch : ℕ
+last_epoch = 2 ^ 32 - 1
+
+-- how many LSNs above the hardened end may be written
+abbrev pub window : ℕ
+window = 64
+
+-- there is a value, and it passes the test
+abbrev pub is_some_and : {A : Type 0} → Option A → (A → Bool) → Bool
+is_some_and None test = false
+is_some_and (Some x) test = test x
+
+-- the table lists the principal with the token of the request
+abbrev pub is_known : WrittenTable → Head → Bool
+is_known t head =
+    is_some_and (token_of head.principal t.principals) (λ listed. bytes_eq listed head.token)
+
+-- no row of the list matches
+abbrev pub none_matches : List Row → Query → Bool
+none_matches rows q = list_all (λ row. not (row_matches row q)) rows
+
+-- the row of this number matches and denies, and no row above it matches
+abbrev pub denies_first : ℕ → List Row → Query → Bool
+denies_first number rows q = nat_lt 0 number
+    && is_some_and (slice_get rows (number - 1)) (λ row. row_matches row q && not row.allows)
+    && none_matches (take (number - 1) rows) q
+
+-- the copy that an act names
+abbrev pub copy_of : Act → Option ℕ
+copy_of (acts.Write copy block) = Some copy
+copy_of (acts.Report lsn) = None
+copy_of (acts.Pull lo hi lsn max) = None
+copy_of acts.Status = None
+copy_of (acts.Failover primary) = None
+copy_of (acts.SetTable text) = None
+
+-- the primary that an act names
+abbrev pub primary_named : Act → Option ℕ
+primary_named (acts.Write copy block) = None
+primary_named (acts.Report lsn) = None
+primary_named (acts.Pull lo hi lsn max) = None
+primary_named acts.Status = None
+primary_named (acts.Failover primary) = Some primary
+primary_named (acts.SetTable text) = None
+
+-- the text that an act has
+abbrev pub text_of : Act → Option (List ℕ)
+text_of (acts.Write copy block) = None
+text_of (acts.Report lsn) = None
+text_of (acts.Pull lo hi lsn max) = None
+text_of acts.Status = None
+text_of (acts.Failover primary) = None
+text_of (acts.SetTable text) = Some text
+
+-- the number of the fault for which a text is no table, or 0
+abbrev pub fault_code : Result WrittenTable TableFault → ℕ
+fault_code (Ok table) = 0
+fault_code (Err fault) = fault_number fault

@@ -1,0 +1,43 @@
+//! What follows from the written order. Each function is a law: its clauses hold of all requests,
+//! tables, epochs and views, and its body does nothing.
+
+ghost use Rattle.pl_decide.specs.Laws.{AllowedExactly, DeniedByTheFirst, AllowedMeetsNoRule, AllowedMayBeServed, UnknownIsDenied, KnownIsNotUnknown, OlderEpochIsDenied, ViewsDecideAlike, PullsReachTheEnd};
+
+/// In any order of rules, a request is allowed exactly where no rule stands against it. Elsewhere
+/// the verdict is the denial of the first rule that does.
+pub fn the_first_rule_decides()
+    ensures allowed { AllowedExactly }
+    ensures first { DeniedByTheFirst }
+{}
+
+/// No rule stands against an allowed request. So it is of a known principal and of the current
+/// epoch; a write is in the window, its block agrees, and its copy is there; a report can be
+/// hardened; a pull begins at the hardened end or below; the primary of a failover is listed, and
+/// the epoch is not the last; the text of a set_table is a table.
+pub fn allowed_requests_meet_no_rule()
+    ensures rules { AllowedMeetsNoRule }
+    ensures served { AllowedMayBeServed }
+{}
+
+/// An unknown principal is denied as unknown, and a known one never is.
+pub fn unknown_principals_come_first()
+    ensures unknown { UnknownIsDenied }
+    ensures known { KnownIsNotUnknown }
+{}
+
+/// A known principal's request of an older epoch is denied, whatever it asks, and the denial
+/// reports the current epoch.
+pub fn older_epochs_are_denied()
+    ensures older { OlderEpochIsDenied }
+{}
+
+/// Two views decide alike if they agree on what the rules look at for the request. For a request of
+/// another epoch no rule looks at the view.
+pub fn views_decide_alike()
+    ensures same { ViewsDecideAlike }
+{}
+
+/// A pull that is allowed is allowed from each LSN up to the hardened end, and from none above it.
+pub fn pulls_reach_the_end()
+    ensures reach { PullsReachTheEnd }
+{}
