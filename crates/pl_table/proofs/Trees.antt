@@ -1,7 +1,8 @@
 -- The tree of a text, as the code reads it.
-use Rattle.std.proofs.Common.{◌≡◌, ℕ, Bool, true, false, ◌&&◌, List, [], ◌∷◌, map, Option, Some, None, Err, ok_or, String, Vec, BTreeMap, Global, length, nat_le, is_some, string_bytes, IsUtf8, refl, ap, sym, ◌∙◌, if◌then◌else◌}
-use Rattle.std.specs.Str.{is_utf8}
-use Rattle.std.specs.List.{list_all, filter_map, cons_option}
+use Rattle.std.proofs.Common.{◌≡◌, ℕ, Bool, true, false, ◌&&◌, ◌||◌, List, [], ◌∷◌, map, Option, Some, None, Err, ok_or, String, Vec, BTreeMap, Global, length, nat_le, is_some, string_bytes, IsUtf8, refl, ap, sym, ◌∙◌, if◌then◌else◌}
+use Rattle.std.specs.Str.{is_utf8, bytes_eq}
+use denote.Bor.{Bor}
+use Rattle.std.specs.List.{list_all, list_any, filter_map, cons_option}
 use Rattle.std.specs.Map.{keys_of as map_keys}
 use Rattle.std.proofs.lemmas.List.{length-map}
 use Rattle.std.proofs.lemmas.Str.{IsUtf8-from_is_utf8, is_utf8-from_IsUtf8}
@@ -11,7 +12,7 @@ use Rattle.toml.specs.View.{view, items_view, members_view}
 use Rattle.toml.specs.declared.value.Value.{Value, Array, Table}
 use Rattle.toml.proofs.Views.{view-Array, view-Table}
 use Rattle.pl_table.specs.declared.fault.TableFault.TheVariants.{NoDocument}
-use Rattle.pl_table.specs.Tree.{tree_of, keys_of, list_of, has_only, is_table, tables_in}
+use Rattle.pl_table.specs.Tree.{tree_of, keys_of, list_of, is_one_of, has_only, is_table, tables_in}
 use Rattle.pl_table.specs.Part.{op_in, ops_in}
 
 -- bytes that are no UTF-8 have no tree
@@ -32,6 +33,17 @@ pub known_keys : (known : List ℕ → Bool) (es : List (String Global × Value)
 known_keys known [] = refl
 known_keys known (e ∷ es) = ap (λ b. known (string_bytes e.0) && b) (known_keys known es)
 
+-- a test of what borrowed names point to is one of the names
+is_name : (names : List (Bor (List ℕ))) (key : List ℕ) → list_any (λ name. bytes_eq key name.now) names ≡ is_one_of (map (λ name. name.now) names) key
+unfolding is_one_of
+is_name [] key = refl
+is_name (name ∷ names) key = ap (λ b. bytes_eq key name.now || b) (is_name names key)
+
+-- and so it is of each key
+pub are_names : (names : List (Bor (List ℕ))) (keys : List (String Global)) → list_all (λ k. list_any (λ name. bytes_eq (string_bytes k) name.now) names) keys ≡ list_all (λ k. is_one_of (map (λ name. name.now) names) (string_bytes k)) keys
+are_names names [] = refl
+are_names names (k ∷ ks) = rw (is_name names (string_bytes k), are_names names ks) refl
+
 -- the items of an array are its values
 pub list_of-items_view : (vs : List Value) → list_of (items_view vs) ≡ map view vs
 list_of-items_view [] = refl
@@ -48,9 +60,9 @@ read_data read [] = refl
 read_data read (v ∷ vs) = ap (cons_option (read (view v))) (read_data read vs)
 
 -- a table has only keys that its map has
-pub has_only-Table : (known : List ℕ → Bool) (m : BTreeMap (String Global) Value) → has_only known (view (Table m)) ≡ list_all (λ k. known (string_bytes k)) (map_keys m.entries)
+pub has_only-Table : (names : List (List ℕ)) (m : BTreeMap (String Global) Value) → has_only names (view (Table m)) ≡ list_all (λ k. is_one_of names (string_bytes k)) (map_keys m.entries)
 unfolding has_only
-has_only-Table known m = rw view-Table (sym (known_keys known m.entries))
+has_only-Table names m = rw view-Table (sym (known_keys (is_one_of names) m.entries))
 
 -- an array lists tables where each of its values is one
 pub tables_in-Array : (v : Vec Value Global) (b : Bool) → list_all (λ x. is_table (view x)) v.items ≡ b → tables_in (view (Array v)) ≡ (if b then Some (map view v.items) else None)

@@ -10,7 +10,7 @@ use Rattle.pl_table.specs.Bounds.{most_principals, most_rows}
 use Rattle.pl_table.specs.Fault.{◌>>=◌}
 use Rattle.pl_table.specs.Setting.{somebody_sets}
 use Rattle.pl_table.specs.Table.{WrittenTable}
-use Rattle.pl_table.specs.Tree.{tree_of, keys_of, is_top_key, tables_under, is_principal, is_row}
+use Rattle.pl_table.specs.Tree.{tree_of, keys_of, is_one_of, top_keys, tables_under, is_principal, is_row}
 use Rattle.pl_table.specs.Part.{id_under, token_under, principal_of, has_words, has_numbers, row_of}
 
 -- the principals and the rows of a text, each still a table of the tree
@@ -29,7 +29,7 @@ both_lists _ _ = Err UnknownKey
 
 -- the two lists of a tree that has no other key
 unfoldable pub listed_in_tree : Members → Result Listed TableFault
-listed_in_tree tree = if list_all is_top_key (keys_of tree) then both_lists (tables_under (get_member (codes "principal") tree)) (tables_under (get_member (codes "row") tree)) else Err UnknownKey
+listed_in_tree tree = if list_all (is_one_of top_keys) (keys_of tree) then both_lists (tables_under (get_member (codes "principal") tree)) (tables_under (get_member (codes "row") tree)) else Err UnknownKey
 
 -- there are 1 to 64 principals, and at most 256 rows
 unfoldable pub counts_of : ℕ → ℕ → Result (Unit {0}) TableFault

@@ -1,8 +1,8 @@
 -- The tree of a text: its keys, and the tables that they list.
-use Rattle.std.specs.Prelude.{ℕ, Bool, false, ◌&&◌, ◌||◌, List, [], ◌∷◌, Option, Some, None, Result, Err, if◌then◌else◌, codes, is_some, ok_or}
+use Rattle.std.specs.Prelude.{ℕ, Bool, false, ◌&&◌, List, [], ◌∷◌, Option, Some, None, Result, Err, if◌then◌else◌, codes, is_some, ok_or}
 use Rattle.std.specs.Bool.{beq}
 use Rattle.std.specs.Str.{is_utf8, bytes_eq}
-use Rattle.std.specs.List.{list_all}
+use Rattle.std.specs.List.{list_all, list_any}
 use Rattle.toml.specs.Data.{Data, array, table, Items, no_items, item, Members, no_members, member, get, as_table}
 use Rattle.toml.specs.Parse.{parse_document}
 use Rattle.pl_table.specs.declared.fault.TableFault.{TableFault}
@@ -22,10 +22,14 @@ abbrev pub list_of : Items → List Data
 list_of no_items = []
 list_of (item d ds) = d ∷ list_of ds
 
--- the value is a table, each of whose keys passes the test
-unfoldable pub has_only : (List ℕ → Bool) → Data → Bool
-has_only known (table ms) = list_all known (keys_of ms)
-has_only known _ = false
+-- the key is one of the names
+unfoldable pub is_one_of : List (List ℕ) → List ℕ → Bool
+is_one_of names key = list_any (λ name. bytes_eq key name) names
+
+-- the value is a table, each of whose keys is one of the names
+unfoldable pub has_only : List (List ℕ) → Data → Bool
+has_only names (table ms) = list_all (is_one_of names) (keys_of ms)
+has_only names _ = false
 
 -- the value is a table
 unfoldable pub is_table : Data → Bool
@@ -42,21 +46,21 @@ tables_under None = Some []
 tables_under (Some d) = tables_in d
 
 -- the keys of the whole text
-unfoldable pub is_top_key : List ℕ → Bool
-is_top_key key = bytes_eq key (codes "principal") || bytes_eq key (codes "row")
+unfoldable pub top_keys : List (List ℕ)
+top_keys = codes "principal" ∷ codes "row" ∷ []
 
 -- the keys of a principal
-unfoldable pub is_principal_key : List ℕ → Bool
-is_principal_key key = bytes_eq key (codes "id") || bytes_eq key (codes "token")
+unfoldable pub principal_keys : List (List ℕ)
+principal_keys = codes "id" ∷ codes "token" ∷ []
 
 -- the keys of a row
-unfoldable pub is_row_key : List ℕ → Bool
-is_row_key key = bytes_eq key (codes "verdict") || (bytes_eq key (codes "who") || (bytes_eq key (codes "role") || (bytes_eq key (codes "op") || (bytes_eq key (codes "from") || bytes_eq key (codes "to")))))
+unfoldable pub row_keys : List (List ℕ)
+row_keys = codes "verdict" ∷ codes "who" ∷ codes "role" ∷ codes "op" ∷ codes "from" ∷ codes "to" ∷ []
 
 -- a principal has its id and its token, and no other key
 unfoldable pub is_principal : Data → Bool
-is_principal p = has_only is_principal_key p && (is_some (get (codes "id") p) && is_some (get (codes "token") p))
+is_principal p = has_only principal_keys p && (is_some (get (codes "id") p) && is_some (get (codes "token") p))
 
 -- a row has its verdict, both ends of a range or none, and no key that is not one of a row
 unfoldable pub is_row : Data → Bool
-is_row row = has_only is_row_key row && (is_some (get (codes "verdict") row) && beq (is_some (get (codes "from") row)) (is_some (get (codes "to") row)))
+is_row row = has_only row_keys row && (is_some (get (codes "verdict") row) && beq (is_some (get (codes "from") row)) (is_some (get (codes "to") row)))

@@ -12,14 +12,11 @@ mod head;
 mod known;
 pub mod laws;
 mod op;
-mod part;
 mod range;
-mod reading;
 mod request;
 mod row;
 mod table;
-mod table_text;
-mod tree;
+mod text;
 mod verdict;
 
 pub use fault::{ReadFault, TableFault};
@@ -27,11 +24,10 @@ pub use head::Head;
 pub use op::{Op, Role};
 pub use pl_block::NoMemory;
 pub use range::PartitionRange;
-pub use reading::read_table;
 pub use request::{Act, LONGEST_TEXT, MOST_PULLED, Request};
 pub use row::{Ops, Row};
 pub use table::{MOST_PRINCIPALS, MOST_ROWS, Principal, Table};
-pub use table_text::TableText;
+pub use text::{TableText, read_table};
 pub use verdict::{Section, Verdict};
 
 #[cfg(test)]

@@ -6,7 +6,7 @@ ghost use Rattle.pl_table.specs.Request.{InRange, IsHead, IsRequest, is_in_range
 use crate::head::Head;
 use crate::known::{act_fits, head_fits};
 use crate::op::Op;
-use crate::table_text::TableText;
+use crate::text::TableText;
 use pl_block::{Block, LAST_LSN};
 use std::marker::Model;
 

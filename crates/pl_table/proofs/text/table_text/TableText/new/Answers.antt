@@ -1,0 +1,13 @@
+use Rattle.std.proofs.Common.{◌≡◌, Result, Ok, Err, sym}
+use Rattle.pl_table.specs.declared.fault.TableFault.{TableFault}
+use Rattle.pl_table.specs.Fault.{Gives, returned}
+use Rattle.pl_table.specs.Table.{WrittenTable}
+use Rattle.pl_table.proofs.text.table_text.TableText.new.Goals as goal
+
+-- what was read with no failed allocation is what the text reads as
+same : (kept reading : Result WrittenTable TableFault) → Gives (λ t. t) (returned kept) reading → kept ≡ reading
+same (Ok t) reading is = sym is
+same (Err fault) reading is = sym is
+
+pub invariant_of-result : goal.invariant_of-result
+invariant_of-result c = same c.in_ok-reading.reading _ (rw (c.in_ok-reading.ensures.ok, c.deref.ensures.value) at c.read_table.ensures.exact)

@@ -1,0 +1,245 @@
+//! Reading the table that a text writes down.
+
+ghost use Rattle.std.specs.Prelude.{◌≡◌, Err, IsUtf8, ◌==◌, ◌&&◌, ◌<◌, ◌≤◌, is_some, nat_eq, length, map, All, find, filter_map, option_copied, IfOk, OnOk};
+ghost use Rattle.std.specs.List.{list_all, list_any, IsDistinct};
+ghost use Rattle.toml.specs.View.{view, table_view};
+ghost use Rattle.pl_table.specs.Bounds.{most_principals, most_rows};
+ghost use Rattle.pl_table.specs.Fault.{Gives};
+ghost use Rattle.pl_table.specs.Part.{id_under, token_under, principal_of, has_words, has_numbers, row_of};
+ghost use Rattle.pl_table.specs.Tree.{is_principal, is_row};
+ghost use Rattle.pl_table.specs.Table.{IsRowOf};
+ghost use Rattle.pl_table.specs.TableText.{listed_of, listed_in_tree, counts_of, have_own_ids, principals_of, rows_of, table_of, table_reading};
+ghost use Rattle.pl_table.specs.Setting.{speaks_of_setting, allows, somebody_sets};
+
+use crate::fault::{ReadFault, TableFault};
+use crate::op::{Op, Role};
+use crate::row::Row;
+use crate::table::{MOST_PRINCIPALS, MOST_ROWS, Principal, Table};
+use crate::text::{part, tree};
+use std::alloc::{AllocError, Global};
+use toml::{Table as Tree, Value};
+
+/// Reads the table that a text writes down, in TOML: an array of tables `principal`, each with its
+/// `id` and `token`, and an array of tables `row`, each with its `verdict` and such of `who`,
+/// `role`, `op`, and `from` with `to`, as it speaks of. Where the text is no table, the fault is
+/// the first in the order of the faults' codes, whichever principal or row it is in. The text may
+/// have any length; `NoMemory` comes where memory is refused.
+#[tactic(auto, unfolding(crate::specs::TableText::table_reading))]
+pub fn read_table(alloc: Global, text: &[u8]) -> Result<Table, ReadFault>
+    ensures exact { Gives (λ t. t) result (table_reading text.now) }
+    ensures full { result ≡ Err ReadFault.NoMemory → IsUtf8 text.now }
+{
+    let tree = tree::read_tree(alloc, text)?;
+    let lists = lists_in(&tree)?;
+    read_lists(alloc, lists.principals, lists.rows)
+}
+
+// The principals and the rows that a tree lists.
+#[derive(Clone, Copy, Drop)]
+struct Lists<'a> {
+    principals: &'a [Value],
+    rows: &'a [Value],
+}
+
+fn each_is_principal(listed: &[Value]) -> bool
+    ensures value { result ≡ list_all (λ v. is_principal (view v)) listed.now }
+{
+    listed.iter().all(tree::is_principal)
+}
+
+fn each_has_id(listed: &[Value]) -> bool
+    ensures value { result ≡ list_all (λ v. is_some (id_under (view v))) listed.now }
+{
+    listed
+        .iter()
+        .all(|principal| part::id_under(principal).is_some())
+}
+
+fn each_has_token(listed: &[Value]) -> bool
+    ensures value { result ≡ list_all (λ v. is_some (token_under (view v))) listed.now }
+{
+    listed
+        .iter()
+        .all(|principal| part::token_under(principal).is_some())
+}
+
+fn principals_from(alloc: Global, listed: &[Value]) -> Result<Vec<Principal>, AllocError>
+    ensures ok { IfOk result (λ ps. ps.items ≡ filter_map (λ v. principal_of (view v)) listed.now) }
+{
+    listed.iter().filter_map(part::principal_of).collect(alloc)
+}
+
+fn is_listed_by(principals: &[Principal], id: u32) -> bool
+    ensures value { result ≡ list_any (λ p. id == p.id) principals.now }
+{
+    principals.iter().any(|principal| id == principal.id)
+}
+
+fn have_own_ids(principals: &[Principal]) -> bool
+    ensures value { result ≡ have_own_ids principals.now }
+{
+    let mut rest = principals;
+    while let Some((first, others)) = rest.split_first() {
+        if is_listed_by(others, first.id) {
+            return false;
+        }
+        rest = others;
+    }
+    true
+}
+
+// The principals, each with its faults in the order of their codes.
+fn read_principals(alloc: Global, listed: &[Value]) -> Result<Vec<Principal>, ReadFault>
+    ensures exact { Gives (λ ps. ps.items) result (principals_of (map view listed.now)) }
+    ensures members { IfOk result (λ ps. length ps.items ≡ length listed.now) }
+    ensures only { IfOk result (λ ps. IsDistinct nat_eq (map (λ p. p.id) ps.items)) }
+{
+    if !each_is_principal(listed) {
+        return Err(ReadFault::Malformed(TableFault::PrincipalKeys));
+    }
+    if !each_has_id(listed) {
+        return Err(ReadFault::Malformed(TableFault::PrincipalId));
+    }
+    if !each_has_token(listed) {
+        return Err(ReadFault::Malformed(TableFault::PrincipalToken));
+    }
+    let principals = principals_from(alloc, listed)?;
+    if !have_own_ids(&principals) {
+        return Err(ReadFault::Malformed(TableFault::RepeatedId));
+    }
+    Ok(principals)
+}
+
+fn each_is_row(listed: &[Value]) -> bool
+    ensures value { result ≡ list_all (λ v. is_row (view v)) listed.now }
+{
+    listed.iter().all(tree::is_row)
+}
+
+fn each_has_words(listed: &[Value]) -> bool
+    ensures value { result ≡ list_all (λ v. has_words (view v)) listed.now }
+{
+    listed.iter().all(part::has_words)
+}
+
+fn each_has_numbers(principals: &[Principal], listed: &[Value]) -> bool
+    ensures value { result ≡ list_all (λ v. has_numbers principals.now (view v)) listed.now }
+{
+    listed.iter().all(|row| part::has_numbers(principals, row))
+}
+
+fn rows_from(
+    alloc: Global,
+    principals: &[Principal],
+    listed: &[Value],
+) -> Result<Vec<Row>, AllocError>
+    ensures ok { IfOk result
+        (λ rows. rows.items ≡ filter_map (λ v. row_of principals.now (view v)) listed.now) }
+{
+    let mut rows = Vec::new(alloc);
+    for value in listed {
+        if let Some(row) = part::row_of(alloc, principals, value)? {
+            rows.push(row)?;
+        }
+    }
+    Ok(rows)
+}
+
+// The rows, each with its faults in the order of their codes.
+fn read_rows(
+    alloc: Global,
+    principals: &[Principal],
+    listed: &[Value],
+) -> Result<Vec<Row>, ReadFault>
+    ensures exact { Gives (λ rows. rows.items) result
+        (rows_of principals.now (map view listed.now)) }
+    ensures members { IfOk result (λ rows. length rows.items ≤ length listed.now) }
+    ensures each_row { IfOk result (λ rows. All (IsRowOf principals.now) rows.items) }
+{
+    if !each_is_row(listed) {
+        return Err(ReadFault::Malformed(TableFault::RowKeys));
+    }
+    if !each_has_words(listed) {
+        return Err(ReadFault::Malformed(TableFault::RowWord));
+    }
+    if !each_has_numbers(principals, listed) {
+        return Err(ReadFault::Malformed(TableFault::RowNumber));
+    }
+    Ok(rows_from(alloc, principals, listed)?)
+}
+
+// The first row that speaks of the principal's setting the table as operator.
+fn row_on_setting(rows: &[Row], id: u32) -> Option<&Row>
+    ensures value { option_copied result ≡ find (speaks_of_setting id) rows.now }
+{
+    rows.iter()
+        .find(|row| row.speaks_of(id, Role::Operator, Op::SetTable))
+}
+
+fn may_set_table(rows: &[Row], id: u32) -> bool
+    ensures value { result ≡ allows (find (speaks_of_setting id) rows.now) }
+{
+    match row_on_setting(rows, id) {
+        Some(row) => row.allows,
+        None => false,
+    }
+}
+
+#[tactic(auto, unfolding(crate::specs::Setting::somebody_sets))]
+fn somebody_sets(principals: &[Principal], rows: &[Row]) -> bool
+    ensures value { result ≡ somebody_sets principals.now rows.now }
+{
+    principals
+        .iter()
+        .any(|principal| may_set_table(rows, principal.id))
+}
+
+// The lists of a tree that has no other key.
+#[tactic(auto, unfolding(crate::specs::TableText::listed_in_tree))]
+fn lists_in(tree: &Tree) -> Result<Lists<'_>, ReadFault>
+    ensures exact { Gives
+        (λ l. listed_of (map view l.principals.now) (map view l.rows.now))
+        result (listed_in_tree (table_view tree.now)) }
+{
+    if !tree::has_top_keys(tree) {
+        return Err(ReadFault::Malformed(TableFault::UnknownKey));
+    }
+    match (
+        tree::tables_under(tree, "principal"),
+        tree::tables_under(tree, "row"),
+    ) {
+        (Some(principals), Some(rows)) => Ok(Lists { principals, rows }),
+        _ => Err(ReadFault::Malformed(TableFault::UnknownKey)),
+    }
+}
+
+#[tactic(auto, unfolding(crate::specs::TableText::counts_of))]
+fn check_counts(principals: usize, rows: usize) -> Result<(), ReadFault>
+    ensures exact { Gives (λ u. u) result (counts_of principals rows) }
+    ensures some { OnOk result (0 < principals) }
+    ensures few { OnOk result (principals ≤ most_principals) }
+    ensures few_rows { OnOk result (rows ≤ most_rows) }
+{
+    if principals == 0 || MOST_PRINCIPALS < principals {
+        return Err(ReadFault::Malformed(TableFault::PrincipalCount));
+    }
+    if MOST_ROWS < rows {
+        return Err(ReadFault::Malformed(TableFault::RowCount));
+    }
+    Ok(())
+}
+
+// The table of the two lists.
+#[tactic(auto, unfolding(crate::specs::TableText::table_of))]
+fn read_lists(alloc: Global, principals: &[Value], rows: &[Value]) -> Result<Table, ReadFault>
+    ensures exact { Gives (λ t. t) result
+        (table_of (listed_of (map view principals.now) (map view rows.now))) }
+{
+    check_counts(principals.len(), rows.len())?;
+    let principals = read_principals(alloc, principals)?;
+    let rows = read_rows(alloc, &principals, rows)?;
+    if !somebody_sets(&principals, &rows) {
+        return Err(ReadFault::Malformed(TableFault::NoOperator));
+    }
+    Ok(Table::of_parts(principals, rows))
+}

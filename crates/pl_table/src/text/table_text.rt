@@ -1,0 +1,85 @@
+//! A text, beside what it reads as.
+
+ghost use Rattle.std.specs.Prelude.{◌≡◌, Err, IfOk, OnErr};
+ghost use Rattle.pl_table.specs.Fault.{returned};
+ghost use Rattle.pl_table.specs.TableText.{table_reading};
+
+use crate::fault::{ReadFault, TableFault};
+use crate::table::Table;
+use crate::text::reading::read_table;
+use std::alloc::{AllocError, Global};
+use std::fmt;
+use std::marker::Model;
+
+/// A text that was read once: it keeps the table that it writes down, or the fault for which it is
+/// no table. A contract sees the text alone, since that says what it reads as. Its debug text does
+/// not have the text, which has tokens.
+#[derive(Drop)]
+pub struct TableText {
+    text: Vec<u8>,
+    reading: Result<Table, TableFault>,
+}
+
+impl fmt::Debug for TableText {
+    fn fmt<W: fmt::Write>(&self, f: &mut fmt::Formatter<W>) -> fmt::Result {
+        f.debug_struct("TableText")
+            .field("reading", &self.reading)
+            .finish_non_exhaustive()
+    }
+}
+
+impl Model for TableText {
+    ghost use Rattle.std.specs.Prelude.{◌≡◌, ℕ, List};
+    ghost use Rattle.pl_table.specs.TableText.{table_reading};
+
+    ghost Value = { List ℕ };
+
+    ghost view = { λ t. t.text.items };
+
+    ghost invariant = { λ t. t.reading ≡ table_reading t.text.items };
+}
+
+// The reading that a call of the reader returned, unless an allocation failed.
+fn reading_of(read: Result<Table, ReadFault>) -> Result<Result<Table, TableFault>, AllocError>
+    ensures ok { IfOk result (λ reading. read ≡ returned reading) }
+    ensures err { OnErr result (read ≡ Err ReadFault.NoMemory) }
+{
+    match read {
+        Ok(table) => Ok(Ok(table)),
+        Err(ReadFault::Malformed(fault)) => Ok(Err(fault)),
+        Err(ReadFault::NoMemory) => Err(AllocError),
+    }
+}
+
+impl TableText {
+    /// Reads the text. `Err` where an allocation of the reader failed; the text is dropped then. A
+    /// text with a fault is a `TableText` too: [`reading`](TableText::reading) has the fault.
+    pub fn new(alloc: Global, text: Vec<u8>) -> Result<TableText, AllocError>
+        ensures ok { IfOk result (λ t. t ≡ text.items) }
+    {
+        let reading = reading_of(read_table(alloc, &text))?;
+        Ok(TableText { text, reading })
+    }
+
+    /// The text, byte for byte.
+    pub fn text(&self) -> &[u8]
+        ensures value { result.now ≡ self.now }
+    {
+        &self.text
+    }
+
+    /// The table that the text writes down, or the first of its faults.
+    pub fn reading(&self) -> &Result<Table, TableFault>
+        ensures value { result.now ≡ table_reading self.now }
+    {
+        &self.reading
+    }
+
+    /// The table that the text writes down, or the first of its faults. The text is dropped.
+    pub fn into_reading(self) -> Result<Table, TableFault>
+        ensures value { result ≡ table_reading self }
+    {
+        let TableText { reading, .. } = self;
+        reading
+    }
+}
