@@ -7,11 +7,11 @@ ghost use Rattle.pl_block.specs.Laws.{OneSpelling};
 
 /// Two blocks that are the same by the test are equal, and no others are.
 pub fn same_blocks_are_equal()
-    ensures { (a b : Content) → IsTrue (same_block a b) ↔ (a ≡ b) }
+    ensures law { (a b : Content) → IsTrue (same_block a b) ↔ (a ≡ b) }
 {}
 
 /// A block is read again from its spelling, what is read as a block is its spelling, and no two
 /// blocks have one spelling.
 pub fn one_spelling()
-    ensures { OneSpelling }
+    ensures law { OneSpelling }
 {}

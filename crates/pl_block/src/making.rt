@@ -15,6 +15,7 @@ use crate::content::Parts;
 use crate::fault::{BlockFault, Fault};
 use crate::partitions::touched_partitions;
 use crate::record::Record;
+use crate::seen::is_u32;
 use crate::writing::spelling_len;
 use std::alloc::Global;
 
@@ -27,8 +28,7 @@ fn check_record(entry: &Record) -> Result<(), Fault>
         offset,
         bytes,
     } = entry;
-    // Looked at, so that it is known to be a number of 32 bits.
-    let _page = *page;
+    is_u32(page);
     check_put(*offset, bytes.len())
 }
 

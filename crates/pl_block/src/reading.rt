@@ -3,7 +3,6 @@
 ghost use Rattle.std.specs.Prelude.{◌≡◌, ◌≤◌, length, IfOk, Ok};
 ghost use Rattle.pl_block.specs.Block.{Content, touched};
 ghost use Rattle.pl_block.specs.Bounds.{longest_block};
-ghost use Rattle.pl_block.specs.Laws.{AreBytes};
 ghost use Rattle.pl_block.specs.Spelling.{IsBlock, block_spelling};
 ghost use Rattle.pl_block.specs.declared.fault.Failed.TheVariants.{NoMemory};
 ghost use Rattle.pl_block.specs.Faults.{Gives, Reads, Takes};
@@ -15,12 +14,13 @@ use crate::content::Parts;
 use crate::fault::{BlockFault, Fault};
 use crate::partitions::touched_partitions;
 use crate::record::{PUT, Record};
+use crate::seen::each_is_byte;
 use bytes::{Buf, Bytes};
 use std::alloc::Global;
 
 #[tactic(auto, unfolding(crate::specs::Reading::lsn_at))]
 fn take_lsn(rest: &mut Bytes) -> Result<u64, Fault>
-    ensures { Reads result rest.new (lsn_at rest.old) }
+    ensures exact { Reads result rest.new (lsn_at rest.old) }
 {
     let lsn = rest.try_get_u64()?;
     check_lsn(lsn)?;
@@ -29,7 +29,7 @@ fn take_lsn(rest: &mut Bytes) -> Result<u64, Fault>
 
 // So many partitions, each above the one before it.
 fn take_rising(alloc: Global, count: u16, rest: &mut Bytes) -> Result<Vec<u16>, BlockFault>
-    ensures { Takes (λ ps. ps.items) result rest.new (rising_at count 0 rest.old) }
+    ensures exact { Takes (λ ps. ps.items) result rest.new (rising_at count 0 rest.old) }
 {
     let mut partitions = Vec::new(alloc);
     let mut low = 0u32;
@@ -46,7 +46,7 @@ fn take_rising(alloc: Global, count: u16, rest: &mut Bytes) -> Result<Vec<u16>, 
 
 #[tactic(auto, unfolding(crate::specs::Reading::annotations_at))]
 fn take_annotations(alloc: Global, rest: &mut Bytes) -> Result<Vec<u16>, BlockFault>
-    ensures { Takes (λ ps. ps.items) result rest.new (annotations_at rest.old) }
+    ensures exact { Takes (λ ps. ps.items) result rest.new (annotations_at rest.old) }
 {
     let count = rest.try_get_u16()?;
     take_rising(alloc, count, rest)
@@ -54,7 +54,7 @@ fn take_annotations(alloc: Global, rest: &mut Bytes) -> Result<Vec<u16>, BlockFa
 
 #[tactic(auto, unfolding(crate::specs::Reading::put_at))]
 fn take_put(rest: &mut Bytes) -> Result<Record, BlockFault>
-    ensures { Takes (λ x. x) result rest.new (put_at rest.old) }
+    ensures exact { Takes (λ x. x) result rest.new (put_at rest.old) }
 {
     let page = rest.try_get_u32()?;
     let offset = rest.try_get_u16()?;
@@ -73,7 +73,7 @@ fn take_put(rest: &mut Bytes) -> Result<Record, BlockFault>
 
 #[tactic(auto, unfolding(crate::specs::Reading::record_at))]
 fn take_record(rest: &mut Bytes) -> Result<Record, BlockFault>
-    ensures { Takes (λ x. x) result rest.new (record_at rest.old) }
+    ensures exact { Takes (λ x. x) result rest.new (record_at rest.old) }
 {
     match rest.try_get_u8()? {
         PUT => take_put(rest),
@@ -83,7 +83,7 @@ fn take_record(rest: &mut Bytes) -> Result<Record, BlockFault>
 
 // So many records.
 fn take_records(alloc: Global, count: u16, rest: &mut Bytes) -> Result<Vec<Record>, BlockFault>
-    ensures { Takes (λ rs. rs.items) result rest.new (records_at count rest.old) }
+    ensures exact { Takes (λ rs. rs.items) result rest.new (records_at count rest.old) }
 {
     let mut records = Vec::new(alloc);
     for _ in 0..count {
@@ -115,13 +115,6 @@ fn fields_of(alloc: Global, input: Bytes) -> Result<(u64, Vec<u16>, Vec<Record>)
         return Err(BlockFault::Malformed(Fault::WrongAnnotations));
     }
     Ok((lsn, partitions, records))
-}
-
-// A slice that is looked at is known to have bytes.
-fn each_is_byte(bytes: &[u8])
-    ensures { AreBytes bytes.now }
-{
-    let _all = bytes;
 }
 
 /// The block that the bytes spell. The records keep the bytes of the input, and none is copied.

@@ -26,7 +26,7 @@ pub enum Record {
 impl Record {
     /// The partition of the page that the record changes.
     pub fn partition(&self) -> u16
-        ensures { result ≡ partition_of self.now }
+        ensures value { result ≡ partition_of self.now }
     {
         let Record::Put { page, .. } = self;
         (*page / PAGES_PER_PARTITION) as u16

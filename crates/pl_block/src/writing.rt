@@ -15,7 +15,7 @@ use std::alloc::{AllocError, Global};
 
 fn record_len(entry: &Record) -> usize
     ensures value { result ≡ length (record_spelling entry.now) }
-    ensures bound { result < 2 ^ 63 + 9 }
+    ensures fits { result < 2 ^ 63 + 9 }
 {
     let Record::Put { bytes, .. } = entry;
     9 + bytes.len()
@@ -26,7 +26,7 @@ fn record_len(entry: &Record) -> usize
 pub(crate) fn spelling_len(partitions: &[u16], records: &[Record]) -> usize
     ensures value { result ≤ longest_block →
         result ≡ 12 + 2 * length partitions.now + length (flat_map record_spelling records.now) }
-    ensures full { longest_block < result →
+    ensures long { longest_block < result →
         longest_block < 12 + 2 * length partitions.now + length (flat_map record_spelling records.now) }
 {
     let mut len = 12 + 2 * partitions.len();
@@ -118,7 +118,7 @@ pub fn encode_onto(out: &mut Vec<u8>, block: &Block) -> Result<(), AllocError>
 
 /// The one spelling of the block. Memory is asked for once, and for no more bytes than it has.
 pub fn encode(alloc: Global, block: &Block) -> Result<Vec<u8>, AllocError>
-    ensures exact { IfOk result (λ bytes. bytes.items ≡ block_spelling block.now) }
+    ensures ok { IfOk result (λ bytes. bytes.items ≡ block_spelling block.now) }
     ensures fits { IfOk result (λ bytes. length bytes.items ≤ longest_block) }
 {
     let mut out = Vec::new(alloc);

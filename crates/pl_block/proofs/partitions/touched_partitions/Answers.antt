@@ -9,9 +9,11 @@ pub returns : goal.returns
 returns c =
     let is = dedup_is _ _ _ c.dedup.ensures.filtered in
     let moved = c.sort_unstable.ensures.permutation in
-    touched_from_members c.args.records.now _
-    (rw is (IsStrictlyIncreasing-dedup _ c.sort_unstable.ensures.sorted))
-    (λ x. (
-      λ h. rw c.in_ok-partitions.ensures at (Contains-permutation _ _ x (IsPermutation-sym _ _ moved) (Contains-from_dedup _ _ x (rw is at h))),
-      λ h. rw is (Contains-dedup_nat _ x (Contains-permutation _ _ x moved (rw (← c.in_ok-partitions.ensures) at h))),
-    ))
+    record {
+      ok = touched_from_members c.args.records.now _
+          (rw is (IsStrictlyIncreasing-dedup _ c.sort_unstable.ensures.sorted))
+          (λ x. (
+            λ h. rw c.in_ok-partitions.ensures.ok at (Contains-permutation _ _ x (IsPermutation-sym _ _ moved) (Contains-from_dedup _ _ x (rw is at h))),
+            λ h. rw is (Contains-dedup_nat _ x (Contains-permutation _ _ x moved (rw (← c.in_ok-partitions.ensures.ok) at h))),
+          ));
+    }

@@ -13,7 +13,7 @@ returns-in_err-lsn-clause-only c =
 
 pub invariant_of-of_parts : goal.invariant_of-of_parts
 invariant_of-of_parts c =
-    let fits : AreBytes c.args.input = subst AreBytes c.as_slice.ensures c.each_is_byte.ensures in
+    let fits : AreBytes c.args.input = subst AreBytes c.as_slice.ensures c.each_is_byte.ensures.value in
     let taken = block_takes c.args.input (record { lsn = c.in_ok-lsn.lsn; records = c.in_ok-lsn.records.items }) fits c.in_ok-lsn.ensures.exact in
     (taken.0, c.in_ok-lsn.ensures.value)
 
@@ -21,7 +21,7 @@ given : (c : goal.After-of_parts) → Gives (λ x. x) c.of_parts.result (block_r
 given c = rw c.in_ok-lsn.ensures.exact c.of_parts.ensures.exact
 
 pub returns-clause-found : goal.returns-clause-found
-returns-clause-found c = is_found c.args.input c.of_parts.result (subst AreBytes c.as_slice.ensures c.each_is_byte.ensures) (given c)
+returns-clause-found c = is_found c.args.input c.of_parts.result (subst AreBytes c.as_slice.ensures c.each_is_byte.ensures.value) (given c)
 
 pub returns-clause-no_memory : goal.returns-clause-no_memory
 returns-clause-no_memory c = λ _. reading_short c.args.input _ c.in_ok-lsn.ensures.exact

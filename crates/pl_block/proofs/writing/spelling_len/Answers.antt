@@ -3,7 +3,7 @@ use Rattle.std.proofs.lemmas.List.Folds.{length-flat_map-take}
 use Rattle.pl_block.specs.Spelling.{record_spelling}
 use Rattle.pl_block.proofs.writing.spelling_len.Goals as goal
 
-pub returns-then-len-gt-LONGEST_BLOCK-clause-full : goal.returns-then-len-gt-LONGEST_BLOCK-clause-full
-returns-then-len-gt-LONGEST_BLOCK-clause-full c =
+pub returns-then-len-gt-LONGEST_BLOCK-clause-long : goal.returns-then-len-gt-LONGEST_BLOCK-clause-long
+returns-then-len-gt-LONGEST_BLOCK-clause-long c =
     let within = length-flat_map-take record_spelling c.args.records.now c.loop-entry.entry-index c.entry-item.result c.loop-entry-test.true in
     λ long. omega arith
