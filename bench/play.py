@@ -1,11 +1,11 @@
-"""Times `pagelog play` on made lines beside plain tools that decode and encode the same text.
+"""Times `pagelog play` on generated lines beside plain tools that decode and encode the same text.
 
 Usage: python3 bench/play.py [LINES] [BYTES ...]     (100000 lines; blocks of 100 and of 16384 bytes)
 
 For each block of so many bytes: a write to copy 0, a write to copy 1, a report and a pull of that
 block; and the same with a failover behind each twenty blocks, over a window of eight numbers that
-each stand in one copy. A database of `play` holds 65,536 entries; the lines behind them are answered `07`. The input
-is made here, under bench/work, and removed at the end. Prints times, lines a second and the peak of
+are each in one copy. A database of `play` holds 65,536 entries; the lines after them are answered `07`. The input
+is generated under bench/work and removed at the end. Prints times, lines a second and the peak of
 memory of each run, and ratios within this one run.
 """
 
@@ -17,6 +17,10 @@ import sys
 import time
 
 ROOT = pathlib.Path(__file__).resolve().parent.parent
+sys.path.insert(0, str(ROOT / "scripts"))
+
+import wire  # noqa: E402
+
 WORK = ROOT / "bench" / "work"
 CRATE = ROOT / "crates" / "pagelog"
 PLAY = [CRATE / "out" / "pagelog", "play", "--table", CRATE / "data" / "t0.toml", "--primary", "2"]
@@ -28,37 +32,23 @@ HEX_LINES = (
 )
 
 
-def head(principal, role, operation, epoch=1):
-    token = bytes([0x11 * principal]) * 16
-    return (principal.to_bytes(4, "big") + token + bytes([role]) + bytes(4)
-            + epoch.to_bytes(4, "big") + bytes([operation]))
+def pull_of_all(lsn):
+    return wire.pull(0, 65535, lsn, 16)
 
 
-def block(number, size):
-    """A block of about `size` bytes: Puts of at most 8,192 bytes on pages of partition 0."""
-    records, left, page = [], size, 0
-    while left > 0:
-        length = min(left, 8192)
-        records.append(bytes([1]) + page.to_bytes(4, "big") + bytes(2) + length.to_bytes(2, "big")
-                       + bytes([number % 256]) * length)
-        left -= length
-        page += 1
-    return (number.to_bytes(8, "big") + (1).to_bytes(2, "big") + bytes(2)
-            + len(records).to_bytes(2, "big") + b"".join(records))
+def round_of(lsn, size, epoch):
+    spelled = wire.block(lsn, wire.puts_of(size, lsn % 256))
+    yield wire.head(2, wire.PRIMARY, wire.WRITE, epoch) + wire.write(0, spelled)
+    yield wire.head(2, wire.PRIMARY, wire.WRITE, epoch) + wire.write(1, spelled)
+    yield wire.head(2, wire.PRIMARY, wire.REPORT, epoch) + wire.report(lsn)
+    yield wire.head(3, wire.SECONDARY, wire.PULL, epoch) + pull_of_all(lsn)
 
 
-def round_of(number, size, epoch):
-    spelled = block(number, size)
-    yield head(2, 1, 1, epoch) + b"\0" + spelled
-    yield head(2, 1, 1, epoch) + b"\1" + spelled
-    yield head(2, 1, 3, epoch) + number.to_bytes(8, "big")
-    yield head(3, 2, 5, epoch) + bytes(2) + b"\xff\xff" + number.to_bytes(8, "big") + (16).to_bytes(2, "big")
-
-
-def failover(number, size, epoch):
+def failover(lsn, size, epoch):
     for above in range(1, 9):
-        yield head(2, 1, 1, epoch) + b"\2" + block(number + above, size)
-    yield head(1, 4, 8, epoch) + (2).to_bytes(4, "big")
+        spelled = wire.block(lsn + above, wire.puts_of(size, (lsn + above) % 256))
+        yield wire.head(2, wire.PRIMARY, wire.WRITE, epoch) + wire.write(2, spelled)
+    yield wire.head(1, wire.OPERATOR, wire.FAILOVER, epoch) + wire.failover(2)
 
 
 def bodies(size, rounds):

@@ -1,304 +1,339 @@
-"""Plays some thousand made lines on pagelog, and compares each reply with a plain model.
+"""Plays generated request bodies, and compares each reply with that of a model.
 
-Usage: python3 scripts/trial.py [LINES] [SEED]     (3000 lines, seed 1)
+Usage: python3 scripts/trial.py [LINES] [SEED]   plays so many lines (20000, seed 1) on the built pagelog
+       python3 scripts/trial.py --write          writes stdin, stdout and data/t0.toml of crates/trial
+       python3 scripts/trial.py --check          compares these with what --write would write
 
-The lines hold writes, reports, pulls, status, failovers and tables, most of them by who may ask in
-the present epoch, some by others, with wrong tokens, in other epochs, or with bytes cut off or
-added. The model is written after docs/RULES.md and docs/FORMATS.md alone and shares nothing with
-the program: it keeps the list of what was allowed, and asks everything of that list anew.
+The model (model.py) is written from docs/RULES.md and docs/FORMATS.md alone. Lines depend on the seed
+alone, and the first N of a longer run are those of a run of N lines. At the first reply that differs
+the seed is printed, and the lines up to that one are left in crates/pagelog/out/trial-failed.
 """
 
 import pathlib
 import random
 import subprocess
 import sys
-import tempfile
 from collections import Counter
 
+import tables
+import wire
+from model import Model
+from wire import FAILOVER, OPERATOR, PAGE_SERVER, PRIMARY, PULL, REPORT, SECONDARY, SET_TABLE, STATUS, WRITE
+
 ROOT = pathlib.Path(__file__).resolve().parent.parent
-PRIMARY, SECONDARY, PAGE_SERVER, OPERATOR = 1, 2, 3, 4
-WRITE, REPORT, PULL, STATUS, FAILOVER, SET_TABLE = 1, 3, 5, 7, 8, 9
-NAMES = {1: "write", 2: "offer", 3: "report", 4: "get", 5: "pull", 6: "advance", 7: "status", 8: "failover",
-         9: "set_table", 10: "audit", 11: "tidy"}
-ROLES = {1: "primary", 2: "secondary", 3: "page_server", 4: "operator"}
-HAS = {PRIMARY: {1, 2, 3, 4, 7}, SECONDARY: {5, 4, 7}, PAGE_SERVER: {5, 6, 7}, OPERATOR: {8, 9, 10, 11, 7}}
-LAST_EPOCH = 2 ** 32 - 1
+STORED = ROOT / "crates" / "trial"
+TABLE = ROOT / "crates" / "pagelog" / "data" / "t0.toml"
+FAILED = ROOT / "crates" / "pagelog" / "out" / "trial-failed"
+SEED = 20
+RANDOM_LINES = 2600
 
 
-class Table:
-    """Principals and rows, and the text that writes them down."""
+class Trial:
+    """Lines and their replies, and the model of the database that is open."""
 
-    def __init__(self, ids, rows):
-        self.tokens = {i: bytes([0x11 * i]) * 16 for i in ids}
-        self.rows = rows
-        lines = []
-        for i in ids:
-            lines += ["[[principal]]", f"id = {i}", f'token = "{self.tokens[i].hex()}"']
-        for row in rows:
-            lines += ["[[row]]", f'verdict = "{row["verdict"]}"']
-            if "who" in row:
-                lines.append(f'who = {row["who"]}')
-            if "role" in row:
-                lines.append(f'role = "{ROLES[row["role"]]}"')
-            if "op" in row:
-                lines.append("op = [" + ", ".join(f'"{NAMES[op]}"' for op in row["op"]) + "]")
-            if "from" in row:
-                lines += [f'from = {row["from"]}', f'to = {row["to"]}']
-        self.text = ("\n".join(lines) + "\n").encode()
+    def __init__(self, seed):
+        self.chance = random.Random(seed)
+        self.lines, self.replies, self.met = [], [], Counter()
+        self.model = Model(tables.TEXTS, tables.START, 2)
 
-    def first_match(self, request):
-        """The number of the first row that speaks of the request, and whether it allows."""
-        named = partitions(request)
-        for number, row in enumerate(self.rows, 1):
-            allows = row["verdict"] == "allow"
-            if row.get("who", request["who"]) != request["who"]:
-                continue
-            if row.get("role", request["role"]) != request["role"]:
-                continue
-            if request["op"] not in row.get("op", [request["op"]]):
-                continue
-            if "from" in row and named:
-                inside = [row["from"] <= p <= row["to"] for p in named]
-                if not (all(inside) if allows else any(inside)):
-                    continue
-            return number, allows
-        return None
+    def open(self, primary=2, limit=65536):
+        self.model = Model(tables.TEXTS, tables.START, primary, limit)
+        self.lines.append(f"open t0.toml {primary} {limit}")
+        self.replies.append("opened")
 
+    def play(self, body):
+        name, reply = self.model.reply(body)
+        self.met[name] += 1
+        self.lines.append(body.hex())
+        self.replies.append(reply.hex())
+        return name
 
-def partitions(request):
-    if request["op"] == WRITE:
-        return sorted(touched(request["block"]))
-    if request["op"] == PULL:
-        return list(range(request["lo"], request["hi"] + 1))
-    return []
+    def body(self, who, role, op, arguments=b"", epoch=None, key=None):
+        """A body of the present epoch; the number of the database decides nothing and varies."""
+        epoch = self.model.epoch if epoch is None else epoch
+        return wire.head(who, role, op, epoch, self.chance.choice([0, 0, 1, 7, 2 ** 32 - 1]), key) + arguments
+
+    def write(self, copy, lsn, records):
+        return self.play(self.body(self.model.primary, PRIMARY, WRITE, wire.write(copy, wire.block(lsn, records))))
+
+    def report(self, lsn):
+        return self.play(self.body(self.model.primary, PRIMARY, REPORT, wire.report(lsn)))
+
+    def pull(self, lsn, lo=0, hi=65535, most=16):
+        return self.play(self.body(3, SECONDARY, PULL, wire.pull(lo, hi, lsn, most)))
+
+    def status(self):
+        return self.play(self.body(1, OPERATOR, STATUS))
+
+    def fail_over(self, primary):
+        return self.play(self.body(1, OPERATOR, FAILOVER, wire.failover(primary)))
+
+    def set_table(self, text):
+        return self.play(self.body(1, OPERATOR, SET_TABLE, text))
 
 
-def touched(block):
-    return {page // 65536 for page, _ in block[1]}
+def put(lsn):
+    """One byte on a page whose partition follows from the LSN; each ninth block has no record."""
+    return [] if lsn % 9 == 4 else [(lsn % 5 * wire.PAGES_OF_A_PARTITION, 0, bytes([lsn % 251]))]
 
 
-START = Table([1, 2, 3, 4, 5], [
-    {"verdict": "allow", "who": 1, "role": OPERATOR}, {"verdict": "allow", "who": 2, "role": PRIMARY},
-    {"verdict": "deny", "who": 3, "op": [4], "from": 7, "to": 7}, {"verdict": "allow", "who": 3, "role": SECONDARY},
-    {"verdict": "allow", "who": 4, "role": PAGE_SERVER, "from": 0, "to": 3},
-    {"verdict": "allow", "who": 5, "role": PRIMARY}])
-TABLES = [
-    START,
-    Table([1, 2, 3, 4, 5], [{"verdict": "deny", "who": 3, "op": [5], "from": 2, "to": 2}] + START.rows),
-    Table([1, 2, 3, 4], [{"verdict": "allow", "who": 1}, {"verdict": "deny", "op": [1], "from": 4, "to": 4},
-                         {"verdict": "allow", "who": 2}, {"verdict": "allow", "role": SECONDARY}]),
-    Table([1, 2, 3, 4, 5], [{"verdict": "allow", "from": 0, "to": 65535}]),
-]
-FAULTY = [(b"x", 1), (b"x = 1", 2), (b"", 3), (b"\xff", 1),
-          (Table([1, 2], [{"verdict": "allow", "who": 2, "role": PRIMARY}]).text, 12),
-          (b'[[principal]]\nid = 1\ntoken = "11"\n', 7)]
+def full_windows(trial):
+    """A window filled in any order and emptied, three times, and pulled sixteen at a time."""
+    trial.open()
+    for turn in range(3):
+        hard = 64 * turn
+        wanted = [(copy, hard + 1 + at) for copy in (0, 2) for at in range(64)]
+        trial.chance.shuffle(wanted)
+        for copy, lsn in wanted:
+            trial.write(copy, lsn, put(lsn))
+        trial.write(1, hard + 65, put(hard + 65))
+        trial.report(hard + 64)
+        trial.write(1, hard + 64, put(hard + 64))
+    for lsn in (1, 17, 33, 100, 161, 192, 193):
+        trial.pull(lsn)
+        trial.pull(lsn, lo=1, hi=2, most=7)
 
 
-def spelled(block):
-    lsn, records = block
-    annotations = sorted(touched(block))
-    out = lsn.to_bytes(8, "big") + len(annotations).to_bytes(2, "big")
-    out += b"".join(p.to_bytes(2, "big") for p in annotations) + len(records).to_bytes(2, "big")
-    for page, byte in records:
-        out += bytes([1]) + page.to_bytes(4, "big") + bytes(2) + (1).to_bytes(2, "big") + bytes([byte])
-    return out
+def three_hundred_blocks(trial):
+    """Written to two of three copies, reported ten at a time, and pulled to the end."""
+    trial.open(primary=5)
+    for lsn in range(1, 301):
+        for copy in sorted(trial.chance.sample(range(3), 2)):
+            trial.write(copy, lsn, put(lsn))
+        if lsn % 10 == 0:
+            trial.report(lsn)
+    for lsn in range(1, 302, 15):
+        trial.pull(lsn, lo=lsn % 5, hi=4)
+    trial.status()
 
 
-def body(request):
-    out = request["who"].to_bytes(4, "big") + request["token"] + bytes([request["role"]]) + bytes(4)
-    out += request["epoch"].to_bytes(4, "big") + bytes([request["op"]])
-    if request["op"] == WRITE:
-        out += bytes([request["copy"]]) + spelled(request["block"])
-    elif request["op"] == REPORT:
-        out += request["lsn"].to_bytes(8, "big")
-    elif request["op"] == PULL:
-        out += request["lo"].to_bytes(2, "big") + request["hi"].to_bytes(2, "big")
-        out += request["lsn"].to_bytes(8, "big") + request["max"].to_bytes(2, "big")
-    elif request["op"] == FAILOVER:
-        out += request["to"].to_bytes(4, "big")
-    elif request["op"] == SET_TABLE:
-        out += request["text"]
-    return out
+def failovers(trial):
+    """Over thirty contents with a gap at the twenty-first, to each primary, and in the old epoch."""
+    trial.open()
+    for primary in (5, 2, 2, 9, 3, 5):
+        hard, old = len(trial.model.log), trial.model.primary
+        for lsn in range(hard + 1, hard + 31):
+            copies = range(3) if lsn % 4 == 0 else (0, 1)
+            for copy in copies if lsn != hard + 21 else (2,):
+                trial.write(copy, lsn, put(lsn))
+        late = trial.body(old, PRIMARY, REPORT, wire.report(hard + 30))
+        trial.fail_over(primary)
+        trial.play(late)
+        trial.status()
+        trial.pull(max(1, hard), most=16)
+        trial.write(0, len(trial.model.log) + 1, [(7, 8, b"again")])
+        if trial.model.primary == 3:
+            trial.fail_over(2)
 
 
-class Model:
-    """The list of allowed requests, oldest first, and how many entries there are."""
-
-    def __init__(self, table, primary):
-        self.table, self.primary, self.allowed, self.entries = table, primary, [], 0
-
-    def epoch(self):
-        return 1 + sum(r["op"] == FAILOVER for r in self.allowed)
-
-    def now_primary(self):
-        return next((r["to"] for r in reversed(self.allowed) if r["op"] == FAILOVER), self.primary)
-
-    def now_table(self):
-        return next((r["table"] for r in reversed(self.allowed) if r["op"] == SET_TABLE), self.table)
-
-    def log_and_now(self):
-        """The hardened log, and of this epoch each number's content and copies."""
-        log, content, copies = [], {}, {}
-        for r in self.allowed:
-            if r["op"] == WRITE:
-                content.setdefault(r["block"][0], r["block"])
-                copies.setdefault(r["block"][0], set()).add(r["copy"])
-            elif r["op"] == REPORT:
-                while len(log) < r["lsn"]:
-                    log.append(content[len(log) + 1])
-            elif r["op"] == FAILOVER:
-                while len(copies.get(len(log) + 1, ())) >= 2:
-                    log.append(content[len(log) + 1])
-                content, copies = {}, {}
-        return log, content, copies
-
-    def answer(self, request):
-        if self.entries >= 65536:
-            return "full", bytes([7])
-        table = self.now_table()
-        if table.tokens.get(request["who"]) != request["token"]:
-            return "A1", denied(1, 1, 0)
-        self.entries += 1
-        section, row, value = self.denial(request, table)
-        if section:
-            return " ABC"[section] + str(row), denied(section, row, value)
-        log, _, _ = self.log_and_now()
-        reply = self.served(request, log)
-        if request["op"] == SET_TABLE:
-            request = dict(request, table=request["good"])
-        self.allowed.append(request)
-        return NAMES[request["op"]], reply
-
-    def denial(self, request, table):
-        epoch = self.epoch()
-        if request["epoch"] < epoch:
-            return 1, 2, epoch
-        if request["epoch"] > epoch:
-            return 1, 3, epoch
-        if request["role"] == PRIMARY and request["who"] != self.now_primary():
-            return 1, 4, 0
-        if request["op"] not in HAS[request["role"]]:
-            return 1, 5, 0
-        match = table.first_match(request)
-        if match is None:
-            return 2, 0, 0
-        if not match[1]:
-            return 2, match[0], 0
-        return self.denial_by_log(request, table, epoch)
-
-    def denial_by_log(self, request, table, epoch):
-        log, content, copies = self.log_and_now()
-        hard, op = len(log), request["op"]
-        if op == PULL and request["lsn"] > hard:
-            return 3, 1, hard
-        if op == WRITE:
-            lsn = request["block"][0]
-            if lsn <= hard:
-                return 3, 2, hard
-            if lsn > hard + 64:
-                return 3, 3, hard
-            if content.get(lsn, request["block"]) != request["block"]:
-                return 3, 4, 0
-            if request["copy"] >= 3:
-                return 3, 5, 0
-        if op == REPORT and any(len(copies.get(n, ())) < 2 for n in range(hard + 1, min(request["lsn"], hard + 65) + 1)):
-            return 3, 6, hard
-        if op == SET_TABLE and request["good"] is None:
-            return 3, 7, request["fault"]
-        if op == FAILOVER and request["to"] not in table.tokens:
-            return 3, 8, 0
-        if op == FAILOVER and epoch == LAST_EPOCH:
-            return 3, 9, 0
-        return 0, 0, 0
-
-    def served(self, request, log):
-        if request["op"] == PULL:
-            wanted = set(partitions(request))
-            found = [b for b in log[request["lsn"] - 1:] if touched(b) & wanted][:request["max"]]
-            after = found[-1][0] + 1 if len(found) == request["max"] else len(log) + 1
-            out = bytes([1]) + after.to_bytes(8, "big") + len(found).to_bytes(2, "big")
-            return out + b"".join(len(spelled(b)).to_bytes(4, "big") + spelled(b) for b in found)
-        if request["op"] == STATUS:
-            hard = len(log).to_bytes(8, "big")
-            return bytes([4]) + self.epoch().to_bytes(4, "big") + self.now_primary().to_bytes(4, "big") + hard + bytes(8) + hard
-        return bytes([0])
+def large_blocks(trial):
+    """Blocks of 20,000 bytes, of 2,700 records and of the most bytes that one has, and a text of the most."""
+    trial.open()
+    many = [(at % 4096, at % 8192, bytes([at % 256])) for at in range(2700)]
+    most = wire.puts_of(wire.LONGEST_BLOCK - 14 - 4 * 9, 0xEE)
+    for lsn, records in ((1, wire.puts_of(20000, 0xAB)), (2, many), (3, wire.puts_of(20000, 0xCD))):
+        trial.write(0, lsn, records)
+        trial.write(1, lsn, records)
+        trial.report(lsn)
+    trial.pull(1, most=2)
+    trial.pull(3, hi=0)
+    trial.write(2, 4, most)
+    trial.write(2, 5, most + [(9, 0, b"\1")])
+    trial.set_table(longest_text())
+    trial.status()
 
 
-def denied(section, row, value):
-    return bytes([5, section]) + row.to_bytes(2, "big") + value.to_bytes(8, "big")
+def longest_text():
+    text = tables.NO_PULL_OF_2.text
+    text += b"#" * (65506 - len(text))
+    tables.TEXTS[text] = tables.NO_PULL_OF_2
+    return text
 
 
-def made(chance, model):
-    """A request that matters beside what the model holds."""
-    hard = len(model.log_and_now()[0])
-    primary = model.now_primary()
-    near = [hard + 1] * 8 + [hard + 2] * 6 + [hard + 3] * 2 + [max(hard, 1), hard + 64, hard + 65]
-    kind = chance.choices(["write", "report", "pull", "status", "failover", "set_table"], [60, 18, 12, 3, 2, 3])[0]
-    if kind == "write":
-        lsn = chance.choice(near)
-        records = [] if lsn % 9 == 4 else [((lsn % 5) * 65536, 0xAB if chance.random() < 0.04 else 0xAA)]
-        ask = {"op": WRITE, "copy": chance.choice([0, 0, 1, 1, 2, 3] if chance.random() < 0.1 else [0, 1, 2]),
-               "block": (lsn, records)}
-    elif kind == "report":
-        ask = {"op": REPORT, "lsn": chance.choice(near + [0, 2 ** 48])}
-    elif kind == "pull":
-        lo = chance.randrange(6)
-        ask = {"op": PULL, "lo": lo, "hi": lo + chance.randrange(4), "lsn": 1 + chance.randrange(hard + 2),
-               "max": chance.choice([1, 2, 5, 16])}
-    elif kind == "status":
-        ask = {"op": STATUS}
-    elif kind == "failover":
-        ask = {"op": FAILOVER, "to": chance.choice([2, 2, 5, 5, 9])}
-    else:
-        good = chance.choice(TABLES) if chance.random() < 0.6 else None
-        text, fault = (good.text, 0) if good else chance.choice(FAULTY)
-        ask = {"op": SET_TABLE, "good": good, "text": text, "fault": fault}
-    who, role = {"pull": (3, SECONDARY), "failover": (1, OPERATOR), "set_table": (1, OPERATOR)}.get(kind, (primary, PRIMARY))
-    if kind == "pull" and chance.random() < 0.3:
-        who, role = 4, PAGE_SERVER
-    epoch = model.epoch()
-    strange = chance.random()
+def texts_of_tables(trial):
+    """Each text that is none changes nothing but the audit list, and each table is in force at once."""
+    trial.open()
+    for text, found in list(tables.TEXTS.items()):
+        if len(text) < 10000:
+            trial.set_table(text)
+            trial.status() if isinstance(found, int) else ask_each(trial)
+        trial.set_table(tables.START.text)
+
+
+def ask_each(trial):
+    for who in (1, 2, 3, 4, 5, 6, 64):
+        for role in (PRIMARY, SECONDARY, PAGE_SERVER, OPERATOR):
+            trial.play(trial.body(who, role, STATUS))
+        trial.play(trial.body(who, SECONDARY, PULL, wire.pull(2, 2, 1, 1)))
+        for page in (2, 4 * wire.PAGES_OF_A_PARTITION):
+            trial.play(trial.body(who, PRIMARY, WRITE, wire.write(who % 3, wire.block(who, [(page, 0, b"\1")]))))
+        trial.play(trial.body(who, OPERATOR, FAILOVER, wire.failover(2)))
+
+
+def faults_of_bodies(trial):
+    """Each code of a malformed body, and the least code of those that hold."""
+    trial.open()
+    status, report = trial.body(1, OPERATOR, STATUS), trial.body(2, PRIMARY, REPORT, wire.report(1))
+    pull = trial.body(3, SECONDARY, PULL, wire.pull(0, 1, 1, 1))
+    bodies = [status[:at] for at in (0, 1, 4, 20, 29)] + [status + b"\0", report[:-1], report + b"\0", pull[:-2], pull + b"\1\1"]
+    for role in (0, 1, 4, 5, 255):
+        bodies += [status[:20] + bytes([role]) + status[21:29] + bytes([op]) for op in (0, 1, 2, 7, 10, 12, 255)]
+    bodies += [report[:30] + wire.report(lsn) for lsn in (2 ** 48, 2 ** 48 + 1, 2 ** 64 - 1)]
+    bodies += [pull[:30] + wire.pull(*parts) for parts in ((2, 1, 1, 1), (0, 0, 0, 1), (0, 0, 2 ** 48 + 1, 1), (0, 0, 1, 0), (0, 0, 1, 17))]
+    for spelled in faulty_blocks():
+        bodies.append(trial.body(2, PRIMARY, WRITE, wire.write(0, spelled)))
+    for body in bodies:
+        trial.play(body)
+    trial.status()
+
+
+def faulty_blocks():
+    good = wire.block(1, [(0, 0, b"ab"), (65536, 8190, b"cd")])
+    yield from (good[:at] for at in range(len(good)))
+    yield good + b"\0"
+    for lsn in (0, 2 ** 48, 2 ** 48 + 1):
+        yield wire.number(lsn, 8) + good[8:]
+    yield good[:10] + b"\0\1\0\0" + good[14:]
+    yield good[:10] + b"\0\0\0\0" + good[14:]
+    yield good[:10] + b"\0\0\0\2" + good[14:]
+    yield good[:16] + b"\2" + good[17:]
+    for offset, length in ((0, 0), (8191, 2), (8192, 0), (65535, 65535)):
+        yield good[:21] + wire.number(offset, 2) + wire.number(length, 2) + good[25:]
+
+
+def full_audit_list(trial):
+    """Entries up to the limit, then the full list, which is asked before the token and changes nothing."""
+    for limit in (1, 60):
+        trial.open(limit=limit)
+        for lsn in range(1, 15):
+            trial.write(0, lsn, put(lsn))
+            trial.write(1, lsn, put(lsn))
+            trial.play(trial.body(2, PRIMARY, STATUS, key=bytes(16)))
+            trial.report(lsn)
+            trial.pull(1, most=3)
+            trial.status()
+            trial.play(b"")
+
+
+def near(chance, hard):
+    return chance.choice([hard + 1] * 8 + [hard + 2] * 6 + [hard + 3] * 2 + [max(hard, 1), hard + 64, hard + 65])
+
+
+def arguments(trial):
+    """An operation that matters beside what the model holds, and who may ask for it."""
+    chance, model = trial.chance, trial.model
+    hard = len(model.log)
+    kind = chance.choices([WRITE, REPORT, PULL, STATUS, FAILOVER, SET_TABLE], [64, 18, 10, 3, 2, 1])[0]
+    if kind == WRITE:
+        lsn = near(chance, hard)
+        records = [(0, 0, b"\xab")] if chance.random() < 0.04 else put(lsn)
+        copy = chance.choice([0, 1, 2, 3] if chance.random() < 0.1 else [0, 1, 2])
+        return model.primary, PRIMARY, kind, wire.write(copy, wire.block(lsn, records))
+    if kind == REPORT:
+        return model.primary, PRIMARY, kind, wire.report(chance.choice([near(chance, hard)] * 9 + [0, 2 ** 48]))
+    if kind == PULL:
+        lo, lsn = chance.randrange(6), 1 + chance.randrange(hard + 2)
+        who, role = (4, PAGE_SERVER) if chance.random() < 0.3 else (3, SECONDARY)
+        return who, role, kind, wire.pull(lo, lo + chance.randrange(4), lsn, chance.choice([1, 2, 5, 16]))
+    if kind == STATUS:
+        return model.primary, PRIMARY, kind, b""
+    if kind == FAILOVER:
+        return 1, OPERATOR, kind, wire.failover(chance.choice([2, 2, 5, 5, 9]))
+    table = chance.choice(tables.TABLES).text
+    text = table if chance.random() < 0.6 else chance.choice(tables.FAULTY[1 + chance.randrange(12)]).encode()
+    return 1, OPERATOR, kind, text if len(text) < 2000 else table
+
+
+def random_line(trial):
+    """Most lines are what may be asked; some are another's, of another epoch or token, or broken."""
+    chance = trial.chance
+    who, role, op, rest = arguments(trial)
+    epoch, key, strange = None, None, chance.random()
     if strange < 0.03:
         who = chance.randrange(1, 7)
     elif strange < 0.06:
         role = chance.randrange(1, 5)
     elif strange < 0.10:
-        epoch = max(0, epoch + chance.choice([-2, -1, 1]))
-    token = bytes([0x66 if chance.random() < 0.02 else 0x11 * who]) * 16
-    return dict(ask, who=who, role=role, epoch=epoch, token=token)
+        epoch = max(0, trial.model.epoch + chance.choice([-2, -1, 1]))
+    elif strange < 0.12:
+        key = bytes([chance.randrange(256)]) * 16
+    body = trial.body(who, role, op, rest, epoch, key)
+    if op != SET_TABLE and chance.random() < 0.03:
+        at = chance.randrange(len(body))
+        body = chance.choice([body[:at], body + b"\0", body[:at] + bytes([chance.randrange(256)]) + body[at + 1:]])
+        if len(body) > 29 and body[29] == SET_TABLE:
+            body = body[:29]
+    trial.play(body)
+
+
+def stored():
+    trial = Trial(SEED)
+    for part in (full_windows, three_hundred_blocks, failovers, large_blocks, texts_of_tables, faults_of_bodies, full_audit_list):
+        part(trial)
+    trial.open()
+    for _ in range(RANDOM_LINES):
+        random_line(trial)
+    return trial
+
+
+def text_of(lines):
+    return "\n".join(lines) + "\n"
+
+
+def summary(trial):
+    return ", ".join(f"{name} {trial.met[name]}" for name in sorted(trial.met))
+
+
+def files_of(trial):
+    return {"stdin": text_of(trial.lines).encode(), "stdout": text_of(trial.replies).encode(), "data/t0.toml": tables.START.text}
+
+
+def write():
+    trial = stored()
+    for name, content in files_of(trial).items():
+        (STORED / name).write_bytes(content)
+    print(f"{len(trial.lines)} lines: {summary(trial)}")
+
+
+def check():
+    trial = stored()
+    for name, content in files_of(trial).items():
+        if (STORED / name).read_bytes() != content:
+            sys.exit(f"crates/trial/{name} is not what scripts/trial.py --write writes")
+    if TABLE.read_bytes() != tables.START.text:
+        sys.exit("crates/pagelog/data/t0.toml is not the start table of scripts/tables.py")
+    print(f"crates/trial has the {len(trial.lines)} lines that the model gives")
+
+
+def play(count, seed):
+    trial = Trial(seed)
+    for _ in range(count):
+        random_line(trial)
+    run = subprocess.run([ROOT / "scripts" / "pagelog", "play", "--table", TABLE, "--primary", "2"],
+                         input=text_of(trial.lines), capture_output=True, text=True)
+    replies = run.stdout.splitlines()
+    for at, (line, reply) in enumerate(zip(trial.lines, trial.replies)):
+        if replies[at:at + 1] != [reply]:
+            FAILED.write_text(text_of(trial.lines[:at + 1]))
+            sys.exit(f"seed {seed}, line {at + 1}: {line}\n the model replies {reply}\n pagelog replies   {replies[at:at + 1]}\n"
+                     f"{run.stderr}The shortest prefix that fails is left in {FAILED.relative_to(ROOT)}")
+    if run.returncode or len(replies) != count:
+        sys.exit(f"seed {seed}: status {run.returncode}, {len(replies)} replies to {count} lines: {run.stderr}")
+    model = trial.model
+    print(f"{count} lines, seed {seed}: each reply is the model's. Epoch {model.epoch}, {len(model.log)} blocks hardened, "
+          f"{model.entries} entries\n  {summary(trial)}")
 
 
 def main():
-    count = int(sys.argv[1]) if len(sys.argv) > 1 else 3000
-    seed = int(sys.argv[2]) if len(sys.argv) > 2 else 1
-    chance, model, met = random.Random(seed), Model(START, 2), Counter()
-    inputs, replies = [], []
-    for _ in range(count):
-        request = made(chance, model)
-        line = body(request)
-        if request["op"] in (REPORT, PULL, STATUS, FAILOVER) and chance.random() < 0.02:
-            cut = chance.random() < 0.5 and request["op"] != STATUS
-            line = line[:-1] if cut else line + b"\0"
-            name, reply = "malformed", bytes([10, 4 if cut else 5])
-        else:
-            name, reply = model.answer(request)
-        met[name] += 1
-        inputs.append(line.hex())
-        replies.append(reply.hex())
-    with tempfile.NamedTemporaryFile(suffix=".toml") as file:
-        file.write(START.text)
-        file.flush()
-        run = subprocess.run([ROOT / "scripts" / "pagelog", "play", "--table", file.name, "--primary", "2"],
-                             input="\n".join(inputs) + "\n", capture_output=True, text=True)
-    told = run.stdout.splitlines()
-    for number, (line, reply) in enumerate(zip(inputs, replies)):
-        if number >= len(told) or told[number] != reply:
-            sys.exit(f"line {number + 1}: {line}\n expected {reply}\n told     {told[number:number + 1]}\n{run.stderr}")
-    if run.returncode or len(told) != count:
-        sys.exit(f"status {run.returncode}, {len(told)} replies to {count} lines: {run.stderr}")
-    print(f"{count} lines, seed {seed}: each reply is the model's. Epoch {model.epoch()}, "
-          f"{len(model.log_and_now()[0])} blocks hardened, {model.entries} entries")
-    print("  " + ", ".join(f"{name} {met[name]}" for name in sorted(met)))
+    words = sys.argv[1:]
+    if words == ["--write"]:
+        write()
+    elif words == ["--check"]:
+        check()
+    elif len(words) <= 2 and all(word.isdigit() for word in words):
+        play(int(words[0]) if words else 20000, int(words[1]) if words[1:] else 1)
+    else:
+        sys.exit(__doc__)
 
 
 if __name__ == "__main__":

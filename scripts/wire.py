@@ -1,0 +1,60 @@
+"""Blocks and requests as bytes, written from docs/FORMATS.md; shared by trial.py and bench/play.py."""
+
+PRIMARY, SECONDARY, PAGE_SERVER, OPERATOR = 1, 2, 3, 4
+WRITE, OFFER, REPORT, GET, PULL, ADVANCE, STATUS, FAILOVER, SET_TABLE, AUDIT, TIDY = range(1, 12)
+
+PAGE_BYTES = 8192
+PAGES_OF_A_PARTITION = 65536
+LONGEST_BLOCK = 32768
+
+
+def number(value, size):
+    """The value in so many bytes."""
+    return value.to_bytes(size, "big")
+
+
+def token(principal):
+    """The token of a principal of the start table: sixteen equal bytes."""
+    return bytes([0x11 * principal % 256]) * 16
+
+
+def partitions(records):
+    """The partitions that records (page, offset, bytes) touch, in order."""
+    return sorted({page // PAGES_OF_A_PARTITION for page, _, _ in records})
+
+
+def block(lsn, records):
+    """A block of this LSN with Puts (page, offset, bytes)."""
+    annotations = partitions(records)
+    out = number(lsn, 8) + number(len(annotations), 2)
+    out += b"".join(number(partition, 2) for partition in annotations) + number(len(records), 2)
+    puts = (b"\1" + number(page, 4) + number(offset, 2) + number(len(data), 2) + data for page, offset, data in records)
+    return out + b"".join(puts)
+
+
+def puts_of(size, byte):
+    """Puts of about `size` bytes in all, each on a page of its own, from page 0 on."""
+    lengths = [PAGE_BYTES] * (size // PAGE_BYTES) + ([size % PAGE_BYTES] if size % PAGE_BYTES else [])
+    return [(page, 0, bytes([byte]) * length) for page, length in enumerate(lengths)]
+
+
+def head(principal, role, op, epoch=1, database=0, key=None):
+    """The head of a request; the token is the principal's own unless another is given."""
+    key = token(principal) if key is None else key
+    return number(principal, 4) + key + bytes([role]) + number(database, 4) + number(epoch, 4) + bytes([op])
+
+
+def write(copy, spelled):
+    return bytes([copy]) + spelled
+
+
+def report(lsn):
+    return number(lsn, 8)
+
+
+def pull(lo, hi, lsn, most):
+    return number(lo, 2) + number(hi, 2) + number(lsn, 8) + number(most, 2)
+
+
+def failover(primary):
+    return number(primary, 4)
