@@ -3,20 +3,17 @@ use Rattle.std.proofs.Common.{◌≡◌, ◌≢◌, inl, inr, slice_index, arith
 use Rattle.std.specs.List.{concat}
 use Rattle.std.proofs.lemmas.List.{length-replicate}
 use Rattle.std.proofs.lemmas.List.Folds.{concat-append}
-use Rattle.std.specs.Prelude.{Option, ⊤, Result, Err}
+use Rattle.std.specs.Prelude.{Option, ⊤, Result, Err, IfErr}
 use Rattle.std.specs.Io.KnownBytes.{Appends, Keeps}
 use Rattle.std.proofs.KnownBytes.{Appends-nil, Appends-trans, Keeps-refl}
-use Rattle.pagelog.specs.Lines.{lines_of, longest_line, TakesLine, BeginsLong, IsLong, OnFirst}
-use Rattle.pagelog.specs.Played.{Steps, AnswersLine, Answered, HasLines, Moment, AnswersFirst, LeavesBoth, WritesAnswer, StopsAt, Stops, PlaysLine, Replied, AnswersRead, no_memory}
-use Rattle.pagelog.specs.Text.{answer_text}
-use Rattle.pagelog.specs.Answering.{AnswersBody, AnswersReading}
-use Rattle.pl_table.specs.Request.{Query}
-use Rattle.pl_core.specs.History.{History}
+use Rattle.pagelog.specs.Lines.{lines_of, longest_line, TakesLine, BeginsLong, IsLong, OnFirst, input_fault_at}
+use Rattle.pagelog.specs.declared.lines.InputFault.{InputFault}
+use Rattle.pagelog.specs.declared.lines.InputFault.TheVariants as inputs
+use Rattle.pagelog.specs.Played.{Steps, AnswersLine, Answered, HasLines, Moment, moment, AnswersFirst, LeavesBoth, WritesAnswer, StopsAt, Stops, PlaysLine, WritesReply, no_memory}
+use Rattle.pagelog.specs.Text.{line_text}
 use Rattle.pl_core.specs.declared.reply.Reply.{Reply}
 use Rattle.pl_core.specs.declared.reply.Reply.TheVariants as replies
-use Rattle.pl_wire.specs.Reading.{request_reading}
 use Rattle.pl_wire.specs.Replies.{reply_spelling}
-use Rattle.pl_wire.specs.declared.fault.WireFault.{WireFault}
 use Rattle.pagelog.specs.declared.fault.PlayFault.{PlayFault}
 use Rattle.pagelog.specs.declared.fault.PlayFault.TheVariants as faults
 use Rattle.hex.specs.Hex.{decode_of, encode_with}
@@ -145,7 +142,7 @@ module _ {S : Type 0} (step : Steps S) (input left : Option (List ℕ)) (count :
   }
 
   -- the next line is too long
-  pub stops_long : BeginsLong left → Stops step input before now (faults.Long (count + 1))
+  stops_long : BeginsLong left → Stops step input before now (faults.Long (count + 1))
   stops_long long =
       let more = LeavesLong-left input left going.answered going.lines long in
       record {
@@ -156,45 +153,61 @@ module _ {S : Type 0} (step : Steps S) (input left : Option (List ℕ)) (count :
         stop = (refl, more.long, LeavesBoth-refl now);
       }
 
--- the line is answered as what its body was read as
-abbrev answers_line : (line body : List ℕ) (read : Result Query WireFault) (before after : History) → length line ≤ longest_line → decode_of line ≡ Ok body
-    → read ≡ request_reading body → (r : Replied read before after) → AnswersLine AnswersBody before line (answer_text r.reply) after
-answers_line line body read before after fits reads is r = record {
+  -- the next line is not taken
+  pub stops_input : (fault : InputFault) → (fault ≡ inputs.Long → BeginsLong left) → Stops step input before now (input_fault_at fault (count + 1))
+  stops_input inputs.Read long = stops_before now faults.Read (LeavesBoth-refl now)
+  stops_input inputs.NoMemory long = stops_before now faults.NoMemory (inl (LeavesBoth-refl now))
+  stops_input inputs.Long long = stops_long (long refl)
+
+-- the line is answered by the reply to its body
+abbrev answers_line : {S : Type 0} (step : Steps S) (line body reply : List ℕ) (before after : S) → length line ≤ longest_line
+    → decode_of line ≡ Ok body → step before body reply after → AnswersLine step before line (line_text reply) after
+answers_line step line body reply before after fits reads stepped = record {
   body = body;
-  reply = r.reply;
+  reply = reply;
   fits = fits;
   reads = reads;
-  stepped = subst (λ now. AnswersReading now before r.reply after) is r.answers;
+  stepped = stepped;
   writes = refl;
 }
 
--- what comes of the reading of a line's body comes of the line
-pub plays_line : (number : ℕ) (line body : List ℕ) (read : Result Query WireFault) (before after : Moment History) (result : Result (Unit {0}) PlayFault)
-    → length line ≤ longest_line → decode_of line ≡ Ok body → read ≡ request_reading body → AnswersRead read before after result
-    → PlaysLine AnswersBody number line before after result
-plays_line number line body read before after (Ok u) fits reads is done = record {
-  answer = answer_text done.0.reply;
-  answers = answers_line line body read before.state after.state fits reads is done.0;
-  written = done.1;
+-- what comes of the reply to a line's body comes of the line
+pub plays_line : {S : Type 0} (step : Steps S) (number : ℕ) (line body reply : List ℕ) (old new : Option (List ℕ)) (before after : S)
+    (result : Result (Unit {0}) PlayFault) → length line ≤ longest_line → decode_of line ≡ Ok body → step before body reply after
+    → WritesReply reply old new result → PlaysLine step number line (moment old before) (moment new after) result
+plays_line step number line body reply old new before after (Ok u) fits reads stepped written = record {
+  answer = line_text reply;
+  answers = answers_line step line body reply before after fits reads stepped;
+  written = written;
 }
-plays_line number line body read before after (Err faults.Write) fits reads is (r, count, partly, written) = λ others. record {
-  answer = answer_text r.reply;
+plays_line step number line body reply old new before after (Err faults.Write) fits reads stepped (count, partly, written) = λ others. record {
+  answer = line_text reply;
   count = count;
-  answers = answers_line line body read before.state after.state fits reads is r;
+  answers = answers_line step line body reply before after fits reads stepped;
   partly = partly;
   written = written;
 }
-plays_line number line body read before after (Err faults.NoMemory) fits reads is (r, other, output) = λ others. inr (record {
-  answer = answer_text r.reply;
-  answers = answers_line line body read before.state after.state fits reads is r;
+plays_line step number line body reply old new before after (Err faults.NoMemory) fits reads stepped (other, output) = λ others. inr (record {
+  answer = line_text reply;
+  answers = answers_line step line body reply before after fits reads stepped;
   other = other;
   output = output;
 })
-plays_line number line body read before after (Err faults.Read) fits reads is none = absurd none
-plays_line number line body read before after (Err (faults.Text n)) fits reads is none = absurd none
-plays_line number line body read before after (Err (faults.Long n)) fits reads is none = absurd none
+plays_line step number line body reply old new before after (Err faults.Read) fits reads stepped none = absurd none
+plays_line step number line body reply old new before after (Err (faults.Text n)) fits reads stepped none = absurd none
+plays_line step number line body reply old new before after (Err (faults.Long n)) fits reads stepped none = absurd none
 
--- memory is refused before the line has its step
+-- the writing of a reply never ends in a failed read
+pub writes_no_read : (reply : List ℕ) (old new : Option (List ℕ)) (result : Result (Unit {0}) PlayFault) → WritesReply reply old new result
+    → IfErr result (λ fault. fault ≢ faults.Read)
+writes_no_read reply old new (Ok u) written = tt
+writes_no_read reply old new (Err faults.Write) written = λ same. cc
+writes_no_read reply old new (Err faults.NoMemory) written = λ same. cc
+writes_no_read reply old new (Err faults.Read) none = absurd none
+writes_no_read reply old new (Err (faults.Text n)) none = absurd none
+writes_no_read reply old new (Err (faults.Long n)) none = absurd none
+
+-- memory runs out before the line has its step
 pub refused_before : {S : Type 0} (step : Steps S) (number : ℕ) (line : List ℕ) (at : Moment S) → PlaysLine step number line at at (Err faults.NoMemory)
 refused_before step number line at = λ others. inl (LeavesBoth-refl at)
 
@@ -213,8 +226,8 @@ going_start step input before = record {
 first_is : (a b : ℕ) (xs ys : List ℕ) → a ∷ xs ≡ b ∷ ys → a ≡ b
 first_is a b xs ys same = ap (λ (l : List ℕ). slice_index l 0) same
 
--- a reply but that of refused memory has another spelling
-other_spelling : (r : Reply) → r ≢ replies.NoMemory → reply_spelling r ≢ no_memory
+-- a reply but that memory ran out has another spelling
+pub other_spelling : (r : Reply) → r ≢ replies.NoMemory → reply_spelling r ≢ no_memory
 other_spelling replies.Done other same = omega (arith, first_is 0 6 _ _ same)
 other_spelling (replies.Blocks next blocks) other same = omega (arith, first_is 1 6 _ _ same)
 other_spelling (replies.Denied section row value) other same = omega (arith, first_is 5 6 _ _ same)
@@ -225,30 +238,17 @@ other_spelling replies.Spent other same = omega (arith, first_is 8 6 _ _ same)
 other_spelling replies.NoDatabase other same = omega (arith, first_is 9 6 _ _ same)
 other_spelling (replies.Malformed code) other same = omega (arith, first_is 10 6 _ _ same)
 
--- the line that tells that memory was refused
-pub no_memory_line : (r : Reply) → r ≡ replies.NoMemory → 48 ∷ 54 ∷ 10 ∷ [] ≡ answer_text (reply_spelling r)
+-- the line of the reply that memory ran out
+pub no_memory_line : (r : Reply) → r ≡ replies.NoMemory → 48 ∷ 54 ∷ 10 ∷ [] ≡ line_text (reply_spelling r)
 unfolding encode_with
-no_memory_line r is = ap (λ (x : Reply). answer_text (reply_spelling x)) (sym is)
+no_memory_line r is = ap (λ (x : Reply). line_text (reply_spelling x)) (sym is)
 
 -- the line of a reply is written
-pub tells_whole : (read : Result Query WireFault) (before after : Moment History) (r : Reply) (line : List ℕ) → line ≡ answer_text (reply_spelling r)
-    → AnswersReading read before.state (reply_spelling r) after.state → Appends before.output after.output line
-    → AnswersRead read before after (Ok tt)
-tells_whole read before after r line is answers written =
-    (record { reply = reply_spelling r; answers = answers }, subst (λ (l : List ℕ). Appends before.output after.output l) is written)
+pub tells_whole : (reply line : List ℕ) (old new : Option (List ℕ)) → line ≡ line_text reply → Appends old new line
+    → WritesReply reply old new (Ok tt)
+tells_whole reply line old new is written = subst (λ (l : List ℕ). Appends old new l) is written
 
 -- a beginning of the line of a reply is written
-pub tells_part : (read : Result Query WireFault) (before after : Moment History) (r : Reply) (line : List ℕ) → line ≡ answer_text (reply_spelling r)
-    → AnswersReading read before.state (reply_spelling r) after.state
-    → ((k : ℕ) × (k < length line) × Appends before.output after.output (take k line))
-    → AnswersRead read before after (Err faults.Write)
-tells_part read before after r line is answers part =
-    let cut = subst (λ (l : List ℕ). (k : ℕ) × (k < length l) × Appends before.output after.output (take k l)) is part in
-    (record { reply = reply_spelling r; answers = answers }, cut.0, cut.1, cut.2)
-
--- the line of a reply is lost, which is not that memory was refused
-pub tells_nothing : (read : Result Query WireFault) (before after : Moment History) (r : Reply) → r ≢ replies.NoMemory
-    → AnswersReading read before.state (reply_spelling r) after.state → Keeps before.output after.output
-    → AnswersRead read before after (Err faults.NoMemory)
-tells_nothing read before after r other answers output =
-    (record { reply = reply_spelling r; answers = answers }, other_spelling r other, output)
+pub tells_part : (reply line : List ℕ) (old new : Option (List ℕ)) → line ≡ line_text reply
+    → ((k : ℕ) × (k < length line) × Appends old new (take k line)) → WritesReply reply old new (Err faults.Write)
+tells_part reply line old new is part = subst (λ (l : List ℕ). (k : ℕ) × (k < length l) × Appends old new (take k l)) is part

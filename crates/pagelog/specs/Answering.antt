@@ -1,4 +1,4 @@
--- What one body is answered, be it a request or not.
+-- What one body is answered, be it a request or not, under a pass.
 use Rattle.std.specs.Prelude.{◌≡◌, ◌⊎◌, ℕ, List, slice_index, Some, Result, Ok, Err}
 use Rattle.pl_table.specs.Request.{Query}
 use Rattle.pl_table.specs.Ops.{op_of_number}
@@ -12,32 +12,33 @@ use Rattle.pl_wire.specs.Codes.{code_of}
 use Rattle.pl_wire.specs.Reading.{request_reading}
 use Rattle.pl_wire.specs.Replies.{reply_spelling}
 
--- the pass under which each request comes
+-- the pass under which `play` hands in each request
 abbrev pub own_pass : ℕ
 own_pass = 1
 
--- the request takes its step, and the bytes spell what it is told
-pub record TakesStep (q : Query) (before : History) (reply : List ℕ) (after : History)
+-- the request takes its step under this pass, and the bytes spell its reply
+pub record TakesStep (pass : ℕ) (q : Query) (before : History) (bytes : List ℕ) (after : History)
     : Type 0 where
-  pub told : Reply
-  pub may : MayReply q before told
-  pub grows : after ≡ history_after q own_pass before told
-  pub spelled : reply ≡ reply_spelling told
+  pub reply : Reply
+  pub may : MayReply q before reply
+  pub grows : after ≡ history_after q pass before reply
+  pub spelled : bytes ≡ reply_spelling reply
 
 -- the bytes spell the fault's code, and the history is as it was
-pub record TellsFault (fault : WireFault) (before : History) (reply : List ℕ) (after : History)
+pub record TellsFault (fault : WireFault) (before : History) (bytes : List ℕ) (after : History)
     : Type 0 where
   pub same : after ≡ before
-  pub spelled : reply ≡ reply_spelling (Malformed (code_of fault))
+  pub spelled : bytes ≡ reply_spelling (Malformed (code_of fault))
 
--- by what was read
-abbrev pub AnswersReading : Result Query WireFault → History → List ℕ → History → Type 0
-AnswersReading (Ok q) before reply after = TakesStep q before reply after
-AnswersReading (Err fault) before reply after = TellsFault fault before reply after
+-- a request takes its step, and a fault is reported by its code
+abbrev pub AnswersReading : ℕ → Result Query WireFault → History → List ℕ → History → Type 0
+AnswersReading pass (Ok q) before bytes after = TakesStep pass q before bytes after
+AnswersReading pass (Err fault) before bytes after = TellsFault fault before bytes after
 
--- a body that is read as a request takes its step; another is told its fault
-abbrev pub AnswersBody : History → List ℕ → List ℕ → History → Type 0
-AnswersBody before body reply after = AnswersReading (request_reading body) before reply after
+-- a body is answered as what it reads as
+abbrev pub AnswersBody : ℕ → History → List ℕ → List ℕ → History → Type 0
+AnswersBody pass before body bytes after =
+    AnswersReading pass (request_reading body) before bytes after
 
 -- the body's operation is a write or a set_table, whose block or text is copied to be read
 abbrev pub IsCopied : List ℕ → Type 0

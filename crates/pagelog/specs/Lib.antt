@@ -3,5 +3,5 @@ pub mod Text
 pub mod Answering
 pub mod Start
 pub mod Played
-pub mod Texts
+pub mod Endings
 pub mod CommandLine

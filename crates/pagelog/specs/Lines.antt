@@ -1,8 +1,10 @@
 -- The lines of a text, and what a reader has left of them, where its bytes are known.
 use Rattle.std.specs.Prelude.{◌≡◌, ◌≢◌, ℕ, ◌+◌, ◌<◌, ◌==◌, if◌then◌else◌, List, [], ◌∷◌, ◌++◌, length, All, ⊤, Option, Some, None, Result, Ok, Err}
 use Rattle.std.specs.Io.KnownBytes.{Keeps, Consumes, IsAtEnd}
-use Rattle.pagelog.specs.declared.lines.LineStop.{LineStop}
-use Rattle.pagelog.specs.declared.lines.LineStop.TheVariants as stops
+use Rattle.pagelog.specs.declared.fault.PlayFault.{PlayFault}
+use Rattle.pagelog.specs.declared.fault.PlayFault.TheVariants as faults
+use Rattle.pagelog.specs.declared.lines.InputFault.{InputFault}
+use Rattle.pagelog.specs.declared.lines.InputFault.TheVariants as inputs
 use Rattle.pagelog.specs.declared.lines.Piece.{Piece}
 use Rattle.pagelog.specs.declared.lines.Piece.TheVariants as pieces
 
@@ -66,11 +68,17 @@ WouldBeLong (Some text) line =
 
 -- what one look at the reader does to a line
 abbrev pub TakesPiece : Option (List ℕ) → Option (List ℕ) → List ℕ → List ℕ
-    → Result Piece LineStop → Type 0
+    → Result Piece InputFault → Type 0
 TakesPiece old new line longer (Ok pieces.Shown) =
     MovesBytes old new line longer [] × (length line < length longer)
 TakesPiece old new line longer (Ok pieces.Line) = MovesBytes old new line longer (10 ∷ [])
 TakesPiece old new line longer (Ok pieces.Input) = IsAtEnd old × Keeps old new × (longer ≡ line)
-TakesPiece old new line longer (Err stops.Long) = WouldBeLong old line
-TakesPiece old new line longer (Err stops.Read) = ⊤
-TakesPiece old new line longer (Err stops.NoMemory) = ⊤
+TakesPiece old new line longer (Err inputs.Long) = WouldBeLong old line
+TakesPiece old new line longer (Err inputs.Read) = ⊤
+TakesPiece old new line longer (Err inputs.NoMemory) = ⊤
+
+-- the fault of `play` where the line of this number is not taken
+abbrev pub input_fault_at : InputFault → ℕ → PlayFault
+input_fault_at inputs.Read number = faults.Read
+input_fault_at inputs.NoMemory number = faults.NoMemory
+input_fault_at inputs.Long number = faults.Long number

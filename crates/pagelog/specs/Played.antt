@@ -3,14 +3,10 @@ use Rattle.std.specs.Prelude.{◌≡◌, ◌≢◌, ℕ, ◌+◌, ◌<◌, ◌�
 use Rattle.std.specs.List.{concat}
 use Rattle.std.specs.Io.KnownBytes.{Keeps, Appends}
 use Rattle.hex.specs.Hex.{decode_of}
-use Rattle.pl_table.specs.Request.{Query}
-use Rattle.pl_core.specs.History.{History}
 use Rattle.pl_core.specs.declared.reply.Reply.TheVariants as replies
 use Rattle.pl_wire.specs.Replies.{reply_spelling}
-use Rattle.pl_wire.specs.declared.fault.WireFault.{WireFault}
-use Rattle.pagelog.specs.Answering.{AnswersReading}
 use Rattle.pagelog.specs.Lines.{lines_of, longest_line, IsLong, OnFirst}
-use Rattle.pagelog.specs.Text.{answer_text, IsNoText}
+use Rattle.pagelog.specs.Text.{line_text, IsNoText}
 use Rattle.pagelog.specs.declared.fault.PlayFault.{PlayFault}
 use Rattle.pagelog.specs.declared.fault.PlayFault.TheVariants as faults
 
@@ -18,7 +14,7 @@ use Rattle.pagelog.specs.declared.fault.PlayFault.TheVariants as faults
 abbrev pub Steps : Type 0 → Type 1
 Steps S = S → List ℕ → List ℕ → S → Type 0
 
--- the reply that memory was refused
+-- the reply that memory ran out
 abbrev pub no_memory : List ℕ
 no_memory = reply_spelling replies.NoMemory
 
@@ -30,7 +26,7 @@ pub record AnswersLine {S : Type 0} (step : Steps S) (before : S) (line answer :
   pub fits : length line ≤ longest_line
   pub reads : decode_of line ≡ Ok body
   pub stepped : step before body reply after
-  pub writes : answer ≡ answer_text reply
+  pub writes : answer ≡ line_text reply
 
 -- each line has its answer, and each step begins where the one before it ended
 abbrev pub Answered : {S : Type 0} → Steps S → S → List (List ℕ) → List (List ℕ) → S → Type 0
@@ -90,8 +86,7 @@ pub record WritesPart {S : Type 0} (step : Steps S) (line : List ℕ) (before af
   pub partly : count < length answer
   pub written : Appends before.output after.output (take count answer)
 
--- the line is answered, and nothing of its answer is written: not that memory was refused, which
--- is always told
+-- the line is answered, and nothing of its answer is written: never an answer that memory ran out
 pub record LosesAnswer {S : Type 0} (step : Steps S) (line : List ℕ) (before after : Moment S)
     : Type 0 where
   pub answer : List ℕ
@@ -134,22 +129,14 @@ PlaysLine step number line before after (Ok _) = WritesAnswer step line before a
 PlaysLine step number line before after (Err fault) =
     (others : List (List ℕ)) → StopsAt step number (line ∷ others) before after fault
 
--- what was read has this reply
-pub record Replied (read : Result Query WireFault) (before after : History) : Type 0 where
-  pub reply : List ℕ
-  pub answers : AnswersReading read before reply after
-
--- what was read has its reply, and its line is written; or a fault cuts it or loses it, which never
--- loses that memory was refused
-abbrev pub AnswersRead : Result Query WireFault → Moment History → Moment History
-    → Result (Unit {0}) PlayFault → Type 0
-AnswersRead read before after (Ok _) =
-    (r : Replied read before.state after.state)
-    × Appends before.output after.output (answer_text r.reply)
-AnswersRead read before after (Err faults.Write) =
-    (r : Replied read before.state after.state) × (count : ℕ) × (count < length (answer_text r.reply))
-    × Appends before.output after.output (take count (answer_text r.reply))
-AnswersRead read before after (Err faults.NoMemory) =
-    (r : Replied read before.state after.state) × (r.reply ≢ no_memory)
-    × Keeps before.output after.output
-AnswersRead read before after (Err _) = ⊥
+-- a reply's line is written; or a fault cuts it or loses it, but never one that memory ran out
+abbrev pub WritesReply : List ℕ → Option (List ℕ) → Option (List ℕ) → Result (Unit {0}) PlayFault
+    → Type 0
+WritesReply reply before after (Ok _) = Appends before after (line_text reply)
+WritesReply reply before after (Err faults.Write) =
+    (count : ℕ) × (count < length (line_text reply))
+    × Appends before after (take count (line_text reply))
+WritesReply reply before after (Err faults.NoMemory) = (reply ≢ no_memory) × Keeps before after
+WritesReply reply before after (Err faults.Read) = ⊥
+WritesReply reply before after (Err (faults.Text number)) = ⊥
+WritesReply reply before after (Err (faults.Long number)) = ⊥

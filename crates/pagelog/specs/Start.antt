@@ -3,11 +3,15 @@ use Rattle.std.specs.Prelude.{◌≡◌, ◌<◌, ℕ, ⊤, List, [], length, Op
 use Rattle.pl_table.specs.Table.{WrittenTable, token_of}
 use Rattle.pl_table.specs.TableText.{table_reading}
 use Rattle.pl_table.specs.declared.fault.TableFault.{TableFault}
+use Rattle.pl_table.specs.declared.fault.ReadFault.{ReadFault}
+use Rattle.pl_table.specs.declared.fault.ReadFault.TheVariants as texts
 use Rattle.pl_core.specs.History.{Start, History}
+use Rattle.pl_core.specs.declared.db.DbFault.{DbFault}
+use Rattle.pl_core.specs.declared.db.DbFault.TheVariants as dbs
 use Rattle.pagelog.specs.declared.start.StartFault.{StartFault}
 use Rattle.pagelog.specs.declared.start.StartFault.TheVariants as faults
-use Rattle.pagelog.specs.declared.start.TextStop.{TextStop}
-use Rattle.pagelog.specs.declared.start.TextStop.TheVariants as stops
+use Rattle.pagelog.specs.declared.start.FileFault.{FileFault}
+use Rattle.pagelog.specs.declared.start.FileFault.TheVariants as files
 
 -- how many bytes the text of a table may have
 abbrev pub longest_text : ℕ
@@ -23,7 +27,7 @@ abbrev pub IsTooLong : Option (List ℕ) → Type 0
 IsTooLong None = ⊤
 IsTooLong (Some bytes) = longest_text < length bytes
 
--- a table and its first primary, and at most 65,536 entries
+-- a table and its first primary, and an audit list of at most 65,536 entries
 abbrev pub start_with : WrittenTable → ℕ → Start
 start_with table primary = record { table = table; primary = primary; limit = 65536 }
 
@@ -41,13 +45,23 @@ abbrev pub read_start : Result WrittenTable TableFault → ℕ → Result Histor
 read_start (Err fault) primary = Err (faults.Table fault)
 read_start (Ok table) primary = listed_start table primary (token_of primary table.principals)
 
--- the history that a database begins with, of the text of its table and its primary, or the fault
--- that is told
+-- the history that a database begins with, of the text of its table and its primary, or its first
+-- fault
 abbrev pub start_of : List ℕ → ℕ → Result History StartFault
 start_of text primary = read_start (table_reading text) primary
 
--- the fault that is told where a file gave no text
-abbrev pub told_stop : TextStop → StartFault
-told_stop stops.Read = faults.File
-told_stop stops.Long = faults.File
-told_stop stops.NoMemory = faults.NoMemory
+-- the fault of the start where a file gave no text
+abbrev pub start_fault_of_file : FileFault → StartFault
+start_fault_of_file files.Read = faults.File
+start_fault_of_file files.Long = faults.File
+start_fault_of_file files.NoMemory = faults.NoMemory
+
+-- the fault of the start where the text gave no table
+abbrev pub start_fault_of_text : ReadFault → StartFault
+start_fault_of_text (texts.Malformed fault) = faults.Table fault
+start_fault_of_text texts.NoMemory = faults.NoMemory
+
+-- the fault of the start where the table gave no database
+abbrev pub start_fault_of_db : DbFault → StartFault
+start_fault_of_db dbs.NotListed = faults.NotListed
+start_fault_of_db dbs.NoMemory = faults.NoMemory

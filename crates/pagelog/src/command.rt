@@ -1,4 +1,4 @@
-//! What the words of a call ask for, read with `clap`.
+//! What the arguments of the program ask for, read with `clap`.
 
 ghost use Rattle.std.specs.Prelude.{◌≡◌, ◌≢◌, false, true, IfErr, IfOk, IfSome, IsNone, map, string_bytes};
 ghost use Rattle.clap.specs.Words.{IsAmong, app_of, fault_of, kind_of, rule_of, subcommand_of, subcommand_rows_of, takes};
@@ -9,14 +9,14 @@ use clap::{Arg, ArgMatches, Command, value_parser};
 use std::alloc::{AllocError, Global};
 use thiserror::Error;
 
-/// What the words of a call ask for: one variant for each subcommand.
+/// What the arguments ask for.
 #[derive(Debug, Drop, PartialEq, Eq)]
 pub enum CommandLine {
-    /// `help`, or `--help` or `-h` where an option may stand: to show this text.
+    /// `help`, or `--help` or `-h` where an option may stand: show this text.
     Help {
         text: String,
     },
-    /// `play`: to answer the lines of the standard input.
+    /// `play`: answer the lines of the standard input.
     Play {
         /// The file with the text of the table.
         table: String,
@@ -25,14 +25,14 @@ pub enum CommandLine {
     },
 }
 
-/// Why the words of a call ask for nothing.
+/// Why the arguments ask for nothing.
 #[derive(Debug, Drop, PartialEq, Eq, Error)]
 pub enum CommandFault {
-    /// They name no subcommand, lack an option or have another, an option has a value that it does
-    /// not take, or they are no UTF-8. The text says which, with a line feed at its end.
+    /// A usage error: no subcommand, an option that is missing or unknown, a value that an option
+    /// does not take, or an argument that is not UTF-8. The text says which, and ends in a line feed.
     #[error("{0}")]
     Usage(String),
-    /// Memory was refused.
+    /// An allocation failed.
     #[error("no memory")]
     NoMemory,
 }
@@ -72,7 +72,7 @@ fn primary_option<'a>(alloc: Global) -> Arg<'a>
 
 // The program and its subcommands.
 fn program<'a>(alloc: Global) -> Result<Command<'a>, AllocError>
-    ensures { IfOk result (λ c. app_of c ≡ own_app) }
+    ensures ok { IfOk result (λ c. app_of c ≡ own_app) }
 {
     let play = Command::new(alloc, "play")
         .about("Answers request bodies, each a line of hexadecimal digits of the standard input")
@@ -101,29 +101,28 @@ fn line_of(alloc: Global, matches: &ArgMatches<'_>) -> Result<Option<CommandLine
     Ok(Some(CommandLine::Play { table, primary }))
 }
 
-// The line that the words name, where `clap` matches them.
-fn match_words<'a>(
+// What the arguments ask for, where `clap` matches them.
+fn match_arguments<'a>(
     alloc: Global,
     program: &mut Command<'a>,
-    words: &'a [String],
+    arguments: &'a [String],
 ) -> Result<Option<CommandLine>, clap::Error>
     requires { app_of program.old ≡ own_app }
     ensures ok { IfOk result (λ line. IfSome line
-        (Names (subcommand_of own_app (map string_bytes words.entry.now)))) }
+        (Names (subcommand_of own_app (map string_bytes arguments.entry.now)))) }
     ensures none { IfOk result (λ line. IsNone line →
-        takes own_app (map string_bytes words.entry.now) ≢ true) }
-    ensures passes { IfErr result (λ error. takes own_app (map string_bytes words.entry.now) ≡ true →
+        takes own_app (map string_bytes arguments.entry.now) ≢ true) }
+    ensures passes { IfErr result (λ error. takes own_app (map string_bytes arguments.entry.now) ≡ true →
         kind_of error ≡ ErrorKind.OutOfMemory) }
     ensures help { IfErr result (λ error. kind_of error ≡ ErrorKind.DisplayHelp →
-        IsAmong ErrorKind.DisplayHelp (fault_of own_app (map string_bytes words.entry.now))) }
+        IsAmong ErrorKind.DisplayHelp (fault_of own_app (map string_bytes arguments.entry.now))) }
 {
-    let matches = program.try_get_matches_from_mut(words)?;
+    let matches = program.try_get_matches_from_mut(arguments)?;
     Ok(line_of(alloc, &matches)?)
 }
 
-// What is told where the words were not matched: help is what they asked for, and the rest is a
-// fault.
-fn told(alloc: Global, error: &clap::Error) -> Result<CommandLine, CommandFault>
+// What comes of arguments that were not matched: `clap` reports a request for help as an error.
+fn outcome_of(alloc: Global, error: &clap::Error) -> Result<CommandLine, CommandFault>
     ensures help { IfOk result (λ line. IsHelp line × (kind_of error.now ≡ ErrorKind.DisplayHelp)) }
     ensures usage { IfErr result (λ fault. IsUsage fault → (kind_of error.now ≢ ErrorKind.DisplayHelp)
         × (kind_of error.now ≢ ErrorKind.OutOfMemory)) }
@@ -138,23 +137,22 @@ fn told(alloc: Global, error: &clap::Error) -> Result<CommandLine, CommandFault>
     Err(CommandFault::Usage(text))
 }
 
-/// What the words ask for, of which the first is the program's name.
+/// What the arguments ask for, the first of which is the program's name.
 ///
-/// `Usage` comes where `clap` takes the words for none of the subcommands, and `NoMemory` where
-/// memory was refused.
-pub fn command(alloc: Global, words: Vec<String>) -> Result<CommandLine, CommandFault>
-    ensures ok { IfOk result (AsksFor (map string_bytes words.items)) }
+/// `Usage` comes where `clap` does not take them, and `NoMemory` where an allocation failed.
+pub fn command(alloc: Global, arguments: Vec<String>) -> Result<CommandLine, CommandFault>
+    ensures ok { IfOk result (AsksFor (map string_bytes arguments.items)) }
     ensures usage { IfErr result (λ fault. IsUsage fault →
-        takes own_app (map string_bytes words.items) ≢ true) }
+        takes own_app (map string_bytes arguments.items) ≢ true) }
 {
     let mut program = program(alloc)?;
-    match match_words(alloc, &mut program, words.as_slice()) {
+    match match_arguments(alloc, &mut program, arguments.as_slice()) {
         Ok(Some(line)) => Ok(line),
-        // `clap` refuses such words itself.
+        // `clap` refuses such arguments itself.
         Ok(None) => {
             let error = program.error(ErrorKind::MissingRequiredArgument, "an option is missing")?;
-            told(alloc, &error)
+            outcome_of(alloc, &error)
         }
-        Err(error) => told(alloc, &error),
+        Err(error) => outcome_of(alloc, &error),
     }
 }

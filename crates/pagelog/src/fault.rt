@@ -1,9 +1,9 @@
 //! Why `play` stops.
 
 ghost use Rattle.std.specs.Prelude.{◌≡◌, Some};
-ghost use Rattle.pagelog.specs.Texts.{fault_text};
+ghost use Rattle.pagelog.specs.Endings.{fault_text};
 
-use crate::writing::Stopped;
+use crate::writing::WriteFailed;
 use std::alloc::AllocError;
 use std::fmt;
 use thiserror::Error;
@@ -15,9 +15,9 @@ pub enum PlayFault {
     Read,
     /// A write failed, or took no byte.
     Write,
-    /// A growth was refused, but not to a step: that is a reply.
+    /// An allocation failed, but not in a step of the database: that is a reply.
     NoMemory,
-    /// The line of this number has an odd number of digits, or a byte that is none.
+    /// The line of this number has an odd number of digits, or a byte that is no digit.
     Text(u64),
     /// The line of this number has more than 131,072 bytes before its line feed or the end.
     Long(u64),
@@ -37,12 +37,12 @@ impl fmt::Display for PlayFault {
     }
 }
 
-impl From<Stopped> for PlayFault {
+impl From<WriteFailed> for PlayFault {
     ghost use Rattle.pagelog.specs.declared.fault.PlayFault.TheVariants.{Write};
 
     ghost from_gives = { λ _ e. e ≡ Write };
 
-    fn from(_stopped: Stopped) -> PlayFault {
+    fn from(_failed: WriteFailed) -> PlayFault {
         PlayFault::Write
     }
 }

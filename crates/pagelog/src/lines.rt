@@ -1,30 +1,46 @@
 //! The next line of what a reader gives.
 
 ghost use Rattle.std.specs.Prelude.{◌≡◌, ◌≤◌, ◌<◌, IfOk, IfErr, IfSome, IfNone, Some, length, slice_get, take, vec_len};
-ghost use Rattle.pagelog.specs.Lines.{longest_line, TakesLine, HasNoLine, BeginsLong, TakesPiece, HasNoFeed};
+ghost use Rattle.pagelog.specs.Lines.{longest_line, TakesLine, HasNoLine, BeginsLong, TakesPiece, HasNoFeed, input_fault_at};
 
+use crate::fault::PlayFault;
 use std::alloc::{AllocError, Global};
 use std::io::BufRead;
 
 /// How many bytes a line may have before its line feed.
 pub(crate) const LONGEST_LINE: usize = 131_072;
 
-/// Why no line was taken.
+/// Why no line was taken from the input.
 #[derive(Clone, Copy, Debug, PartialEq, Eq)]
-pub(crate) enum LineStop {
+pub(crate) enum InputFault {
+    /// A read failed.
     Read,
+    /// An allocation failed.
     NoMemory,
     /// The line is longer than `LONGEST_LINE`. Some of it may be taken.
     Long,
 }
 
-impl From<AllocError> for LineStop {
-    ghost use Rattle.pagelog.specs.declared.lines.LineStop.TheVariants.{NoMemory};
+impl InputFault {
+    /// The fault of `play` at the line of this number.
+    pub(crate) fn at_line(self, number: u64) -> PlayFault
+        ensures value { result ≡ input_fault_at self number }
+    {
+        match self {
+            InputFault::Read => PlayFault::Read,
+            InputFault::NoMemory => PlayFault::NoMemory,
+            InputFault::Long => PlayFault::Long(number),
+        }
+    }
+}
+
+impl From<AllocError> for InputFault {
+    ghost use Rattle.pagelog.specs.declared.lines.InputFault.TheVariants.{NoMemory};
 
     ghost from_gives = { λ _ e. e ≡ NoMemory };
 
-    fn from(_e: AllocError) -> LineStop {
-        LineStop::NoMemory
+    fn from(_error: AllocError) -> InputFault {
+        InputFault::NoMemory
     }
 }
 
@@ -44,13 +60,13 @@ pub(crate) enum Piece {
 pub(crate) fn take_line<R: BufRead>(
     alloc: Global,
     reader: &mut R,
-) -> Result<Option<Vec<u8>>, LineStop>
+) -> Result<Option<Vec<u8>>, InputFault>
     ensures some { IfOk result (λ taken. IfSome taken (λ line.
         TakesLine (R.remaining reader.old) (R.remaining reader.new) line.items)) }
     ensures fits { IfOk result (λ taken. IfSome taken (λ line. vec_len line ≤ longest_line)) }
     ensures none { IfOk result (λ taken. IfNone taken (HasNoLine (R.remaining reader.old))) }
     ensures err { IfErr result (λ stop.
-        stop ≡ LineStop.Long → BeginsLong (R.remaining reader.old)) }
+        stop ≡ InputFault.Long → BeginsLong (R.remaining reader.old)) }
 {
     let mut line = Vec::new(alloc);
     loop {
@@ -64,21 +80,21 @@ pub(crate) fn take_line<R: BufRead>(
 }
 
 /// Moves what the reader shows of the line to the end of `line`.
-fn take_piece<R: BufRead>(reader: &mut R, line: &mut Vec<u8>) -> Result<Piece, LineStop>
+fn take_piece<R: BufRead>(reader: &mut R, line: &mut Vec<u8>) -> Result<Piece, InputFault>
     requires { vec_len line.old ≤ longest_line }
     ensures value { TakesPiece (R.remaining reader.old) (R.remaining reader.new)
         line.old.items line.new.items result }
     ensures fits { vec_len line.new ≤ longest_line }
 {
     let Ok(shown) = reader.fill_buf() else {
-        return Err(LineStop::Read);
+        return Err(InputFault::Read);
     };
     if shown.is_empty() {
         return Ok(Piece::Input);
     }
     let end = len_before_feed(shown);
     if end > LONGEST_LINE - line.len() {
-        return Err(LineStop::Long);
+        return Err(InputFault::Long);
     }
     line.extend_from_slice(&shown[..end])?;
     if end < shown.len() {

@@ -1,14 +1,14 @@
 //! Lines in, lines out.
 
-ghost use Rattle.std.specs.Prelude.{◌≤◌, length};
-ghost use Rattle.pagelog.specs.Answering.{AnswersBody};
+ghost use Rattle.std.specs.Prelude.{◌≡◌, ◌≢◌, ◌≤◌, IfErr, length};
+ghost use Rattle.pagelog.specs.Answering.{AnswersBody, own_pass};
 ghost use Rattle.pagelog.specs.Lines.{longest_line};
 ghost use Rattle.pagelog.specs.Played.{Played, PlaysLine, moment};
 
-use crate::answering::{answer_read, read_body};
+use crate::answering::{reply_to, write_reply};
 use crate::fault::PlayFault;
-use crate::lines::{LineStop, take_line};
-use crate::text::{LineFault, bytes_of_line};
+use crate::lines::take_line;
+use crate::text::bytes_of_line;
 use pl_core::Db;
 use std::alloc::Global;
 use std::io::{BufRead, Write};
@@ -16,18 +16,20 @@ use std::io::{BufRead, Write};
 /// How many lines `play` answers at most.
 const MOST_LINES: u64 = 4_294_967_296;
 
-/// Answers each line of the input by one line, in order, and says how many they were. Each answer
-/// is written before the next line is read. The first fault ends it: the answers to the lines
-/// before it stand whole; after `Write` a beginning of the next one may follow, and after `Write`
-/// or `NoMemory` the database may have taken that line's step. A step that lacks memory is answered
-/// like any other, and ends nothing. An empty line is an empty body.
+/// Answers each line of the input by one line, in order, and returns how many there were. Each
+/// answer is written before the next line is read.
+///
+/// The first fault ends it. The answers to the lines before it are written whole. After `Write`
+/// a beginning of the next answer may follow, and after `Write` or `NoMemory` the database may have
+/// taken that line's step. A step that runs out of memory is answered like any other, and ends
+/// nothing. An empty line is an empty body.
 pub fn play<R: BufRead, W: Write>(
     alloc: Global,
     reader: &mut R,
     writer: &mut W,
     db: &mut Db,
 ) -> Result<u64, PlayFault>
-    ensures { Played AnswersBody (R.remaining reader.old)
+    ensures value { Played (AnswersBody own_pass) (R.remaining reader.old)
         (moment (W.contents writer.old) db.old)
         (moment (W.contents writer.new) db.new) result }
 {
@@ -35,9 +37,7 @@ pub fn play<R: BufRead, W: Write>(
         match take_line(alloc, reader) {
             Ok(Some(line)) => play_line(alloc, count + 1, line.as_slice(), writer, db)?,
             Ok(None) => return Ok(count),
-            Err(LineStop::Read) => return Err(PlayFault::Read),
-            Err(LineStop::NoMemory) => return Err(PlayFault::NoMemory),
-            Err(LineStop::Long) => return Err(PlayFault::Long(count + 1)),
+            Err(fault) => return Err(fault.at_line(count + 1)),
         }
     }
     Err(PlayFault::Read)
@@ -52,15 +52,15 @@ fn play_line<W: Write>(
     db: &mut Db,
 ) -> Result<(), PlayFault>
     requires { length line.now ≤ longest_line }
-    ensures { PlaysLine AnswersBody number line.now
+    ensures value { PlaysLine (AnswersBody own_pass) number line.now
         (moment (W.contents writer.old) db.old)
         (moment (W.contents writer.new) db.new) result }
+    ensures no_read { IfErr result (λ fault. fault ≢ PlayFault.Read) }
 {
     let body = match bytes_of_line(alloc, line) {
         Ok(body) => body,
-        Err(LineFault::Text) => return Err(PlayFault::Text(number)),
-        Err(LineFault::NoMemory) => return Err(PlayFault::NoMemory),
+        Err(fault) => return Err(fault.at_line(number)),
     };
-    let read = read_body(alloc, body.as_slice())?;
-    answer_read(alloc, read, writer, db)
+    let reply = reply_to(alloc, body.as_slice(), db)?;
+    write_reply(alloc, &reply, writer)
 }

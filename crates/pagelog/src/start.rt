@@ -1,9 +1,9 @@
 //! The database that `play` begins with.
 
-ghost use Rattle.std.specs.Prelude.{◌≡◌, ◌≢◌, ◌↔◌, ◌≤◌, ◌⊎◌, Err, IfOk, Some, length};
+ghost use Rattle.std.specs.Prelude.{◌≡◌, ◌≢◌, ◌↔◌, ◌≤◌, ◌<◌, ◌⊎◌, Err, IfErr, IfOk, IsErrAnd, IsOk, OnOk, Some, length};
 ghost use Rattle.std.specs.IoError.{error_kind};
+ghost use Rattle.pagelog.specs.Endings.{start_fault_text};
 ghost use Rattle.pagelog.specs.Start.{IsTooLong, IsWhole, longest_text, start_of};
-ghost use Rattle.pagelog.specs.Texts.{start_fault_text};
 
 use pl_core::{Db, DbFault, Limits};
 use pl_table::{ReadFault, TableFault, read_table};
@@ -15,13 +15,13 @@ use thiserror::Error;
 /// How many bytes the text of a table may have.
 const LONGEST_TEXT: usize = 65_506;
 
-/// The most entries of the list of decisions.
+/// The most entries of the audit list.
 const AUDIT_LIMIT: u64 = 65_536;
 
 /// The chunks of page versions.
 const CHUNKS: usize = 16;
 
-/// Why there is no database to begin with. Of several faults the first is told.
+/// Why there is no database to begin with. Of several faults the first is reported.
 #[derive(Clone, Copy, Debug, PartialEq, Eq, Error)]
 pub enum StartFault {
     /// The file cannot be read, or has more than 65,506 bytes, whatever they are.
@@ -30,7 +30,7 @@ pub enum StartFault {
     Table(TableFault),
     /// The table does not list the primary.
     NotListed,
-    /// Memory was refused.
+    /// An allocation failed.
     NoMemory,
 }
 
@@ -47,72 +47,105 @@ impl fmt::Display for StartFault {
     }
 }
 
-/// Why a reader gave no text.
-#[derive(Clone, Copy, Debug, PartialEq, Eq)]
-pub enum TextStop {
-    /// A read failed.
-    Read,
-    /// There are more than 65,506 bytes.
-    Long,
-    /// Memory was refused.
-    NoMemory,
-}
+impl From<ReadFault> for StartFault {
+    ghost use Rattle.pagelog.specs.Start.{start_fault_of_text};
 
-impl From<TextStop> for StartFault {
-    ghost use Rattle.pagelog.specs.Start.{told_stop};
+    ghost from_gives = { λ fault e. e ≡ start_fault_of_text fault };
 
-    ghost from_gives = { λ stop e. e ≡ told_stop stop };
-
-    fn from(stop: TextStop) -> StartFault {
-        match stop {
-            TextStop::Read | TextStop::Long => StartFault::File,
-            TextStop::NoMemory => StartFault::NoMemory,
+    fn from(fault: ReadFault) -> StartFault {
+        match fault {
+            ReadFault::Malformed(fault) => StartFault::Table(fault),
+            ReadFault::NoMemory => StartFault::NoMemory,
         }
     }
 }
 
-/// Why a file was not opened or read.
-pub fn stop_of(error: &io::Error) -> TextStop
-    ensures memory { (result ≡ TextStop.NoMemory) ↔ (error_kind error.now ≡ ErrorKind.OutOfMemory) }
-    ensures other { result ≢ TextStop.Long }
+impl From<DbFault> for StartFault {
+    ghost use Rattle.pagelog.specs.Start.{start_fault_of_db};
+
+    ghost from_gives = { λ fault e. e ≡ start_fault_of_db fault };
+
+    fn from(fault: DbFault) -> StartFault {
+        match fault {
+            DbFault::NotListed => StartFault::NotListed,
+            DbFault::NoMemory => StartFault::NoMemory,
+        }
+    }
+}
+
+/// Why a file gave no text.
+#[derive(Clone, Copy, Debug, PartialEq, Eq)]
+pub enum FileFault {
+    /// The file could not be opened, or a read failed.
+    Read,
+    /// There are more than 65,506 bytes.
+    Long,
+    /// An allocation failed.
+    NoMemory,
+}
+
+impl From<FileFault> for StartFault {
+    ghost use Rattle.pagelog.specs.Start.{start_fault_of_file};
+
+    ghost from_gives = { λ fault e. e ≡ start_fault_of_file fault };
+
+    fn from(fault: FileFault) -> StartFault {
+        match fault {
+            FileFault::Read | FileFault::Long => StartFault::File,
+            FileFault::NoMemory => StartFault::NoMemory,
+        }
+    }
+}
+
+/// The fault of a file that could not be opened or read.
+pub fn file_fault_of(error: &io::Error) -> FileFault
+    ensures memory { (result ≡ FileFault.NoMemory) ↔ (error_kind error.now ≡ ErrorKind.OutOfMemory) }
+    ensures read { result ≢ FileFault.Long }
 {
     if error.kind() == ErrorKind::OutOfMemory {
-        return TextStop::NoMemory;
+        return FileFault::NoMemory;
     }
-    TextStop::Read
+    FileFault::Read
 }
 
-/// All that the reader has, where that is at most 65,506 bytes. At most one byte more is read.
-pub fn read_text<R: Read + Drop>(alloc: Global, reader: R) -> Result<Vec<u8>, TextStop>
+// What was read, or why it is no text.
+fn text_of(read: io::Result<usize>, text: Vec<u8>) -> Result<Vec<u8>, FileFault>
+    ensures ok { IfOk result (λ whole. (whole ≡ text) × (length text.items ≤ longest_text)) }
+    ensures read { OnOk result (IsOk read) }
+    ensures long { result ≡ Err FileFault.Long → IsOk read × (longest_text < length text.items) }
+    ensures memory { IfErr read (λ error. error_kind error ≡ ErrorKind.OutOfMemory →
+        result ≡ Err FileFault.NoMemory) }
+    ensures no_memory { result ≡ Err FileFault.NoMemory →
+        IsErrAnd read (λ error. error_kind error ≡ ErrorKind.OutOfMemory) }
+{
+    match read {
+        Ok(_) if text.len() > LONGEST_TEXT => Err(FileFault::Long),
+        Ok(_) => Ok(text),
+        Err(error) => Err(file_fault_of(&error)),
+    }
+}
+
+/// All that the reader has, where that is at most 65,506 bytes. `Long` comes where it has more, of
+/// which at most one byte is read.
+pub fn read_text<R: Read + Drop>(alloc: Global, reader: R) -> Result<Vec<u8>, FileFault>
     ensures ok { IfOk result (λ text. IsWhole (R.remaining reader) text.items) }
     ensures fits { IfOk result (λ text. length text.items ≤ longest_text) }
-    ensures long { result ≡ Err TextStop.Long → IsTooLong (R.remaining reader) }
+    ensures long { result ≡ Err FileFault.Long → IsTooLong (R.remaining reader) }
 {
     let mut text = Vec::new(alloc);
-    match reader.take(LONGEST_TEXT as u64 + 1).read_to_end(&mut text) {
-        Ok(_) if text.len() > LONGEST_TEXT => Err(TextStop::Long),
-        Ok(_) => Ok(text),
-        Err(error) => Err(stop_of(&error)),
-    }
+    let read = reader.take(LONGEST_TEXT as u64 + 1).read_to_end(&mut text);
+    text_of(read, text)
 }
 
-/// The database of which nothing was asked, with the table that the text writes down and this
-/// primary. A fault of the text is told before that the primary is not listed.
+/// A database of which nothing was asked, with the table that the text writes down and this primary.
+/// Of several faults the text's comes first, then that the primary is not listed.
 pub fn start_db(alloc: Global, text: &[u8], primary: u32) -> Result<Db, StartFault>
-    ensures { (result ≡ Err StartFault.NoMemory) ⊎ (result ≡ start_of text.now primary) }
+    ensures value { (result ≡ Err StartFault.NoMemory) ⊎ (result ≡ start_of text.now primary) }
 {
-    let table = match read_table(alloc, text) {
-        Ok(table) => table,
-        Err(ReadFault::Malformed(fault)) => return Err(StartFault::Table(fault)),
-        Err(ReadFault::NoMemory) => return Err(StartFault::NoMemory),
-    };
+    let table = read_table(alloc, text)?;
     let limits = Limits {
         audit: AUDIT_LIMIT,
         chunks: CHUNKS,
     };
-    match Db::new(alloc, table, primary, limits) {
-        Ok(db) => Ok(db),
-        Err(DbFault::NotListed) => Err(StartFault::NotListed),
-        Err(DbFault::NoMemory) => Err(StartFault::NoMemory),
-    }
+    Ok(Db::new(alloc, table, primary, limits)?)
 }

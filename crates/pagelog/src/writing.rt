@@ -7,10 +7,10 @@ use std::io::Write;
 
 /// A write failed, or took no byte.
 #[derive(Clone, Copy, Debug, PartialEq, Eq)]
-pub(crate) struct Stopped;
+pub(crate) struct WriteFailed;
 
-/// Writes until the whole is written. Nothing is tried again after a fault.
-pub(crate) fn write_whole<W: Write>(writer: &mut W, bytes: &[u8]) -> Result<(), Stopped>
+/// Writes until the whole is written. After a failed write nothing is tried again.
+pub(crate) fn write_whole<W: Write>(writer: &mut W, bytes: &[u8]) -> Result<(), WriteFailed>
     ensures ok { OnOk result (Appends (W.contents writer.old) (W.contents writer.new) bytes.now) }
 
     // What was written is a beginning of the bytes, and never all of them.
@@ -21,7 +21,7 @@ pub(crate) fn write_whole<W: Write>(writer: &mut W, bytes: &[u8]) -> Result<(), 
     while at < bytes.len() {
         let (_, rest) = bytes.split_at(at);
         match writer.write(rest) {
-            Ok(0) | Err(_) => return Err(Stopped),
+            Ok(0) | Err(_) => return Err(WriteFailed),
             Ok(n) => at += n,
         }
     }

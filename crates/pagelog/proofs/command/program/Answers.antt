@@ -14,4 +14,4 @@ returns c =
     let help_is : app_of c.arg_required_else_help.result ≡ on_top (λ s. record s { arg_required_else_help = true }) (app_of c.subcommand_required.result) = ap app_of_fields c.arg_required_else_help.ensures in
     let top_is : app_of c.arg_required_else_help.result ≡ top_app = help_is
     ∙ ap (on_top (λ s. record s { arg_required_else_help = true })) (required_is ∙ ap (on_top (λ s. record s { subcommand_required = true })) pagelog_is) in
-    IfOk-weaker c.subcommand.result _ _ (λ whole adds. adds.shape (search rules) ∙ ap₂ with_subcommand top_is (ap (λ (a : App). a.top) play_is)) c.subcommand.ensures
+    record { ok = IfOk-weaker c.subcommand.result _ _ (λ whole adds. adds.shape (search rules) ∙ ap₂ with_subcommand top_is (ap (λ (a : App). a.top) play_is)) c.subcommand.ensures }

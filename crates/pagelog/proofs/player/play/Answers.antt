@@ -1,7 +1,8 @@
-use Rattle.std.proofs.Common.{inl, subst, sym}
+use Rattle.std.proofs.Common.{subst, sym}
 use Rattle.std.proofs.lemmas.Result.{err_from_is_err_and}
 use Rattle.pagelog.specs.Lines.{TakesLine}
-use Rattle.pagelog.proofs.Turns.{going_start, going_more, LeavesBoth-refl, known_lines, stops_before, stops_at, stops_long}
+use Rattle.pagelog.specs.Played.{Stops}
+use Rattle.pagelog.proofs.Turns.{going_start, going_more, LeavesBoth-refl, known_lines, stops_before, stops_at, stops_input}
 use Rattle.pagelog.proofs.player.play.Goals as goal
 
 pub loop-count-init : goal.loop-count-init
@@ -14,16 +15,11 @@ returns-in_err-play_line-in-Ok-Some g c =
     let new = g.R.Read.remaining c.take_line.new.reader in
     let takes = rw c.in-Ok-Some.field-0-is at c.in-Ok-Some.ensures.some in
     let takes_shown = subst (TakesLine left new) (sym c.as_slice.ensures.value) takes in
-    rw (p.1, p.2) (stops_at _ _ _ _ _ _ c.loop-count.invariant new _ c.as_slice.result.now _ takes_shown (c.in_err-play_line-in-Ok-Some.ensures (known_lines new)))
+    record { value = rw (p.1, p.2) (stops_at _ _ _ _ _ _ c.loop-count.invariant new _ c.as_slice.result.now _ takes_shown (c.in_err-play_line-in-Ok-Some.ensures.value (known_lines new))) }
 
-pub returns-in-Err-Read : goal.returns-in-Err-Read
-returns-in-Err-Read g c = stops_before _ _ _ _ _ _ c.loop-count.invariant _ _ (LeavesBoth-refl _)
-
-pub returns-in-Err-NoMemory : goal.returns-in-Err-NoMemory
-returns-in-Err-NoMemory g c = stops_before _ _ _ _ _ _ c.loop-count.invariant _ _ (inl (LeavesBoth-refl _))
-
-pub returns-in-Err-Long : goal.returns-in-Err-Long
-returns-in-Err-Long g c = stops_long _ _ _ _ _ _ c.loop-count.invariant (c.in-Err-Long.ensures.err c.in-Err-Long.field-0-is)
+pub returns-in-Err : goal.returns-in-Err
+returns-in-Err g c =
+    record { value = subst (Stops _ _ _ _) (sym c.at_line.ensures.value) (stops_input _ _ _ _ _ _ c.loop-count.invariant c.in-Err.fault c.in-Err.ensures.err) }
 
 pub loop-count-preserved : goal.loop-count-preserved
 loop-count-preserved g c =
@@ -31,7 +27,7 @@ loop-count-preserved g c =
     let new = g.R.Read.remaining c.take_line.new.reader in
     let takes = rw c.in-Ok-Some.field-0-is at c.in-Ok-Some.ensures.some in
     let takes_shown = subst (TakesLine left new) (sym c.as_slice.ensures.value) takes in
-    going_more _ _ _ _ _ _ c.loop-count.invariant new _ c.as_slice.result.now takes_shown c.in_ok-play_line-in-Ok-Some.ensures
+    going_more _ _ _ _ _ _ c.loop-count.invariant new _ c.as_slice.result.now takes_shown c.in_ok-play_line-in-Ok-Some.ensures.value
 
 pub returns : goal.returns
-returns g c = stops_before _ _ _ _ _ _ c.loop-count.invariant _ _ (LeavesBoth-refl _)
+returns g c = record { value = stops_before _ _ _ _ _ _ c.loop-count.invariant _ _ (LeavesBoth-refl _) }

@@ -1,0 +1,60 @@
+-- How the program ends: the text on standard error, and the exit status.
+use Rattle.std.specs.Prelude.{ℕ, List, [], ◌∷◌, ◌++◌, Result, Ok, Err, codes, decimal, string_bytes}
+use Rattle.pl_table.specs.Fault.{fault_number}
+use Rattle.pagelog.specs.declared.command.CommandFault.TheVariants as commands
+use Rattle.pagelog.specs.declared.start.StartFault.{StartFault}
+use Rattle.pagelog.specs.declared.start.StartFault.TheVariants as starts
+use Rattle.pagelog.specs.declared.fault.PlayFault.{PlayFault}
+use Rattle.pagelog.specs.declared.fault.PlayFault.TheVariants as faults
+use Rattle.pagelog.specs.declared.ending.Failure.{Failure}
+use Rattle.pagelog.specs.declared.ending.Failure.TheVariants as failures
+use Rattle.pagelog.specs.declared.ending.Ending.{Ending}
+use Rattle.pagelog.specs.declared.ending.Ending.TheVariants as endings
+
+-- the text of a fault of the start, behind its first word
+abbrev pub start_fault_text : StartFault → List ℕ
+start_fault_text starts.File = codes "file"
+start_fault_text (starts.Table fault) = codes "table " ++ decimal (fault_number fault)
+start_fault_text starts.NotListed = codes "not listed"
+start_fault_text starts.NoMemory = codes "no memory"
+
+-- the text of a fault of the run, behind its first word
+abbrev pub fault_text : PlayFault → List ℕ
+fault_text faults.Read = codes "read"
+fault_text faults.Write = codes "write"
+fault_text faults.NoMemory = codes "no memory"
+fault_text (faults.Text line) = codes "line " ++ (decimal line ++ codes " is no hexadecimal text")
+fault_text (faults.Long line) = codes "line " ++ (decimal line ++ codes " is too long")
+
+-- a fault as a line
+abbrev pub fault_line : List ℕ → List ℕ
+fault_line text = codes "fault: " ++ (text ++ 10 ∷ [])
+
+-- the text of a failure: the argument parser's own, or a line
+abbrev pub failure_text : Failure → List ℕ
+failure_text (failures.Command (commands.Usage text)) = string_bytes text
+failure_text (failures.Command commands.NoMemory) = fault_line (codes "no memory")
+failure_text (failures.Start fault) = fault_line (start_fault_text fault)
+failure_text (failures.Play fault) = fault_line (fault_text fault)
+
+-- the exit status of a failure: a usage error has its own
+abbrev pub failure_status : Failure → ℕ
+failure_status (failures.Command (commands.Usage text)) = 2
+failure_status (failures.Command commands.NoMemory) = 1
+failure_status (failures.Start fault) = 1
+failure_status (failures.Play fault) = 1
+
+-- how a run ends
+abbrev pub ending_of : Result (Unit {0}) Failure → Ending
+ending_of (Ok _) = endings.Done
+ending_of (Err failure) = endings.Failed failure
+
+-- the text on standard error: nothing where all is done
+abbrev pub ending_text : Ending → List ℕ
+ending_text endings.Done = []
+ending_text (endings.Failed failure) = failure_text failure
+
+-- the exit status: 0 where all is done
+abbrev pub ending_status : Ending → ℕ
+ending_status endings.Done = 0
+ending_status (endings.Failed failure) = failure_status failure
