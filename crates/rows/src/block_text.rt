@@ -1,0 +1,86 @@
+//! A block as a word, `LSN:PUT,PUT..`, and the other way round.
+//!
+//! A Put is its bytes in hexadecimal, or `COUNT*BYTE`, and `@PAGE` or `@PAGE+OFFSET` behind them
+//! where they do not stand at the beginning of page 0.
+
+use crate::transcript::Stop;
+use bytes::Bytes;
+use pl_block::{Block, Record};
+use std::alloc::{AllocError, Global};
+
+fn bytes_of(alloc: Global, text: &str) -> Result<Vec<u8>, Stop> {
+    match text.split_once('*') {
+        Some((count, byte)) => {
+            let byte = u8::from_str_radix(byte, 16)?;
+            Ok(vec![in alloc; byte; count.parse()?]?)
+        }
+        None => Ok(hex::decode(alloc, text)?),
+    }
+}
+
+fn put_of(alloc: Global, text: &str) -> Result<Record, Stop> {
+    let (bytes, place) = text.split_once('@').unwrap_or((text, "0"));
+    let (page, offset) = place.split_once('+').unwrap_or((place, "0"));
+    Ok(Record::Put {
+        page: page.parse()?,
+        offset: offset.parse()?,
+        bytes: Bytes::from_vec(bytes_of(alloc, bytes)?)?,
+    })
+}
+
+/// The number and the records of the word.
+pub(crate) fn parts_of(alloc: Global, word: &str) -> Result<(u64, Vec<Record>), Stop> {
+    let (lsn, puts) = word.split_once(':').ok_or(Stop::Unread)?;
+    let mut records = Vec::new(alloc);
+    for put in puts.split(',') {
+        if !put.is_empty() {
+            records.push(put_of(alloc, put)?)?;
+        }
+    }
+    Ok((lsn.parse()?, records))
+}
+
+/// The block of the word.
+pub(crate) fn block_of(alloc: Global, word: &str) -> Result<Block, Stop> {
+    let (lsn, records) = parts_of(alloc, word)?;
+    Ok(Block::new(alloc, lsn, records)?)
+}
+
+fn write_put(out: &mut String, put: &Record) -> Result<(), AllocError> {
+    let Record::Put {
+        page,
+        offset,
+        bytes,
+    } = put;
+    for byte in bytes.as_slice() {
+        write!(out, "{byte:02x}")?;
+    }
+    if *page != 0 || *offset != 0 {
+        write!(out, "@{page}")?;
+    }
+    if *offset != 0 {
+        write!(out, "+{offset}")?;
+    }
+    Ok(())
+}
+
+/// Writes the block's word behind what stands.
+pub(crate) fn write_block(out: &mut String, block: &Block) -> Result<(), AllocError> {
+    write!(out, "{}:", block.lsn())?;
+    for (place, put) in block.records().iter().enumerate() {
+        if 0 < place {
+            out.push(',')?;
+        }
+        write_put(out, put)?;
+    }
+    Ok(())
+}
+
+/// Writes each block's word, and a space in front of it.
+pub(crate) fn write_blocks(out: &mut String, blocks: &[Block]) -> Result<(), AllocError> {
+    for block in blocks {
+        out.push(' ')?;
+        write_block(out, block)?;
+    }
+    Ok(())
+}

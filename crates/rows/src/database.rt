@@ -1,0 +1,244 @@
+//! A database, asked line by line.
+
+use crate::asking::{head_of, request_of};
+use crate::block_text::write_block;
+use crate::codec::{bytes_of, hex_of};
+use crate::reply_text::reply_text;
+use crate::table_text::table_named;
+use crate::transcript::{Stop, Subject};
+use pl_core::{Db, DbFault, Epochs, Limits, Reply};
+use pl_table::{Act, Head, Request};
+use pl_wire::{BodyFault, decode_request, encode_reply};
+use std::alloc::Global;
+
+// The numbers of databases and of passes decide nothing: each request has the next of them.
+const DATABASES: [u32; 4] = [0, 1, 4_294_967_295, 7];
+
+const PASSES: [u64; 3] = [1, 0, 18_446_744_073_709_551_615];
+
+/// A database, and what is asked of it.
+#[derive(Drop)]
+pub(crate) struct Database {
+    alloc: Global,
+    db: Option<Db>,
+    /// The requests of the next run.
+    queue: Vec<(u64, Request)>,
+    /// How many requests were made.
+    asked: usize,
+}
+
+/// What a request is made from, and made again where memory was refused.
+#[derive(Clone, Copy, Drop)]
+enum Asked<'a> {
+    Words(&'a [&'a str]),
+    Body(&'a [u8]),
+    Status(Head),
+}
+
+// What is read of a database in short.
+fn short_of(db: &Db) -> (u64, u64, Epochs) {
+    (db.audit_len(), db.hard(), db.epochs())
+}
+
+impl Database {
+    fn open(&mut self, table: &str, primary: &str, audit: &str) -> Result<&'static str, Stop> {
+        let limits = Limits {
+            audit: audit.parse()?,
+            chunks: 16,
+        };
+        if !limits.are_valid() {
+            return Err(Stop::Unread);
+        }
+        let table = table_named(self.alloc, table)?;
+        match Db::new(self.alloc, table, primary.parse()?, limits) {
+            Ok(db) => {
+                self.db = Some(db);
+                Ok("Ok")
+            }
+            Err(DbFault::NotListed) => Ok("NotListed"),
+            Err(DbFault::NoMemory) => Err(Stop::NoMemory),
+        }
+    }
+
+    fn db(&self) -> Result<&Db, Stop> {
+        self.db.as_ref().ok_or(Stop::Unread)
+    }
+
+    fn request(&self, asked: Asked) -> Result<Request, Stop> {
+        let request = match asked {
+            Asked::Words(words) => request_of(self.alloc, DATABASES[self.asked % 4], words)?,
+            Asked::Body(body) => match decode_request(self.alloc, body) {
+                Ok(request) => Some(request),
+                Err(BodyFault::Malformed(_)) => None,
+                Err(BodyFault::NoMemory) => return Err(Stop::NoMemory),
+            },
+            Asked::Status(head) => Request::new(head, Act::Status),
+        };
+        request.ok_or(Stop::Unread)
+    }
+
+    fn next_pass(&mut self) -> u64 {
+        let pass = PASSES[self.asked % 3];
+        self.asked = self.asked.wrapping_add(1);
+        pass
+    }
+
+    // The reply to a request. One of no memory has changed nothing.
+    fn step(&mut self, asked: Asked) -> Result<Reply, Stop> {
+        let request = self.request(asked)?;
+        let pass = self.next_pass();
+        let db = self.db.as_mut().ok_or(Stop::Unread)?;
+        let before = short_of(db);
+        let reply = db.step(pass, request);
+        if matches!(reply, Reply::NoMemory) && short_of(db) != before {
+            return Err(Stop::Unread);
+        }
+        Ok(reply)
+    }
+
+    // The reply to a request, which is made again where memory was refused.
+    fn ask(&mut self, asked: Asked, refused: &mut bool) -> Result<Reply, Stop> {
+        let reply = self.step(asked)?;
+        if matches!(reply, Reply::NoMemory) && !*refused {
+            *refused = true;
+            return self.step(asked);
+        }
+        Ok(reply)
+    }
+
+    // Writes each block from the first to the last, whose byte is its number, up to one that is not
+    // done.
+    fn fill(&mut self, words: [&str; 7], refused: &mut bool) -> Result<Reply, Stop> {
+        let [principal, token, role, epoch, first, last, copy] = words;
+        for lsn in first.parse::<u64>()?..=last.parse::<u64>()? {
+            let block = format!(in self.alloc; "{lsn}:{:02x}", lsn % 256)?;
+            let block = block.as_str();
+            let words = [principal, token, role, epoch, "write", block, copy];
+            let reply = self.ask(Asked::Words(&words), refused)?;
+            if !matches!(reply, Reply::Done) {
+                return Ok(reply);
+            }
+        }
+        Ok(Reply::Done)
+    }
+
+    // How many of the statuses are answered, up to one that is not.
+    fn statuses(&mut self, head: Head, count: u64, refused: &mut bool) -> Result<u64, Stop> {
+        for answered in 0..count {
+            let reply = self.ask(Asked::Status(head), refused)?;
+            if !matches!(reply, Reply::Status { .. }) {
+                return Ok(answered);
+            }
+        }
+        Ok(count)
+    }
+
+    fn queue(&mut self, words: &[&str]) -> Result<usize, Stop> {
+        let request = self.request(Asked::Words(words))?;
+        let pass = self.next_pass();
+        self.queue.push((pass, request))?;
+        Ok(self.queue.len())
+    }
+
+    // The replies to the requests of the queue, in one run. Where memory is refused to the run, no
+    // step was taken.
+    fn run(&mut self, refused: &mut bool) -> Result<String, Stop> {
+        let requests = std::mem::replace(&mut self.queue, Vec::new(self.alloc));
+        let db = self.db.as_mut().ok_or(Stop::Unread)?;
+        let before = short_of(db);
+        let Ok(replies) = db.run(requests) else {
+            if short_of(db) == before {
+                return Err(Stop::NoMemory);
+            }
+            return Err(Stop::Unread);
+        };
+        let mut text = String::new(self.alloc);
+        for reply in &replies {
+            if matches!(reply, Reply::NoMemory) && !*refused {
+                return Err(Stop::NoMemory);
+            }
+            write!(text, "{}; ", reply_text(self.alloc, reply)?.as_str())?;
+        }
+        Ok(text)
+    }
+
+    // The bytes of the reply to the request that the bytes spell.
+    fn bytes(&mut self, words: &[&str], refused: &mut bool) -> Result<String, Stop> {
+        let body = bytes_of(self.alloc, words)?;
+        let reply = self.ask(Asked::Body(&body), refused)?;
+        if !reply.fits() {
+            return Err(Stop::Unread);
+        }
+        hex_of(self.alloc, &encode_reply(self.alloc, &reply)?)
+    }
+
+    fn annulled(&self, epoch: &str, lsn: &str) -> Result<String, Stop> {
+        let mut text = String::new(self.alloc);
+        match self.db()?.log().annulled(epoch.parse()?, lsn.parse()?) {
+            Some(block) => write_block(&mut text, block)?,
+            None => text.push_str("none")?,
+        }
+        Ok(text)
+    }
+
+    // What is read of the database and of its log.
+    fn state(&self, words: &[&str]) -> Result<String, Stop> {
+        let db = self.db()?;
+        let text = match words {
+            ["audit"] => format!(in self.alloc; "{}", db.audit_len())?,
+            ["hard"] => format!(in self.alloc; "{}", db.hard())?,
+            ["epochs"] => {
+                let Epochs { epoch, primary } = db.epochs();
+                format!(in self.alloc; "{epoch} {primary}")?
+            }
+            ["log"] => {
+                let log = db.log();
+                let (pending, landing) = log.counts();
+                format!(in self.alloc; "{} {} {pending} {landing}", log.hard(), log.copies())?
+            }
+            ["annulled", epoch, lsn] => self.annulled(epoch, lsn)?,
+            _ => return Err(Stop::Unread),
+        };
+        Ok(text)
+    }
+
+    fn reply(&mut self, words: &[&str], refused: &mut bool) -> Result<String, Stop> {
+        let reply = match words {
+            [principal, token, role, epoch, "fill", first, last, copy] => {
+                self.fill([principal, token, role, epoch, first, last, copy], refused)?
+            }
+            _ => self.ask(Asked::Words(words), refused)?,
+        };
+        Ok(reply_text(self.alloc, &reply)?)
+    }
+}
+
+impl Subject for Database {
+    fn new(alloc: Global) -> Database {
+        Database {
+            alloc,
+            db: None,
+            queue: Vec::new(alloc),
+            asked: 0,
+        }
+    }
+
+    fn answer(&mut self, words: &[&str], refused: &mut bool) -> Result<String, Stop> {
+        let alloc = self.alloc;
+        match words {
+            ["open", table, primary, audit] => {
+                Ok(format!(in alloc; "{}", self.open(table, primary, audit)?)?)
+            }
+            ["audit" | "hard" | "epochs" | "log" | "annulled", ..] => self.state(words),
+            ["queue", request @ ..] => Ok(format!(in alloc; "{}", self.queue(request)?)?),
+            ["run"] => self.run(refused),
+            ["bytes", body @ ..] => self.bytes(body, refused),
+            [principal, token, role, epoch, "statuses", count] => {
+                let head = head_of(0, [principal, token, role, epoch])?;
+                let answered = self.statuses(head, count.parse()?, refused)?;
+                Ok(format!(in alloc; "{answered}")?)
+            }
+            _ => self.reply(words, refused),
+        }
+    }
+}

@@ -1,0 +1,54 @@
+//! The worked rows and the tables of cases of the libraries below, as transcripts: a library that
+//! has nothing but tests.
+//!
+//! README.md has the grammar of a transcript, and docs/WORKED_ROWS.md the list of the rows.
+#![tactic(auto)]
+
+#[cfg(test)]
+mod asking;
+#[cfg(test)]
+mod block_text;
+#[cfg(test)]
+mod blocks;
+#[cfg(test)]
+mod bodies;
+#[cfg(test)]
+mod codec;
+#[cfg(test)]
+mod database;
+#[cfg(test)]
+mod decisions;
+#[cfg(test)]
+mod failovers;
+#[cfg(test)]
+mod log;
+#[cfg(test)]
+mod logs;
+#[cfg(test)]
+mod numbers;
+#[cfg(test)]
+mod one_database;
+#[cfg(test)]
+mod reply_bodies;
+#[cfg(test)]
+mod reply_text;
+#[cfg(test)]
+mod rules;
+#[cfg(test)]
+mod runs;
+#[cfg(test)]
+mod secrets;
+#[cfg(test)]
+mod sizes;
+#[cfg(test)]
+mod table_faults;
+#[cfg(test)]
+mod table_text;
+#[cfg(test)]
+mod tables_in_force;
+#[cfg(test)]
+mod transcript;
+#[cfg(test)]
+mod wire;
+#[cfg(test)]
+mod written_tables;

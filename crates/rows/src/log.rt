@@ -1,0 +1,194 @@
+//! A log on its own, asked line by line.
+
+ghost use Rattle.std.specs.Prelude.{◌≤◌};
+ghost use Rattle.pl_log.specs.Change.{ArePast};
+
+use crate::block_text::{block_of, write_block, write_blocks};
+use crate::transcript::{Stop, Subject};
+use pl_log::{DbLog, failovers_harden_the_longest_run};
+use std::alloc::Global;
+
+/// A log in an epoch, as whoever drives one keeps it.
+#[derive(Drop)]
+struct Driven {
+    epoch: u32,
+    log: DbLog,
+    ghost past: { ArePast epoch log.annulled },
+}
+
+/// The log of a transcript.
+#[derive(Drop)]
+pub(crate) struct Log {
+    alloc: Global,
+    driven: Option<Driven>,
+}
+
+fn open(alloc: Global, copies: u8, quorum: u8) -> Result<Driven, Stop> {
+    if quorum < 1 || copies < quorum || 3 < copies {
+        return Err(Stop::Unread);
+    }
+    Ok(Driven {
+        epoch: 1,
+        log: DbLog::new(alloc, copies, quorum)?,
+    })
+}
+
+impl Driven {
+    // All that is read of the log in short.
+    fn short(&self) -> (u64, u8, (u64, u64)) {
+        (self.log.hard(), self.log.copies(), self.log.counts())
+    }
+
+    fn write(&mut self, alloc: Global, word: &str, copy: u8) -> Result<(), Stop> {
+        let block = block_of(alloc, word)?;
+        let may = self.log.in_window(block.lsn()) && self.log.agrees(&block);
+        if !may || self.log.copies() <= copy {
+            return Err(Stop::Unread);
+        }
+        Ok(self.log.write(copy, block)?)
+    }
+
+    fn report(&mut self, lsn: u64, refused: &mut bool) -> Result<(), Stop> {
+        if !self.log.can_harden(lsn) {
+            return Err(Stop::Unread);
+        }
+        let before = self.short();
+        if self.log.report(lsn).is_ok() {
+            return Ok(());
+        }
+        meets_refusal(refused, self.short() == before)?;
+        if !self.log.can_harden(lsn) {
+            return Err(Stop::Unread);
+        }
+        Ok(self.log.report(lsn)?)
+    }
+
+    // Ends the epoch, and tells how many numbers were hardened.
+    fn recover(&mut self, refused: &mut bool) -> Result<u64, Stop> {
+        failovers_harden_the_longest_run();
+        if 1_000 <= self.epoch {
+            return Err(Stop::Unread);
+        }
+        let before = self.short();
+        let count = match self.log.recover(self.epoch) {
+            Ok(count) => count,
+            Err(_) => {
+                meets_refusal(refused, self.short() == before)?;
+                self.log.recover(self.epoch)?
+            }
+        };
+        self.epoch += 1;
+        Ok(count)
+    }
+
+    fn read(&mut self, text: &mut String, lsn: u64) -> Result<(), Stop> {
+        if lsn < 1 || self.log.hard() < lsn {
+            return Err(Stop::Unread);
+        }
+        let block = self.log.read(lsn)?;
+        Ok(write_block(text, &block)?)
+    }
+
+    fn pull(&mut self, text: &mut String, asked: [&str; 5]) -> Result<(), Stop> {
+        let [lo, hi, from, max, reach] = asked;
+        let max = max.parse()?;
+        let reach = reach.parse()?;
+        if max < 1 || self.log.hard() < reach {
+            return Err(Stop::Unread);
+        }
+        let (next, blocks) = self
+            .log
+            .pull(lo.parse()?, hi.parse()?, from.parse()?, max, reach)?;
+        write!(text, "{next}")?;
+        Ok(write_blocks(text, &blocks)?)
+    }
+
+    fn annulled(&self, text: &mut String, epoch: &str, lsn: &str) -> Result<(), Stop> {
+        match self.log.annulled(epoch.parse()?, lsn.parse()?) {
+            Some(block) => Ok(write_block(text, block)?),
+            None => Ok(text.push_str("none")?),
+        }
+    }
+}
+
+// A test meets one refusal, which has changed nothing.
+fn meets_refusal(refused: &mut bool, same: bool) -> Result<(), Stop> {
+    if *refused || !same {
+        return Err(Stop::Unread);
+    }
+    *refused = true;
+    Ok(())
+}
+
+impl Log {
+    fn answer_change(
+        &mut self,
+        text: &mut String,
+        words: &[&str],
+        refused: &mut bool,
+    ) -> Result<(), Stop> {
+        let driven = self.driven.as_mut().ok_or(Stop::Unread)?;
+        match words {
+            ["write", block, copy] => {
+                driven.write(self.alloc, block, copy.parse()?)?;
+                Ok(text.push_str("Ok")?)
+            }
+            ["report", lsn] => {
+                driven.report(lsn.parse()?, refused)?;
+                Ok(text.push_str("Ok")?)
+            }
+            ["recover"] => {
+                let count = driven.recover(refused)?;
+                Ok(write!(text, "{count}")?)
+            }
+            ["read", lsn] => driven.read(text, lsn.parse()?),
+            ["pull", lo, hi, from, max, reach] => driven.pull(text, [lo, hi, from, max, reach]),
+            _ => Err(Stop::Unread),
+        }
+    }
+
+    fn answer_question(&self, text: &mut String, words: &[&str]) -> Result<(), Stop> {
+        let driven = self.driven.as_ref().ok_or(Stop::Unread)?;
+        let log = &driven.log;
+        match words {
+            ["hard"] => Ok(write!(text, "{}", log.hard())?),
+            ["copies"] => Ok(write!(text, "{}", log.copies())?),
+            ["counts"] => {
+                let (pending, landing) = log.counts();
+                Ok(write!(text, "{pending} {landing}")?)
+            }
+            ["in_window", lsn] => Ok(write!(text, "{}", log.in_window(lsn.parse()?))?),
+            ["can_harden", lsn] => Ok(write!(text, "{}", log.can_harden(lsn.parse()?))?),
+            ["agrees", block] => {
+                let block = block_of(self.alloc, block)?;
+                Ok(write!(text, "{}", log.agrees(&block))?)
+            }
+            ["annulled", epoch, lsn] => driven.annulled(text, epoch, lsn),
+            _ => Err(Stop::Unread),
+        }
+    }
+}
+
+impl Subject for Log {
+    fn new(alloc: Global) -> Log {
+        Log {
+            alloc,
+            driven: None,
+        }
+    }
+
+    fn answer(&mut self, words: &[&str], refused: &mut bool) -> Result<String, Stop> {
+        let mut text = String::new(self.alloc);
+        match words {
+            ["log", copies, quorum] => {
+                self.driven = Some(open(self.alloc, copies.parse()?, quorum.parse()?)?);
+                text.push_str("Ok")?;
+            }
+            ["write" | "report" | "recover" | "read" | "pull", ..] => {
+                self.answer_change(&mut text, words, refused)?;
+            }
+            _ => self.answer_question(&mut text, words)?,
+        }
+        Ok(text)
+    }
+}

@@ -1,0 +1,124 @@
+//! Plays a transcript: each line asks something, and has the answer behind its `=`.
+
+use hex::FromHexError;
+use pl_block::BlockFault;
+use std::alloc::{AllocError, AllocFailed, Global};
+use std::num::ParseIntError;
+use std::process::Abort;
+use std::test::Fail;
+
+/// What a transcript speaks to.
+pub(crate) trait Subject: Drop {
+    /// One that was asked nothing.
+    fn new(alloc: Global) -> Self;
+
+    /// The answer to the words in front of a line's `=`.
+    ///
+    /// A test may meet one refused allocation. `refused` says whether it has: the call that meets it
+    /// asks again, once, and sets it.
+    fn answer(&mut self, words: &[&str], refused: &mut bool) -> Result<String, Stop>;
+}
+
+/// Why a line is not answered.
+#[derive(Debug, Drop)]
+pub(crate) enum Stop {
+    /// An allocation failed.
+    NoMemory,
+    /// The words are none of the grammar, or ask for a call whose condition does not hold.
+    Unread,
+}
+
+impl From<AllocError> for Stop {
+    fn from(_refused: AllocError) -> Stop {
+        Stop::NoMemory
+    }
+}
+
+impl<T: Drop> From<AllocFailed<T>> for Stop {
+    fn from(_refused: AllocFailed<T>) -> Stop {
+        Stop::NoMemory
+    }
+}
+
+impl From<BlockFault> for Stop {
+    fn from(fault: BlockFault) -> Stop {
+        match fault {
+            BlockFault::NoMemory => Stop::NoMemory,
+            BlockFault::Malformed(_) => Stop::Unread,
+        }
+    }
+}
+
+impl From<ParseIntError> for Stop {
+    fn from(_fault: ParseIntError) -> Stop {
+        Stop::Unread
+    }
+}
+
+impl From<FromHexError> for Stop {
+    fn from(fault: FromHexError) -> Stop {
+        match fault {
+            FromHexError::OutOfMemory => Stop::NoMemory,
+            _ => Stop::Unread,
+        }
+    }
+}
+
+/// A transcript as it is played.
+#[derive(Drop)]
+struct Player<S: Subject> {
+    alloc: Global,
+    subject: S,
+    /// The last answer.
+    told: String,
+}
+
+impl<S: Subject> Player<S> {
+    fn new(alloc: Global) -> Player<S> {
+        Player {
+            alloc,
+            subject: S::new(alloc),
+            told: String::new(alloc),
+        }
+    }
+
+    // Whether the line is a comment, or is answered as it says.
+    fn holds(&mut self, line: &str, refused: &mut bool) -> Result<bool, Stop> {
+        if line.starts_with('#') {
+            return Ok(true);
+        }
+        let (asked, wanted) = line.split_once('=').ok_or(Stop::Unread)?;
+        let words: Vec<&str> = asked.split_whitespace().collect(self.alloc)?;
+        self.told = self.subject.answer(&words, refused)?;
+        Ok(self.told.trim() == wanted.trim())
+    }
+}
+
+// Plays the lines, up to an allocation of the test's own that fails.
+fn play<S: Subject>(
+    rt: &impl Abort,
+    alloc: Global,
+    row: &str,
+    refused: &mut bool,
+) -> Result<(), Stop> {
+    let mut player: Player<S> = Player::new(alloc);
+    for line in row.lines() {
+        let holds = player.holds(line, refused)?;
+        assert!(rt; holds, "{line}: {}", player.told.as_str());
+    }
+    Ok(())
+}
+
+/// Plays the transcript of a subject. Where an allocation of the test's own fails it is played from
+/// its beginning, once, since a test may meet one refused allocation and no more.
+pub(crate) fn plays<S: Subject>(rt: &impl Abort, alloc: Global, row: &str) -> Result<(), Fail> {
+    let mut refused = false;
+    match play::<S>(rt, alloc, row, &mut refused) {
+        Err(Stop::NoMemory) if !refused => {
+            let mut refused = true;
+            play::<S>(rt, alloc, row, &mut refused)?;
+        }
+        played => played?,
+    }
+    Ok(())
+}
