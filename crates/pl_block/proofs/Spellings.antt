@@ -19,7 +19,7 @@ use Rattle.pl_block.specs.Spelling.{annotations, record_spelling, block_spelling
 use Rattle.pl_block.specs.Laws.{AreBytes, OneSpelling}
 use Rattle.pl_block.specs.declared.fault.Failed.{Failed}
 use Rattle.pl_block.specs.Faults.{◌>>=◌, Gives}
-use Rattle.pl_block.specs.Reading.{number_at, lsn_fault, len_fault, lsn_at, annotations_at, records_at, block_reading}
+use Rattle.pl_block.specs.Reading.{number_at, lsn_fault, len_fault, lsn_at, annotations_at, annotations_fault, records_at, block_reading}
 use Rattle.pl_block.proofs.Fields.{bind_ok, guard_ok, ok_is, IsFront, IsFront-then, wide16, wide64, number_takes, number_again}
 use Rattle.pl_block.proofs.Touched.{RisesFrom-touched}
 use Rattle.pl_block.proofs.Annotations.{length-partitions, annotations_take, annotations_again, touched_small}
@@ -77,9 +77,13 @@ lsn_again lsn rest some within = rw (number_again w64 (2 ^ 64) wide64 lsn rest (
 
 -- ---- the whole
 
-guard_same : {A : Type 0} (b : Bool) (d : Fault) (x y : A) → cond b (Ok x) (Err d) ≡ Ok y → (b ≡ true) × (x ≡ y)
-guard_same true d x y e = (refl, cc)
-guard_same false d x y e = absurd cc
+passed : {A : Type 0} (b : Bool) (d : Fault) (x y : A) → cond b (Ok x) (Err d) ≡ Ok y → b ≡ true
+passed true d x y e = refl
+passed false d x y e = absurd cc
+
+pub annotations_fault-ok : (partitions : List ℕ) (records : List Record) (u : Unit {0}) → annotations_fault partitions records ≡ Ok u → partitions ≡ touched records
+annotations_fault-ok partitions records u e =
+    (bytes_eq-Decides partitions (touched records)).0 (passed (bytes_eq partitions (touched records)) WrongAnnotations tt u e)
 
 -- what is known of four parts that were read one after the other
 pub whole_block : (bytes : List ℕ) (lsn : ℕ) (ps : List ℕ) (records : List Record) (after_lsn after_ps after_count : List ℕ)
@@ -96,16 +100,16 @@ whole_block bytes lsn ps records after_lsn after_ps after_count short ranged eac
 pub block_takes : (bytes : List ℕ) (b : Content) → AreBytes bytes → block_reading bytes ≡ Ok b → IsBlock b × (bytes ≡ block_spelling b)
 unfolding block_reading
 block_takes bytes b fits e =
-    let last = λ (lsn : ℕ) (ps : List ℕ) (rs : List Record × List ℕ). cond (ltb 0 (length rs.1)) (Err BytesAfterEnd) (cond (bytes_eq ps (touched rs.0)) (Ok (record { lsn = lsn; records = rs.0 })) (Err WrongAnnotations)) in
+    let last = λ (lsn : ℕ) (ps : List ℕ) (rs : List Record × List ℕ). cond (ltb 0 (length rs.1)) (Err BytesAfterEnd) (annotations_fault ps rs.0 >>= λ _. Ok (record { lsn = lsn; records = rs.0 })) in
     let g = bind_ok (len_fault (length bytes)) (λ _. lsn_at bytes >>= λ lsn. annotations_at lsn.1 >>= λ ps. number_at w16 ps.1 >>= λ count. records_at count.0 count.1 >>= λ rs. last lsn.0 ps.0 rs) b e in
     let short = ltb-false _ _ (guard_ok (ltb 32768 (length bytes)) TooLong (Ok tt) g.value g.first).0 in
     let l = bind_ok (lsn_at bytes) (λ lsn. annotations_at lsn.1 >>= λ ps. number_at w16 ps.1 >>= λ count. records_at count.0 count.1 >>= λ rs. last lsn.0 ps.0 rs) b g.next in
     let p = bind_ok (annotations_at l.value.1) (λ ps. number_at w16 ps.1 >>= λ count. records_at count.0 count.1 >>= λ rs. last l.value.0 ps.0 rs) b l.next in
     let n = bind_ok (number_at w16 p.value.1) (λ count. records_at count.0 count.1 >>= λ rs. last l.value.0 p.value.0 rs) b p.next in
     let r = bind_ok (records_at n.value.0 n.value.1) (λ rs. last l.value.0 p.value.0 rs) b n.next in
-    let ended = guard_ok (ltb 0 (length r.value.1)) BytesAfterEnd (cond (bytes_eq p.value.0 (touched r.value.0)) (Ok (record { lsn = l.value.0; records = r.value.0 })) (Err WrongAnnotations)) b r.next in
-    let told = guard_same (bytes_eq p.value.0 (touched r.value.0)) WrongAnnotations (record { lsn = l.value.0; records = r.value.0 }) b ended.1 in
-    let same = (bytes_eq-Decides p.value.0 (touched r.value.0)).0 told.0 in
+    let ended = guard_ok (ltb 0 (length r.value.1)) BytesAfterEnd (annotations_fault p.value.0 r.value.0 >>= λ _. Ok (record { lsn = l.value.0; records = r.value.0 })) b r.next in
+    let tested = bind_ok (annotations_fault p.value.0 r.value.0) (λ _. Ok (record { lsn = l.value.0; records = r.value.0 })) b ended.1 in
+    let same = annotations_fault-ok p.value.0 r.value.0 tested.value tested.first in
     let nothing : r.value.1 ≡ [] = nil_from_length r.value.1 (omega (arith, ltb-false _ _ ended.0)) in
     let one = lsn_takes bytes l.value fits l.first in
     let two = annotations_take l.value.1 p.value one.0.rest_fits p.first in
@@ -114,7 +118,7 @@ block_takes bytes b fits e =
     let counted = subst (λ (k : ℕ). IsFront p.value.1 (to_be_bytes w16 k) n.value.1) (sym four.1) three.0 in
     let closed = subst (λ (t : List ℕ). IsFront n.value.1 (flat_map record_spelling r.value.0) t) nothing four.0 in
     let whole = whole_block bytes l.value.0 p.value.0 r.value.0 l.value.1 p.value.1 n.value.1 short (one.1, one.2) four.2 same one.0 two counted closed in
-    subst (λ (x : Content). IsBlock x × (bytes ≡ block_spelling x)) told.1 whole
+    subst (λ (x : Content). IsBlock x × (bytes ≡ block_spelling x)) (ok_is (record { lsn = l.value.0; records = r.value.0 }) b tested.next) whole
 
 -- what is read as a block is not too long
 pub reading_short : (bytes : List ℕ) (b : Content) → block_reading bytes ≡ Ok b → length bytes ≤ longest_block
@@ -146,9 +150,9 @@ one_spelling = record { again = block_again; spelled = block_takes; same = same_
 
 -- ---- as a call answers
 
-pub is_found : (bytes : List ℕ) (r : Result Content (Failed Fault)) → AreBytes bytes → Gives (λ x. x) r (block_reading bytes) → IfOk r (λ b. IsBlock b × (bytes ≡ block_spelling b))
+pub is_found : (bytes : List ℕ) (r : Result Content (Failed Fault)) → AreBytes bytes → Gives r (block_reading bytes) → IfOk r (λ b. IsBlock b × (bytes ≡ block_spelling b))
 is_found bytes (Ok b) fits given = block_takes bytes b fits given
 is_found bytes (Err e) fits given = tt
 
-pub is_only : (bytes : List ℕ) (r : Result Content (Failed Fault)) (b : Content) → Gives (λ x. x) r (block_reading bytes) → IsBlock b → bytes ≡ block_spelling b → Gives (λ x. x) r (Ok b)
-is_only bytes r b given is_block e = subst (λ (read : Result Content Fault). Gives (λ x. x) r read) (ap block_reading e ∙ block_again b is_block) given
+pub is_only : (bytes : List ℕ) (r : Result Content (Failed Fault)) (b : Content) → Gives r (block_reading bytes) → IsBlock b → bytes ≡ block_spelling b → Gives r (Ok b)
+is_only bytes r b given is_block e = subst (λ (read : Result Content Fault). Gives r read) (ap block_reading e ∙ block_again b is_block) given

@@ -64,11 +64,15 @@ records_at (suc n) bytes = do
   others ← records_at n first.1
   Ok (first.0 ∷ others.0, others.1)
 
--- all of the bytes: a block, or the fault that is told
+-- the fault of annotations, if any: they are the partitions that the records touch
+abbrev pub annotations_fault : List ℕ → List Record → Result (Unit {0}) Fault
+annotations_fault partitions records = if pointwise nat_eq partitions (touched records) then Ok tt else Err WrongAnnotations
+
+-- all of the bytes: a block, or the fault that is met first
 unfoldable pub block_reading : List ℕ → Result Content Fault
 block_reading bytes = len_fault (length bytes) >>= λ _. do
   lsn ← lsn_at bytes
   partitions ← annotations_at lsn.1
   count ← number_at w16 partitions.1
   records ← records_at count.0 count.1
-  if nat_lt 0 (length records.1) then Err BytesAfterEnd else if pointwise nat_eq partitions.0 (touched records.0) then Ok (record { lsn = lsn.0; records = records.0 }) else Err WrongAnnotations
+  if nat_lt 0 (length records.1) then Err BytesAfterEnd else (annotations_fault partitions.0 records.0 >>= λ _. Ok (record { lsn = lsn.0; records = records.0 }))

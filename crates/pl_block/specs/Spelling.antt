@@ -1,5 +1,5 @@
 -- The one spelling of a block.
-use Rattle.std.specs.Prelude.{ℕ, ◌<◌, ◌≤◌, List, ◌∷◌, ◌++◌, length}
+use Rattle.std.specs.Prelude.{◌≡◌, ℕ, ◌<◌, ◌≤◌, List, ◌∷◌, ◌++◌, length}
 use Rattle.std.specs.List.{flat_map, AllByRecursion}
 use Rattle.std.specs.Int.{w16, w32, w64, to_be_bytes}
 use Rattle.pl_block.specs.Bounds.{last_lsn, longest_block}
@@ -25,3 +25,9 @@ pub record IsBlock (b : Content) : Type 0 where
   pub in_range : b.lsn ≤ last_lsn
   pub each : AllByRecursion IsRecord b.records
   pub short : length (block_spelling b) ≤ longest_block
+
+-- a block, and what is kept beside it: the partitions that its records touch, and the length of its spelling
+pub record AreParts (b : Content) (partitions : List ℕ) (len : ℕ) : Type 0 where
+  pub block : IsBlock b
+  pub touched_by : partitions ≡ touched b.records
+  pub counted : len ≡ length (block_spelling b)

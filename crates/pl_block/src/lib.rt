@@ -7,12 +7,9 @@
 
 mod block;
 mod bounds;
-mod checks;
-mod content;
 mod fault;
 pub mod laws;
 mod making;
-mod partitions;
 mod reading;
 mod record;
 pub mod seen;

@@ -1,22 +1,19 @@
 //! A block, made of a number and records.
 
-ghost use Rattle.std.specs.Prelude.{◌≡◌, ◌≤◌, IfOk, Ok};
-ghost use Rattle.std.specs.List.{AllByRecursion};
+ghost use Rattle.std.specs.Prelude.{◌≡◌, ◌+◌, ◌*◌, ◌^◌, ◌<◌, ◌≤◌, length, IfOk, Ok};
+ghost use Rattle.std.specs.List.{AllByRecursion, flat_map};
 ghost use Rattle.pl_block.specs.Block.{IsRecord};
-ghost use Rattle.pl_block.specs.Bounds.{last_lsn};
-ghost use Rattle.pl_block.specs.Spelling.{IsBlock};
+ghost use Rattle.pl_block.specs.Bounds.{last_lsn, longest_block};
+ghost use Rattle.pl_block.specs.Spelling.{IsBlock, record_spelling};
 ghost use Rattle.pl_block.specs.declared.fault.Failed.TheVariants.{NoMemory};
 ghost use Rattle.pl_block.specs.Faults.{Gives};
 ghost use Rattle.pl_block.specs.Making.{record_fault, records_fault, block_made};
 
-use crate::block::Block;
-use crate::checks::{check_len, check_lsn, check_put};
-use crate::content::Parts;
+use crate::block::{Block, Parts};
+use crate::bounds::{LONGEST_BLOCK, check_len, check_lsn, check_put};
 use crate::fault::{BlockFault, Fault};
-use crate::partitions::touched_partitions;
-use crate::record::Record;
+use crate::record::{Record, touched_partitions};
 use crate::seen::is_u32;
-use crate::writing::spelling_len;
 use std::alloc::Global;
 
 fn check_record(entry: &Record) -> Result<(), Fault>
@@ -42,21 +39,50 @@ fn check_records(records: &[Record]) -> Result<(), Fault>
     Ok(())
 }
 
+fn record_len(entry: &Record) -> usize
+    ensures value { result ≡ length (record_spelling entry.now) }
+    ensures fits { result < 2 ^ 63 + 9 }
+{
+    let Record::Put { bytes, .. } = entry;
+    9 + bytes.len()
+}
+
+// The length of the spelling of a block with these partitions and records, where a block can
+// have it; otherwise some length that no block can have.
+fn spelling_len(partitions: &[u16], records: &[Record]) -> usize
+    ensures value { result ≤ longest_block →
+        result ≡ 12 + 2 * length partitions.now + length (flat_map record_spelling records.now) }
+    ensures long { longest_block < result →
+        longest_block < 12 + 2 * length partitions.now + length (flat_map record_spelling records.now) }
+{
+    let mut len = 12 + 2 * partitions.len();
+    for entry in records {
+        // What is too long is not counted on, so that no sum wraps.
+        if len > LONGEST_BLOCK {
+            return len;
+        }
+        len += record_len(entry);
+    }
+    len
+}
+
 // What the number and the records make, with the partitions that they touch.
 #[tactic(auto, unfolding(crate::specs::Making::block_made))]
 fn parts_of(alloc: Global, lsn: u64, records: Vec<Record>) -> Result<Parts, BlockFault>
-    ensures exact { Gives (λ x. x) result (block_made lsn records.items) }
+    ensures exact { Gives result (block_made lsn records.items) }
     ensures no_memory { result ≡ Err NoMemory →
         (1 ≤ lsn) × (lsn ≤ last_lsn) × (records_fault records.items ≡ Ok tt) }
 {
     check_lsn(lsn)?;
     check_records(&records)?;
     let partitions = touched_partitions(alloc, &records)?;
-    check_len(spelling_len(&partitions, &records))?;
+    let len = spelling_len(&partitions, &records);
+    check_len(len)?;
     Ok(Parts {
         lsn,
         partitions,
         records,
+        len,
     })
 }
 
@@ -70,9 +96,9 @@ impl Block {
         ensures valid { IfOk result (λ b. IsBlock b) }
         // What is a block is made, unless memory runs out.
         ensures only { IsBlock (record { lsn = lsn; records = records.items }) →
-            Gives (λ x. x) result (Ok (record { lsn = lsn; records = records.items })) }
+            Gives result (Ok (record { lsn = lsn; records = records.items })) }
         // Which fault it is.
-        ensures exact { Gives (λ x. x) result (block_made lsn records.items) }
+        ensures exact { Gives result (block_made lsn records.items) }
         // Memory runs out only where the number and each record are in their ranges.
         ensures no_memory { result ≡ Err NoMemory →
             (1 ≤ lsn) × (lsn ≤ last_lsn) × (records_fault records.items ≡ Ok tt) }

@@ -5,15 +5,13 @@ ghost use Rattle.pl_block.specs.Block.{Content, touched};
 ghost use Rattle.pl_block.specs.Bounds.{longest_block};
 ghost use Rattle.pl_block.specs.Spelling.{IsBlock, block_spelling};
 ghost use Rattle.pl_block.specs.declared.fault.Failed.TheVariants.{NoMemory};
-ghost use Rattle.pl_block.specs.Faults.{Gives, Reads, Takes};
-ghost use Rattle.pl_block.specs.Reading.{lsn_at, rising_at, annotations_at, put_at, record_at, records_at, block_reading};
+ghost use Rattle.pl_block.specs.Faults.{Gives, GivesBy, Reads, Takes};
+ghost use Rattle.pl_block.specs.Reading.{lsn_at, rising_at, annotations_at, annotations_fault, put_at, record_at, records_at, block_reading};
 
-use crate::block::Block;
-use crate::checks::{check_len, check_lsn, check_put};
-use crate::content::Parts;
+use crate::block::{Block, Parts};
+use crate::bounds::{check_len, check_lsn, check_put};
 use crate::fault::{BlockFault, Fault};
-use crate::partitions::touched_partitions;
-use crate::record::{PUT, Record};
+use crate::record::{PUT, Record, touched_partitions};
 use crate::seen::each_is_byte;
 use bytes::{Buf, Bytes};
 use std::alloc::Global;
@@ -93,12 +91,27 @@ fn take_records(alloc: Global, count: u16, rest: &mut Bytes) -> Result<Vec<Recor
     Ok(records)
 }
 
+// Whether the annotations are the partitions that the records touch.
+fn check_annotations(
+    alloc: Global,
+    partitions: &[u16],
+    records: &[Record],
+) -> Result<(), BlockFault>
+    ensures exact { Gives result (annotations_fault partitions.now records.now) }
+    ensures valid { IfOk result (λ _. partitions.now ≡ touched records.now) }
+{
+    if partitions != touched_partitions(alloc, records)?.as_slice() {
+        return Err(BlockFault::Malformed(Fault::WrongAnnotations));
+    }
+    Ok(())
+}
+
 // The number, the annotations and the records of a block.
 #[tactic(auto, unfolding(crate::specs::Reading::block_reading))]
 fn fields_of(alloc: Global, input: Bytes) -> Result<(u64, Vec<u16>, Vec<Record>), BlockFault>
-    ensures exact { Gives (λ x. record { lsn = x.0; records = x.2.items }) result
+    ensures exact { GivesBy (λ x. record { lsn = x.0; records = x.2.items }) result
         (block_reading input) }
-    ensures value { IfOk result (λ x. x.1.items ≡ touched x.2.items) }
+    ensures valid { IfOk result (λ x. x.1.items ≡ touched x.2.items) }
     ensures no_memory { result ≡ Err NoMemory → length input ≤ longest_block }
 {
     check_len(input.len())?;
@@ -110,36 +123,40 @@ fn fields_of(alloc: Global, input: Bytes) -> Result<(u64, Vec<u16>, Vec<Record>)
     if !rest.is_empty() {
         return Err(BlockFault::Malformed(Fault::BytesAfterEnd));
     }
-    let touched = touched_partitions(alloc, &records)?;
-    if partitions != touched {
-        return Err(BlockFault::Malformed(Fault::WrongAnnotations));
-    }
+    check_annotations(alloc, &partitions, &records)?;
     Ok((lsn, partitions, records))
+}
+
+// The parts of the block that the bytes spell.
+fn parts_in(alloc: Global, input: Bytes) -> Result<Parts, BlockFault>
+    ensures exact { Gives result (block_reading input) }
+    ensures no_memory { result ≡ Err NoMemory → length input ≤ longest_block }
+{
+    each_is_byte(input.as_slice());
+    let len = input.len();
+    let (lsn, partitions, records) = fields_of(alloc, input)?;
+    Ok(Parts {
+        lsn,
+        partitions,
+        records,
+        len,
+    })
 }
 
 /// The block that the bytes spell. The records keep the bytes of the input, and none is copied.
 ///
-/// Faults are told in the order of the format: the length of the input first, then each field
-/// from the front, then bytes that are left over, and the annotations last.
+/// The first fault is reported in the order of the format: the length of the input, then each
+/// field from the front, then bytes that are left over, and the annotations last.
 pub fn decode(alloc: Global, input: Bytes) -> Result<Block, BlockFault>
     // What is read is spelled so.
     ensures found { IfOk result (λ b. IsBlock b × (input ≡ block_spelling b)) }
     // What is spelled so is read, unless memory runs out.
-    ensures only { (b : Content) → IsBlock b → input ≡ block_spelling b →
-        Gives (λ x. x) result (Ok b) }
+    ensures only { (b : Content) → IsBlock b → input ≡ block_spelling b → Gives result (Ok b) }
     // Which fault it is.
-    ensures exact { Gives (λ x. x) result (block_reading input) }
+    ensures exact { Gives result (block_reading input) }
     // What is too long is refused before memory is asked for.
     ensures no_memory { result ≡ Err NoMemory → length input ≤ longest_block }
 {
     each_is_byte(input.as_slice());
-    let (lsn, partitions, records) = fields_of(alloc, input)?;
-    Block::of_parts(
-        alloc,
-        Parts {
-            lsn,
-            partitions,
-            records,
-        },
-    )
+    Block::of_parts(alloc, parts_in(alloc, input)?)
 }

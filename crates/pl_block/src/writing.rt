@@ -8,37 +8,9 @@ ghost use Rattle.pl_block.specs.Spelling.{annotations, record_spelling, block_sp
 ghost use Rattle.pl_block.specs.Spare.{UsesSpare};
 
 use crate::block::Block;
-use crate::bounds::LONGEST_BLOCK;
 use crate::record::{PUT, Record};
 use bytes::BufMut;
 use std::alloc::{AllocError, Global};
-
-fn record_len(entry: &Record) -> usize
-    ensures value { result ≡ length (record_spelling entry.now) }
-    ensures fits { result < 2 ^ 63 + 9 }
-{
-    let Record::Put { bytes, .. } = entry;
-    9 + bytes.len()
-}
-
-/// The length of the spelling of a block with these partitions and records, where a block can
-/// have it; otherwise some length that no block can have.
-pub(crate) fn spelling_len(partitions: &[u16], records: &[Record]) -> usize
-    ensures value { result ≤ longest_block →
-        result ≡ 12 + 2 * length partitions.now + length (flat_map record_spelling records.now) }
-    ensures long { longest_block < result →
-        longest_block < 12 + 2 * length partitions.now + length (flat_map record_spelling records.now) }
-{
-    let mut len = 12 + 2 * partitions.len();
-    for entry in records {
-        // What is too long is not counted on, so that no sum wraps.
-        if len > LONGEST_BLOCK {
-            return len;
-        }
-        len += record_len(entry);
-    }
-    len
-}
 
 fn put_partitions(out: &mut Vec<u8>, partitions: &[u16]) -> Result<(), AllocError>
     requires { length partitions.now < 2 ^ 16 }
@@ -84,12 +56,13 @@ fn put_records(out: &mut Vec<u8>, records: &[Record]) -> Result<(), AllocError>
     Ok(())
 }
 
-/// How many bytes the spelling of the block has, at least 12. No record's bytes are looked at.
+/// How many bytes the spelling of the block has, at least 12. The number is kept, so no record is
+/// looked at.
 pub fn encoded_len(block: &Block) -> usize
     ensures value { result ≡ length (block_spelling block.now) }
     ensures fits { result ≤ longest_block }
 {
-    spelling_len(block.partitions(), block.records())
+    block.spelled_len()
 }
 
 fn put_block(out: &mut Vec<u8>, block: &Block) -> Result<(), AllocError>

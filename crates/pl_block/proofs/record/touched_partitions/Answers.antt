@@ -3,7 +3,7 @@ use Rattle.std.proofs.lemmas.List.Kept.{Contains-dedup_nat, Contains-from_dedup}
 use Rattle.std.proofs.lemmas.List.Sorted.{Contains-permutation, IsPermutation-sym}
 use Rattle.std.proofs.lemmas.Map.Keys.{IsStrictlyIncreasing-dedup}
 use Rattle.pl_block.proofs.Touched.{touched_from_members}
-use Rattle.pl_block.proofs.partitions.touched_partitions.Goals as goal
+use Rattle.pl_block.proofs.record.touched_partitions.Goals as goal
 
 pub returns : goal.returns
 returns c =
