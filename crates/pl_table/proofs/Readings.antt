@@ -7,7 +7,7 @@ use Rattle.pl_table.specs.declared.row.Row.{Row}
 use Rattle.pl_table.specs.declared.table.Principal.{Principal}
 use Rattle.pl_table.specs.declared.fault.TableFault.{TableFault}
 use Rattle.pl_table.specs.declared.fault.TableFault.TheVariants.{PrincipalCount, RowCount, PrincipalKeys, PrincipalId, PrincipalToken, RepeatedId, RowKeys, RowWord, RowNumber, NoOperator}
-use Rattle.pl_table.specs.Fault.{◌>>=◌}
+use Rattle.pl_block.specs.Faults.{◌>>=◌}
 use Rattle.pl_table.specs.Setting.{somebody_sets}
 use Rattle.pl_table.specs.Table.{WrittenTable, IsTable, IsRowOf}
 use Rattle.pl_table.specs.Tree.{tree_of, is_row}

@@ -1,5 +1,6 @@
 -- What a request is: who asks and what, and which numbers it may have.
 use Rattle.std.specs.Prelude.{◌≡◌, ℕ, ◌^◌, ◌<◌, Bool, true, ◌&&◌, nat_le, length, IsTrue}
+use Rattle.pl_block.specs.Bounds.{last_lsn}
 use Rattle.pl_block.specs.Spelling.{IsBlock}
 use Rattle.pl_table.specs.declared.head.Head.{Head}
 use Rattle.pl_table.specs.declared.op.Op.{Op}
@@ -25,8 +26,8 @@ op_of (SetTable text) = ops.SetTable
 -- a test whether the numbers of an act are in their ranges, and the length of its text
 abbrev pub is_in_range : Act → Bool
 is_in_range (Write copy block) = true
-is_in_range (Report lsn) = nat_le lsn (2 ^ 48)
-is_in_range (Pull lo hi lsn max) = nat_le lo hi && (nat_le 1 lsn && (nat_le lsn (2 ^ 48) && (nat_le 1 max && nat_le max most_pulled)))
+is_in_range (Report lsn) = nat_le lsn last_lsn
+is_in_range (Pull lo hi lsn max) = nat_le lo hi && (nat_le 1 lsn && (nat_le lsn last_lsn && (nat_le 1 max && nat_le max most_pulled)))
 is_in_range Status = true
 is_in_range (Failover primary) = true
 is_in_range (SetTable text) = nat_le (length text) longest_text

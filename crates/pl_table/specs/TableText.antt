@@ -7,7 +7,7 @@ use Rattle.pl_table.specs.declared.table.Principal.{Principal}
 use Rattle.pl_table.specs.declared.fault.TableFault.{TableFault}
 use Rattle.pl_table.specs.declared.fault.TableFault.TheVariants.{UnknownKey, PrincipalCount, RowCount, PrincipalKeys, PrincipalId, PrincipalToken, RepeatedId, RowKeys, RowWord, RowNumber, NoOperator}
 use Rattle.pl_table.specs.Bounds.{most_principals, most_rows}
-use Rattle.pl_table.specs.Fault.{◌>>=◌}
+use Rattle.pl_block.specs.Faults.{◌>>=◌}
 use Rattle.pl_table.specs.Setting.{somebody_sets}
 use Rattle.pl_table.specs.Table.{WrittenTable}
 use Rattle.pl_table.specs.Tree.{tree_of, keys_of, is_one_of, top_keys, tables_under, is_principal, is_row}

@@ -1,10 +1,10 @@
 //! Why a text is no table.
 
 ghost use Rattle.std.specs.Prelude.{◌≡◌, ◌≤◌};
-ghost use Rattle.pl_table.specs.declared.fault.ReadFault.TheVariants.{NoMemory, Malformed};
+ghost use Rattle.pl_block.specs.declared.fault.Failed.TheVariants.{Malformed};
 ghost use Rattle.pl_table.specs.Fault.{fault_number};
 
-use std::alloc::{AllocError, AllocFailed};
+use pl_block::Failed;
 
 /// What is wrong with a text. Each fault presupposes that those above it are not there, in any
 /// principal or row. The discriminant is the fault's code in the format.
@@ -49,35 +49,13 @@ impl TableFault {
     }
 }
 
-/// Why a text gave no table.
-#[derive(Clone, Copy, Debug, PartialEq, Eq)]
-pub enum ReadFault {
-    /// The text is no table: the first of its faults, in the order of their codes.
-    Malformed(TableFault),
-    /// Memory was refused.
-    NoMemory,
-}
+/// Why a text gave no table: the first of its faults, in the order of their codes, or out of memory.
+pub type ReadFault = Failed<TableFault>;
 
 impl From<TableFault> for ReadFault {
     ghost from_gives = { λ fault e. e ≡ Malformed fault };
 
     fn from(fault: TableFault) -> ReadFault {
         ReadFault::Malformed(fault)
-    }
-}
-
-impl From<AllocError> for ReadFault {
-    ghost from_gives = { λ _ e. e ≡ NoMemory };
-
-    fn from(_refused: AllocError) -> ReadFault {
-        ReadFault::NoMemory
-    }
-}
-
-impl<T: Drop> From<AllocFailed<T>> for ReadFault {
-    ghost from_gives = { λ _ e. e ≡ NoMemory };
-
-    fn from(_refused: AllocFailed<T>) -> ReadFault {
-        ReadFault::NoMemory
     }
 }

@@ -1,10 +1,11 @@
 //! Reading the table that a text writes down.
 
-ghost use Rattle.std.specs.Prelude.{◌≡◌, Err, IsUtf8, ◌==◌, ◌&&◌, ◌<◌, ◌≤◌, is_some, nat_eq, length, map, All, find, filter_map, option_copied, IfOk, OnOk};
+ghost use Rattle.std.specs.Prelude.{◌≡◌, Err, IsUtf8, ◌==◌, ◌&&◌, ◌<◌, ◌≤◌, is_some, nat_eq, length, map, All, find, filter_map, option_copied, IfErr, IfOk, Ok, OnOk};
 ghost use Rattle.std.specs.List.{list_all, list_any, IsDistinct};
 ghost use Rattle.toml.specs.View.{view, table_view};
+ghost use Rattle.pl_block.specs.declared.fault.Failed.TheVariants.{NoMemory};
 ghost use Rattle.pl_table.specs.Bounds.{most_principals, most_rows};
-ghost use Rattle.pl_table.specs.Fault.{Gives};
+ghost use Rattle.pl_block.specs.Faults.{Gives};
 ghost use Rattle.pl_table.specs.Part.{id_under, token_under, principal_of, has_words, has_numbers, row_of};
 ghost use Rattle.pl_table.specs.Tree.{is_principal, is_row};
 ghost use Rattle.pl_table.specs.Table.{IsRowOf};
@@ -27,7 +28,7 @@ use toml::{Table as Tree, Value};
 #[tactic(auto, unfolding(crate::specs::TableText::table_reading))]
 pub fn read_table(alloc: Global, text: &[u8]) -> Result<Table, ReadFault>
     ensures exact { Gives (λ t. t) result (table_reading text.now) }
-    ensures full { result ≡ Err ReadFault.NoMemory → IsUtf8 text.now }
+    ensures no_memory { result ≡ Err NoMemory → IsUtf8 text.now }
 {
     let tree = tree::read_tree(alloc, text)?;
     let lists = lists_in(&tree)?;
@@ -196,35 +197,35 @@ fn somebody_sets(principals: &[Principal], rows: &[Row]) -> bool
 
 // The lists of a tree that has no other key.
 #[tactic(auto, unfolding(crate::specs::TableText::listed_in_tree))]
-fn lists_in(tree: &Tree) -> Result<Lists<'_>, ReadFault>
-    ensures exact { Gives
-        (λ l. listed_of (map view l.principals.now) (map view l.rows.now))
-        result (listed_in_tree (table_view tree.now)) }
+fn lists_in(tree: &Tree) -> Result<Lists<'_>, TableFault>
+    ensures ok { IfOk result (λ l. listed_in_tree (table_view tree.now)
+        ≡ Ok (listed_of (map view l.principals.now) (map view l.rows.now))) }
+    ensures err { IfErr result (λ fault. listed_in_tree (table_view tree.now) ≡ Err fault) }
 {
     if !tree::has_top_keys(tree) {
-        return Err(ReadFault::Malformed(TableFault::UnknownKey));
+        return Err(TableFault::UnknownKey);
     }
     match (
         tree::tables_under(tree, "principal"),
         tree::tables_under(tree, "row"),
     ) {
         (Some(principals), Some(rows)) => Ok(Lists { principals, rows }),
-        _ => Err(ReadFault::Malformed(TableFault::UnknownKey)),
+        _ => Err(TableFault::UnknownKey),
     }
 }
 
 #[tactic(auto, unfolding(crate::specs::TableText::counts_of))]
-fn check_counts(principals: usize, rows: usize) -> Result<(), ReadFault>
-    ensures exact { Gives (λ u. u) result (counts_of principals rows) }
+fn check_counts(principals: usize, rows: usize) -> Result<(), TableFault>
+    ensures value { result ≡ counts_of principals rows }
     ensures some { OnOk result (0 < principals) }
     ensures few { OnOk result (principals ≤ most_principals) }
     ensures few_rows { OnOk result (rows ≤ most_rows) }
 {
     if principals == 0 || MOST_PRINCIPALS < principals {
-        return Err(ReadFault::Malformed(TableFault::PrincipalCount));
+        return Err(TableFault::PrincipalCount);
     }
     if MOST_ROWS < rows {
-        return Err(ReadFault::Malformed(TableFault::RowCount));
+        return Err(TableFault::RowCount);
     }
     Ok(())
 }

@@ -1,6 +1,7 @@
 //! A text, beside what it reads as.
 
 ghost use Rattle.std.specs.Prelude.{◌≡◌, Err, IfOk, OnErr};
+ghost use Rattle.pl_block.specs.declared.fault.Failed.TheVariants.{NoMemory};
 ghost use Rattle.pl_table.specs.Fault.{returned};
 ghost use Rattle.pl_table.specs.TableText.{table_reading};
 
@@ -42,7 +43,7 @@ impl Model for TableText {
 // The reading that a call of the reader returned, unless an allocation failed.
 fn reading_of(read: Result<Table, ReadFault>) -> Result<Result<Table, TableFault>, AllocError>
     ensures ok { IfOk result (λ reading. read ≡ returned reading) }
-    ensures err { OnErr result (read ≡ Err ReadFault.NoMemory) }
+    ensures err { OnErr result (read ≡ Err NoMemory) }
 {
     match read {
         Ok(table) => Ok(Ok(table)),

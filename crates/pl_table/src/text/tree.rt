@@ -6,7 +6,8 @@ ghost use Rattle.std.specs.BTreeMap.{keys};
 ghost use Rattle.std.specs.Str.{bytes_eq};
 ghost use Rattle.toml.specs.Data.{get, get_member};
 ghost use Rattle.toml.specs.View.{view, table_view};
-ghost use Rattle.pl_table.specs.Fault.{Gives};
+ghost use Rattle.pl_block.specs.Faults.{Gives};
+ghost use Rattle.pl_block.specs.declared.fault.Failed.TheVariants.{NoMemory};
 ghost use Rattle.pl_table.specs.Tree.{tree_of, has_only, is_table, tables_in, tables_under, is_one_of, top_keys, principal_keys, row_keys, is_principal, is_row};
 
 use crate::fault::{ReadFault, TableFault};
@@ -18,7 +19,7 @@ use toml::{Table as Tree, Value};
 pub(crate) fn read_tree(alloc: Global, text: &[u8]) -> Result<Tree, ReadFault>
     ensures exact { Gives (λ t. table_view t) result (tree_of text.now) }
     ensures ok { OnOk result (IsUtf8 text.now) }
-    ensures full { result ≡ Err ReadFault.NoMemory → IsUtf8 text.now }
+    ensures no_memory { result ≡ Err NoMemory → IsUtf8 text.now }
 {
     let Ok(text) = std::str::from_utf8(text) else {
         return Err(ReadFault::Malformed(TableFault::NoDocument));

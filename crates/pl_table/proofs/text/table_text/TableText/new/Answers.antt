@@ -1,6 +1,7 @@
 use Rattle.std.proofs.Common.{◌≡◌, Result, Ok, Err, sym}
 use Rattle.pl_table.specs.declared.fault.TableFault.{TableFault}
-use Rattle.pl_table.specs.Fault.{Gives, returned}
+use Rattle.pl_block.specs.Faults.{Gives}
+use Rattle.pl_table.specs.Fault.{returned}
 use Rattle.pl_table.specs.Table.{WrittenTable}
 use Rattle.pl_table.proofs.text.table_text.TableText.new.Goals as goal
 
