@@ -1,5 +1,4 @@
--- What a text reads as, and what it means that somebody may set the table, told of requests and the
--- rows that match them.
+-- What a text reads as is a table; and who may set the table, by requests and the rows that match them.
 use Rattle.std.specs.Prelude.{◌≡◌, ◌↔◌, ℕ, List, Ok, IsTrue, IsSomeAnd}
 use Rattle.std.specs.List.{Any}
 use Rattle.pl_table.specs.declared.op.Role.TheVariants.{Operator}
@@ -23,7 +22,7 @@ pub record AsksToSet (id : ℕ) (q : Query) : Type 0 where
   pub role : q.head.role ≡ Operator
   pub op : op_of q.act ≡ SetTable
 
--- a row speaks of the principal's setting the table exactly where it matches that request
+-- a row speaks of a principal's set_table exactly where it matches that request
 abbrev pub RowsSpeakOfSetting : Type 0
 RowsSpeakOfSetting = (id : ℕ) (q : Query) (row : Row) → AsksToSet id q
     → speaks_of_setting id row ≡ row_matches row q

@@ -56,11 +56,11 @@ op_name SetTable = codes "set_table"
 op_name Audit = codes "audit"
 op_name Tidy = codes "tidy"
 
--- two roles are one
+-- a test whether two roles are equal
 abbrev pub same_role : Role → Role → Bool
 same_role a b = role_number a == role_number b
 
--- two operations are one
+-- a test whether two operations are equal
 abbrev pub same_op : Op → Op → Bool
 same_op a b = op_number a == op_number b
 

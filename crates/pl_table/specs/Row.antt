@@ -1,4 +1,4 @@
--- Which requests a row speaks of.
+-- Which requests a row matches.
 use Rattle.std.specs.Prelude.{ℕ, Bool, ◌&&◌, ◌||◌, ◌==◌, nat_le, List, length, if◌then◌else◌}
 use Rattle.std.specs.List.{list_all, list_any}
 use Rattle.pl_table.specs.declared.range.PartitionRange.{PartitionRange}
@@ -12,12 +12,12 @@ use Rattle.pl_table.specs.Acts.{partitions_of}
 abbrev pub is_within : PartitionRange → ℕ → Bool
 is_within range p = nat_le range.from p && nat_le p range.to
 
--- A range of a row that allows matches if it has all of the partitions named, that of a row that
--- denies if it has at least one. Where none is named, each range matches.
+-- The range of a row that allows matches if it has all partitions that are named, that of a row that
+-- denies if it has at least one of them. Where none is named, each range matches.
 abbrev pub range_matches : Bool → List ℕ → PartitionRange → Bool
 range_matches allows ps range = if allows then list_all (is_within range) ps else length ps == 0 || list_any (is_within range) ps
 
--- the row speaks of the request
+-- the row matches the request
 abbrev pub row_matches : Row → Query → Bool
 row_matches row q = part_matches (λ who. who == q.head.principal) row.who
     && (part_matches (same_role q.head.role) row.role

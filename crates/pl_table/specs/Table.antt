@@ -11,7 +11,7 @@ pub record WrittenTable : Type 0 where
   pub principals : List Principal
   pub rows : List Row
 
--- the one principal that a row speaks of, if it speaks of one, is listed, and its range has a partition
+-- the principal that a row names, if it names one, is listed, and its range has a partition
 pub record IsRowOf (ps : List Principal) (row : Row) : Type 0 where
   pub who : IfSome row.who (Contains (map (λ p. p.id) ps))
   pub range : IfSome row.range (λ range. range.from ≤ range.to)

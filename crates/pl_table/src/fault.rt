@@ -1,4 +1,4 @@
-//! Why a text is no table.
+//! Why a text is not a table.
 
 ghost use Rattle.std.specs.Prelude.{◌≡◌, ◌≤◌};
 ghost use Rattle.pl_block.specs.declared.fault.Failed.TheVariants.{Malformed};
@@ -6,13 +6,13 @@ ghost use Rattle.pl_table.specs.Fault.{fault_number};
 
 use pl_block::Failed;
 
-/// What is wrong with a text. Each fault presupposes that those above it are not there, in any
-/// principal or row. The discriminant is the fault's code in the format.
+/// What is wrong with the text of a table. A text with several faults is reported by the one of the
+/// least code, whichever principal or row it is in. The discriminant is the fault's code.
 #[derive(Clone, Copy, Debug, PartialEq, Eq)]
 pub enum TableFault {
-    /// The text is no UTF-8, or no TOML document.
+    /// The text is not UTF-8, or not a TOML document.
     NoDocument = 1,
-    /// There is a key besides `principal` and `row`, or one of these is no array of tables.
+    /// There is a key besides `principal` and `row`, or one of these is not an array of tables.
     UnknownKey = 2,
     /// There is no principal, or there are more than 64.
     PrincipalCount = 3,
@@ -20,27 +20,26 @@ pub enum TableFault {
     RowCount = 4,
     /// A principal has a key besides `id` and `token`, or lacks one of these.
     PrincipalKeys = 5,
-    /// An id is no integer from 0 to 4,294,967,295.
+    /// An id is not an integer from 0 to 4,294,967,295.
     PrincipalId = 6,
-    /// A token is no string of 32 hexadecimal digits.
+    /// A token is not a string of 32 hexadecimal digits.
     PrincipalToken = 7,
-    /// Two principals have one id.
+    /// Two principals have the same id.
     RepeatedId = 8,
-    /// A row has a key that is none of a row's, lacks its verdict, or has only one of `from` and
-    /// `to`.
+    /// A row has an unknown key, lacks its verdict, or has only one of `from` and `to`.
     RowKeys = 9,
-    /// A verdict, a role or an operation is not one of their words, or a row lists no operation.
+    /// A verdict, a role or an operation is none of the known words, or a row lists no operation.
     RowWord = 10,
-    /// The principal of a row is not listed, its `from` or `to` is no integer from 0 to 65,535, or
-    /// its `from` is above its `to`.
+    /// The principal of a row is not listed, its `from` or `to` is not an integer from 0 to 65,535,
+    /// or its `from` is above its `to`.
     RowNumber = 11,
-    /// For no principal is the first row that speaks of its setting the table as operator one that
-    /// allows: nobody could put another table in force.
+    /// Nobody could put another table in force: for no principal does the first row that matches its
+    /// set_table as operator allow it.
     NoOperator = 12,
 }
 
 impl TableFault {
-    /// The fault's code in the format, 1 to 12.
+    /// The code of the fault, 1 to 12.
     pub fn code(self) -> u8
         ensures value { result ≡ fault_number self }
         ensures fits { (1 ≤ result) × (result ≤ 12) }

@@ -1,4 +1,4 @@
-//! The first row that speaks of a request.
+//! The first row that matches a request.
 
 ghost use Rattle.std.specs.Prelude.{◌≡◌, ◌≤◌, All, IfNone, IfSome, false, length};
 ghost use Rattle.pl_table.specs.Bounds.{most_rows};
@@ -11,8 +11,8 @@ use crate::row::Row;
 use crate::table::Table;
 
 impl Table {
-    /// The first row that speaks of the request: its number, from 1, and whether it allows. `None`
-    /// where no row speaks of it. Each row up to that one is looked at once, without memory.
+    /// The first row that matches the request: its number, from 1, and whether it allows. `None`
+    /// where no row matches. Each row up to that one is tested once, and nothing is allocated.
     pub fn first_match(&self, request: &Request) -> Option<(u16, bool)>
         ensures value { result ≡ first_match_from 1 self.now.rows request.now }
         ensures some { IfSome result (IsFirstMatch self.now.rows request.now) }

@@ -3,18 +3,18 @@
 use crate::op::Role;
 use std::fmt;
 
-/// What each request says of the one who makes it. Its debug text does not have the token.
+/// Who asks: what each request says of its principal. The debug text leaves the token out.
 #[derive(Clone, Copy, PartialEq, Eq)]
 pub struct Head {
     /// The id under which the table lists the principal.
     pub principal: u32,
-    /// What shows that the request is the principal's.
+    /// The secret that shows that the request is the principal's.
     pub token: [u8; 16],
     /// The role in which it asks.
     pub role: Role,
     /// The number of the database, from 0.
     pub database: u32,
-    /// The epoch that it takes to be the current one.
+    /// The epoch that the principal takes to be the current one.
     pub epoch: u32,
 }
 

@@ -1,17 +1,16 @@
-//! What the definitions say of one another, for the crates above. Each function is a law: its
-//! clauses hold of all texts, requests and rows, and its body does nothing.
+//! Laws: theorems about the definitions, for the crates above. Each is a function whose body is empty
+//! and whose clauses hold for all texts, requests and rows.
 
 ghost use Rattle.pl_table.specs.Laws.{RowsSpeakOfSetting, SomebodyIsAllowed, TextsReadAsTables};
 
-/// Somebody may set the table, in the sense of its last fault, exactly where the first row that
-/// matches a principal's request to set it as operator allows that.
+/// A table has no fault 12 exactly where some listed principal is allowed to set the table: the first
+/// row that matches its set_table as operator allows it.
 pub fn setting_is_a_first_match()
     ensures row { RowsSpeakOfSetting }
     ensures table { SomebodyIsAllowed }
 {}
 
-/// What a text reads as is a table, as each `Table` is: the definition of the reading lets nothing
-/// else through.
+/// What a text reads as keeps every rule of a table.
 pub fn texts_read_as_tables()
     ensures table { TextsReadAsTables }
 {}

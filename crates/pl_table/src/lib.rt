@@ -1,9 +1,9 @@
 //! Requests, and the written table that says who may append, pull, read and administer.
 //!
 //! A contract sees a [`Request`] as its head and its act, and a [`Table`] as its principals and its
-//! rows. A table is written down in a text, and [`read_table`] says what a text reads as: a table,
-//! or the first of its faults. What a denial by the table means for a database is the matter of the
-//! crates above.
+//! rows. [`Table::first_match`] finds the first row that speaks of a request. [`read_table`] reads a
+//! table from its text, or reports the first fault of the text. What a denial by the table means for
+//! a database is decided in the crates above.
 #![tactic(auto)]
 
 mod fault;
@@ -29,6 +29,3 @@ pub use row::{Ops, Row};
 pub use table::{MOST_PRINCIPALS, MOST_ROWS, Principal, Table};
 pub use text::{TableText, read_table};
 pub use verdict::{Section, Verdict};
-
-#[cfg(test)]
-mod tests;

@@ -6,29 +6,29 @@ ghost use Rattle.pl_table.specs.Part.{role_of_name, op_of_name};
 
 use std::fmt;
 
-/// The part in which a principal asks. The discriminant is the role's number in a request.
+/// The role in which a principal asks. The discriminant is the number of the role in a request.
 #[derive(Clone, Copy, Debug, PartialEq, Eq)]
 pub enum Role {
-    /// Writes the log of its database, and reports what is hardened.
+    /// Writes the log of its database, and reports which LSN is hardened.
     Primary = 1,
     /// Follows the log, and reads pages.
     Secondary = 2,
     /// Follows the log of its partitions, and applies it.
     PageServer = 3,
-    /// Names the primary, sets the table and reads the list of decisions.
+    /// Names the primary, sets the table and reads the audit list.
     Operator = 4,
 }
 
-/// What a request asks for. The discriminant is the operation's number in a request. There is an
-/// [`Act`](crate::Act) for write, report, pull, status, failover and set_table alone; the others have
-/// a number and a word.
+/// What a request asks for. The discriminant is the number of the operation in a request. Only write,
+/// report, pull, status, failover and set_table have an [`Act`](crate::Act); the others have a number
+/// and a word, so that a table can list them.
 #[derive(Clone, Copy, Debug, PartialEq, Eq)]
 pub enum Op {
-    /// Puts a block into one copy of the landing zone.
+    /// Writes a block to one copy of the landing zone.
     Write = 1,
-    /// Puts a block into the pending area.
+    /// Offers a block to the pending area.
     Offer = 2,
-    /// Hardens the log up to a number.
+    /// Hardens the log up to an LSN.
     Report = 3,
     /// Reads a page.
     Get = 4,
@@ -36,27 +36,27 @@ pub enum Op {
     Pull = 5,
     /// Applies the log to a partition.
     Advance = 6,
-    /// Tells the epoch, the primary and how many blocks are hardened.
+    /// Reports the epoch, the primary and how many blocks are hardened.
     Status = 7,
     /// Names the primary of a new epoch.
     Failover = 8,
     /// Puts another table in force.
     SetTable = 9,
-    /// Reads the list of decisions.
+    /// Reads the audit list.
     Audit = 10,
-    /// Moves old blocks to where they are kept for long.
+    /// Moves old blocks to long-term storage.
     Tidy = 11,
 }
 
 impl Role {
-    /// The role's number in a request, 1 to 4.
+    /// The number of the role in a request, 1 to 4.
     pub fn number(self) -> u8
         ensures value { result ≡ role_number self }
     {
         self as u8
     }
 
-    /// The role of this number, if there is one.
+    /// The role with this number, or `None` where there is none.
     pub fn of_number(number: u8) -> Option<Role>
         ensures value { result ≡ role_of_number number }
     {
@@ -69,7 +69,7 @@ impl Role {
         }
     }
 
-    /// The word for the role, as it is printed.
+    /// The word for the role, in lower case, as tables and texts have it.
     pub fn name(self) -> &'static str
         ensures value { result.now ≡ role_name self }
     {
@@ -81,7 +81,7 @@ impl Role {
         }
     }
 
-    /// The role that the word names, if there is one.
+    /// The role with this word, or `None` where there is none.
     #[tactic(auto, unfolding(crate::specs::Part::role_of_name))]
     pub fn of_name(name: &str) -> Option<Role>
         ensures value { result ≡ role_of_name name.now }
@@ -95,7 +95,7 @@ impl Role {
         roles.iter().copied().find(|role| role.name() == name)
     }
 
-    /// Whether a principal in this role has the operation, whatever the table says.
+    /// Whether the role has the operation at all, whatever the table allows.
     pub fn has(self, op: Op) -> bool
         ensures value { result ≡ has_op self op }
     {
@@ -115,14 +115,14 @@ impl Role {
 }
 
 impl Op {
-    /// The operation's number in a request, 1 to 11.
+    /// The number of the operation in a request, 1 to 11.
     pub fn number(self) -> u8
         ensures value { result ≡ op_number self }
     {
         self as u8
     }
 
-    /// The operation of this number, if there is one.
+    /// The operation with this number, or `None` where there is none.
     pub fn of_number(number: u8) -> Option<Op>
         ensures value { result ≡ op_of_number number }
     {
@@ -142,7 +142,7 @@ impl Op {
         }
     }
 
-    /// The word for the operation, as it is printed.
+    /// The word for the operation, in lower case, as tables and texts have it.
     pub fn name(self) -> &'static str
         ensures value { result.now ≡ op_name self }
     {
@@ -161,7 +161,7 @@ impl Op {
         }
     }
 
-    /// The operation that the word names, if there is one.
+    /// The operation with this word, or `None` where there is none.
     #[tactic(auto, unfolding(crate::specs::Part::op_of_name))]
     pub fn of_name(name: &str) -> Option<Op>
         ensures value { result ≡ op_of_name name.now }

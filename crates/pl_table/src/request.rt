@@ -1,4 +1,4 @@
-//! What is asked.
+//! A request: who asks, and what for.
 
 ghost use Rattle.std.specs.Prelude.{◌≡◌, ◌↔◌, IsSome, IfSome};
 ghost use Rattle.pl_table.specs.Request.{InRange, IsHead, IsRequest, is_in_range, op_of};
@@ -16,40 +16,40 @@ pub const MOST_PULLED: u16 = 16;
 /// The most bytes of a table's text.
 pub const LONGEST_TEXT: usize = 65_506;
 
-/// An operation with its arguments.
-#[derive(Debug, Drop)]
+/// An operation with its arguments. It has no debug text, since a text of a table has tokens.
+#[derive(Drop)]
 pub enum Act {
-    /// Put the block into the copy. A database has the copies 0 to 2.
+    /// Write the block to the copy. A database has the copies 0 to 2.
     Write {
         copy: u8,
         block: Block,
     },
-    /// Harden the log up to the number, 0 to 2^48.
+    /// Harden the log up to the LSN, 0 to 2^48.
     Report {
         lsn: u64,
     },
-    /// Read at most `max` blocks, 1 to 16, from the number `lsn` on, 1 to 2^48, that touch a
-    /// partition from `lo` to `hi`, where `lo` is at most `hi`.
+    /// Read at most `max` hardened blocks, 1 to 16, that touch a partition from `lo` to `hi`. The
+    /// first may have the LSN `lsn`, 1 to 2^48, and `lo` is at most `hi`.
     Pull {
         lo: u16,
         hi: u16,
         lsn: u64,
         max: u16,
     },
-    /// Tell the epoch, the primary and how many blocks are hardened.
+    /// Report the epoch, the primary and how many blocks are hardened.
     Status,
-    /// Begin the next epoch, with this principal as its primary.
+    /// Begin the next epoch with this principal as its primary.
     Failover {
         primary: u32,
     },
-    /// Put the table that the text writes down in force. The text has at most 65,506 bytes.
+    /// Put the table of the text in force. The text has at most 65,506 bytes.
     SetTable {
         text: TableText,
     },
 }
 
 impl Act {
-    /// Which operation it is.
+    /// The operation that is asked for.
     pub fn op(&self) -> Op
         ensures value { result ≡ op_of self.now }
     {
@@ -83,7 +83,7 @@ impl Act {
 
 /// An act, and who asks for it. The act is in its ranges, and the block of a write is one by the
 /// grammar of blocks.
-#[derive(Debug, Drop)]
+#[derive(Drop)]
 pub struct Request {
     head: Head,
     act: Act,

@@ -13,7 +13,7 @@ use crate::request::{Act, Request};
 use std::alloc::{AllocError, Global};
 use std::marker::Model;
 
-/// The operations that a row speaks of.
+/// The operations that a row lists.
 #[derive(Debug, Drop)]
 pub struct Ops {
     items: Vec<Op>,
@@ -43,7 +43,7 @@ impl Ops {
         &self.items
     }
 
-    // The same operations, in memory of their own.
+    // An equal list, in memory of its own.
     pub(crate) fn clone_ops(&self) -> Result<Ops, AllocError>
         ensures ok { IfOk result (λ ops. ops ≡ self.now) }
     {
@@ -52,7 +52,7 @@ impl Ops {
         })
     }
 
-    /// The operations in their order, given back with the memory that they stand in.
+    /// The operations in their order, in the memory that they were made with.
     pub fn into_vec(self) -> Vec<Op>
         ensures value { result.items ≡ self }
     {
@@ -66,26 +66,26 @@ fn copy_of(alloc: Global, ops: &[Op]) -> Result<Vec<Op>, AllocError>
     ops.iter().copied().collect(alloc)
 }
 
-/// A row: which requests it speaks of, and whether it allows them. A part that is `None` matches
-/// every request.
+/// A row: which requests it matches, and whether it allows them. A part that is `None` matches every
+/// request.
 #[derive(Debug, Drop)]
 pub struct Row {
-    /// Whether the row allows what it matches, and else denies it.
+    /// Whether the row allows what it matches. A row that does not allow denies.
     pub allows: bool,
-    /// The id of the one principal that it speaks of.
+    /// The id of the only principal that it matches.
     pub who: Option<u32>,
-    /// The one role that it speaks of.
+    /// The only role that it matches.
     pub role: Option<Role>,
-    /// The operations that it speaks of.
+    /// The only operations that it matches.
     pub op: Option<Ops>,
-    /// The partitions that it speaks of. A row that allows matches where it has all of those that
-    /// the request names, a row that denies where it has at least one of them. A request that names
-    /// no partition is matched whatever they are.
+    /// The range of partitions. A row that allows matches a request if the range has all partitions
+    /// that the request names; a row that denies, if it has at least one of them. A request that
+    /// names no partition is matched by every range.
     pub range: Option<PartitionRange>,
 }
 
 impl Row {
-    /// Whether the row speaks of the request.
+    /// Whether the row matches the request. Nothing is allocated.
     pub fn matches(&self, request: &Request) -> bool
         ensures value { result ≡ row_matches self.now request.now }
     {
@@ -96,7 +96,7 @@ impl Row {
             && matches_range(self.allows, self.range, request.act())
     }
 
-    // The same row, in memory of its own.
+    // An equal row, in memory of its own.
     pub(crate) fn clone_row(&self) -> Result<Row, AllocError>
         ensures ok { IfOk result (λ row. row ≡ self.now) }
     {
@@ -113,8 +113,8 @@ impl Row {
         })
     }
 
-    // Whether the row speaks of an operation without partitions that the principal asks for in the
-    // role: the range, if there is one, matches.
+    // Whether the row matches a request of the principal, in the role, for an operation that names no
+    // partition. Every range matches such a request.
     pub(crate) fn speaks_of(&self, principal: u32, role: Role, op: Op) -> bool
         ensures value { result ≡ (part_matches (λ who. who == principal) self.now.who
             && (part_matches (same_role role) self.now.role

@@ -14,12 +14,12 @@ pub const MOST_PRINCIPALS: usize = 64;
 /// The most rows of a table.
 pub const MOST_ROWS: usize = 256;
 
-/// Who may ask at all. Its debug text does not have the token.
+/// A principal that may ask. The debug text leaves the token out.
 #[derive(Clone, Copy, PartialEq, Eq)]
 pub struct Principal {
     /// The id by which rows and requests name the principal.
     pub id: u32,
-    /// What shows that a request is the principal's.
+    /// The secret that shows that a request is the principal's.
     pub token: [u8; 16],
 }
 
@@ -31,9 +31,9 @@ impl fmt::Debug for Principal {
     }
 }
 
-/// The principals, each with an id of its own, and the rows that say in order what they may do. A
-/// row speaks of no principal that is not listed, its range has a partition, and for some principal
-/// the first row that speaks of its setting the table as operator allows that.
+/// The written table: 1 to 64 principals with distinct ids, and at most 256 rows in their order. A row
+/// names only a listed principal, its range has a partition, and somebody may set the table: for some
+/// principal the first row that matches its set_table as operator allows it.
 #[derive(Debug, Drop)]
 pub struct Table {
     principals: Vec<Principal>,
@@ -52,7 +52,7 @@ impl Model for Table {
 }
 
 impl Table {
-    // The table with these principals and rows.
+    // The table of these principals and rows.
     pub(crate) fn of_parts(principals: Vec<Principal>, rows: Vec<Row>) -> Table
         requires { IsTable (record { principals = principals.items; rows = rows.items }) }
         ensures value { result ≡ record { principals = principals.items; rows = rows.items } }
@@ -76,7 +76,7 @@ impl Table {
         &self.rows
     }
 
-    /// An equal table, in memory of its own.
+    /// An equal table, in memory of its own. `Err` where an allocation failed.
     pub fn clone_table(&self) -> Result<Table, AllocError>
         ensures ok { IfOk result (λ t. t ≡ self.now) }
     {
@@ -91,7 +91,7 @@ impl Table {
         ensures value { result ≡ token_of id self.now.principals }
         ensures found { IsSome result ↔ Contains (map (λ p. p.id) self.now.principals) id }
 
-        // An id has one token, since no two principals have one id.
+        // An id has one token, since no two principals have the same id.
         ensures only { All (λ p. p.id ≡ id → result ≡ Some p.token) self.now.principals }
     {
         token_in(&self.principals, id)

@@ -1,9 +1,9 @@
-//! What is decided of a request.
+//! The verdict on a request.
 
 ghost use Rattle.std.specs.Prelude.{◌≡◌};
 ghost use Rattle.pl_table.specs.Section.{section_number};
 
-/// A part of the written order. The discriminant is the section's number in a reply.
+/// A section of the written order. The discriminant is the number of the section in a reply.
 #[derive(Clone, Copy, Debug, PartialEq, Eq)]
 pub enum Section {
     /// Who asks, in which epoch and role.
@@ -15,7 +15,7 @@ pub enum Section {
 }
 
 impl Section {
-    /// The section's number in a reply, 1 to 3.
+    /// The number of the section in a reply, 1 to 3.
     pub fn number(self) -> u8
         ensures value { result ≡ section_number self }
     {
@@ -23,13 +23,13 @@ impl Section {
     }
 }
 
-/// What is decided of a request.
+/// The verdict on a request.
 #[derive(Clone, Copy, Debug, PartialEq, Eq)]
 pub enum Verdict {
     /// No row stands against it.
     Allowed,
-    /// The first row that stands against it, by section and number, and the value that the row
-    /// tells.
+    /// Denied by the first row that stands against it. `row` is the number of the row in its section,
+    /// and `value` what the row reports.
     Denied {
         section: Section,
         row: u16,

@@ -195,7 +195,7 @@ fn is_listed(principals: &[Principal], id: u32) -> bool
     principals.iter().any(|principal| principal.id == id)
 }
 
-// The principal whose id the value is, if it is that of one which is listed.
+// The id that the value is, if a principal of that id is listed.
 #[tactic(auto, unfolding(crate::specs::Part::listed_in))]
 fn listed_in(principals: &[Principal], value: &Value) -> Option<u32>
     ensures value { result ≡ listed_in principals.now (view value.now) }

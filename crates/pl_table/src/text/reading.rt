@@ -1,4 +1,4 @@
-//! Reading the table that a text writes down.
+//! Reading a table from its text.
 
 ghost use Rattle.std.specs.Prelude.{◌≡◌, Err, IsUtf8, ◌==◌, ◌&&◌, ◌<◌, ◌≤◌, is_some, nat_eq, length, map, All, find, filter_map, option_copied, IfErr, IfOk, Ok, OnOk};
 ghost use Rattle.std.specs.List.{list_all, list_any, IsDistinct};
@@ -20,11 +20,10 @@ use crate::text::{part, tree};
 use std::alloc::{AllocError, Global};
 use toml::{Table as Tree, Value};
 
-/// Reads the table that a text writes down, in TOML: an array of tables `principal`, each with its
-/// `id` and `token`, and an array of tables `row`, each with its `verdict` and such of `who`,
-/// `role`, `op`, and `from` with `to`, as it speaks of. Where the text is no table, the fault is
-/// the first in the order of the faults' codes, whichever principal or row it is in. The text may
-/// have any length; `NoMemory` comes where memory is refused.
+/// Reads a table from its text. The text is TOML: an array of tables `principal`, each with `id` and
+/// `token`, and an array of tables `row`, each with `verdict` and any of `who`, `role`, `op`, and
+/// `from` with `to`. `Malformed` has the fault of the least code, whichever principal or row it is in.
+/// `NoMemory` is returned where an allocation failed. The text may have any length.
 #[tactic(auto, unfolding(crate::specs::TableText::table_reading))]
 pub fn read_table(alloc: Global, text: &[u8]) -> Result<Table, ReadFault>
     ensures exact { Gives (λ t. t) result (table_reading text.now) }

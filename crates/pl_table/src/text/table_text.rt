@@ -1,4 +1,4 @@
-//! A text, beside what it reads as.
+//! A text, kept beside what it reads as.
 
 ghost use Rattle.std.specs.Prelude.{◌≡◌, Err, IfOk, OnErr};
 ghost use Rattle.pl_block.specs.declared.fault.Failed.TheVariants.{NoMemory};
@@ -12,9 +12,9 @@ use std::alloc::{AllocError, Global};
 use std::fmt;
 use std::marker::Model;
 
-/// A text that was read once: it keeps the table that it writes down, or the fault for which it is
-/// no table. A contract sees the text alone, since that says what it reads as. Its debug text does
-/// not have the text, which has tokens.
+/// A text that was read once, with the table that it reads as, or with its first fault. A contract
+/// sees the text alone, since the text determines the rest. The debug text leaves the text out, since
+/// it has tokens.
 #[derive(Drop)]
 pub struct TableText {
     text: Vec<u8>,
@@ -69,14 +69,14 @@ impl TableText {
         &self.text
     }
 
-    /// The table that the text writes down, or the first of its faults.
+    /// The table that the text reads as, or the first of its faults.
     pub fn reading(&self) -> &Result<Table, TableFault>
         ensures value { result.now ≡ table_reading self.now }
     {
         &self.reading
     }
 
-    /// The table that the text writes down, or the first of its faults. The text is dropped.
+    /// The table that the text reads as, or the first of its faults. The text is dropped.
     pub fn into_reading(self) -> Result<Table, TableFault>
         ensures value { result ≡ table_reading self }
     {

@@ -1,4 +1,4 @@
-//! The tree of a text, as far as the format of a table asks for it.
+//! The TOML tree of a text, and the keys of its tables.
 
 ghost use Rattle.std.specs.Prelude.{◌≡◌, Err, IsUtf8, OnOk, is_some, map, option_map, string_bytes};
 ghost use Rattle.std.specs.List.{list_all, list_any};
