@@ -14,8 +14,8 @@ use Rattle.pl_table.specs.Table.{WrittenTable}
 use Rattle.pl_decide.specs.declared.rule.Rule.TheVariants as rules
 use Rattle.pl_decide.specs.declared.view.Epochs.{Epochs}
 use Rattle.pl_decide.specs.declared.view.View.{View}
-use Rattle.pl_decide.specs.Acts.{block_of}
-use Rattle.pl_decide.specs.Asked.{window}
+use Rattle.pl_table.specs.Acts.{block_of}
+use Rattle.pl_block.specs.Bounds.{window}
 use Rattle.pl_decide.specs.Rules.{stands_against, denial}
 use Rattle.pl_decide.specs.WrittenOrder.{section_c, first_denial, decision}
 use Rattle.pl_decide.specs.Laws.{LooksAlike, ViewsDecideAlike}

@@ -16,10 +16,6 @@ use Rattle.pl_table.specs.Fault.{fault_number}
 abbrev pub last_epoch : ℕ
 last_epoch = 2 ^ 32 - 1
 
--- how many LSNs above the hardened end may be written
-abbrev pub window : ℕ
-window = 64
-
 -- there is a value, and it passes the test
 abbrev pub is_some_and : {A : Type 0} → Option A → (A → Bool) → Bool
 is_some_and None test = false

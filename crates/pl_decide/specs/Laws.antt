@@ -1,6 +1,7 @@
 -- What follows from the written order: statements, each the clause of a law.
 use Rattle.std.specs.Prelude.{◌≡◌, ◌≢◌, ◌↔◌, ℕ, ◌+◌, ◌<◌, ◌≤◌, Bool, false, true, ◌==◌, List, IfSome, IsSome, IsOk}
 use Rattle.pl_block.specs.Block.{Content}
+use Rattle.pl_block.specs.Bounds.{window}
 use Rattle.pl_table.specs.declared.op.Op.TheVariants as ops
 use Rattle.pl_table.specs.declared.request.Act.{Act}
 use Rattle.pl_table.specs.declared.request.Act.TheVariants as acts
@@ -14,8 +15,8 @@ use Rattle.pl_table.specs.TableText.{table_reading}
 use Rattle.pl_decide.specs.declared.rule.Rule.{Rule}
 use Rattle.pl_decide.specs.declared.view.Epochs.{Epochs}
 use Rattle.pl_decide.specs.declared.view.View.{View}
-use Rattle.pl_decide.specs.Acts.{block_of, asked_at}
-use Rattle.pl_decide.specs.Asked.{is_known, last_epoch, window}
+use Rattle.pl_table.specs.Acts.{block_of, asked_at}
+use Rattle.pl_decide.specs.Asked.{is_known, last_epoch}
 use Rattle.pl_decide.specs.Rules.{stands_against}
 use Rattle.pl_decide.specs.WrittenOrder.{first_denial, decision, NoneStands, IsFirstDenial}
 

@@ -1,12 +1,13 @@
-pub mod Acts
 pub mod Asked
 pub mod Rules
 pub mod WrittenOrder
 pub mod Agreement
 pub mod Laws
 pub use Rattle.pl_block.specs.Block
+pub use Rattle.pl_block.specs.Bounds
 pub use Rattle.pl_table.specs.Ops
 pub use Rattle.pl_table.specs.Request
+pub use Rattle.pl_table.specs.Acts
 pub use Rattle.pl_table.specs.Row
 pub use Rattle.pl_table.specs.Table
 pub use Rattle.pl_table.specs.FirstMatch

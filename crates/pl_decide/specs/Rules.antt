@@ -2,6 +2,7 @@
 -- reports. What the rules of section C look at is given as a view of the log.
 use Rattle.std.specs.Prelude.{ℕ, ◌+◌, Bool, not, ◌&&◌, ◌==◌, nat_lt, nat_le, is_some, is_none, is_ok}
 use Rattle.std.specs.Option.{option_map_or}
+use Rattle.pl_block.specs.Bounds.{window}
 use Rattle.pl_table.specs.declared.op.Op.TheVariants as ops
 use Rattle.pl_table.specs.declared.op.Role.TheVariants as roles
 use Rattle.pl_table.specs.declared.request.Act.{Act}
@@ -17,8 +18,8 @@ use Rattle.pl_decide.specs.declared.rule.Rule.{Rule}
 use Rattle.pl_decide.specs.declared.rule.Rule.TheVariants as rules
 use Rattle.pl_decide.specs.declared.view.Epochs.{Epochs}
 use Rattle.pl_decide.specs.declared.view.View.{View}
-use Rattle.pl_decide.specs.Acts.{number_of, block_of}
-use Rattle.pl_decide.specs.Asked.{is_some_and, is_known, none_matches, denies_first, copy_of, primary_named, text_of, fault_code, last_epoch, window}
+use Rattle.pl_table.specs.Acts.{number_of, block_of}
+use Rattle.pl_decide.specs.Asked.{is_some_and, is_known, none_matches, denies_first, copy_of, primary_named, text_of, fault_code, last_epoch}
 
 -- a rule stands against a request
 abbrev pub stands_against : Rule → Query → WrittenTable → Epochs → View → Bool

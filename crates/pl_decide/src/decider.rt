@@ -10,10 +10,8 @@ ghost use Rattle.pl_decide.specs.Agreement.{AgreesWith};
 
 use crate::rule::Rule;
 use crate::view::{Epochs, View};
+use pl_block::WINDOW;
 use pl_table::{Act, Head, Request, Role, Table, Verdict};
-
-/// How many LSNs above the hardened end may be written.
-const WINDOW: u64 = 64;
 
 /// Whether the table lists the principal with this token, which is what the first rule asks. The
 /// principals, at most 64, are looked at one by one, without memory.
