@@ -31,9 +31,13 @@ class Function:
         return [label for label in self.ensures if label]
 
 
+def blank(found):
+    """What was found, with each character but line feeds made a space."""
+    return re.sub(r"[^\n]", " ", found.group())
+
+
 def without_comments(text):
     """The text with comments and the insides of string literals blanked, at its length."""
-    blank = lambda found: re.sub(r"[^\n]", " ", found.group())
     pattern = r"""//[^\n]*|/\*.*?\*/|r#".*?"#|"(?:\\.|[^"\\])*"|'(?:\\.|[^'\\])'"""
     return re.sub(pattern, blank, text, flags=re.S)
 
@@ -106,11 +110,20 @@ def functions_of(crate):
                 if first <= found.start() < last:
                     owner, trait = kind, of
             at = end_of(text, text.index("(", found.end()), "(", ")")
-            start = re.compile(r"\b(?:requires|ensures|ghost)\b|[{;]").search(text, at)
-            requires, ensures = clauses_at(text, start.start()) if start else ([], [])
+            # The `;` of a type such as [u8; 16] ends no signature.
+            result = re.sub(r"\[[^\[\]]*\]", blank, text[at:])
+            start = re.search(r"\b(?:requires|ensures|ghost)\b|[{;]", result)
+            requires, ensures = clauses_at(text, at + start.start()) if start else ([], [])
             is_public = (found.group(1) or "").strip() == "pub" and not trait
             functions.append(Function(file.relative_to(crate), owner, found.group(2), is_public, requires, ensures))
     return functions
+
+
+def count_of_clauses(crate):
+    """How many lines outside the tests begin a clause."""
+    files = set((crate / "src").rglob("*.rt")) - set(test_files(crate))
+    texts = [without_tests(without_comments(file.read_text())) for file in files]
+    return sum(len(re.findall(r"^\s*(?:requires|ensures)\b", text, flags=re.M)) for text in texts)
 
 
 def edits_of(crate):
