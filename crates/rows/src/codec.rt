@@ -88,8 +88,11 @@ impl Codec {
         let block = block_of(self.alloc, word)?;
         let before = self.out.to_vec(self.alloc)?;
         if encode_onto(&mut self.out, &block).is_err() {
-            if *refused || self.out.as_slice() != before.as_slice() {
-                return Err(Stop::Unread);
+            if self.out.as_slice() != before.as_slice() {
+                return Err(Stop::Changed);
+            }
+            if *refused {
+                return Err(Stop::NoMemory);
             }
             *refused = true;
             encode_onto(&mut self.out, &block)?;

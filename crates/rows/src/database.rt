@@ -91,7 +91,7 @@ impl Database {
         let before = short_of(db);
         let reply = db.step(pass, request);
         if matches!(reply, Reply::NoMemory) && short_of(db) != before {
-            return Err(Stop::Unread);
+            return Err(Stop::Changed);
         }
         Ok(reply)
     }
@@ -150,7 +150,7 @@ impl Database {
             if short_of(db) == before {
                 return Err(Stop::NoMemory);
             }
-            return Err(Stop::Unread);
+            return Err(Stop::Changed);
         };
         let mut text = String::new(self.alloc);
         for reply in &replies {

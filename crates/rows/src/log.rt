@@ -5,7 +5,8 @@ ghost use Rattle.pl_log.specs.Change.{ArePast};
 
 use crate::block_text::{block_of, write_block, write_blocks};
 use crate::transcript::{Stop, Subject};
-use pl_log::{DbLog, failovers_harden_the_longest_run};
+use pl_log::DbLog;
+use pl_log::laws::failovers_harden_the_longest_run;
 use std::alloc::Global;
 
 /// A log in an epoch, as whoever drives one keeps it.
@@ -113,8 +114,11 @@ impl Driven {
 
 // A test meets one refusal, which has changed nothing.
 fn meets_refusal(refused: &mut bool, same: bool) -> Result<(), Stop> {
-    if *refused || !same {
-        return Err(Stop::Unread);
+    if !same {
+        return Err(Stop::Changed);
+    }
+    if *refused {
+        return Err(Stop::NoMemory);
     }
     *refused = true;
     Ok(())

@@ -2,10 +2,10 @@
 
 use crate::asking::request_of;
 use crate::reply_text::verdict_text;
-use crate::table_text::table_named;
+use crate::table_text::{table_named, text_named};
 use crate::transcript::{Stop, Subject};
 use pl_decide::{Decider, Epochs, View, known};
-use pl_table::{Row, Table};
+use pl_table::{Row, Table, TableText};
 use std::alloc::{AllocError, Global};
 
 /// A table, and what the decision is asked beside it: epoch 7 of primary 2, and a log of 5 blocks.
@@ -96,6 +96,27 @@ impl Rules {
         Ok(verdict_text(self.alloc, verdict)?)
     }
 
+    // Takes the table that the text gives up, or tells the code of its fault; it is the one that
+    // the text keeps.
+    fn text(&mut self, name: &str) -> Result<String, Stop> {
+        let bytes = text_named(self.alloc, name)?;
+        let text = TableText::new(self.alloc, bytes.to_vec(self.alloc)?)?;
+        if text.text() != bytes.as_slice() {
+            return Err(Stop::Changed);
+        }
+        let kept = text.reading().as_ref().err().copied();
+        match text.into_reading() {
+            Ok(table) => {
+                self.table = Some(table);
+                Ok(format!(in self.alloc; "table")?)
+            }
+            Err(fault) if kept == Some(fault) => {
+                Ok(format!(in self.alloc; "fault {}", fault.code())?)
+            }
+            Err(_) => Err(Stop::Changed),
+        }
+    }
+
     // Sets what the words name.
     fn set(&mut self, words: &[&str]) -> Result<(), Stop> {
         match words {
@@ -154,6 +175,7 @@ impl Subject for Rules {
                 write_table_part(&mut text, self.table()?, words)?;
                 Ok(text)
             }
+            ["text", name] => self.text(name),
             ["first", request @ ..] => self.first(request),
             ["request", request @ ..] => {
                 let made = request_of(self.alloc, 0, request)?;

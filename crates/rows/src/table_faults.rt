@@ -14,6 +14,13 @@ use std::test::Fail;
 /// What a case is, the pieces of its text, and the code of the fault.
 type Case = (&'static str, &'static [&'static str], u8);
 
+/// What stands in front of the cases' pieces, the cases, and what stands behind.
+type Group = (
+    &'static [&'static str],
+    &'static [Case],
+    &'static [&'static str],
+);
+
 const OPERATOR: Head = Head {
     principal: 1,
     token: [0x11; 16],
@@ -59,42 +66,47 @@ fn code_told(alloc: Global, text: TableText) -> Result<u64, Stop> {
     }
 }
 
-// Whether each way tells the code.
-fn is_told(alloc: Global, text: Vec<u8>, code: u8) -> Result<bool, Stop> {
-    let by_itself = code_read(alloc, &text)?;
-    let kept = TableText::new(alloc, text.to_vec(alloc)?)?;
-    let as_kept = code_kept(&kept, &text);
-    let told = code_told(alloc, kept)?;
-    Ok(by_itself == code && as_kept == Some(code) && told == u64::from(code))
+// The code that a text gives up with its reading.
+fn code_given(alloc: Global, text: &[u8]) -> Result<u8, Stop> {
+    match TableText::new(alloc, text.to_vec(alloc)?)?.into_reading() {
+        Ok(_) => Ok(0),
+        Err(fault) => Ok(fault.code()),
+    }
 }
 
-fn text_of(alloc: Global, before: &str, pieces: &[&str], after: &str) -> Result<Vec<u8>, Stop> {
-    let mut text = Vec::from_slice(alloc, before.as_bytes())?;
-    for piece in pieces {
+// Whether each way tells the code.
+fn is_told(alloc: Global, text: Vec<u8>, code: u8) -> Result<bool, Stop> {
+    let by_itself = code_read(alloc, &text)? == code && code_given(alloc, &text)? == code;
+    let kept = TableText::new(alloc, text.to_vec(alloc)?)?;
+    let as_kept = code_kept(&kept, &text) == Some(code);
+    let told = code_told(alloc, kept)? == u64::from(code);
+    Ok(by_itself && as_kept && told)
+}
+
+fn text_of(alloc: Global, pieces: [&[&str]; 3]) -> Result<Vec<u8>, Stop> {
+    let mut text = Vec::new(alloc);
+    for piece in pieces.into_iter().flatten() {
         text.extend_from_slice(piece.as_bytes())?;
     }
-    text.extend_from_slice(after.as_bytes())?;
     Ok(text)
 }
 
-fn walk_once(
-    rt: &impl Abort,
-    alloc: Global,
-    (before, after): (&str, &str),
-    cases: &[Case],
-) -> Result<(), Stop> {
-    for (case, pieces, code) in cases {
-        let text = text_of(alloc, before, pieces, after)?;
-        let told = is_told(alloc, text, *code)?;
-        assert!(rt; told, "{case}");
+fn walk_once(rt: &impl Abort, alloc: Global, groups: &[Group]) -> Result<(), Stop> {
+    for (before, cases, after) in groups {
+        for (case, pieces, code) in *cases {
+            let text = text_of(alloc, [before, pieces, after])?;
+            let told = is_told(alloc, text, *code)?;
+            assert!(rt; told, "{case}");
+        }
     }
     Ok(())
 }
 
-// Walks over the cases, each between two texts; and once more, where an allocation failed.
-fn walk(rt: &impl Abort, alloc: Global, between: (&str, &str), cases: &[Case]) -> Result<(), Fail> {
-    if let Err(Stop::NoMemory) = walk_once(rt, alloc, between, cases) {
-        walk_once(rt, alloc, between, cases)?;
+// Walks over the cases; and once more, where an allocation failed.
+fn walk(rt: &impl Abort, alloc: Global, groups: &[Group]) -> Result<(), Fail> {
+    match walk_once(rt, alloc, groups) {
+        Err(Stop::NoMemory) => walk_once(rt, alloc, groups)?,
+        walked => walked?,
     }
     Ok(())
 }
@@ -123,10 +135,12 @@ fn numbers_of_faults(rt: HostRuntime) {
     assert!(rt; have_numbers(&FAULTS));
 }
 
-// A principal, and the beginning of a row.
+// Two principals, their token, and the beginnings of two rows.
 const ONE: &str = "[[principal]]\nid = 1\ntoken = \"11111111111111111111111111111111\"\n";
 
 const TWO: &str = "[[principal]]\nid = 2\ntoken = \"22222222222222222222222222222222\"\n";
+
+const TOKEN: &str = "token = \"11111111111111111111111111111111\"\n";
 
 const ALLOW: &str = "[[row]]\nverdict = \"allow\"\n";
 
@@ -177,7 +191,7 @@ const DOCUMENTS: [Case; 20] = [
 
 #[test]
 fn faults_of_documents(rt: HostRuntime) -> Result<(), Fail> {
-    walk(&rt, rt.alloc(), ("", ""), &DOCUMENTS)
+    walk(&rt, rt.alloc(), &[(&[], &DOCUMENTS, &[])])
 }
 
 const KEYS: [Case; 4] = [
@@ -206,11 +220,14 @@ const IDS: [Case; 12] = [
     ("an id in hexadecimal", &["id = 0x10\n"], 0),
 ];
 
+const PRINCIPALS: [Group; 2] = [
+    (&["[[principal]]\n"], &KEYS, &[ALLOW]),
+    (&["[[principal]]\n"], &IDS, &[TOKEN, ALLOW]),
+];
+
 #[test]
 fn faults_of_principals(rt: HostRuntime) -> Result<(), Fail> {
-    let token = "token = \"11111111111111111111111111111111\"\n[[row]]\nverdict = \"allow\"\n";
-    walk(&rt, rt.alloc(), ("[[principal]]\n", ALLOW), &KEYS)?;
-    walk(&rt, rt.alloc(), ("[[principal]]\n", token), &IDS)
+    walk(&rt, rt.alloc(), &PRINCIPALS)
 }
 
 const TOKENS: [Case; 9] = [
@@ -233,13 +250,15 @@ const TOKENS: [Case; 9] = [
     ),
 ];
 
+const OF_TOKENS: [Group; 1] = [(
+    &["[[principal]]\nid = 7\ntoken = "],
+    &TOKENS,
+    &["\n", ALLOW],
+)];
+
 #[test]
 fn faults_of_tokens(rt: HostRuntime) -> Result<(), Fail> {
-    let between = (
-        "[[principal]]\nid = 7\ntoken = ",
-        "\n[[row]]\nverdict = \"allow\"\n",
-    );
-    walk(&rt, rt.alloc(), between, &TOKENS)
+    walk(&rt, rt.alloc(), &OF_TOKENS)
 }
 
 const ROW_KEYS: [Case; 5] = [
@@ -297,13 +316,15 @@ const ROW_NUMBERS: [Case; 12] = [
     ),
 ];
 
+const ROWS: [Group; 3] = [
+    (&[ONE], &ROW_KEYS, &[]),
+    (&[ONE], &ROW_WORDS, &[]),
+    (&[ONE, ALLOW], &ROW_NUMBERS, &[]),
+];
+
 #[test]
 fn faults_of_rows(rt: HostRuntime) -> Result<(), Fail> {
-    let allow = "[[principal]]\nid = 1\ntoken = \"11111111111111111111111111111111\"\n\
-        [[row]]\nverdict = \"allow\"\n";
-    walk(&rt, rt.alloc(), (ONE, ""), &ROW_KEYS)?;
-    walk(&rt, rt.alloc(), (ONE, ""), &ROW_WORDS)?;
-    walk(&rt, rt.alloc(), (allow, ""), &ROW_NUMBERS)
+    walk(&rt, rt.alloc(), &ROWS)
 }
 
 const SETTING: [Case; 13] = [
@@ -366,9 +387,7 @@ const SETTING: [Case; 13] = [
 
 #[test]
 fn who_may_set_the_table(rt: HostRuntime) -> Result<(), Fail> {
-    let both = "[[principal]]\nid = 1\ntoken = \"11111111111111111111111111111111\"\n\
-        [[principal]]\nid = 2\ntoken = \"22222222222222222222222222222222\"\n";
-    walk(&rt, rt.alloc(), (both, ""), &SETTING)
+    walk(&rt, rt.alloc(), &[(&[ONE, TWO], &SETTING, &[])])
 }
 
 const BAD_ID: &str = "[[principal]]\nid = -1\ntoken = \"11111111111111111111111111111111\"\n";
@@ -404,14 +423,12 @@ const TWO_FAULTS: [Case; 12] = [
 
 #[test]
 fn first_fault_of_two(rt: HostRuntime) -> Result<(), Fail> {
-    walk(&rt, rt.alloc(), ("", ""), &TWO_FAULTS)
+    walk(&rt, rt.alloc(), &[(&[], &TWO_FAULTS, &[])])
 }
 
 /// What a case is, how many principals, what stands behind the id of each, how many rows, and the
 /// code of the fault.
 type Many = (&'static str, u8, &'static str, u16, u8);
-
-const TOKEN: &str = "token = \"11111111111111111111111111111111\"\n";
 
 const MANY: [Many; 7] = [
     ("64 principals", 64, TOKEN, 1, 0),
@@ -445,8 +462,9 @@ fn walk_many(rt: &impl Abort, alloc: Global, cases: &[Many]) -> Result<(), Stop>
 
 #[test]
 fn many_principals_and_rows(rt: HostRuntime) -> Result<(), Fail> {
-    if let Err(Stop::NoMemory) = walk_many(&rt, rt.alloc(), &MANY) {
-        walk_many(&rt, rt.alloc(), &MANY)?;
+    match walk_many(&rt, rt.alloc(), &MANY) {
+        Err(Stop::NoMemory) => walk_many(&rt, rt.alloc(), &MANY)?,
+        walked => walked?,
     }
     Ok(())
 }

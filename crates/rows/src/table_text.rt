@@ -106,11 +106,12 @@ role = "primary"
 ];
 
 /// Whole texts. Not all of them write down a table.
-const TEXTS: [(&str, &str); 8] = [
+const TEXTS: [(&str, &str); 9] = [
     ("start", START),
     ("x", "x"),
     ("x_is_1", "x = 1"),
     ("empty", ""),
+    ("without_token", "[[row]]\n[[principal]]\nid = 1\n"),
     (
         "another_token",
         "

@@ -26,6 +26,8 @@ pub(crate) enum Stop {
     NoMemory,
     /// The words are none of the grammar, or ask for a call whose condition does not hold.
     Unread,
+    /// A call was out of memory, and yet something changed.
+    Changed,
 }
 
 impl From<AllocError> for Stop {
@@ -64,13 +66,23 @@ impl From<FromHexError> for Stop {
     }
 }
 
+impl Stop {
+    fn text(&self) -> &'static str {
+        match self {
+            Stop::NoMemory => "out of memory",
+            Stop::Unread => "not read",
+            Stop::Changed => "out of memory, and something changed",
+        }
+    }
+}
+
 /// A transcript as it is played.
 #[derive(Drop)]
 struct Player<S: Subject> {
     alloc: Global,
     subject: S,
-    /// The last answer.
-    told: String,
+    /// The last answer, or why there is none.
+    told: Result<String, Stop>,
 }
 
 impl<S: Subject> Player<S> {
@@ -78,19 +90,37 @@ impl<S: Subject> Player<S> {
         Player {
             alloc,
             subject: S::new(alloc),
-            told: String::new(alloc),
+            told: Err(Stop::Unread),
         }
     }
 
-    // Whether the line is a comment, or is answered as it says.
-    fn holds(&mut self, line: &str, refused: &mut bool) -> Result<bool, Stop> {
+    fn told(&self) -> &str {
+        match &self.told {
+            Ok(text) => text.trim(),
+            Err(stop) => stop.text(),
+        }
+    }
+
+    fn asks(&mut self, asked: &str, refused: &mut bool) -> Result<String, Stop> {
+        let words: Vec<&str> = asked.split_whitespace().collect(self.alloc)?;
+        self.subject.answer(&words, refused)
+    }
+
+    // Whether the line is a comment, or is answered as it says. An error is that an allocation of the
+    // test's own failed.
+    fn holds(&mut self, line: &str, refused: &mut bool) -> Result<bool, AllocError> {
         if line.starts_with('#') {
             return Ok(true);
         }
-        let (asked, wanted) = line.split_once('=').ok_or(Stop::Unread)?;
-        let words: Vec<&str> = asked.split_whitespace().collect(self.alloc)?;
-        self.told = self.subject.answer(&words, refused)?;
-        Ok(self.told.trim() == wanted.trim())
+        let Some((asked, wanted)) = line.split_once('=') else {
+            return Ok(false);
+        };
+        self.told = self.asks(asked, refused);
+        match &self.told {
+            Ok(text) => Ok(text.trim() == wanted.trim()),
+            Err(Stop::NoMemory) => Err(AllocError),
+            Err(_) => Ok(false),
+        }
     }
 }
 
@@ -100,11 +130,11 @@ fn play<S: Subject>(
     alloc: Global,
     row: &str,
     refused: &mut bool,
-) -> Result<(), Stop> {
+) -> Result<(), AllocError> {
     let mut player: Player<S> = Player::new(alloc);
     for line in row.lines() {
         let holds = player.holds(line, refused)?;
-        assert!(rt; holds, "{line}: {}", player.told.as_str());
+        assert!(rt; holds, "{line}, not {}", player.told());
     }
     Ok(())
 }
@@ -113,12 +143,10 @@ fn play<S: Subject>(
 /// its beginning, once, since a test may meet one refused allocation and no more.
 pub(crate) fn plays<S: Subject>(rt: &impl Abort, alloc: Global, row: &str) -> Result<(), Fail> {
     let mut refused = false;
-    match play::<S>(rt, alloc, row, &mut refused) {
-        Err(Stop::NoMemory) if !refused => {
-            let mut refused = true;
-            play::<S>(rt, alloc, row, &mut refused)?;
-        }
-        played => played?,
+    if play::<S>(rt, alloc, row, &mut refused).is_err() {
+        assert!(rt; !refused, "out of memory twice");
+        refused = true;
+        play::<S>(rt, alloc, row, &mut refused)?;
     }
     Ok(())
 }

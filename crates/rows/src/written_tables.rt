@@ -28,6 +28,26 @@ fn text_of_start_table(rt: HostRuntime) -> Result<(), Fail> {
     plays::<Rules>(&rt, rt.alloc(), TEXT_OF_START_TABLE)
 }
 
+const TEXT_WITH_ITS_READING: &str = "\
+text start           = table
+principals           = 1 2 3 4 5
+token 3              = 33333333333333333333333333333333
+rows                 = 6
+row 3                = deny who 3 op get from 7 to 7
+row 5                = allow who 4 role page_server from 0 to 3
+text x               = fault 1
+text empty           = fault 3
+text without_token   = fault 5
+text without_operator = fault 12
+# The table that was taken first.
+rows                 = 6
+";
+
+#[test]
+fn text_with_its_reading(rt: HostRuntime) -> Result<(), Fail> {
+    plays::<Rules>(&rt, rt.alloc(), TEXT_WITH_ITS_READING)
+}
+
 const COPY_OF_A_TABLE: &str = "\
 table start  = Ok
 copy         = Ok
