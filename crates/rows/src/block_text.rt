@@ -3,10 +3,11 @@
 //! A Put is its bytes in hexadecimal, or `COUNT*BYTE`, and `@PAGE` or `@PAGE+OFFSET` behind them
 //! where they do not stand at the beginning of page 0.
 
+use crate::answer::push_numbers;
 use crate::transcript::Stop;
 use bytes::Bytes;
 use pl_block::{Block, Record};
-use std::alloc::{AllocError, Global};
+use std::alloc::Global;
 
 fn bytes_of(alloc: Global, text: &str) -> Result<Vec<u8>, Stop> {
     match text.split_once('*') {
@@ -46,7 +47,7 @@ pub(crate) fn block_of(alloc: Global, word: &str) -> Result<Block, Stop> {
     Ok(Block::new(alloc, lsn, records)?)
 }
 
-fn write_put(out: &mut String, put: &Record) -> Result<(), AllocError> {
+fn push_put(out: &mut String, put: &Record) -> Result<(), Stop> {
     let Record::Put {
         page,
         offset,
@@ -64,23 +65,25 @@ fn write_put(out: &mut String, put: &Record) -> Result<(), AllocError> {
     Ok(())
 }
 
-/// Writes the block's word behind what stands.
-pub(crate) fn write_block(out: &mut String, block: &Block) -> Result<(), AllocError> {
-    write!(out, "{}:", block.lsn())?;
-    for (place, put) in block.records().iter().enumerate() {
-        if 0 < place {
-            out.push(',')?;
-        }
-        write_put(out, put)?;
+/// Pushes the block's word.
+pub(crate) fn push_block(out: &mut String, block: &Block) -> Result<(), Stop> {
+    push_numbers(out, &[block.lsn()])?;
+    let mut mark = ':';
+    if block.records().is_empty() {
+        out.push(mark)?;
+    }
+    for put in block.records() {
+        out.push(mark)?;
+        push_put(out, put)?;
+        mark = ',';
     }
     Ok(())
 }
 
-/// Writes each block's word, and a space in front of it.
-pub(crate) fn write_blocks(out: &mut String, blocks: &[Block]) -> Result<(), AllocError> {
+/// Pushes each block's word.
+pub(crate) fn push_blocks(out: &mut String, blocks: &[Block]) -> Result<(), Stop> {
     for block in blocks {
-        out.push(' ')?;
-        write_block(out, block)?;
+        push_block(out, block)?;
     }
     Ok(())
 }

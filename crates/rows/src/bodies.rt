@@ -143,12 +143,13 @@ fn write_has_its_copy_and_block(rt: HostRuntime) -> Result<(), Fail> {
     plays::<Wire>(&rt, rt.alloc(), WRITE_HAS_ITS_COPY_AND_BLOCK)
 }
 
-// A text is kept as it came, with the table that it writes down or the code of its first fault.
+// A text is kept as it came, here its length, with the table that it writes down, here the count of
+// its rows, or the code of its first fault.
 const TEXTS_ARE_READ: &str = "\
-act 4 9 text start              = set_table 661 bytes, 6 rows
-act 4 9 ff                      = set_table 1 bytes, fault 1
-act 4 9                         = set_table 0 bytes, fault 3
-act 4 9 text without_operator   = set_table 609 bytes, fault 12
+act 4 9 text start              = set_table 661 rows 6
+act 4 9 ff                      = set_table 1 fault 1
+act 4 9                         = set_table 0 fault 3
+act 4 9 text without_operator   = set_table 609 fault 12
 ";
 
 #[test]
@@ -158,7 +159,7 @@ fn texts_are_read(rt: HostRuntime) -> Result<(), Fail> {
 
 // A frame holds at most 65,536 bytes, of which the head takes 30.
 const LONGEST_TEXT: &str = "\
-act 4 9 fill 20 65506           = set_table 65506 bytes, fault 3
+act 4 9 fill 20 65506           = set_table 65506 fault 3
 act 4 9 fill 20 65507           = fault 6
 ";
 

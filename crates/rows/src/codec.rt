@@ -1,6 +1,7 @@
 //! The block codec, asked line by line.
 
-use crate::block_text::{block_of, parts_of, write_block};
+use crate::answer::{push_bytes, push_fault, push_numbers, push_truth, push_word};
+use crate::block_text::{block_of, parts_of, push_block};
 use crate::transcript::{Stop, Subject};
 use bytes::Bytes;
 use pl_block::{Block, BlockFault, Record, decode, encode, encode_onto, encoded_len};
@@ -21,11 +22,6 @@ pub(crate) fn bytes_of(alloc: Global, words: &[&str]) -> Result<Vec<u8>, Stop> {
         bytes.extend_from_slice(&part)?;
     }
     Ok(bytes)
-}
-
-/// The bytes in hexadecimal.
-pub(crate) fn hex_of(alloc: Global, bytes: &[u8]) -> Result<String, Stop> {
-    Ok(hex::encode(alloc, bytes)?)
 }
 
 // A block of so many records, each a byte at the beginning of a page of its own.
@@ -53,38 +49,36 @@ fn goes_round(alloc: Global, block: Block) -> Result<bool, Stop> {
     Ok(same_len && read.same(&shared) && first.as_slice() == again.as_slice())
 }
 
-impl Codec {
-    // The block, or its fault's code.
-    fn text_of(&self, made: Result<Block, BlockFault>) -> Result<String, Stop> {
-        match made {
-            Ok(block) => {
-                let mut text = String::new(self.alloc);
-                write_block(&mut text, &block)?;
-                Ok(text)
-            }
-            Err(BlockFault::Malformed(fault)) => {
-                Ok(format!(in self.alloc; "fault {}", fault.code())?)
-            }
-            Err(BlockFault::NoMemory) => Err(Stop::NoMemory),
-        }
+// Pushes the block, or its fault's code.
+fn push_made(out: &mut String, made: Result<Block, BlockFault>) -> Result<(), Stop> {
+    match made {
+        Ok(block) => push_block(out, &block),
+        Err(BlockFault::Malformed(fault)) => push_fault(out, fault.code()),
+        Err(BlockFault::NoMemory) => Err(Stop::NoMemory),
     }
+}
 
+impl Codec {
     // How long the block is whose records these are, or its fault's code.
-    fn round(&self, lsn: u64, records: Vec<Record>) -> Result<String, Stop> {
-        match Block::new(self.alloc, lsn, records) {
-            Ok(block) => {
-                let len = encoded_len(&block);
-                if !goes_round(self.alloc, block)? {
-                    return Ok(format!(in self.alloc; "another block")?);
-                }
-                Ok(format!(in self.alloc; "{len} bytes")?)
-            }
-            fault => self.text_of(fault),
-        }
+    fn round(&self, lsn: u64, records: Vec<Record>, out: &mut String) -> Result<(), Stop> {
+        let made = Block::new(self.alloc, lsn, records);
+        let Ok(block) = made else {
+            return push_made(out, made);
+        };
+        push_numbers(out, &[encoded_len(&block) as u64])?;
+        let same = goes_round(self.alloc, block)?;
+        push_word(
+            out,
+            if same {
+                "bytes"
+            } else {
+                "bytes of another block"
+            },
+        )
     }
 
     // Puts the block behind what stands. Where memory is refused, it has what it had.
-    fn onto(&mut self, word: &str, refused: &mut bool) -> Result<String, Stop> {
+    fn onto(&mut self, word: &str, out: &mut String, refused: &mut bool) -> Result<(), Stop> {
         let block = block_of(self.alloc, word)?;
         let before = self.out.to_vec(self.alloc)?;
         if encode_onto(&mut self.out, &block).is_err() {
@@ -97,22 +91,29 @@ impl Codec {
             *refused = true;
             encode_onto(&mut self.out, &block)?;
         }
-        hex_of(self.alloc, &self.out)
+        push_bytes(out, &self.out)
     }
 
-    fn partitions(&self, word: &str) -> Result<String, Stop> {
+    fn decode(&self, words: &[&str], out: &mut String) -> Result<(), Stop> {
+        let bytes = match words {
+            ["zeros", count] => vec![in self.alloc; 0; count.parse()?]?,
+            words => bytes_of(self.alloc, words)?,
+        };
+        push_made(out, decode(self.alloc, Bytes::from_vec(bytes)?))
+    }
+
+    fn partitions(&self, word: &str, out: &mut String) -> Result<(), Stop> {
         let block = block_of(self.alloc, word)?;
-        let mut text = String::new(self.alloc);
         for partition in block.partitions() {
-            write!(text, "{partition} ")?;
+            push_numbers(out, &[u64::from(*partition)])?;
         }
-        Ok(text)
+        Ok(())
     }
 
-    fn same(&self, one: &str, other: &str) -> Result<String, Stop> {
+    // Whether a share of the first block is the second.
+    fn same(&self, one: &str, other: &str, out: &mut String) -> Result<(), Stop> {
         let one = block_of(self.alloc, one)?.share()?;
-        let same = one.same(&block_of(self.alloc, other)?);
-        Ok(format!(in self.alloc; "{same}")?)
+        push_truth(out, one.same(&block_of(self.alloc, other)?))
     }
 }
 
@@ -124,30 +125,23 @@ impl Subject for Codec {
         }
     }
 
-    fn answer(&mut self, words: &[&str], refused: &mut bool) -> Result<String, Stop> {
+    fn answer(&mut self, words: &[&str], out: &mut String, refused: &mut bool) -> Result<(), Stop> {
         let alloc = self.alloc;
         match words {
-            ["decode", "zeros", count] => {
-                let zeros = vec![in alloc; 0; count.parse()?]?;
-                self.text_of(decode(alloc, Bytes::from_vec(zeros)?))
-            }
-            ["decode", bytes @ ..] => {
-                let bytes = bytes_of(alloc, bytes)?;
-                self.text_of(decode(alloc, Bytes::from_vec(bytes)?))
-            }
-            ["encode", block] => hex_of(alloc, &encode(alloc, &block_of(alloc, block)?)?),
-            ["onto", block] => self.onto(block, refused),
+            ["decode", bytes @ ..] => self.decode(bytes, out),
+            ["encode", block] => push_bytes(out, &encode(alloc, &block_of(alloc, block)?)?),
+            ["onto", block] => self.onto(block, out, refused),
             ["block", word] => {
                 let (lsn, records) = parts_of(alloc, word)?;
-                self.round(lsn, records)
+                self.round(lsn, records, out)
             }
-            ["records", count] => self.round(1, many_records(alloc, count.parse()?)?),
-            ["partitions", block] => self.partitions(block),
+            ["records", count] => self.round(1, many_records(alloc, count.parse()?)?, out),
+            ["partitions", block] => self.partitions(block, out),
             ["touches", block, partition] => {
-                let touches = block_of(alloc, block)?.touches(partition.parse()?);
-                Ok(format!(in alloc; "{touches}")?)
+                let block = block_of(alloc, block)?;
+                push_truth(out, block.touches(partition.parse()?))
             }
-            ["same", one, other] => self.same(one, other),
+            ["same", one, other] => self.same(one, other, out),
             _ => Err(Stop::Unread),
         }
     }

@@ -1,12 +1,14 @@
 //! A database, asked line by line.
 
+use crate::answer::{push_bytes, push_numbers, push_word};
 use crate::asking::{head_of, request_of};
-use crate::block_text::write_block;
-use crate::codec::{bytes_of, hex_of};
-use crate::reply_text::reply_text;
+use crate::block_text::push_block;
+use crate::codec::bytes_of;
+use crate::reply_text::push_reply;
 use crate::table_text::table_named;
 use crate::transcript::{Stop, Subject};
 use pl_core::{Db, DbFault, Epochs, Limits, Reply};
+use pl_log::DbLog;
 use pl_table::{Act, Head, Request};
 use pl_wire::{BodyFault, decode_request, encode_reply};
 use std::alloc::Global;
@@ -140,77 +142,78 @@ impl Database {
         Ok(self.queue.len())
     }
 
-    // The replies to the requests of the queue, in one run. Where memory is refused to the run, no
-    // step was taken.
-    fn run(&mut self, refused: &mut bool) -> Result<String, Stop> {
+    // Pushes the replies to the requests of the queue, in one run. Where memory is refused to the run,
+    // no step was taken.
+    fn run(&mut self, out: &mut String, refused: &mut bool) -> Result<(), Stop> {
         let requests = std::mem::replace(&mut self.queue, Vec::new(self.alloc));
         let db = self.db.as_mut().ok_or(Stop::Unread)?;
         let before = short_of(db);
         let Ok(replies) = db.run(requests) else {
-            if short_of(db) == before {
-                return Err(Stop::NoMemory);
-            }
-            return Err(Stop::Changed);
+            let same = short_of(db) == before;
+            return Err(if same { Stop::NoMemory } else { Stop::Changed });
         };
-        let mut text = String::new(self.alloc);
         for reply in &replies {
             if matches!(reply, Reply::NoMemory) && !*refused {
                 return Err(Stop::NoMemory);
             }
-            write!(text, "{}; ", reply_text(self.alloc, reply)?.as_str())?;
+            push_reply(out, reply)?;
+            out.push(';')?;
         }
-        Ok(text)
+        Ok(())
     }
 
-    // The bytes of the reply to the request that the bytes spell.
-    fn bytes(&mut self, words: &[&str], refused: &mut bool) -> Result<String, Stop> {
+    // Pushes the bytes of the reply to the request that the bytes spell.
+    fn bytes(&mut self, words: &[&str], out: &mut String, refused: &mut bool) -> Result<(), Stop> {
         let body = bytes_of(self.alloc, words)?;
         let reply = self.ask(Asked::Body(&body), refused)?;
         if !reply.fits() {
             return Err(Stop::Unread);
         }
-        hex_of(self.alloc, &encode_reply(self.alloc, &reply)?)
+        push_bytes(out, &encode_reply(self.alloc, &reply)?)
     }
 
-    fn annulled(&self, epoch: &str, lsn: &str) -> Result<String, Stop> {
-        let mut text = String::new(self.alloc);
+    fn annulled(&self, epoch: &str, lsn: &str, out: &mut String) -> Result<(), Stop> {
         match self.db()?.log().annulled(epoch.parse()?, lsn.parse()?) {
-            Some(block) => write_block(&mut text, block)?,
-            None => text.push_str("none")?,
+            Some(block) => push_block(out, block),
+            None => push_word(out, "none"),
         }
-        Ok(text)
     }
 
-    // What is read of the database and of its log.
-    fn state(&self, words: &[&str]) -> Result<String, Stop> {
+    // Pushes what is read of the database and of its log.
+    fn state(&self, words: &[&str], out: &mut String) -> Result<(), Stop> {
         let db = self.db()?;
-        let text = match words {
-            ["audit"] => format!(in self.alloc; "{}", db.audit_len())?,
-            ["hard"] => format!(in self.alloc; "{}", db.hard())?,
+        match words {
+            ["audit"] => push_numbers(out, &[db.audit_len()]),
+            ["hard"] => push_numbers(out, &[db.hard()]),
             ["epochs"] => {
                 let Epochs { epoch, primary } = db.epochs();
-                format!(in self.alloc; "{epoch} {primary}")?
+                push_numbers(out, &[u64::from(epoch), u64::from(primary)])
             }
-            ["log"] => {
-                let log = db.log();
-                let (pending, landing) = log.counts();
-                format!(in self.alloc; "{} {} {pending} {landing}", log.hard(), log.copies())?
-            }
-            ["annulled", epoch, lsn] => self.annulled(epoch, lsn)?,
-            _ => return Err(Stop::Unread),
-        };
-        Ok(text)
+            ["log"] => push_log(out, db.log()),
+            ["annulled", epoch, lsn] => self.annulled(epoch, lsn, out),
+            _ => Err(Stop::Unread),
+        }
     }
 
-    fn reply(&mut self, words: &[&str], refused: &mut bool) -> Result<String, Stop> {
+    // Pushes the reply to the request of the words, or to the first of those that they stand for.
+    fn reply(&mut self, words: &[&str], out: &mut String, refused: &mut bool) -> Result<(), Stop> {
         let reply = match words {
             [principal, token, role, epoch, "fill", first, last, copy] => {
                 self.fill([principal, token, role, epoch, first, last, copy], refused)?
             }
             _ => self.ask(Asked::Words(words), refused)?,
         };
-        Ok(reply_text(self.alloc, &reply)?)
+        push_reply(out, &reply)
     }
+}
+
+// Pushes the hardened end, the copies, and how many blocks came from where.
+fn push_log(out: &mut String, log: &DbLog) -> Result<(), Stop> {
+    let (pending, landing) = log.counts();
+    push_numbers(
+        out,
+        &[log.hard(), u64::from(log.copies()), pending, landing],
+    )
 }
 
 impl Subject for Database {
@@ -223,22 +226,18 @@ impl Subject for Database {
         }
     }
 
-    fn answer(&mut self, words: &[&str], refused: &mut bool) -> Result<String, Stop> {
-        let alloc = self.alloc;
+    fn answer(&mut self, words: &[&str], out: &mut String, refused: &mut bool) -> Result<(), Stop> {
         match words {
-            ["open", table, primary, audit] => {
-                Ok(format!(in alloc; "{}", self.open(table, primary, audit)?)?)
-            }
-            ["audit" | "hard" | "epochs" | "log" | "annulled", ..] => self.state(words),
-            ["queue", request @ ..] => Ok(format!(in alloc; "{}", self.queue(request)?)?),
-            ["run"] => self.run(refused),
-            ["bytes", body @ ..] => self.bytes(body, refused),
+            ["open", table, primary, audit] => push_word(out, self.open(table, primary, audit)?),
+            ["audit" | "hard" | "epochs" | "log" | "annulled", ..] => self.state(words, out),
+            ["queue", request @ ..] => push_numbers(out, &[self.queue(request)? as u64]),
+            ["run"] => self.run(out, refused),
+            ["bytes", body @ ..] => self.bytes(body, out, refused),
             [principal, token, role, epoch, "statuses", count] => {
                 let head = head_of(0, [principal, token, role, epoch])?;
-                let answered = self.statuses(head, count.parse()?, refused)?;
-                Ok(format!(in alloc; "{answered}")?)
+                push_numbers(out, &[self.statuses(head, count.parse()?, refused)?])
             }
-            _ => self.reply(words, refused),
+            _ => self.reply(words, out, refused),
         }
     }
 }

@@ -9,11 +9,11 @@ table start                                                 = Ok
 2 22 primary 7 status                                       = Allowed
 2 22222222222222222222222222222222 primary 7 status         = Allowed
 # Another token, the token of another, and an id that is not listed.
-2 22222222222222222222222222222223 primary 7 status         = unknown
-2 32222222222222222222222222222222 primary 7 status         = unknown
-5 22 primary 7 status                                       = unknown
-9 22 primary 7 status                                       = unknown
-9 99 primary 7 status                                       = unknown
+2 22222222222222222222222222222223 primary 7 status         = Denied A1 0
+2 32222222222222222222222222222222 primary 7 status         = Denied A1 0
+5 22 primary 7 status                                       = Denied A1 0
+9 22 primary 7 status                                       = Denied A1 0
+9 99 primary 7 status                                       = Denied A1 0
 ";
 
 #[test]
@@ -107,7 +107,7 @@ table two_principals                   = Ok
 3 33 secondary   7 pull 7 9 6 16       = Denied C1 5
 3 33 secondary   7 status              = Allowed
 3 33 page_server 7 pull 6 7 1 16       = Denied B4 0
-2 22 primary     7 status              = unknown
+2 22 primary     7 status              = Denied A1 0
 ";
 
 #[test]

@@ -3,7 +3,8 @@
 ghost use Rattle.std.specs.Prelude.{◌≤◌};
 ghost use Rattle.pl_log.specs.Change.{ArePast};
 
-use crate::block_text::{block_of, write_block, write_blocks};
+use crate::answer::{push_numbers, push_truth, push_word};
+use crate::block_text::{block_of, push_block, push_blocks};
 use crate::transcript::{Stop, Subject};
 use pl_log::DbLog;
 use pl_log::laws::failovers_harden_the_longest_run;
@@ -82,15 +83,15 @@ impl Driven {
         Ok(count)
     }
 
-    fn read(&mut self, text: &mut String, lsn: u64) -> Result<(), Stop> {
+    fn read(&mut self, out: &mut String, lsn: u64) -> Result<(), Stop> {
         if lsn < 1 || self.log.hard() < lsn {
             return Err(Stop::Unread);
         }
         let block = self.log.read(lsn)?;
-        Ok(write_block(text, &block)?)
+        push_block(out, &block)
     }
 
-    fn pull(&mut self, text: &mut String, asked: [&str; 5]) -> Result<(), Stop> {
+    fn pull(&mut self, out: &mut String, asked: [&str; 5]) -> Result<(), Stop> {
         let [lo, hi, from, max, reach] = asked;
         let max = max.parse()?;
         let reach = reach.parse()?;
@@ -100,14 +101,14 @@ impl Driven {
         let (next, blocks) = self
             .log
             .pull(lo.parse()?, hi.parse()?, from.parse()?, max, reach)?;
-        write!(text, "{next}")?;
-        Ok(write_blocks(text, &blocks)?)
+        push_numbers(out, &[next])?;
+        push_blocks(out, &blocks)
     }
 
-    fn annulled(&self, text: &mut String, epoch: &str, lsn: &str) -> Result<(), Stop> {
+    fn annulled(&self, out: &mut String, epoch: &str, lsn: &str) -> Result<(), Stop> {
         match self.log.annulled(epoch.parse()?, lsn.parse()?) {
-            Some(block) => Ok(write_block(text, block)?),
-            None => Ok(text.push_str("none")?),
+            Some(block) => push_block(out, block),
+            None => push_word(out, "none"),
         }
     }
 }
@@ -125,49 +126,38 @@ fn meets_refusal(refused: &mut bool, same: bool) -> Result<(), Stop> {
 }
 
 impl Log {
-    fn answer_change(
-        &mut self,
-        text: &mut String,
-        words: &[&str],
-        refused: &mut bool,
-    ) -> Result<(), Stop> {
+    fn change(&mut self, words: &[&str], out: &mut String, refused: &mut bool) -> Result<(), Stop> {
         let driven = self.driven.as_mut().ok_or(Stop::Unread)?;
         match words {
             ["write", block, copy] => {
                 driven.write(self.alloc, block, copy.parse()?)?;
-                Ok(text.push_str("Ok")?)
+                push_word(out, "Ok")
             }
             ["report", lsn] => {
                 driven.report(lsn.parse()?, refused)?;
-                Ok(text.push_str("Ok")?)
+                push_word(out, "Ok")
             }
-            ["recover"] => {
-                let count = driven.recover(refused)?;
-                Ok(write!(text, "{count}")?)
-            }
-            ["read", lsn] => driven.read(text, lsn.parse()?),
-            ["pull", lo, hi, from, max, reach] => driven.pull(text, [lo, hi, from, max, reach]),
+            ["recover"] => push_numbers(out, &[driven.recover(refused)?]),
+            ["read", lsn] => driven.read(out, lsn.parse()?),
+            ["pull", lo, hi, from, max, reach] => driven.pull(out, [lo, hi, from, max, reach]),
             _ => Err(Stop::Unread),
         }
     }
 
-    fn answer_question(&self, text: &mut String, words: &[&str]) -> Result<(), Stop> {
+    fn state(&self, words: &[&str], out: &mut String) -> Result<(), Stop> {
         let driven = self.driven.as_ref().ok_or(Stop::Unread)?;
         let log = &driven.log;
         match words {
-            ["hard"] => Ok(write!(text, "{}", log.hard())?),
-            ["copies"] => Ok(write!(text, "{}", log.copies())?),
+            ["hard"] => push_numbers(out, &[log.hard()]),
+            ["copies"] => push_numbers(out, &[u64::from(log.copies())]),
             ["counts"] => {
                 let (pending, landing) = log.counts();
-                Ok(write!(text, "{pending} {landing}")?)
+                push_numbers(out, &[pending, landing])
             }
-            ["in_window", lsn] => Ok(write!(text, "{}", log.in_window(lsn.parse()?))?),
-            ["can_harden", lsn] => Ok(write!(text, "{}", log.can_harden(lsn.parse()?))?),
-            ["agrees", block] => {
-                let block = block_of(self.alloc, block)?;
-                Ok(write!(text, "{}", log.agrees(&block))?)
-            }
-            ["annulled", epoch, lsn] => driven.annulled(text, epoch, lsn),
+            ["in_window", lsn] => push_truth(out, log.in_window(lsn.parse()?)),
+            ["can_harden", lsn] => push_truth(out, log.can_harden(lsn.parse()?)),
+            ["agrees", block] => push_truth(out, log.agrees(&block_of(self.alloc, block)?)),
+            ["annulled", epoch, lsn] => driven.annulled(out, epoch, lsn),
             _ => Err(Stop::Unread),
         }
     }
@@ -181,18 +171,16 @@ impl Subject for Log {
         }
     }
 
-    fn answer(&mut self, words: &[&str], refused: &mut bool) -> Result<String, Stop> {
-        let mut text = String::new(self.alloc);
+    fn answer(&mut self, words: &[&str], out: &mut String, refused: &mut bool) -> Result<(), Stop> {
         match words {
             ["log", copies, quorum] => {
                 self.driven = Some(open(self.alloc, copies.parse()?, quorum.parse()?)?);
-                text.push_str("Ok")?;
+                push_word(out, "Ok")
             }
             ["write" | "report" | "recover" | "read" | "pull", ..] => {
-                self.answer_change(&mut text, words, refused)?;
+                self.change(words, out, refused)
             }
-            _ => self.answer_question(&mut text, words)?,
+            _ => self.state(words, out),
         }
-        Ok(text)
     }
 }

@@ -30,8 +30,8 @@ const OPS: [(Op, u8, &str, [bool; 4]); 11] = [
 
 fn roles_are_numbered(rt: &impl Abort, roles: &[(Role, u8, &str)]) {
     for (role, number, word) in roles {
-        let same = role.number() == *number && Role::of_number(*number) == Some(*role);
-        assert!(rt; same, "{word}");
+        let numbered = role.number() == *number && Role::of_number(*number) == Some(*role);
+        assert!(rt; numbered && Role::of_name(word) == Some(*role), "{word}");
     }
 }
 
@@ -44,8 +44,8 @@ fn numbers_of_roles(rt: HostRuntime) {
 
 fn ops_are_numbered(rt: &impl Abort, ops: &[(Op, u8, &str, [bool; 4])]) {
     for (op, number, word, _) in ops {
-        let same = op.number() == *number && Op::of_number(*number) == Some(*op);
-        assert!(rt; same, "{word}");
+        let numbered = op.number() == *number && Op::of_number(*number) == Some(*op);
+        assert!(rt; numbered && Op::of_name(word) == Some(*op), "{word}");
     }
 }
 
@@ -72,15 +72,6 @@ fn printed(
     Ok(words)
 }
 
-fn are_named(roles: &[(Role, u8, &str)], ops: &[(Op, u8, &str, [bool; 4])]) -> bool {
-    roles
-        .iter()
-        .all(|(role, _, word)| Role::of_name(word) == Some(*role))
-        && ops
-            .iter()
-            .all(|(op, _, word, _)| Op::of_name(word) == Some(*op))
-}
-
 #[test]
 fn words(rt: HostRuntime) -> Result<(), Fail> {
     let words = match printed(rt.alloc(), &ROLES, &OPS) {
@@ -90,7 +81,6 @@ fn words(rt: HostRuntime) -> Result<(), Fail> {
     let wanted = "primary secondary page_server operator write offer report get pull advance \
         status failover set_table audit tidy ";
     assert!(rt; words.as_str() == wanted);
-    assert!(rt; are_named(&ROLES, &OPS));
     assert!(rt; Role::of_name("Primary").is_none() && Op::of_name("read").is_none());
     Ok(())
 }

@@ -1,9 +1,10 @@
-//! A reply as words.
+//! Replies and verdicts as words.
 
-use crate::block_text::write_blocks;
+use crate::answer::{push_numbers, push_word};
+use crate::block_text::push_blocks;
+use crate::transcript::Stop;
 use pl_core::Reply;
 use pl_table::{Section, Verdict};
-use std::alloc::{AllocError, Global};
 
 fn letter(section: Section) -> char {
     match section {
@@ -13,26 +14,33 @@ fn letter(section: Section) -> char {
     }
 }
 
-/// The verdict, as `Allowed` or `Denied C1 0`.
-pub(crate) fn verdict_text(alloc: Global, verdict: Verdict) -> Result<String, AllocError> {
+// Pushes a denial, as `Denied C1 0`.
+fn push_denial(out: &mut String, section: Section, row: u16, value: u64) -> Result<(), Stop> {
+    push_word(out, "Denied ")?;
+    out.push(letter(section))?;
+    Ok(write!(out, "{row} {value}")?)
+}
+
+/// Pushes the verdict.
+pub(crate) fn push_verdict(out: &mut String, verdict: Verdict) -> Result<(), Stop> {
     match verdict {
-        Verdict::Allowed => format!(in alloc; "Allowed"),
+        Verdict::Allowed => push_word(out, "Allowed"),
         Verdict::Denied {
             section,
             row,
             value,
-        } => format!(in alloc; "Denied {}{row} {value}", letter(section)),
+        } => push_denial(out, section, row, value),
     }
 }
 
-/// The reply, as `Blocks 2 1:aa` or `Denied C1 0`.
-pub(crate) fn reply_text(alloc: Global, reply: &Reply) -> Result<String, AllocError> {
+/// Pushes the reply, as `Done` or `Blocks 2 1:aa`.
+pub(crate) fn push_reply(out: &mut String, reply: &Reply) -> Result<(), Stop> {
     match reply {
-        Reply::Done => format!(in alloc; "Done"),
+        Reply::Done => push_word(out, "Done"),
         Reply::Blocks { next, blocks } => {
-            let mut text = format!(in alloc; "Blocks {next}")?;
-            write_blocks(&mut text, blocks.as_slice())?;
-            Ok(text)
+            push_word(out, "Blocks")?;
+            push_numbers(out, &[*next])?;
+            push_blocks(out, blocks.as_slice())
         }
         Reply::Status {
             epoch,
@@ -40,16 +48,24 @@ pub(crate) fn reply_text(alloc: Global, reply: &Reply) -> Result<String, AllocEr
             hard,
             pending,
             landing,
-        } => format!(in alloc; "Status {epoch} {primary} {hard} {pending} {landing}"),
+        } => {
+            push_word(out, "Status")?;
+            let epochs = [u64::from(*epoch), u64::from(*primary)];
+            push_numbers(out, &epochs)?;
+            push_numbers(out, &[*hard, *pending, *landing])
+        }
         Reply::Denied {
             section,
             row,
             value,
-        } => format!(in alloc; "Denied {}{row} {value}", letter(*section)),
-        Reply::NoMemory => format!(in alloc; "NoMemory"),
-        Reply::AuditFull => format!(in alloc; "AuditFull"),
-        Reply::Spent => format!(in alloc; "Spent"),
-        Reply::NoDatabase => format!(in alloc; "NoDatabase"),
-        Reply::Malformed { code } => format!(in alloc; "Malformed {code}"),
+        } => push_denial(out, *section, *row, *value),
+        Reply::NoMemory => push_word(out, "NoMemory"),
+        Reply::AuditFull => push_word(out, "AuditFull"),
+        Reply::Spent => push_word(out, "Spent"),
+        Reply::NoDatabase => push_word(out, "NoDatabase"),
+        Reply::Malformed { code } => {
+            push_word(out, "Malformed")?;
+            push_numbers(out, &[u64::from(*code)])
+        }
     }
 }

@@ -1,118 +1,165 @@
 //! A table in force, and what is decided by it, asked line by line.
 
+ghost use Rattle.pl_decide.specs.Agreement.{AgreesWith};
+
+use crate::answer::{push_bytes, push_fault, push_numbers, push_word};
 use crate::asking::request_of;
-use crate::reply_text::verdict_text;
+use crate::reply_text::push_verdict;
 use crate::table_text::{table_named, text_named};
 use crate::transcript::{Stop, Subject};
 use pl_decide::{Decider, Epochs, View, known};
-use pl_table::{Row, Table, TableText};
-use std::alloc::{AllocError, Global};
+use pl_table::{Ops, Request, Row, Table, TableFault, TableText, Verdict};
+use std::alloc::Global;
 
-/// A table, and what the decision is asked beside it: epoch 7 of primary 2, and a log of 5 blocks.
+/// A table in force, and who decides by it.
+#[derive(Drop)]
+struct InForce {
+    table: Table,
+    decider: Decider,
+    ghost agrees: { AgreesWith decider table },
+}
+
+/// What is decided by: at first epoch 7 of primary 2, and a log of 5 blocks.
 #[derive(Drop)]
 pub(crate) struct Rules {
     alloc: Global,
-    table: Option<Table>,
-    decider: Decider,
+    in_force: Option<InForce>,
     epochs: Epochs,
     view: View,
 }
 
-fn write_row(out: &mut String, row: &Row) -> Result<(), AllocError> {
-    out.push_str(if row.allows { "allow" } else { "deny" })?;
+fn push_row(out: &mut String, row: &Row) -> Result<(), Stop> {
+    push_word(out, if row.allows { "allow" } else { "deny" })?;
     if let Some(who) = row.who {
-        write!(out, " who {who}")?;
+        push_word(out, "who")?;
+        push_numbers(out, &[u64::from(who)])?;
     }
     if let Some(role) = row.role {
-        write!(out, " role {role}")?;
+        push_word(out, "role")?;
+        push_word(out, role.name())?;
     }
     if let Some(ops) = &row.op {
-        out.push_str(" op")?;
-        for op in ops.as_slice() {
-            write!(out, " {op}")?;
-        }
+        push_ops(out, ops)?;
     }
     if let Some(range) = row.range {
-        write!(out, " from {} to {}", range.from, range.to)?;
+        push_word(out, "partitions")?;
+        push_numbers(out, &[u64::from(range.from), u64::from(range.to)])?;
     }
     Ok(())
 }
 
-fn write_table_part(out: &mut String, table: &Table, words: &[&str]) -> Result<(), Stop> {
+fn push_ops(out: &mut String, ops: &Ops) -> Result<(), Stop> {
+    push_word(out, "op")?;
+    for op in ops.as_slice() {
+        push_word(out, op.name())?;
+    }
+    Ok(())
+}
+
+fn push_token(out: &mut String, token: Option<[u8; 16]>) -> Result<(), Stop> {
+    match token {
+        Some(token) => push_bytes(out, &token),
+        None => push_word(out, "none"),
+    }
+}
+
+fn push_principals(out: &mut String, table: &Table) -> Result<(), Stop> {
+    for principal in table.principals() {
+        push_numbers(out, &[u64::from(principal.id)])?;
+    }
+    Ok(())
+}
+
+// Pushes the row of the number, from 1.
+fn push_row_at(out: &mut String, table: &Table, number: usize) -> Result<(), Stop> {
+    match table.rows().get(number.wrapping_sub(1)) {
+        Some(row) => push_row(out, row),
+        None => push_word(out, "none"),
+    }
+}
+
+fn push_part(out: &mut String, table: &Table, words: &[&str]) -> Result<(), Stop> {
     match words {
-        ["principals"] => {
-            for principal in table.principals() {
-                write!(out, "{} ", principal.id)?;
-            }
-            Ok(())
-        }
-        ["token", id] => match table.token(id.parse()?) {
-            Some(token) => {
-                for byte in token {
-                    write!(out, "{byte:02x}")?;
-                }
-                Ok(())
-            }
-            None => Ok(out.push_str("none")?),
-        },
-        ["rows"] => Ok(write!(out, "{}", table.rows().len())?),
-        ["row", number] => {
-            let number: usize = number.parse()?;
-            let row = table
-                .rows()
-                .get(number.wrapping_sub(1))
-                .ok_or(Stop::Unread)?;
-            Ok(write_row(out, row)?)
-        }
+        ["principals"] => push_principals(out, table),
+        ["token", id] => push_token(out, table.token(id.parse()?)),
+        ["rows"] => push_numbers(out, &[table.rows().len() as u64]),
+        ["row", number] => push_row_at(out, table, number.parse()?),
         _ => Err(Stop::Unread),
+    }
+}
+
+impl InForce {
+    // The verdict on the request, which is the same where the principal is not looked up again.
+    fn decide(&mut self, epochs: &Epochs, view: &View, request: &Request) -> Result<Verdict, Stop> {
+        let verdict = self.decider.decide(&self.table, epochs, view, request);
+        if !known(&self.table, request.head()) {
+            return Ok(verdict);
+        }
+        let again = self
+            .decider
+            .decide_known(&self.table, epochs, view, request);
+        if again != verdict {
+            return Err(Stop::Changed);
+        }
+        Ok(verdict)
     }
 }
 
 impl Rules {
     fn table(&self) -> Result<&Table, Stop> {
-        self.table.as_ref().ok_or(Stop::Unread)
-    }
-
-    // Whether the row that speaks of the request first allows it, and its number.
-    fn first(&self, words: &[&str]) -> Result<String, Stop> {
-        let request = request_of(self.alloc, 0, words)?.ok_or(Stop::Unread)?;
-        let text = match self.table()?.first_match(&request) {
-            Some((row, true)) => format!(in self.alloc; "{row} allow")?,
-            Some((row, false)) => format!(in self.alloc; "{row} deny")?,
-            None => format!(in self.alloc; "none")?,
-        };
-        Ok(text)
-    }
-
-    fn decide(&mut self, words: &[&str]) -> Result<String, Stop> {
-        let request = request_of(self.alloc, 0, words)?.ok_or(Stop::Unread)?;
-        let table = self.table.as_ref().ok_or(Stop::Unread)?;
-        if !known(table, request.head()) {
-            return Ok(format!(in self.alloc; "unknown")?);
+        match &self.in_force {
+            Some(in_force) => Ok(&in_force.table),
+            None => Err(Stop::Unread),
         }
-        let verdict = self
-            .decider
-            .decide(table, &self.epochs, &self.view, &request);
-        Ok(verdict_text(self.alloc, verdict)?)
     }
 
-    // Takes the table that the text gives up, or tells the code of its fault; it is the one that
+    // Puts the table in force. The decider of an older one is told of it.
+    fn put(&mut self, table: Table) {
+        let mut decider = match self.in_force.take() {
+            Some(InForce { decider, .. }) => decider,
+            None => Decider::new(),
+        };
+        decider.new_table();
+        self.in_force = Some(InForce { table, decider });
+    }
+
+    fn request(&self, words: &[&str]) -> Result<Option<Request>, Stop> {
+        request_of(self.alloc, 0, words)
+    }
+
+    // Pushes the number of the row that matches the request first, and whether it allows it.
+    fn push_first(&self, words: &[&str], out: &mut String) -> Result<(), Stop> {
+        let request = self.request(words)?.ok_or(Stop::Unread)?;
+        match self.table()?.first_match(&request) {
+            Some((row, allows)) => {
+                push_numbers(out, &[u64::from(row)])?;
+                push_word(out, if allows { "allow" } else { "deny" })
+            }
+            None => push_word(out, "none"),
+        }
+    }
+
+    fn push_decision(&mut self, words: &[&str], out: &mut String) -> Result<(), Stop> {
+        let request = self.request(words)?.ok_or(Stop::Unread)?;
+        let in_force = self.in_force.as_mut().ok_or(Stop::Unread)?;
+        push_verdict(out, in_force.decide(&self.epochs, &self.view, &request)?)
+    }
+
+    // Takes the table that the text gives up, or pushes the code of its fault; it is the one that
     // the text keeps.
-    fn text(&mut self, name: &str) -> Result<String, Stop> {
+    fn take_text(&mut self, name: &str, out: &mut String) -> Result<(), Stop> {
         let bytes = text_named(self.alloc, name)?;
         let text = TableText::new(self.alloc, bytes.to_vec(self.alloc)?)?;
         if text.text() != bytes.as_slice() {
             return Err(Stop::Changed);
         }
-        let kept = text.reading().as_ref().err().copied();
+        let kept = fault_in(&text);
         match text.into_reading() {
             Ok(table) => {
-                self.table = Some(table);
-                Ok(format!(in self.alloc; "table")?)
+                self.put(table);
+                push_word(out, "Ok")
             }
-            Err(fault) if kept == Some(fault) => {
-                Ok(format!(in self.alloc; "fault {}", fault.code())?)
-            }
+            Err(fault) if kept == Some(fault) => push_fault(out, fault.code()),
             Err(_) => Err(Stop::Changed),
         }
     }
@@ -121,10 +168,13 @@ impl Rules {
     fn set(&mut self, words: &[&str]) -> Result<(), Stop> {
         match words {
             ["table", name] => {
-                self.table = Some(table_named(self.alloc, name)?);
-                self.decider.new_table();
+                let table = table_named(self.alloc, name)?;
+                self.put(table);
             }
-            ["copy"] => self.table = Some(self.table()?.clone_table()?),
+            ["copy"] => {
+                let copy = self.table()?.clone_table()?;
+                self.put(copy);
+            }
             ["epochs", epoch, primary] => {
                 self.epochs = Epochs {
                     epoch: epoch.parse()?,
@@ -134,9 +184,9 @@ impl Rules {
             ["view", hard, agrees, copies, can_harden] => {
                 self.view = View {
                     hard: hard.parse()?,
-                    agrees: agrees.parse().map_err(|_| Stop::Unread)?,
+                    agrees: *agrees == "true",
                     copies: copies.parse()?,
-                    can_harden: can_harden.parse().map_err(|_| Stop::Unread)?,
+                    can_harden: *can_harden == "true",
                 };
             }
             _ => return Err(Stop::Unread),
@@ -145,12 +195,19 @@ impl Rules {
     }
 }
 
+// The fault that the text keeps, if it is no table.
+fn fault_in(text: &TableText) -> Option<TableFault> {
+    match text.reading() {
+        Ok(_) => None,
+        Err(fault) => Some(*fault),
+    }
+}
+
 impl Subject for Rules {
     fn new(alloc: Global) -> Rules {
         Rules {
             alloc,
-            table: None,
-            decider: Decider::new(),
+            in_force: None,
             epochs: Epochs {
                 epoch: 7,
                 primary: 2,
@@ -164,29 +221,25 @@ impl Subject for Rules {
         }
     }
 
-    fn answer(&mut self, words: &[&str], _refused: &mut bool) -> Result<String, Stop> {
+    fn answer(
+        &mut self,
+        words: &[&str],
+        out: &mut String,
+        _refused: &mut bool,
+    ) -> Result<(), Stop> {
         match words {
             ["table" | "copy" | "epochs" | "view", ..] => {
                 self.set(words)?;
-                Ok(format!(in self.alloc; "Ok")?)
+                push_word(out, "Ok")
             }
-            ["principals" | "token" | "rows" | "row", ..] => {
-                let mut text = String::new(self.alloc);
-                write_table_part(&mut text, self.table()?, words)?;
-                Ok(text)
-            }
-            ["text", name] => self.text(name),
-            ["first", request @ ..] => self.first(request),
+            ["principals" | "token" | "rows" | "row", ..] => push_part(out, self.table()?, words),
+            ["text", name] => self.take_text(name, out),
+            ["first", request @ ..] => self.push_first(request, out),
             ["request", request @ ..] => {
-                let made = request_of(self.alloc, 0, request)?;
-                let text = if made.is_some() {
-                    "made"
-                } else {
-                    "out of range"
-                };
-                Ok(format!(in self.alloc; "{text}")?)
+                let made = self.request(request)?.is_some();
+                push_word(out, if made { "made" } else { "out of range" })
             }
-            _ => self.decide(words),
+            _ => self.push_decision(words, out),
         }
     }
 }

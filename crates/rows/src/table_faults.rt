@@ -126,13 +126,15 @@ const FAULTS: [(TableFault, u8); 12] = [
     (TableFault::NoOperator, 12),
 ];
 
-fn have_numbers(faults: &[(TableFault, u8)]) -> bool {
-    faults.iter().all(|(fault, code)| fault.code() == *code)
+fn have_codes(rt: &impl Abort, faults: &[(TableFault, u8)]) {
+    for (fault, code) in faults {
+        assert!(rt; fault.code() == *code, "{code}");
+    }
 }
 
 #[test]
 fn numbers_of_faults(rt: HostRuntime) {
-    assert!(rt; have_numbers(&FAULTS));
+    have_codes(&rt, &FAULTS);
 }
 
 // Two principals, their token, and the beginnings of two rows.

@@ -12,11 +12,11 @@ pub(crate) trait Subject: Drop {
     /// One that was asked nothing.
     fn new(alloc: Global) -> Self;
 
-    /// The answer to the words in front of a line's `=`.
+    /// Writes the answer to the words in front of a line's `=`.
     ///
     /// A test may meet one refused allocation. `refused` says whether it has: the call that meets it
     /// asks again, once, and sets it.
-    fn answer(&mut self, words: &[&str], refused: &mut bool) -> Result<String, Stop>;
+    fn answer(&mut self, words: &[&str], out: &mut String, refused: &mut bool) -> Result<(), Stop>;
 }
 
 /// Why a line is not answered.
@@ -26,7 +26,7 @@ pub(crate) enum Stop {
     NoMemory,
     /// The words are none of the grammar, or ask for a call whose condition does not hold.
     Unread,
-    /// A call was out of memory, and yet something changed.
+    /// Two calls that answer alike did not, or one was out of memory and yet something changed.
     Changed,
 }
 
@@ -71,7 +71,7 @@ impl Stop {
         match self {
             Stop::NoMemory => "out of memory",
             Stop::Unread => "not read",
-            Stop::Changed => "out of memory, and something changed",
+            Stop::Changed => "answered in two ways",
         }
     }
 }
@@ -103,7 +103,9 @@ impl<S: Subject> Player<S> {
 
     fn asks(&mut self, asked: &str, refused: &mut bool) -> Result<String, Stop> {
         let words: Vec<&str> = asked.split_whitespace().collect(self.alloc)?;
-        self.subject.answer(&words, refused)
+        let mut out = String::new(self.alloc);
+        self.subject.answer(&words, &mut out, refused)?;
+        Ok(out)
     }
 
     // Whether the line is a comment, or is answered as it says. An error is that an allocation of the

@@ -1,7 +1,8 @@
 //! Requests and replies as bytes, asked line by line.
 
-use crate::block_text::{block_of, write_block};
-use crate::codec::{bytes_of, hex_of};
+use crate::answer::{push_bytes, push_fault, push_numbers, push_word};
+use crate::block_text::{block_of, push_block};
+use crate::codec::bytes_of;
 use crate::table_text::text_named;
 use crate::transcript::{Stop, Subject};
 use pl_core::{Blocks, Reply};
@@ -15,36 +16,47 @@ pub(crate) struct Wire {
     alloc: Global,
 }
 
-fn write_text(out: &mut String, text: &TableText) -> Result<(), Stop> {
-    write!(out, "set_table {} bytes, ", text.text().len())?;
+// Pushes a text's length, and how many rows it reads as or its fault's code.
+fn push_text(out: &mut String, text: &TableText) -> Result<(), Stop> {
+    push_word(out, "set_table")?;
+    push_numbers(out, &[text.text().len() as u64])?;
     match text.reading() {
-        Ok(table) => Ok(write!(out, "{} rows", table.rows().len())?),
-        Err(fault) => Ok(write!(out, "fault {}", fault.code())?),
+        Ok(table) => {
+            push_word(out, "rows")?;
+            push_numbers(out, &[table.rows().len() as u64])
+        }
+        Err(fault) => push_fault(out, fault.code()),
     }
 }
 
-// The act as a line of a transcript has it; of a table's text what it reads as.
-fn write_act(out: &mut String, act: &Act) -> Result<(), Stop> {
+// Pushes the act as a line of a transcript has it.
+fn push_act(out: &mut String, act: &Act) -> Result<(), Stop> {
+    if let Act::SetTable { text } = act {
+        return push_text(out, text);
+    }
+    push_word(out, act.op().name())?;
     match act {
         Act::Write { copy, block } => {
-            out.push_str("write ")?;
-            write_block(out, block)?;
-            Ok(write!(out, " {copy}")?)
+            push_block(out, block)?;
+            push_numbers(out, &[u64::from(*copy)])
         }
-        Act::Report { lsn } => Ok(write!(out, "report {lsn}")?),
-        Act::Pull { lo, hi, lsn, max } => Ok(write!(out, "pull {lo} {hi} {lsn} {max}")?),
-        Act::Status => Ok(out.push_str("status")?),
-        Act::Failover { primary } => Ok(write!(out, "failover {primary}")?),
-        Act::SetTable { text } => write_text(out, text),
+        Act::Report { lsn } => push_numbers(out, &[*lsn]),
+        Act::Pull { lo, hi, lsn, max } => {
+            let partitions = [u64::from(*lo), u64::from(*hi)];
+            push_numbers(out, &partitions)?;
+            push_numbers(out, &[*lsn, u64::from(*max)])
+        }
+        Act::Status | Act::SetTable { .. } => Ok(()),
+        Act::Failover { primary } => push_numbers(out, &[u64::from(*primary)]),
     }
 }
 
-fn write_head(out: &mut String, head: &Head) -> Result<(), Stop> {
-    write!(out, "{} ", head.principal)?;
-    for byte in head.token {
-        write!(out, "{byte:02x}")?;
-    }
-    Ok(write!(out, " {} {} {} ", head.role, head.database, head.epoch)?)
+// Pushes the head, with its database in front of its epoch.
+fn push_head(out: &mut String, head: &Head) -> Result<(), Stop> {
+    push_numbers(out, &[u64::from(head.principal)])?;
+    push_bytes(out, &head.token)?;
+    push_word(out, head.role.name())?;
+    push_numbers(out, &[u64::from(head.database), u64::from(head.epoch)])
 }
 
 impl Wire {
@@ -66,51 +78,43 @@ impl Wire {
         Ok(body)
     }
 
-    // The request that the bytes spell, or the code of their fault.
-    fn read(&self, body: &[u8]) -> Result<Result<Request, u8>, Stop> {
+    // Pushes the act that the bytes spell, or their fault's code.
+    fn push_act_in(&self, body: &[u8], out: &mut String) -> Result<(), Stop> {
         match decode_request(self.alloc, body) {
-            Ok(request) => Ok(Ok(request)),
-            Err(BodyFault::Malformed(fault)) => Ok(Err(fault.code())),
+            Ok(request) => push_act(out, request.act()),
+            Err(BodyFault::Malformed(fault)) => push_fault(out, fault.code()),
             Err(BodyFault::NoMemory) => Err(Stop::NoMemory),
         }
     }
 
-    // The act that the bytes spell.
-    fn act(&self, body: &[u8]) -> Result<String, Stop> {
-        let mut text = String::new(self.alloc);
-        match self.read(body)? {
-            Ok(request) => write_act(&mut text, request.act())?,
-            Err(code) => write!(text, "fault {code}")?,
+    // Pushes the whole request that the bytes spell, or their fault's code.
+    fn push_request_in(&self, body: &[u8], out: &mut String) -> Result<(), Stop> {
+        match decode_request(self.alloc, body) {
+            Ok(request) => push_request(out, request),
+            Err(BodyFault::Malformed(fault)) => push_fault(out, fault.code()),
+            Err(BodyFault::NoMemory) => Err(Stop::NoMemory),
         }
-        Ok(text)
     }
 
-    // The whole request that the bytes spell, with its database.
-    fn request(&self, body: &[u8]) -> Result<String, Stop> {
-        let mut text = String::new(self.alloc);
-        match self.read(body)? {
-            Ok(request) => {
-                let asks = *request.head();
-                let (head, act) = request.into_parts();
-                if asks != head {
-                    return Err(Stop::Unread);
-                }
-                write_head(&mut text, &head)?;
-                write_act(&mut text, &act)?;
-            }
-            Err(code) => write!(text, "fault {code}")?,
-        }
-        Ok(text)
-    }
-
-    // The bytes of the reply.
-    fn reply(&self, words: &[&str]) -> Result<String, Stop> {
+    // Pushes the bytes of the reply.
+    fn push_reply(&self, words: &[&str], out: &mut String) -> Result<(), Stop> {
         let reply = reply_of(self.alloc, words)?;
         if !reply.fits() {
-            return Ok(format!(in self.alloc; "does not fit")?);
+            return push_word(out, "does not fit");
         }
-        hex_of(self.alloc, &encode_reply(self.alloc, &reply)?)
+        push_bytes(out, &encode_reply(self.alloc, &reply)?)
     }
+}
+
+// Pushes the parts of a request, of which the head is the one that it lends.
+fn push_request(out: &mut String, request: Request) -> Result<(), Stop> {
+    let asks = *request.head();
+    let (head, act) = request.into_parts();
+    if asks != head {
+        return Err(Stop::Changed);
+    }
+    push_head(out, &head)?;
+    push_act(out, &act)
 }
 
 fn section_of(letter: &str) -> Option<Section> {
@@ -174,11 +178,18 @@ impl Subject for Wire {
         Wire { alloc }
     }
 
-    fn answer(&mut self, words: &[&str], _refused: &mut bool) -> Result<String, Stop> {
+    fn answer(
+        &mut self,
+        words: &[&str],
+        out: &mut String,
+        _refused: &mut bool,
+    ) -> Result<(), Stop> {
         match words {
-            ["act", role, op, arguments @ ..] => self.act(&self.body_of(role, op, arguments)?),
-            ["body", bytes @ ..] => self.request(&bytes_of(self.alloc, bytes)?),
-            ["reply", reply @ ..] => self.reply(reply),
+            ["act", role, op, arguments @ ..] => {
+                self.push_act_in(&self.body_of(role, op, arguments)?, out)
+            }
+            ["body", bytes @ ..] => self.push_request_in(&bytes_of(self.alloc, bytes)?, out),
+            ["reply", reply @ ..] => self.push_reply(reply, out),
             _ => Err(Stop::Unread),
         }
     }

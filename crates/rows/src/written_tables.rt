@@ -17,9 +17,9 @@ token 6      = none
 rows         = 6
 row 1        = allow who 1 role operator
 row 2        = allow who 2 role primary
-row 3        = deny who 3 op get from 7 to 7
+row 3        = deny who 3 op get partitions 7 7
 row 4        = allow who 3 role secondary
-row 5        = allow who 4 role page_server from 0 to 3
+row 5        = allow who 4 role page_server partitions 0 3
 row 6        = allow who 5 role primary
 ";
 
@@ -29,12 +29,12 @@ fn text_of_start_table(rt: HostRuntime) -> Result<(), Fail> {
 }
 
 const TEXT_WITH_ITS_READING: &str = "\
-text start           = table
+text start           = Ok
 principals           = 1 2 3 4 5
 token 3              = 33333333333333333333333333333333
 rows                 = 6
-row 3                = deny who 3 op get from 7 to 7
-row 5                = allow who 4 role page_server from 0 to 3
+row 3                = deny who 3 op get partitions 7 7
+row 5                = allow who 4 role page_server partitions 0 3
 text x               = fault 1
 text empty           = fault 3
 text without_token   = fault 5
@@ -56,9 +56,9 @@ token 3      = 33333333333333333333333333333333
 rows         = 6
 row 1        = allow who 1 role operator
 row 2        = allow who 2 role primary
-row 3        = deny who 3 op get from 7 to 7
+row 3        = deny who 3 op get partitions 7 7
 row 4        = allow who 3 role secondary
-row 5        = allow who 4 role page_server from 0 to 3
+row 5        = allow who 4 role page_server partitions 0 3
 row 6        = allow who 5 role primary
 ";
 
@@ -71,7 +71,7 @@ const TEXT_OF_OTHER_TABLE: &str = "\
 table other  = Ok
 principals   = 1 2 3 4 5
 rows         = 4
-row 1        = deny who 3 op pull from 5 to 5
+row 1        = deny who 3 op pull partitions 5 5
 row 2        = allow who 3
 row 3        = allow who 1 role operator
 row 4        = allow who 2 role primary
