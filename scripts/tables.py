@@ -26,8 +26,8 @@ def row_text(row):
         lines.append(f'role = "{ROLES[row["role"]]}"')
     if "op" in row:
         lines.append("op = [" + ", ".join(f'"{OPS[op]}"' for op in row["op"]) + "]")
-    if "from" in row:
-        lines += [f'from = {row["from"]}', f'to = {row["to"]}']
+    if "lo" in row:
+        lines += [f'from = {row["lo"]}', f'to = {row["hi"]}']
     return "\n".join(lines) + "\n"
 
 
@@ -41,15 +41,19 @@ def deny(**parts):
 
 # The table of crates/pagelog/data/t0.toml: principals 1 to 5, and six rows.
 START = Table([1, 2, 3, 4, 5], [
-    allow(who=1, role=wire.OPERATOR), allow(who=2, role=wire.PRIMARY), deny(who=3, op=[wire.GET], **{"from": 7, "to": 7}),
-    allow(who=3, role=wire.SECONDARY), allow(who=4, role=wire.PAGE_SERVER, **{"from": 0, "to": 3}),
-    allow(who=5, role=wire.PRIMARY)])
-NO_PULL_OF_2 = Table([1, 2, 3, 4, 5], [deny(who=3, op=[wire.PULL], **{"from": 2, "to": 2})] + START.rows)
+    allow(who=1, role=wire.OPERATOR),
+    allow(who=2, role=wire.PRIMARY),
+    deny(who=3, op=[wire.GET], lo=7, hi=7),
+    allow(who=3, role=wire.SECONDARY),
+    allow(who=4, role=wire.PAGE_SERVER, lo=0, hi=3),
+    allow(who=5, role=wire.PRIMARY),
+])
+NO_PULL_OF_2 = Table([1, 2, 3, 4, 5], [deny(who=3, op=[wire.PULL], lo=2, hi=2)] + START.rows)
 WITHOUT_5 = Table([1, 2, 3, 4], [
-    allow(who=1), deny(op=[wire.WRITE], **{"from": 4, "to": 4}), allow(who=2), allow(role=wire.SECONDARY)])
-ONE_ROW = Table([1, 2, 3, 4, 5], [allow(**{"from": 0, "to": 65535})])
+    allow(who=1), deny(op=[wire.WRITE], lo=4, hi=4), allow(who=2), allow(role=wire.SECONDARY)])
+ONE_ROW = Table([1, 2, 3, 4, 5], [allow(lo=0, hi=65535)])
 MANY = Table(range(1, 65), [allow(who=1)] + [
-    deny(who=i, op=[wire.FAILOVER], **{"from": i, "to": i}) for i in range(3, 64)] + [allow(role=wire.PRIMARY), allow()])
+    deny(who=i, op=[wire.FAILOVER], lo=i, hi=i) for i in range(3, 64)] + [allow(role=wire.PRIMARY), allow()])
 TABLES = [START, NO_PULL_OF_2, WITHOUT_5, ONE_ROW]
 
 PRINCIPAL = principal_text(1)
@@ -69,14 +73,14 @@ def row(text):
 # Texts by the code of the first fault that they have.
 FAULTY = {
     1: ["x", "\x00", "[[principal]", "id = 1\nid = 1\n", principal("id", "id = 9223372036854775808")],
-    2: ["x = 1\n", OPERATOR + "[other]\n", "principal = 1\n", "[principal]\nid = 1\n", OPERATOR.replace("[[row]]", "[row]"),
-        "x = 1\nprincipal = []\n"],
+    2: ["x = 1\n", OPERATOR + "[other]\n", "principal = 1\n", "[principal]\nid = 1\n",
+        OPERATOR.replace("[[row]]", "[row]"), "x = 1\nprincipal = []\n"],
     3: ["", "# no principal\n", "principal = []\n", "".join(principal_text(i) for i in range(1, 66))],
     4: [OPERATOR + row_text(allow()) * 256],
     5: ["[[principal]]\n", "[[principal]]\nid = 1\n", PRINCIPAL + "name = 1\n", "[[principal]]\ntoken = 1\n",
         PRINCIPAL + "[[principal]]\nid = 4294967296\n"],
-    6: [principal("id", "id = -1"), principal("id", "id = 4294967296"), principal("id", 'id = "1"'), principal("id", "id = 1.0"),
-        principal("id", "id = true") + principal("token", '"11"')],
+    6: [principal("id", "id = -1"), principal("id", "id = 4294967296"), principal("id", 'id = "1"'),
+        principal("id", "id = 1.0"), principal("id", "id = true") + principal("token", '"11"')],
     7: [principal("token", '"11"'), principal("token", "1"), principal("token", '"' + "1g" * 16 + '"'),
         principal("token", '"' + "11" * 17 + '"'), PRINCIPAL + principal("token", '""')],
     8: [PRINCIPAL * 2, PRINCIPAL + principal_text(2) + PRINCIPAL + "[[row]]\n"],

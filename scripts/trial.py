@@ -175,11 +175,13 @@ def faults_of_bodies(trial):
     trial.open()
     status, report = trial.body(1, OPERATOR, STATUS), trial.body(2, PRIMARY, REPORT, wire.report(1))
     pull = trial.body(3, SECONDARY, PULL, wire.pull(0, 1, 1, 1))
-    bodies = [status[:at] for at in (0, 1, 4, 20, 29)] + [status + b"\0", report[:-1], report + b"\0", pull[:-2], pull + b"\1\1"]
+    bodies = [status[:at] for at in (0, 1, 4, 20, 29)]
+    bodies += [status + b"\0", report[:-1], report + b"\0", pull[:-2], pull + b"\1\1"]
     for role in (0, 1, 4, 5, 255):
         bodies += [status[:20] + bytes([role]) + status[21:29] + bytes([op]) for op in (0, 1, 2, 7, 10, 12, 255)]
     bodies += [report[:30] + wire.report(lsn) for lsn in (2 ** 48, 2 ** 48 + 1, 2 ** 64 - 1)]
-    bodies += [pull[:30] + wire.pull(*parts) for parts in ((2, 1, 1, 1), (0, 0, 0, 1), (0, 0, 2 ** 48 + 1, 1), (0, 0, 1, 0), (0, 0, 1, 17))]
+    out_of_range = ((2, 1, 1, 1), (0, 0, 0, 1), (0, 0, 2 ** 48 + 1, 1), (0, 0, 1, 0), (0, 0, 1, 17))
+    bodies += [pull[:30] + wire.pull(*parts) for parts in out_of_range]
     for spelled in faulty_blocks():
         bodies.append(trial.body(2, PRIMARY, WRITE, wire.write(0, spelled)))
     for body in bodies:
@@ -266,9 +268,13 @@ def random_line(trial):
     trial.play(body)
 
 
+PARTS = (full_windows, three_hundred_blocks, failovers, large_blocks, texts_of_tables, faults_of_bodies,
+         full_audit_list)
+
+
 def stored():
     trial = Trial(SEED)
-    for part in (full_windows, three_hundred_blocks, failovers, large_blocks, texts_of_tables, faults_of_bodies, full_audit_list):
+    for part in PARTS:
         part(trial)
     trial.open()
     for _ in range(RANDOM_LINES):
@@ -285,7 +291,8 @@ def summary(trial):
 
 
 def files_of(trial):
-    return {"stdin": text_of(trial.lines).encode(), "stdout": text_of(trial.replies).encode(), "data/t0.toml": tables.START.text}
+    stdin, stdout = text_of(trial.lines).encode(), text_of(trial.replies).encode()
+    return {"stdin": stdin, "stdout": stdout, "data/t0.toml": tables.START.text}
 
 
 def write():
@@ -315,8 +322,9 @@ def play(count, seed):
     for at, (line, reply) in enumerate(zip(trial.lines, trial.replies)):
         if replies[at:at + 1] != [reply]:
             FAILED.write_text(text_of(trial.lines[:at + 1]))
-            sys.exit(f"seed {seed}, line {at + 1}: {line}\n the model replies {reply}\n pagelog replies   {replies[at:at + 1]}\n"
-                     f"{run.stderr}The shortest prefix that fails is left in {FAILED.relative_to(ROOT)}")
+            found = replies[at] if at < len(replies) else f"nothing, with status {run.returncode}: {run.stderr}"
+            sys.exit(f"seed {seed}, line {at + 1}: {line}\nthe model: {reply}\npagelog:   {found}\n"
+                     f"The shortest prefix that fails is left in {FAILED.relative_to(ROOT)}")
     if run.returncode or len(replies) != count:
         sys.exit(f"seed {seed}: status {run.returncode}, {len(replies)} replies to {count} lines: {run.stderr}")
     model = trial.model

@@ -30,11 +30,11 @@ impl Read for Zeros {
 fn stops_at(
     rt: &impl Abort,
     alloc: Global,
-    lines: usize,
+    lines: u16,
     digits: usize,
     fault: PlayFault,
 ) -> Result<(), Fail> {
-    let feeds = vec![in alloc; b'\n'; lines]?;
+    let feeds = vec![in alloc; b'\n'; usize::from(lines)]?;
     let input = feeds.as_slice().chain(Zeros { left: digits });
     let mut reader = BufReader::with_capacity(alloc, 1, input)?;
     let ran = run(alloc, &mut reader)?;
@@ -43,7 +43,7 @@ fn stops_at(
         "{lines} lines and {digits} digits"
     );
     assert!(rt;
-        ran.output.len() == 5 * lines,
+        ran.output.len() == 5 * usize::from(lines),
         "{lines} lines and {digits} digits"
     );
     Ok(())

@@ -60,9 +60,10 @@ fn holds(
     };
     assert!(rt; result == ended, "{before} writes of {at_once} bytes");
     assert!(rt;
-        pipe.held.as_slice() == &b"0a01\n0a01\n"[..held],
+        pipe.held.len() == held,
         "{before} writes of {at_once} bytes"
     );
+    assert!(rt; b"0a01\n0a01\n".starts_with(pipe.held.as_slice()));
     Ok(())
 }
 
