@@ -113,7 +113,7 @@ impl Rules {
         }
     }
 
-    // Puts the table in force. The decider of an older one is told of it.
+    // Puts the table in force, of which the decider learns.
     fn put(&mut self, table: Table) {
         let mut decider = match self.in_force.take() {
             Some(InForce { decider, .. }) => decider,

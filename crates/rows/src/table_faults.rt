@@ -49,8 +49,8 @@ fn code_kept(kept: &TableText, text: &[u8]) -> Option<u8> {
     }
 }
 
-// The code that a database tells where it is asked to put the text in force.
-fn code_told(alloc: Global, text: TableText) -> Result<u64, Stop> {
+// The code that a database denies with where it is asked to put the text in force.
+fn code_denied(alloc: Global, text: TableText) -> Result<u64, Stop> {
     let limits = Limits {
         audit: 1,
         chunks: 1,
@@ -74,13 +74,13 @@ fn code_given(alloc: Global, text: &[u8]) -> Result<u8, Stop> {
     }
 }
 
-// Whether each way tells the code.
-fn is_told(alloc: Global, text: Vec<u8>, code: u8) -> Result<bool, Stop> {
+// Whether each way gives the code.
+fn has_code(alloc: Global, text: Vec<u8>, code: u8) -> Result<bool, Stop> {
     let by_itself = code_read(alloc, &text)? == code && code_given(alloc, &text)? == code;
     let kept = TableText::new(alloc, text.to_vec(alloc)?)?;
     let as_kept = code_kept(&kept, &text) == Some(code);
-    let told = code_told(alloc, kept)? == u64::from(code);
-    Ok(by_itself && as_kept && told)
+    let denied = code_denied(alloc, kept)? == u64::from(code);
+    Ok(by_itself && as_kept && denied)
 }
 
 fn text_of(alloc: Global, pieces: [&[&str]; 3]) -> Result<Vec<u8>, Stop> {
@@ -95,8 +95,8 @@ fn walk_once(rt: &impl Abort, alloc: Global, groups: &[Group]) -> Result<(), Sto
     for (before, cases, after) in groups {
         for (case, pieces, code) in *cases {
             let text = text_of(alloc, [before, pieces, after])?;
-            let told = is_told(alloc, text, *code)?;
-            assert!(rt; told, "{case}");
+            let same = has_code(alloc, text, *code)?;
+            assert!(rt; same, "{case}");
         }
     }
     Ok(())
@@ -456,8 +456,8 @@ fn text_of_many(alloc: Global, principals: u8, token: &str, rows: u16) -> Result
 fn walk_many(rt: &impl Abort, alloc: Global, cases: &[Many]) -> Result<(), Stop> {
     for (case, principals, token, rows, code) in cases {
         let text = text_of_many(alloc, *principals, token, *rows)?;
-        let told = is_told(alloc, text, *code)?;
-        assert!(rt; told, "{case}");
+        let same = has_code(alloc, text, *code)?;
+        assert!(rt; same, "{case}");
     }
     Ok(())
 }

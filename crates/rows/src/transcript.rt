@@ -82,7 +82,7 @@ struct Player<S: Subject> {
     alloc: Global,
     subject: S,
     /// The last answer, or why there is none.
-    told: Result<String, Stop>,
+    answer: Result<String, Stop>,
 }
 
 impl<S: Subject> Player<S> {
@@ -90,12 +90,12 @@ impl<S: Subject> Player<S> {
         Player {
             alloc,
             subject: S::new(alloc),
-            told: Err(Stop::Unread),
+            answer: Err(Stop::Unread),
         }
     }
 
-    fn told(&self) -> &str {
-        match &self.told {
+    fn shown(&self) -> &str {
+        match &self.answer {
             Ok(text) => text.trim(),
             Err(stop) => stop.text(),
         }
@@ -115,10 +115,11 @@ impl<S: Subject> Player<S> {
             return Ok(true);
         }
         let Some((asked, wanted)) = line.split_once('=') else {
+            self.answer = Err(Stop::Unread);
             return Ok(false);
         };
-        self.told = self.asks(asked, refused);
-        match &self.told {
+        self.answer = self.asks(asked, refused);
+        match &self.answer {
             Ok(text) => Ok(text.trim() == wanted.trim()),
             Err(Stop::NoMemory) => Err(AllocError),
             Err(_) => Ok(false),
@@ -136,7 +137,7 @@ fn play<S: Subject>(
     let mut player: Player<S> = Player::new(alloc);
     for line in row.lines() {
         let holds = player.holds(line, refused)?;
-        assert!(rt; holds, "{line}, not {}", player.told());
+        assert!(rt; holds, "{line}, not {}", player.shown());
     }
     Ok(())
 }
