@@ -83,11 +83,20 @@ fn has_code(alloc: Global, text: Vec<u8>, code: u8) -> Result<bool, Stop> {
     Ok(by_itself && as_kept && denied)
 }
 
-fn text_of(alloc: Global, pieces: [&[&str]; 3]) -> Result<Vec<u8>, Stop> {
-    let mut text = Vec::new(alloc);
-    for piece in pieces.into_iter().flatten() {
+fn append(text: &mut Vec<u8>, pieces: &[&str]) -> Result<(), Stop> {
+    for piece in pieces {
         text.extend_from_slice(piece.as_bytes())?;
     }
+    Ok(())
+}
+
+// The text of all pieces.
+fn text_of(alloc: Global, pieces: [&[&str]; 3]) -> Result<Vec<u8>, Stop> {
+    let [before, between, after] = pieces;
+    let mut text = Vec::new(alloc);
+    append(&mut text, before)?;
+    append(&mut text, between)?;
+    append(&mut text, after)?;
     Ok(text)
 }
 
