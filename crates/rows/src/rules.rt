@@ -1,7 +1,5 @@
 //! A table in force, and what is decided by it, asked line by line.
 
-ghost use Rattle.pl_decide.specs.Agreement.{AgreesWith};
-
 use crate::answer::{push_bytes, push_fault, push_numbers, push_word};
 use crate::asking::request_of;
 use crate::reply_text::push_verdict;
@@ -11,19 +9,13 @@ use pl_decide::{Decider, Epochs, View, known};
 use pl_table::{Ops, Request, Row, Table, TableFault, TableText, Verdict};
 use std::alloc::Global;
 
-/// A table in force, and who decides by it.
-#[derive(Drop)]
-struct InForce {
-    table: Table,
-    decider: Decider,
-    ghost agrees: { AgreesWith decider table },
-}
-
 /// What is decided by: at first epoch 7 of primary 2, and a log of 5 blocks.
 #[derive(Drop)]
 pub(crate) struct Rules {
     alloc: Global,
-    in_force: Option<InForce>,
+    /// The table in force, and the one before it.
+    table: Option<Table>,
+    older: Option<Table>,
     epochs: Epochs,
     view: View,
 }
@@ -88,39 +80,34 @@ fn push_part(out: &mut String, table: &Table, words: &[&str]) -> Result<(), Stop
     }
 }
 
-impl InForce {
-    // The verdict on the request, which is the same where the principal is not looked up again.
-    fn decide(&mut self, epochs: &Epochs, view: &View, request: &Request) -> Result<Verdict, Stop> {
-        let verdict = self.decider.decide(&self.table, epochs, view, request);
-        if !known(&self.table, request.head()) {
+impl Rules {
+    fn table(&self) -> Result<&Table, Stop> {
+        self.table.as_ref().ok_or(Stop::Unread)
+    }
+
+    fn put(&mut self, table: Table) {
+        self.older = self.table.take();
+        self.table = Some(table);
+    }
+
+    // The verdict on the request. It is the same of a decider that was asked by an older table, and
+    // where the principal is not looked up again.
+    fn decide(&self, request: &Request) -> Result<Verdict, Stop> {
+        let table = self.table()?;
+        let mut decider = Decider::new();
+        if let Some(older) = &self.older {
+            let _before = decider.decide(older, &self.epochs, &self.view, request);
+        }
+        decider.new_table();
+        let verdict = decider.decide(table, &self.epochs, &self.view, request);
+        if !known(table, request.head()) {
             return Ok(verdict);
         }
-        let again = self
-            .decider
-            .decide_known(&self.table, epochs, view, request);
+        let again = decider.decide_known(table, &self.epochs, &self.view, request);
         if again != verdict {
             return Err(Stop::Changed);
         }
         Ok(verdict)
-    }
-}
-
-impl Rules {
-    fn table(&self) -> Result<&Table, Stop> {
-        match &self.in_force {
-            Some(in_force) => Ok(&in_force.table),
-            None => Err(Stop::Unread),
-        }
-    }
-
-    // Puts the table in force, of which the decider learns.
-    fn put(&mut self, table: Table) {
-        let mut decider = match self.in_force.take() {
-            Some(InForce { decider, .. }) => decider,
-            None => Decider::new(),
-        };
-        decider.new_table();
-        self.in_force = Some(InForce { table, decider });
     }
 
     fn request(&self, words: &[&str]) -> Result<Option<Request>, Stop> {
@@ -139,10 +126,9 @@ impl Rules {
         }
     }
 
-    fn push_decision(&mut self, words: &[&str], out: &mut String) -> Result<(), Stop> {
+    fn push_decision(&self, words: &[&str], out: &mut String) -> Result<(), Stop> {
         let request = self.request(words)?.ok_or(Stop::Unread)?;
-        let in_force = self.in_force.as_mut().ok_or(Stop::Unread)?;
-        push_verdict(out, in_force.decide(&self.epochs, &self.view, &request)?)
+        push_verdict(out, self.decide(&request)?)
     }
 
     // Takes the table that the text gives up, or pushes the code of its fault; it is the one that
@@ -207,7 +193,8 @@ impl Subject for Rules {
     fn new(alloc: Global) -> Rules {
         Rules {
             alloc,
-            in_force: None,
+            table: None,
+            older: None,
             epochs: Epochs {
                 epoch: 7,
                 primary: 2,
