@@ -10,7 +10,7 @@ use Rattle.pl_block.specs.declared.record.Record.{Record}
 use Rattle.pl_block.specs.Bounds.{last_lsn}
 use Rattle.pl_block.specs.Block.{Content, touched, IsRecord}
 use Rattle.pl_block.specs.Spelling.{record_spelling, block_spelling, IsBlock}
-use Rattle.pl_block.specs.Faults.{◌>>=◌, Gives}
+use Rattle.pl_block.specs.Faults.{◌>>=◌, Returns}
 use Rattle.pl_block.specs.Reading.{lsn_fault, len_fault}
 use Rattle.pl_block.specs.Making.{record_fault, records_fault, block_made}
 use Rattle.pl_block.specs.declared.record.Record.TheVariants.{Put}
@@ -104,5 +104,5 @@ records_fault-none (r ∷ rs) h = rw (record_fault-none r h.0) (records_fault-no
 pub made_again : (b : Content) → IsBlock b → block_made b.lsn b.records ≡ Ok b
 made_again b h = made b.lsn b.records tt tt tt (lsn_fault-none b.lsn h.positive h.in_range) (records_fault-none b.records h.each) (len_fault-none (length (block_spelling b)) h.short)
 
-pub is_made : (lsn : ℕ) (records : List Record) (r : Result Content (Failed Fault)) → Gives r (block_made lsn records) → IsBlock (record { lsn = lsn; records = records }) → Gives r (Ok (record { lsn = lsn; records = records }))
-is_made lsn records r given is_block = subst (λ (read : Result Content Fault). Gives r read) (made_again (record { lsn = lsn; records = records }) is_block) given
+pub is_made : (lsn : ℕ) (records : List Record) (r : Result Content (Failed Fault)) → Returns r (block_made lsn records) → IsBlock (record { lsn = lsn; records = records }) → Returns r (Ok (record { lsn = lsn; records = records }))
+is_made lsn records r given is_block = subst (λ (read : Result Content Fault). Returns r read) (made_again (record { lsn = lsn; records = records }) is_block) given

@@ -18,7 +18,7 @@ use Rattle.pl_block.specs.Block.{Content, touched, IsRecord}
 use Rattle.pl_block.specs.Spelling.{annotations, record_spelling, block_spelling, IsBlock}
 use Rattle.pl_block.specs.Laws.{AreBytes, OneSpelling}
 use Rattle.pl_block.specs.declared.fault.Failed.{Failed}
-use Rattle.pl_block.specs.Faults.{◌>>=◌, Gives}
+use Rattle.pl_block.specs.Faults.{◌>>=◌, Returns}
 use Rattle.pl_block.specs.Reading.{number_at, lsn_fault, len_fault, lsn_at, annotations_at, annotations_fault, records_at, block_reading}
 use Rattle.pl_block.proofs.Fields.{bind_ok, guard_ok, ok_is, IsFront, IsFront-then, wide16, wide64, number_takes, number_again}
 use Rattle.pl_block.proofs.Touched.{RisesFrom-touched}
@@ -150,9 +150,9 @@ one_spelling = record { again = block_again; spelled = block_takes; same = same_
 
 -- ---- as a call answers
 
-pub is_found : (bytes : List ℕ) (r : Result Content (Failed Fault)) → AreBytes bytes → Gives r (block_reading bytes) → IfOk r (λ b. IsBlock b × (bytes ≡ block_spelling b))
+pub is_found : (bytes : List ℕ) (r : Result Content (Failed Fault)) → AreBytes bytes → Returns r (block_reading bytes) → IfOk r (λ b. IsBlock b × (bytes ≡ block_spelling b))
 is_found bytes (Ok b) fits given = block_takes bytes b fits given
 is_found bytes (Err e) fits given = tt
 
-pub is_only : (bytes : List ℕ) (r : Result Content (Failed Fault)) (b : Content) → Gives r (block_reading bytes) → IsBlock b → bytes ≡ block_spelling b → Gives r (Ok b)
-is_only bytes r b given is_block e = subst (λ (read : Result Content Fault). Gives r read) (ap block_reading e ∙ block_again b is_block) given
+pub is_only : (bytes : List ℕ) (r : Result Content (Failed Fault)) (b : Content) → Returns r (block_reading bytes) → IsBlock b → bytes ≡ block_spelling b → Returns r (Ok b)
+is_only bytes r b given is_block e = subst (λ (read : Result Content Fault). Returns r read) (ap block_reading e ∙ block_again b is_block) given

@@ -15,17 +15,17 @@ Fails NoMemory read = Unit {0}
 Fails (Malformed f) read = read ≡ Err f
 
 -- a call gave what is read, seen by view, or failed with its fault or out of memory
-abbrev pub GivesBy : {X Y F : Type 0} → (X → Y) → Result X (Failed F) → Result Y F → Type 0
-GivesBy view (Ok x) read = read ≡ Ok (view x)
-GivesBy view (Err e) read = Fails e read
+abbrev pub Gives : {X Y F : Type 0} → (X → Y) → Result X (Failed F) → Result Y F → Type 0
+Gives view (Ok x) read = read ≡ Ok (view x)
+Gives view (Err e) read = Fails e read
 
 -- a call gave what is read, or failed with its fault or out of memory
-abbrev pub Gives : {X F : Type 0} → Result X (Failed F) → Result X F → Type 0
-Gives result read = GivesBy (λ x. x) result read
+abbrev pub Returns : {X F : Type 0} → Result X (Failed F) → Result X F → Type 0
+Returns result read = Gives (λ x. x) result read
 
 -- a reader gave what is read, and left what follows it, or failed with its fault or out of memory
 abbrev pub Takes : {X Y F : Type 0} → (X → Y) → Result X (Failed F) → List ℕ → Result (Y × List ℕ) F → Type 0
-Takes view result rest read = GivesBy (λ x. (view x, rest)) result read
+Takes view result rest read = Gives (λ x. (view x, rest)) result read
 
 -- a reader that needs no memory gave what is read, and left what follows it
 abbrev pub Reads : {X F : Type 0} → Result X F → List ℕ → Result (X × List ℕ) F → Type 0

@@ -6,7 +6,7 @@ ghost use Rattle.pl_block.specs.Block.{IsRecord};
 ghost use Rattle.pl_block.specs.Bounds.{last_lsn, longest_block};
 ghost use Rattle.pl_block.specs.Spelling.{IsBlock, record_spelling};
 ghost use Rattle.pl_block.specs.declared.fault.Failed.TheVariants.{NoMemory};
-ghost use Rattle.pl_block.specs.Faults.{Gives};
+ghost use Rattle.pl_block.specs.Faults.{Returns};
 ghost use Rattle.pl_block.specs.Making.{record_fault, records_fault, block_made};
 
 use crate::block::{Block, Parts};
@@ -69,7 +69,7 @@ fn spelling_len(partitions: &[u16], records: &[Record]) -> usize
 // What the number and the records make, with the partitions that they touch.
 #[tactic(auto, unfolding(crate::specs::Making::block_made))]
 fn parts_of(alloc: Global, lsn: u64, records: Vec<Record>) -> Result<Parts, BlockFault>
-    ensures exact { Gives result (block_made lsn records.items) }
+    ensures exact { Returns result (block_made lsn records.items) }
     ensures no_memory { result ≡ Err NoMemory →
         (1 ≤ lsn) × (lsn ≤ last_lsn) × (records_fault records.items ≡ Ok tt) }
 {
@@ -96,9 +96,9 @@ impl Block {
         ensures valid { IfOk result (λ b. IsBlock b) }
         // What is a block is made, unless memory runs out.
         ensures only { IsBlock (record { lsn = lsn; records = records.items }) →
-            Gives result (Ok (record { lsn = lsn; records = records.items })) }
+            Returns result (Ok (record { lsn = lsn; records = records.items })) }
         // Which fault it is.
-        ensures exact { Gives result (block_made lsn records.items) }
+        ensures exact { Returns result (block_made lsn records.items) }
         // Memory runs out only where the number and each record are in their ranges.
         ensures no_memory { result ≡ Err NoMemory →
             (1 ≤ lsn) × (lsn ≤ last_lsn) × (records_fault records.items ≡ Ok tt) }

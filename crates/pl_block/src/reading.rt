@@ -5,7 +5,7 @@ ghost use Rattle.pl_block.specs.Block.{Content, touched};
 ghost use Rattle.pl_block.specs.Bounds.{longest_block};
 ghost use Rattle.pl_block.specs.Spelling.{IsBlock, block_spelling};
 ghost use Rattle.pl_block.specs.declared.fault.Failed.TheVariants.{NoMemory};
-ghost use Rattle.pl_block.specs.Faults.{Gives, GivesBy, Reads, Takes};
+ghost use Rattle.pl_block.specs.Faults.{Gives, Reads, Returns, Takes};
 ghost use Rattle.pl_block.specs.Reading.{lsn_at, rising_at, annotations_at, annotations_fault, put_at, record_at, records_at, block_reading};
 
 use crate::block::{Block, Parts};
@@ -97,7 +97,7 @@ fn check_annotations(
     partitions: &[u16],
     records: &[Record],
 ) -> Result<(), BlockFault>
-    ensures exact { Gives result (annotations_fault partitions.now records.now) }
+    ensures exact { Returns result (annotations_fault partitions.now records.now) }
     ensures valid { IfOk result (λ _. partitions.now ≡ touched records.now) }
 {
     if partitions != touched_partitions(alloc, records)?.as_slice() {
@@ -109,7 +109,7 @@ fn check_annotations(
 // The number, the annotations and the records of a block.
 #[tactic(auto, unfolding(crate::specs::Reading::block_reading))]
 fn fields_of(alloc: Global, input: Bytes) -> Result<(u64, Vec<u16>, Vec<Record>), BlockFault>
-    ensures exact { GivesBy (λ x. record { lsn = x.0; records = x.2.items }) result
+    ensures exact { Gives (λ x. record { lsn = x.0; records = x.2.items }) result
         (block_reading input) }
     ensures valid { IfOk result (λ x. x.1.items ≡ touched x.2.items) }
     ensures no_memory { result ≡ Err NoMemory → length input ≤ longest_block }
@@ -129,7 +129,7 @@ fn fields_of(alloc: Global, input: Bytes) -> Result<(u64, Vec<u16>, Vec<Record>)
 
 // The parts of the block that the bytes spell.
 fn parts_in(alloc: Global, input: Bytes) -> Result<Parts, BlockFault>
-    ensures exact { Gives result (block_reading input) }
+    ensures exact { Returns result (block_reading input) }
     ensures no_memory { result ≡ Err NoMemory → length input ≤ longest_block }
 {
     each_is_byte(input.as_slice());
@@ -151,9 +151,9 @@ pub fn decode(alloc: Global, input: Bytes) -> Result<Block, BlockFault>
     // What is read is spelled so.
     ensures found { IfOk result (λ b. IsBlock b × (input ≡ block_spelling b)) }
     // What is spelled so is read, unless memory runs out.
-    ensures only { (b : Content) → IsBlock b → input ≡ block_spelling b → Gives result (Ok b) }
+    ensures only { (b : Content) → IsBlock b → input ≡ block_spelling b → Returns result (Ok b) }
     // Which fault it is.
-    ensures exact { Gives result (block_reading input) }
+    ensures exact { Returns result (block_reading input) }
     // What is too long is refused before memory is asked for.
     ensures no_memory { result ≡ Err NoMemory → length input ≤ longest_block }
 {

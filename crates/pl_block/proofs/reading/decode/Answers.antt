@@ -1,6 +1,6 @@
 use Rattle.std.proofs.Common.{Err, subst}
 use Rattle.std.proofs.lemmas.Result.{err_from_is_err_and}
-use Rattle.pl_block.specs.Faults.{Gives}
+use Rattle.pl_block.specs.Faults.{Returns}
 use Rattle.pl_block.specs.Laws.{AreBytes}
 use Rattle.pl_block.specs.Reading.{block_reading}
 use Rattle.pl_block.proofs.Spellings.{is_found, is_only, reading_short}
@@ -11,7 +11,7 @@ returns-in_err-parts_in-clause-only c =
     let p = err_from_is_err_and c.from_residual.result c.from_residual.ensures.1 in
     λ b is_block e. rw (p.1, p.2) (is_only c.args.input (Err c.in_err-parts_in.field-0.0) b c.in_err-parts_in.ensures.exact is_block e)
 
-given : (c : goal.After-of_parts) → Gives c.of_parts.result (block_reading c.args.input)
+given : (c : goal.After-of_parts) → Returns c.of_parts.result (block_reading c.args.input)
 given c = rw c.in_ok-parts_in.ensures.exact c.of_parts.ensures.exact
 
 pub returns-clause-found : goal.returns-clause-found
