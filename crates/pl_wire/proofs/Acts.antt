@@ -6,6 +6,7 @@ use Rattle.std.proofs.lemmas.Bool.Decides.{nat_tests}
 use Rattle.std.proofs.lemmas.List.{length-drop, nil_from_length}
 use Rattle.std.proofs.lemmas.Nat.{from_be_bytes-to_be_bytes_2, from_be_bytes-to_be_bytes_4, from_be_bytes-to_be_bytes_8}
 use Rattle.pl_block.specs.Block.{Content}
+use Rattle.pl_block.specs.Faults.{◌>>=◌}
 use Rattle.pl_block.specs.Laws.{AreBytes, OneSpelling}
 use Rattle.pl_block.specs.Reading.{block_reading}
 use Rattle.pl_block.specs.declared.fault.Fault.{Fault}
@@ -14,10 +15,10 @@ use Rattle.pl_table.specs.declared.op.Op.TheVariants as ops
 use Rattle.pl_table.specs.declared.request.Act.{Act}
 use Rattle.pl_table.specs.declared.request.Act.TheVariants.{Write, Report, Pull, Status, Failover, SetTable}
 use Rattle.pl_table.specs.Ops.{op_number, op_of_number}
-use Rattle.pl_table.specs.Request.{op_of}
+use Rattle.pl_table.specs.Request.{op_of, FitsActFields}
 use Rattle.pl_wire.specs.declared.fault.WireFault.{WireFault}
 use Rattle.pl_wire.specs.declared.fault.WireFault.TheVariants.{EndsInField, BytesAfterEnd}
-use Rattle.pl_wire.specs.Spelling.{FitsActFields, act_spelling}
+use Rattle.pl_wire.specs.Spelling.{act_spelling}
 use Rattle.pl_wire.specs.Reading.{number_in, sized, write_to, write_reading, report_reading, pull_reading, status_reading, failover_reading, set_table_reading, act_reading}
 use Rattle.pl_wire.proofs.Places.{wide16, wide32, wide64, number_cut, number_below}
 
@@ -31,6 +32,17 @@ ok_is x y e = cc
 pub guard_ok : {X : Type 0} (b : Bool) (d : WireFault) (r : Result X WireFault) (y : X) → cond b (Err d) r ≡ Ok y → (b ≡ false) × (r ≡ Ok y)
 guard_ok true d r y e = absurd cc
 guard_ok false d r y e = (refl, e)
+
+-- a step that gave a value, and a next one that gave y of it
+pub record IsBound {X Y : Type 0} (r : Result X WireFault) (f : X → Result Y WireFault) (y : Y) : Type 0 where
+  pub value : X
+  pub first : r ≡ Ok value
+  pub next : f value ≡ Ok y
+
+-- two steps of which neither failed
+pub bind_ok : {X Y : Type 0} (r : Result X WireFault) (f : X → Result Y WireFault) (y : Y) → (r >>= f) ≡ Ok y → IsBound r f y
+bind_ok (Ok x) f y e = record { value = x; first = refl; next = e }
+bind_ok (Err d) f y e = absurd cc
 
 -- what a value of sized bytes tells
 sized_ok : (size : ℕ) (bytes : List ℕ) (x y : Act) → sized size bytes x ≡ Ok y → (length bytes ≡ size) × (x ≡ y)

@@ -10,7 +10,7 @@ use Rattle.pl_table.specs.declared.head.Head.{Head}
 use Rattle.pl_table.specs.declared.op.Role.{Role}
 use Rattle.pl_table.specs.declared.op.Role.TheVariants.{Primary, Secondary, PageServer, Operator}
 use Rattle.pl_table.specs.Ops.{role_number, role_of_number}
-use Rattle.pl_wire.specs.Spelling.{IsHead}
+use Rattle.pl_table.specs.Request.{IsHead}
 use Rattle.pl_wire.specs.Reading.{number_in, head_in}
 use Rattle.pl_wire.proofs.Places.{wide32, cut, number_cut, number_below, byte_cut}
 

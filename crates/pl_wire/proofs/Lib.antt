@@ -1,5 +1,4 @@
 pub mod Places
-pub mod Ranges
 pub mod FrameLemmas
 pub mod Heads
 pub mod Acts

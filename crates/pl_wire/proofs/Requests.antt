@@ -1,77 +1,98 @@
 -- A request that is read is the one of its spelling, and a spelled request is read again.
-use Rattle.std.proofs.Common.{◌≡◌, ℕ, Bool, true, false, cond, ltb, List, ◌∷◌, length, drop, get_or, Option, Some, None, Result, Ok, Err, refl, sym, ap, subst, ◌∙◌, arith}
+use Rattle.std.proofs.Common.{◌≡◌, ℕ, Bool, true, false, cond, ltb, List, ◌∷◌, ◌≤◌, length, drop, get_or, Option, Some, None, Result, Ok, Err, refl, sym, ap, subst, ◌∙◌, arith}
 use Rattle.std.specs.Prelude.{IfOk}
 use Rattle.std.proofs.lemmas.Bool.{ltb-false, le-ltb}
 use Rattle.std.proofs.lemmas.List.{length-append}
+use Rattle.std.specs.Option.{ok_or}
+use Rattle.pl_block.specs.declared.fault.Failed.{Failed}
+use Rattle.pl_block.specs.Faults.{◌>>=◌, Returns}
 use Rattle.pl_block.specs.Laws.{AreBytes, OneSpelling}
 use Rattle.pl_table.specs.declared.head.Head.{Head}
 use Rattle.pl_table.specs.declared.op.Op.{Op}
 use Rattle.pl_table.specs.declared.op.Role.{Role}
 use Rattle.pl_table.specs.declared.request.Act.{Act}
 use Rattle.pl_table.specs.Ops.{role_of_number, op_of_number, op_number}
-use Rattle.pl_table.specs.Request.{Query, InRange, op_of}
+use Rattle.pl_table.specs.Request.{Query, IsHead, IsRequest, is_in_range, op_of}
 use Rattle.pl_wire.specs.declared.fault.WireFault.{WireFault}
-use Rattle.pl_wire.specs.declared.fault.WireFault.TheVariants.{TooShort, OutOfRange}
-use Rattle.pl_wire.specs.declared.fault.BodyFault.{BodyFault}
+use Rattle.pl_wire.specs.declared.fault.WireFault.TheVariants.{TooShort, UnknownRole, UnknownKind, OutOfRange}
 use Rattle.pl_wire.specs.Laws.{OneRequestSpelling}
-use Rattle.pl_wire.specs.Spelling.{IsHead, IsRequest, act_spelling, request_spelling}
-use Rattle.pl_wire.specs.Reading.{Gives, head_in, act_reading, is_in_range, with_head, with_op, with_role, request_reading}
-use Rattle.pl_wire.proofs.Ranges.{is_in_range-Decides}
+use Rattle.pl_wire.specs.Spelling.{act_spelling, request_spelling}
+use Rattle.pl_wire.specs.Reading.{head_in, act_reading, ranged, opening_reading, request_reading}
 use Rattle.pl_wire.proofs.Places.{AreBytes-drop}
 use Rattle.pl_wire.proofs.Heads.{headed, IsHead-head_in, head_takes, head_again, arguments_in, role_in, op_in, role_again}
-use Rattle.pl_wire.proofs.Acts.{done, ok_is, guard_ok, act_takes, act_again, op_told, op_again}
+use Rattle.pl_wire.proofs.Acts.{done, ok_is, guard_ok, bind_ok, act_takes, act_again, op_told, op_again}
 
 guard_passed : {X : Type 0} (b : Bool) (d : WireFault) (x y : X) → cond b (Ok x) (Err d) ≡ Ok y → (b ≡ true) × (x ≡ y)
 guard_passed true d x y e = (refl, ok_is x y e)
 guard_passed false d x y e = absurd cc
 
-with_head_ok : (head : Head) (r : Result Act WireFault) (q : Query) → with_head head r ≡ Ok q → (r ≡ Ok q.act) × (head ≡ q.head) × InRange q.act
-with_head_ok head (Err f) q e = absurd cc
-with_head_ok head (Ok act) q e =
-    let made : Query = record { head = head; act = act } in
-    let g = guard_passed (is_in_range act) OutOfRange made q e in
-    subst (λ (p : Query). (done act ≡ done p.act) × (head ≡ p.head) × InRange p.act) g.1 (refl, refl, (is_in_range-Decides act).0 g.0)
+ok_or-some : {X : Type 0} (o : Option X) (d : WireFault) (x : X) → ok_or o d ≡ Ok x → o ≡ Some x
+ok_or-some None d x e = absurd cc
+ok_or-some (Some y) d x e = cc
 
-with_op_ok : (head : Head) (arguments : List ℕ) (o : Option Op) (q : Query) → with_op head arguments o ≡ Ok q → (op : Op) × (o ≡ Some op) × (with_head head (act_reading op arguments) ≡ Ok q)
-with_op_ok head arguments None q e = absurd cc
-with_op_ok head arguments (Some op) q e = (op, refl, e)
+-- the role of a body that was opened, and where it stands
+record IsOpened (body : List ℕ) (opening : Head × Op) : Type 0 where
+  long : 30 ≤ length body
+  role : Role
+  role_is : role_of_number (get_or body 20 0) ≡ Some role
+  op_is : op_of_number (get_or body 29 0) ≡ Some opening.1
+  head_is : head_in role body ≡ opening.0
 
-with_role_ok : (body : List ℕ) (o : Option Role) (q : Query) → with_role body o ≡ Ok q → (role : Role) × (o ≡ Some role) × (with_op (head_in role body) (drop 30 body) (op_of_number (get_or body 29 0)) ≡ Ok q)
-with_role_ok body None q e = absurd cc
-with_role_ok body (Some role) q e = (role, refl, e)
+opening_ok : (body : List ℕ) (opening : Head × Op) → opening_reading body ≡ Ok opening → IsOpened body opening
+unfolding opening_reading
+opening_ok body opening e =
+    let behind = λ (role : Role). ok_or (op_of_number (get_or body 29 0)) UnknownKind >>= λ op. done (head_in role body, op) in
+    let g = guard_ok (ltb (length body) 30) TooShort (ok_or (role_of_number (get_or body 20 0)) UnknownRole >>= behind) opening e in
+    let r = bind_ok (ok_or (role_of_number (get_or body 20 0)) UnknownRole) behind opening g.1 in
+    let o = bind_ok (ok_or (op_of_number (get_or body 29 0)) UnknownKind) (λ op. done (head_in r.value body, op)) opening r.next in
+    let is = ok_is (head_in r.value body, o.value) opening o.next in
+    record {
+      long = ltb-false _ _ g.0;
+      role = r.value;
+      role_is = ok_or-some (role_of_number (get_or body 20 0)) UnknownRole r.value r.first;
+      op_is = ok_or-some (op_of_number (get_or body 29 0)) UnknownKind o.value o.first ∙ ap (λ (x : Head × Op). Some x.1) is;
+      head_is = ap (λ (x : Head × Op). x.0) is;
+    }
 
 pub request_takes : OneSpelling → (body : List ℕ) (q : Query) → AreBytes body → request_reading body ≡ Ok q → IsRequest q × (body ≡ request_spelling q)
 unfolding request_reading
 request_takes law body q fits e =
-    let g = guard_ok (ltb (length body) 30) TooShort (with_role body (role_of_number (get_or body 20 0))) q e in
-    let long = ltb-false _ _ g.0 in
-    let r = with_role_ok body (role_of_number (get_or body 20 0)) q g.1 in
-    let o = with_op_ok (head_in r.0 body) (drop 30 body) (op_of_number (get_or body 29 0)) q r.2 in
-    let h = with_head_ok (head_in r.0 body) (act_reading o.0 (drop 30 body)) q o.2 in
-    let a = act_takes law o.0 (drop 30 body) q.act (AreBytes-drop 30 body fits) h.0 in
-    let op : get_or body 29 0 ≡ op_number (op_of q.act) = op_told (get_or body 29 0) q.act (o.1 ∙ ap (λ (x : Op). Some x) (sym a.of_op)) in
-    let head : body ≡ headed q.head (get_or body 29 0 ∷ drop 30 body) = head_takes r.0 body fits long r.1 ∙ ap (λ (x : Head). headed x (get_or body 29 0 ∷ drop 30 body)) h.1 in
-    let whole : body ≡ request_spelling q = head ∙ ap (λ (n : ℕ). headed q.head (n ∷ drop 30 body)) op ∙ ap (λ (t : List ℕ). headed q.head (op_number (op_of q.act) ∷ t)) a.spelled in
-    (record { head = subst IsHead h.1 (IsHead-head_in r.0 body fits long); fields = a.fields; in_range = h.2 }, whole)
+    let o = bind_ok (opening_reading body) (λ opening. act_reading opening.1 (drop 30 body) >>= λ act. ranged opening.0 act) q e in
+    let a = bind_ok (act_reading o.value.1 (drop 30 body)) (λ act. ranged o.value.0 act) q o.next in
+    let is = opening_ok body o.value o.first in
+    let made : Query = record { head = o.value.0; act = a.value } in
+    let g = guard_passed (is_in_range a.value) OutOfRange made q a.next in
+    let read = act_takes law o.value.1 (drop 30 body) a.value (AreBytes-drop 30 body fits) a.first in
+    let op : get_or body 29 0 ≡ op_number (op_of a.value) = op_told (get_or body 29 0) a.value (is.op_is ∙ ap (λ (x : Op). Some x) (sym read.of_op)) in
+    let head : body ≡ headed o.value.0 (get_or body 29 0 ∷ drop 30 body) = head_takes is.role body fits is.long is.role_is ∙ ap (λ (x : Head). headed x (get_or body 29 0 ∷ drop 30 body)) is.head_is in
+    let whole : body ≡ request_spelling made = head ∙ ap (λ (n : ℕ). headed o.value.0 (n ∷ drop 30 body)) op ∙ ap (λ (t : List ℕ). headed o.value.0 (op_number (op_of a.value) ∷ t)) read.spelled in
+    let is_made : IsRequest made = record { head = subst IsHead is.head_is (IsHead-head_in is.role body fits is.long); fields = read.fields; in_range = g.0 } in
+    subst (λ (p : Query). IsRequest p × (body ≡ request_spelling p)) g.1 (is_made, whole)
+
+opening_again : (q : Query) → IsRequest q → opening_reading (request_spelling q) ≡ Ok (q.head, op_of q.act)
+unfolding opening_reading
+opening_again q is =
+    let body = request_spelling q in
+    let rest : List ℕ = op_number (op_of q.act) ∷ act_spelling q.act in
+    let long : ltb (length body) 30 ≡ false = le-ltb _ _ (simp length-append (omega (arith, is.head.token))) in
+    let behind = λ (role : Role). ok_or (op_of_number (get_or body 29 0)) UnknownKind >>= λ op. done (head_in role body, op) in
+    let role : role_of_number (get_or body 20 0) ≡ Some q.head.role = ap role_of_number (role_in q.head rest is.head) ∙ role_again q.head.role in
+    let op : op_of_number (get_or body 29 0) ≡ Some (op_of q.act) = ap op_of_number (op_in q.head (op_number (op_of q.act)) (act_spelling q.act) is.head) ∙ op_again q.act in
+    let head : head_in q.head.role body ≡ q.head = head_again q.head rest is.head in
+    ap (λ (b : Bool). cond b (Err TooShort) (ok_or (role_of_number (get_or body 20 0)) UnknownRole >>= behind)) long
+    ∙ ap (λ (r : Option Role). ok_or r UnknownRole >>= behind) role
+    ∙ ap (λ (o : Option Op). ok_or o UnknownKind >>= λ op. done (head_in q.head.role body, op)) op
+    ∙ ap (λ (h : Head). done (h, op_of q.act)) head
 
 pub request_again : OneSpelling → (q : Query) → IsRequest q → request_reading (request_spelling q) ≡ Ok q
 unfolding request_reading
 request_again law q is =
     let body = request_spelling q in
-    let rest : List ℕ = op_number (op_of q.act) ∷ act_spelling q.act in
-    let long : ltb (length body) 30 ≡ false = le-ltb _ _ (simp length-append (omega (arith, is.head.token))) in
-    let role : role_of_number (get_or body 20 0) ≡ Some q.head.role = ap role_of_number (role_in q.head rest is.head) ∙ role_again q.head.role in
-    let head : head_in q.head.role body ≡ q.head = head_again q.head rest is.head in
     let arguments : drop 30 body ≡ act_spelling q.act = arguments_in q.head (op_number (op_of q.act)) (act_spelling q.act) is.head in
-    let op : op_of_number (get_or body 29 0) ≡ Some (op_of q.act) = ap op_of_number (op_in q.head (op_number (op_of q.act)) (act_spelling q.act) is.head) ∙ op_again q.act in
-    let tested : is_in_range q.act ≡ true = (is_in_range-Decides q.act).1 is.in_range in
-    ap (λ (b : Bool). cond b (Err TooShort) (with_role body (role_of_number (get_or body 20 0)))) long
-    ∙ ap (with_role body) role
-    ∙ ap (λ (h : Head). with_op h (drop 30 body) (op_of_number (get_or body 29 0))) head
-    ∙ ap (λ (t : List ℕ). with_op q.head t (op_of_number (get_or body 29 0))) arguments
-    ∙ ap (with_op q.head (act_spelling q.act)) op
-    ∙ ap (with_head q.head) (act_again law q.act is.fields)
-    ∙ ap (λ (b : Bool). cond b (Ok (record { head = q.head; act = q.act })) (Err OutOfRange)) tested
+    ap (λ (r : Result (Head × Op) WireFault). r >>= λ opening. act_reading opening.1 (drop 30 body) >>= λ act. ranged opening.0 act) (opening_again q is)
+    ∙ ap (λ (t : List ℕ). act_reading (op_of q.act) t >>= λ act. ranged q.head act) arguments
+    ∙ ap (λ (r : Result Act WireFault). r >>= λ act. ranged q.head act) (act_again law q.act is.fields)
+    ∙ ap (λ (b : Bool). cond b (done q) (Err OutOfRange)) is.in_range
 
 pub same_requests : OneSpelling → (a b : Query) → IsRequest a → IsRequest b → request_spelling a ≡ request_spelling b → a ≡ b
 same_requests law a b is_a is_b e = ok_is a b (sym (request_again law a is_a) ∙ ap request_reading e ∙ request_again law b is_b)
@@ -81,9 +102,9 @@ requests_law law = record { again = request_again law; spelled = request_takes l
 
 -- ---- as a call answers
 
-pub is_found : OneSpelling → (body : List ℕ) (r : Result Query BodyFault) → AreBytes body → Gives r (request_reading body) → IfOk r (λ q. IsRequest q × (body ≡ request_spelling q))
+pub is_found : OneSpelling → (body : List ℕ) (r : Result Query (Failed WireFault)) → AreBytes body → Returns r (request_reading body) → IfOk r (λ q. IsRequest q × (body ≡ request_spelling q))
 is_found law body (Ok q) fits given = request_takes law body q fits given
 is_found law body (Err e) fits given = tt
 
-pub is_only : OneSpelling → (body : List ℕ) (r : Result Query BodyFault) (q : Query) → Gives r (request_reading body) → IsRequest q → body ≡ request_spelling q → Gives r (Ok q)
-is_only law body r q given is e = subst (λ (read : Result Query WireFault). Gives r read) (ap request_reading e ∙ request_again law q is) given
+pub is_only : OneSpelling → (body : List ℕ) (r : Result Query (Failed WireFault)) (q : Query) → Returns r (request_reading body) → IsRequest q → body ≡ request_spelling q → Returns r (Ok q)
+is_only law body r q given is e = subst (λ (read : Result Query WireFault). Returns r read) (ap request_reading e ∙ request_again law q is) given

@@ -1,12 +1,11 @@
 -- The numbers of the faults of a body.
 use Rattle.std.specs.Prelude.{ℕ, ◌+◌}
 use Rattle.pl_block.specs.Codes as blocks
-use Rattle.pl_block.specs.declared.fault.BlockFault.{BlockFault}
-use Rattle.pl_block.specs.declared.fault.BlockFault.TheVariants as block_faults
+use Rattle.pl_block.specs.declared.fault.Failed.{Failed}
+use Rattle.pl_block.specs.declared.fault.Failed.TheVariants.{Malformed, NoMemory}
+use Rattle.pl_block.specs.declared.fault.Fault.{Fault}
 use Rattle.pl_wire.specs.declared.fault.WireFault.{WireFault}
 use Rattle.pl_wire.specs.declared.fault.WireFault.TheVariants.{TooShort, UnknownRole, UnknownKind, EndsInField, BytesAfterEnd, OutOfRange, Block}
-use Rattle.pl_wire.specs.declared.fault.BodyFault.{BodyFault}
-use Rattle.pl_wire.specs.declared.fault.BodyFault.TheVariants as faults
 
 -- the code of a fault: a block's is behind the body's own
 abbrev pub code_of : WireFault → ℕ
@@ -19,6 +18,6 @@ code_of OutOfRange = 6
 code_of (Block fault) = blocks.code_of fault + 6
 
 -- why there is no body where there is no block
-abbrev pub of_block : BlockFault → BodyFault
-of_block (block_faults.Malformed fault) = faults.Malformed (Block fault)
-of_block block_faults.NoMemory = faults.NoMemory
+abbrev pub of_block : Failed Fault → Failed WireFault
+of_block (Malformed fault) = Malformed (Block fault)
+of_block NoMemory = NoMemory

@@ -1,10 +1,10 @@
 -- What ties requests, replies and frames to bytes.
 use Rattle.std.specs.Prelude.{◌≡◌, ℕ, ◌^◌, ◌<◌, List, ◌++◌, length, Ok}
 use Rattle.pl_block.specs.Laws.{AreBytes}
-use Rattle.pl_table.specs.Request.{Query}
+use Rattle.pl_table.specs.Request.{Query, IsRequest}
 use Rattle.pl_core.specs.declared.reply.Reply.{Reply}
 use Rattle.pl_wire.specs.Frames.{frame}
-use Rattle.pl_wire.specs.Spelling.{IsRequest, request_spelling}
+use Rattle.pl_wire.specs.Spelling.{request_spelling}
 use Rattle.pl_wire.specs.Reading.{request_reading}
 use Rattle.pl_wire.specs.Replies.{IsReply, reply_spelling}
 

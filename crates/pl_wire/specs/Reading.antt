@@ -1,7 +1,9 @@
 -- Reading a request, with the fault of the least code.
-use Rattle.std.specs.Prelude.{◌≡◌, ℕ, ◌^◌, Bool, true, ◌&&◌, List, [], ◌∷◌, length, take, drop, slice_index, Option, Some, None, Result, Ok, Err, nat_lt, nat_le, if◌then◌else◌}
+use Rattle.std.specs.Prelude.{◌≡◌, ◌≤◌, ◌⊎◌, ℕ, List, [], ◌∷◌, length, take, drop, slice_index, Some, IsSome, Result, Ok, Err, nat_lt, if◌then◌else◌}
+use Rattle.std.specs.Option.{ok_or}
 use Rattle.std.specs.Int.{Width, w16, w32, w64, byte_len, from_be_bytes}
 use Rattle.pl_block.specs.Block.{Content}
+use Rattle.pl_block.specs.Faults.{◌>>=◌}
 use Rattle.pl_block.specs.Reading.{block_reading}
 use Rattle.pl_block.specs.declared.fault.Fault.{Fault}
 use Rattle.pl_table.specs.declared.head.Head.{Head}
@@ -11,21 +13,9 @@ use Rattle.pl_table.specs.declared.op.Role.{Role}
 use Rattle.pl_table.specs.declared.request.Act.{Act}
 use Rattle.pl_table.specs.declared.request.Act.TheVariants.{Write, Report, Pull, Status, Failover, SetTable}
 use Rattle.pl_table.specs.Ops.{role_of_number, op_of_number}
-use Rattle.pl_table.specs.Request.{Query}
+use Rattle.pl_table.specs.Request.{Query, is_in_range}
 use Rattle.pl_wire.specs.declared.fault.WireFault.{WireFault}
 use Rattle.pl_wire.specs.declared.fault.WireFault.TheVariants.{TooShort, UnknownRole, UnknownKind, EndsInField, BytesAfterEnd, OutOfRange, Block}
-use Rattle.pl_wire.specs.declared.fault.BodyFault.{BodyFault}
-use Rattle.pl_wire.specs.declared.fault.BodyFault.TheVariants as faults
-
--- a call failed as reading does, unless memory was refused
-abbrev pub Fails : {X : Type 0} → BodyFault → Result X WireFault → Type 0
-Fails faults.NoMemory read = Unit {0}
-Fails (faults.Malformed f) read = read ≡ Err f
-
--- what a call returned is what reading gives, unless memory was refused
-abbrev pub Gives : {X : Type 0} → Result X BodyFault → Result X WireFault → Type 0
-Gives (Ok x) read = read ≡ Ok x
-Gives (Err e) read = Fails e read
 
 -- the number of this width at a place
 abbrev pub number_in : Width → ℕ → List ℕ → ℕ
@@ -77,36 +67,38 @@ act_reading ops.Pull bytes = pull_reading bytes
 act_reading ops.Status bytes = status_reading bytes
 act_reading ops.Failover bytes = failover_reading bytes
 act_reading ops.SetTable bytes = set_table_reading bytes
-act_reading _ bytes = Err UnknownKind
-
--- a test whether an act's numbers are in their ranges, and the length of its text
-abbrev pub is_in_range : Act → Bool
-is_in_range (Write copy block) = true
-is_in_range (Report lsn) = nat_le lsn (2 ^ 48)
-is_in_range (Pull lo hi lsn max) = nat_le lo hi && (nat_le 1 lsn && (nat_le lsn (2 ^ 48) && (nat_le 1 max && nat_le max 16)))
-is_in_range Status = true
-is_in_range (Failover primary) = true
-is_in_range (SetTable text) = nat_le (length text) 65506
+act_reading ops.Offer bytes = Err UnknownKind
+act_reading ops.Get bytes = Err UnknownKind
+act_reading ops.Advance bytes = Err UnknownKind
+act_reading ops.Audit bytes = Err UnknownKind
+act_reading ops.Tidy bytes = Err UnknownKind
 
 -- a request of a head and an act, where the act is in its ranges
 abbrev pub ranged : Head → Act → Result Query WireFault
 ranged head act = if is_in_range act then Ok (record { head = head; act = act }) else Err OutOfRange
 
--- a head, and then an act, if it could be read
-abbrev pub with_head : Head → Result Act WireFault → Result Query WireFault
-with_head head (Ok act) = ranged head act
-with_head head (Err fault) = Err fault
+-- the head and the operation that a body begins with
+unfoldable pub opening_reading : List ℕ → Result (Head × Op) WireFault
+opening_reading body = if nat_lt (length body) 30 then Err TooShort else do
+  role ← ok_or (role_of_number (slice_index body 20)) UnknownRole
+  op ← ok_or (op_of_number (slice_index body 29)) UnknownKind
+  Ok (head_in role body, op)
 
--- an operation, if there is one of the number, and then its arguments
-abbrev pub with_op : Head → List ℕ → Option Op → Result Query WireFault
-with_op head arguments None = Err UnknownKind
-with_op head arguments (Some op) = with_head head (act_reading op arguments)
-
--- a role, if there is one of the number, and then the rest of the body
-abbrev pub with_role : List ℕ → Option Role → Result Query WireFault
-with_role body None = Err UnknownRole
-with_role body (Some role) = with_op (head_in role body) (drop 30 body) (op_of_number (slice_index body 29))
-
--- all of the bytes: a request, or the fault that is told
+-- all of the bytes: a request, or the fault of the least code
 unfoldable pub request_reading : List ℕ → Result Query WireFault
-request_reading body = if nat_lt (length body) 30 then Err TooShort else with_role body (role_of_number (slice_index body 20))
+request_reading body = do
+  opening ← opening_reading body
+  act ← act_reading opening.1 (drop 30 body)
+  ranged opening.0 act
+
+-- only a write with a copy and a set_table ask for memory
+abbrev pub AsksMemory : Op → List ℕ → Type 0
+AsksMemory op arguments = ((op ≡ ops.Write) × (1 ≤ length arguments)) ⊎ (op ≡ ops.SetTable)
+
+-- and only behind a head whose role is known
+pub record MayLackMemory (body : List ℕ) : Type 0 where
+  pub op : Op
+  pub long : 30 ≤ length body
+  pub role : IsSome (role_of_number (slice_index body 20))
+  pub known : op_of_number (slice_index body 29) ≡ Some op
+  pub asks : AsksMemory op (drop 30 body)

@@ -1,20 +1,23 @@
 //! A request, read from its bytes.
 
-ghost use Rattle.std.specs.Prelude.{◌≡◌, ◌≤◌, ◌⊎◌, IfOk, Ok, drop, length, slice_index, take};
-ghost use Rattle.pl_block.specs.Laws.{AreBytes};
-ghost use Rattle.pl_table.specs.Ops.{op_of_number};
-ghost use Rattle.pl_table.specs.Request.{Query};
-ghost use Rattle.pl_wire.specs.Spelling.{IsRequest, request_spelling};
-ghost use Rattle.pl_wire.specs.Reading.{Gives, head_in, sized, write_reading, report_reading, pull_reading, status_reading, failover_reading, set_table_reading, act_reading, ranged, request_reading};
+ghost use Rattle.std.specs.Prelude.{◌≡◌, ◌≤◌, IfOk, IsSome, drop, length, slice_index, take};
+ghost use Rattle.pl_block.specs.declared.fault.Failed.TheVariants.{NoMemory};
+ghost use Rattle.pl_block.specs.Faults.{Returns};
+ghost use Rattle.pl_table.specs.Ops.{op_of_number, role_of_number};
+ghost use Rattle.pl_table.specs.Request.{IsRequest, Query};
+ghost use Rattle.pl_wire.specs.Spelling.{request_spelling};
+ghost use Rattle.pl_wire.specs.Reading.{AsksMemory, MayLackMemory, head_in, sized, write_reading, report_reading, pull_reading, status_reading, failover_reading, set_table_reading, act_reading, ranged, opening_reading, request_reading};
 
-use crate::fault::{BodyFault, WireFault};
+use crate::fault::{BodyFault, WireFault, of_block};
 use crate::numbers::{u16_in, u32_in, u64_in};
 use bytes::{Buf, Bytes};
-use pl_block::{decode, one_spelling};
+use pl_block::decode;
+use pl_block::laws::one_spelling;
+use pl_block::seen::each_is_byte;
 use pl_table::{Act, Head, Op, Request, Role, TableText};
 use std::alloc::Global;
 
-/// The bytes of a head.
+/// The bytes of a head, and of the operation behind it.
 const HEAD_BYTES: usize = 30;
 
 /// The bytes of a token.
@@ -22,7 +25,7 @@ const TOKEN_BYTES: usize = 16;
 
 fn token_in(body: &[u8]) -> [u8; 16]
     requires { 30 ≤ length body.now }
-    ensures { result ≡ take 16 (drop 4 body.now) }
+    ensures value { result ≡ take 16 (drop 4 body.now) }
 {
     let mut token = [0; TOKEN_BYTES];
     let (_, mut rest) = body.split_at(4);
@@ -32,7 +35,7 @@ fn token_in(body: &[u8]) -> [u8; 16]
 
 fn head_of(role: Role, body: &[u8]) -> Head
     requires { 30 ≤ length body.now }
-    ensures { result ≡ head_in role body.now }
+    ensures value { result ≡ head_in role body.now }
 {
     Head {
         principal: u32_in(body, 0),
@@ -45,7 +48,7 @@ fn head_of(role: Role, body: &[u8]) -> Head
 
 // Whether there are so many bytes, no fewer and no more.
 fn check_size(bytes: &[u8], size: usize) -> Result<(), WireFault>
-    ensures { result ≡ sized size bytes.now tt }
+    ensures value { result ≡ sized size bytes.now tt }
 {
     if bytes.len() < size {
         return Err(WireFault::EndsInField);
@@ -56,18 +59,33 @@ fn check_size(bytes: &[u8], size: usize) -> Result<(), WireFault>
     Ok(())
 }
 
-fn write_of(alloc: Global, arguments: &[u8]) -> Result<Act, BodyFault>
-    ensures { Gives result (write_reading arguments.now) }
+// A write, whose block keeps the bytes.
+fn write_in(alloc: Global, arguments: Bytes) -> Result<Act, BodyFault>
+    ensures exact { Returns result (write_reading arguments) }
+    ensures no_memory { result ≡ Err NoMemory → 1 ≤ length arguments }
 {
-    let Some((copy, spelled)) = arguments.split_first() else {
+    let Some(copy) = arguments.as_slice().first().copied() else {
         return Err(BodyFault::Malformed(WireFault::EndsInField));
     };
-    let block = decode(alloc, Bytes::copy_from_slice(alloc, spelled)?)?;
-    Ok(Act::Write { copy: *copy, block })
+    let mut block = arguments;
+    block.advance(1);
+    let block = decode(alloc, block).map_err(of_block)?;
+    Ok(Act::Write { copy, block })
+}
+
+// A write, whose block keeps a copy of the bytes.
+fn write_of(alloc: Global, arguments: &[u8]) -> Result<Act, BodyFault>
+    ensures exact { Returns result (write_reading arguments.now) }
+    ensures no_memory { result ≡ Err NoMemory → 1 ≤ length arguments.now }
+{
+    if arguments.is_empty() {
+        return Err(BodyFault::Malformed(WireFault::EndsInField));
+    }
+    write_in(alloc, Bytes::copy_from_slice(alloc, arguments)?)
 }
 
 fn report_of(arguments: &[u8]) -> Result<Act, WireFault>
-    ensures { result ≡ report_reading arguments.now }
+    ensures value { result ≡ report_reading arguments.now }
 {
     check_size(arguments, 8)?;
     Ok(Act::Report {
@@ -76,7 +94,7 @@ fn report_of(arguments: &[u8]) -> Result<Act, WireFault>
 }
 
 fn pull_of(arguments: &[u8]) -> Result<Act, WireFault>
-    ensures { result ≡ pull_reading arguments.now }
+    ensures value { result ≡ pull_reading arguments.now }
 {
     check_size(arguments, 14)?;
     Ok(Act::Pull {
@@ -88,14 +106,14 @@ fn pull_of(arguments: &[u8]) -> Result<Act, WireFault>
 }
 
 fn status_of(arguments: &[u8]) -> Result<Act, WireFault>
-    ensures { result ≡ status_reading arguments.now }
+    ensures value { result ≡ status_reading arguments.now }
 {
     check_size(arguments, 0)?;
     Ok(Act::Status)
 }
 
 fn failover_of(arguments: &[u8]) -> Result<Act, WireFault>
-    ensures { result ≡ failover_reading arguments.now }
+    ensures value { result ≡ failover_reading arguments.now }
 {
     check_size(arguments, 4)?;
     Ok(Act::Failover {
@@ -104,15 +122,15 @@ fn failover_of(arguments: &[u8]) -> Result<Act, WireFault>
 }
 
 fn set_table_of(alloc: Global, arguments: &[u8]) -> Result<Act, BodyFault>
-    ensures { Gives result (set_table_reading arguments.now) }
+    ensures exact { Returns result (set_table_reading arguments.now) }
 {
     let text = TableText::new(alloc, Vec::from_slice(alloc, arguments)?)?;
     Ok(Act::SetTable { text })
 }
 
 fn act_of(alloc: Global, op: Op, arguments: &[u8]) -> Result<Act, BodyFault>
-    ensures exact { Gives result (act_reading op arguments.now) }
-    ensures full { result ≡ Err BodyFault.NoMemory → (op ≡ Op.Write) ⊎ (op ≡ Op.SetTable) }
+    ensures exact { Returns result (act_reading op arguments.now) }
+    ensures no_memory { result ≡ Err NoMemory → AsksMemory op arguments.now }
 {
     match op {
         Op::Write => write_of(alloc, arguments),
@@ -125,60 +143,94 @@ fn act_of(alloc: Global, op: Op, arguments: &[u8]) -> Result<Act, BodyFault>
     }
 }
 
+fn act_in(alloc: Global, op: Op, arguments: Bytes) -> Result<Act, BodyFault>
+    ensures exact { Returns result (act_reading op arguments) }
+    ensures no_memory { result ≡ Err NoMemory → AsksMemory op arguments }
+{
+    match op {
+        Op::Write => write_in(alloc, arguments),
+        _ => act_of(alloc, op, arguments.as_slice()),
+    }
+}
+
 fn ranged_request(head: Head, act: Act) -> Result<Request, WireFault>
-    ensures { result ≡ ranged head act }
+    ensures value { result ≡ ranged head act }
 {
     Request::new(head, act).ok_or(WireFault::OutOfRange)
 }
 
-#[tactic(auto, unfolding(crate::specs::Reading::request_reading))]
-fn request_of(alloc: Global, body: &[u8]) -> Result<Request, BodyFault>
-    ensures exact { Gives result (request_reading body.now) }
-    ensures full { result ≡ Err BodyFault.NoMemory → (
-        let op = op_of_number (slice_index body.now 29) in
-        (op ≡ Some Op.Write) ⊎ (op ≡ Some Op.SetTable)) }
+// The head and the operation that a body begins with.
+#[tactic(auto, unfolding(crate::specs::Reading::opening_reading))]
+fn opening_of(body: &[u8]) -> Result<(Head, Op), WireFault>
+    ensures value { result ≡ opening_reading body.now }
+    ensures long { IfOk result (λ _. 30 ≤ length body.now) }
+    ensures role { IfOk result (λ _. IsSome (role_of_number (slice_index body.now 20))) }
+    ensures op { IfOk result (λ opening. op_of_number (slice_index body.now 29) ≡ Some opening.1) }
 {
     if body.len() < HEAD_BYTES {
-        return Err(BodyFault::Malformed(WireFault::TooShort));
+        return Err(WireFault::TooShort);
     }
-    let Some(role) = Role::of_number(body[20]) else {
-        return Err(BodyFault::Malformed(WireFault::UnknownRole));
-    };
-    let Some(op) = Op::of_number(body[29]) else {
-        return Err(BodyFault::Malformed(WireFault::UnknownKind));
-    };
+    let role = Role::of_number(body[20]).ok_or(WireFault::UnknownRole)?;
+    let op = Op::of_number(body[29]).ok_or(WireFault::UnknownKind)?;
+    Ok((head_of(role, body), op))
+}
+
+#[tactic(auto, unfolding(crate::specs::Reading::request_reading))]
+fn request_of(alloc: Global, body: &[u8]) -> Result<Request, BodyFault>
+    ensures exact { Returns result (request_reading body.now) }
+    ensures no_memory { result ≡ Err NoMemory → MayLackMemory body.now }
+{
+    let (head, op) = opening_of(body)?;
     let (_, arguments) = body.split_at(HEAD_BYTES);
     let act = act_of(alloc, op, arguments)?;
-    Ok(ranged_request(head_of(role, body), act)?)
+    Ok(ranged_request(head, act)?)
 }
 
-// A slice that is looked at is known to have bytes.
-fn each_is_byte(bytes: &[u8])
-    ensures { AreBytes bytes.now }
+#[tactic(auto, unfolding(crate::specs::Reading::request_reading))]
+fn request_in(alloc: Global, body: Bytes) -> Result<Request, BodyFault>
+    ensures exact { Returns result (request_reading body) }
+    ensures no_memory { result ≡ Err NoMemory → MayLackMemory body }
 {
-    let _all = bytes;
+    let (head, op) = opening_of(body.as_slice())?;
+    let mut arguments = body;
+    arguments.advance(HEAD_BYTES);
+    let act = act_in(alloc, op, arguments)?;
+    Ok(ranged_request(head, act)?)
 }
 
-/// The request that the bytes spell. The bytes of a write's block are copied once, and the block
-/// keeps the copy. So are those of a table's text, which is read here, once, before its length is
-/// tested: a text that writes down no table is a request all the same. The other requests ask for
-/// no memory.
+/// The request that the bytes spell, or the fault of the least code.
 ///
-/// Of the body's faults the one of the least code is told.
+/// The bytes of a write's block are copied once, and the block keeps the copy. So are those of a
+/// table's text, which is read here, once, before its length is tested: a text that writes down no
+/// table is a request all the same. The other requests ask for no memory.
 #[tactic(auto, using(crate::proofs::Requests::is_found, crate::proofs::Requests::is_only))]
 pub fn decode_request(alloc: Global, body: &[u8]) -> Result<Request, BodyFault>
     // What is read is a request, and is spelled so.
     ensures found { IfOk result (λ q. IsRequest q × (body.now ≡ request_spelling q)) }
     // The request that is spelled so is read, unless memory runs out.
-    ensures only { (q : Query) → IsRequest q → body.now ≡ request_spelling q → Gives result (Ok q) }
+    ensures only { (q : Query) → IsRequest q → body.now ≡ request_spelling q →
+        Returns result (Ok q) }
     // Which fault it is.
-    ensures exact { Gives result (request_reading body.now) }
-    // Memory is refused to a write or a set_table alone.
-    ensures full { result ≡ Err BodyFault.NoMemory → (
-        let op = op_of_number (slice_index body.now 29) in
-        (op ≡ Some Op.Write) ⊎ (op ≡ Some Op.SetTable)) }
+    ensures exact { Returns result (request_reading body.now) }
+    // Memory runs out only where a write or a table's text was to be kept.
+    ensures no_memory { result ≡ Err NoMemory → MayLackMemory body.now }
 {
     each_is_byte(body);
     one_spelling();
     request_of(alloc, body)
+}
+
+/// The request that the bytes spell, or the fault of the least code, as [`decode_request`] has it.
+///
+/// The block of a write keeps these bytes, and none is copied. Those of a table's text are.
+#[tactic(auto, using(crate::proofs::Requests::is_found, crate::proofs::Requests::is_only))]
+pub fn decode_request_shared(alloc: Global, body: Bytes) -> Result<Request, BodyFault>
+    ensures found { IfOk result (λ q. IsRequest q × (body ≡ request_spelling q)) }
+    ensures only { (q : Query) → IsRequest q → body ≡ request_spelling q → Returns result (Ok q) }
+    ensures exact { Returns result (request_reading body) }
+    ensures no_memory { result ≡ Err NoMemory → MayLackMemory body }
+{
+    each_is_byte(body.as_slice());
+    one_spelling();
+    request_in(alloc, body)
 }

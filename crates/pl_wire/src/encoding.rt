@@ -1,14 +1,14 @@
 //! A reply, written as its bytes.
 
 ghost use Rattle.std.specs.Prelude.{◌≡◌, ◌≤◌, ◌++◌, ◌^◌, length, IfOk, OnOk};
-ghost use Rattle.std.specs.List.{flat_map, AllByRecursion};
+ghost use Rattle.std.specs.List.{flat_map};
 ghost use Rattle.std.specs.Int.{w16, w64, to_be_bytes};
-ghost use Rattle.pl_block.specs.Spelling.{IsBlock};
 ghost use Rattle.pl_core.specs.Reply.{FitsReply};
 ghost use Rattle.pl_wire.specs.Replies.{served, reply_spelling, FitsReplyFields, IsReply};
 
 use crate::kind::Kind;
 use bytes::BufMut;
+use pl_block::seen::each_is_block;
 use pl_block::{Block, encode_onto, encoded_len};
 use pl_core::{Blocks, Reply};
 use pl_table::Section;
@@ -19,7 +19,7 @@ use std::alloc::{AllocError, Global};
 fn blocks_len(blocks: &[Block]) -> usize
     requires { length blocks.now ≤ 16 }
     ensures value { result ≡ length (flat_map served blocks.now) }
-    ensures short { result ≤ 2 ^ 20 }
+    ensures fits { result ≤ 2 ^ 20 }
 {
     let mut len = 0;
     for block in blocks {
@@ -30,7 +30,7 @@ fn blocks_len(blocks: &[Block]) -> usize
 
 #[tactic(auto, unfolding(crate::specs::Replies::served))]
 fn put_block(out: &mut Vec<u8>, block: &Block) -> Result<(), AllocError>
-    ensures { OnOk result (out.new.items ≡ out.old.items ++ served block.now) }
+    ensures ok { OnOk result (out.new.items ≡ out.old.items ++ served block.now) }
 {
     out.put_u32(encoded_len(block) as u32)?;
     encode_onto(out, block)
@@ -38,7 +38,7 @@ fn put_block(out: &mut Vec<u8>, block: &Block) -> Result<(), AllocError>
 
 fn put_blocks(out: &mut Vec<u8>, blocks: &[Block]) -> Result<(), AllocError>
     requires { length blocks.now ≤ 16 }
-    ensures { OnOk result (out.new.items ≡ out.old.items
+    ensures ok { OnOk result (out.new.items ≡ out.old.items
         ++ (to_be_bytes w16 (length blocks.now) ++ flat_map served blocks.now)) }
 {
     out.reserve(2 + blocks_len(blocks))?;
@@ -51,7 +51,7 @@ fn put_blocks(out: &mut Vec<u8>, blocks: &[Block]) -> Result<(), AllocError>
 
 fn put_served(out: &mut Vec<u8>, next: u64, blocks: &Blocks) -> Result<(), AllocError>
     requires { length blocks.now ≤ 16 }
-    ensures { OnOk result (out.new.items ≡ out.old.items
+    ensures ok { OnOk result (out.new.items ≡ out.old.items
         ++ reply_spelling (Reply.Blocks next blocks.now)) }
 {
     out.put_u8(Kind::Blocks as u8)?;
@@ -60,7 +60,7 @@ fn put_served(out: &mut Vec<u8>, next: u64, blocks: &Blocks) -> Result<(), Alloc
 }
 
 fn put_counts(out: &mut Vec<u8>, hard: u64, pending: u64, landing: u64) -> Result<(), AllocError>
-    ensures { OnOk result (out.new.items ≡ out.old.items
+    ensures ok { OnOk result (out.new.items ≡ out.old.items
         ++ (to_be_bytes w64 hard ++ (to_be_bytes w64 pending ++ to_be_bytes w64 landing))) }
 {
     out.put_u64(hard)?;
@@ -76,7 +76,7 @@ fn put_status(
     pending: u64,
     landing: u64,
 ) -> Result<(), AllocError>
-    ensures { OnOk result (out.new.items ≡ out.old.items
+    ensures ok { OnOk result (out.new.items ≡ out.old.items
         ++ reply_spelling (Reply.Status epoch primary hard pending landing)) }
 {
     out.put_u8(Kind::Status as u8)?;
@@ -86,7 +86,7 @@ fn put_status(
 }
 
 fn put_denied(out: &mut Vec<u8>, section: Section, row: u16, value: u64) -> Result<(), AllocError>
-    ensures { OnOk result (out.new.items ≡ out.old.items
+    ensures ok { OnOk result (out.new.items ≡ out.old.items
         ++ reply_spelling (Reply.Denied section row value)) }
 {
     out.put_u8(Kind::Denied as u8)?;
@@ -96,7 +96,7 @@ fn put_denied(out: &mut Vec<u8>, section: Section, row: u16, value: u64) -> Resu
 }
 
 fn put_malformed(out: &mut Vec<u8>, code: u8) -> Result<(), AllocError>
-    ensures { OnOk result (out.new.items ≡ out.old.items ++ reply_spelling (Reply.Malformed code)) }
+    ensures ok { OnOk result (out.new.items ≡ out.old.items ++ reply_spelling (Reply.Malformed code)) }
 {
     out.put_u8(Kind::Malformed as u8)?;
     out.put_u8(code)
@@ -104,7 +104,7 @@ fn put_malformed(out: &mut Vec<u8>, code: u8) -> Result<(), AllocError>
 
 fn put_reply(out: &mut Vec<u8>, reply: &Reply) -> Result<(), AllocError>
     requires { FitsReply reply.now }
-    ensures { OnOk result (out.new.items ≡ out.old.items ++ reply_spelling reply.now) }
+    ensures ok { OnOk result (out.new.items ≡ out.old.items ++ reply_spelling reply.now) }
 {
     match reply {
         Reply::Done => out.put_u8(Kind::Done as u8),
@@ -129,18 +129,9 @@ fn put_reply(out: &mut Vec<u8>, reply: &Reply) -> Result<(), AllocError>
     }
 }
 
-// A block that is asked for its number is known to be one.
-fn each_is_block(blocks: &[Block])
-    ensures { AllByRecursion IsBlock blocks.now }
-{
-    for block in blocks {
-        let _number = block.lsn();
-    }
-}
-
 // A number that is read is known to be in the range of its type.
 fn each_number_fits(reply: &Reply)
-    ensures { FitsReplyFields reply.now }
+    ensures value { FitsReplyFields reply.now }
 {
     match reply {
         Reply::Blocks { next, blocks } => {
@@ -172,8 +163,8 @@ fn each_number_fits(reply: &Reply)
 #[tactic(auto, using(crate::proofs::ReplyLemmas::reply_fits_frame))]
 pub fn encode_reply(alloc: Global, reply: &Reply) -> Result<Vec<u8>, AllocError>
     requires { FitsReply reply.now }
-    ensures exact { IfOk result (λ bytes. bytes.items ≡ reply_spelling reply.now) }
-    ensures short { IfOk result (λ bytes. length bytes.items ≤ 2 ^ 20) }
+    ensures ok { IfOk result (λ bytes. bytes.items ≡ reply_spelling reply.now) }
+    ensures fits { IfOk result (λ bytes. length bytes.items ≤ 2 ^ 20) }
     // It is a reply by the definition that the law of spellings speaks of.
     ensures valid { IfOk result (λ _. IsReply reply.now) }
 {

@@ -4,24 +4,24 @@
 
 ghost use Rattle.pl_wire.specs.Laws.{FramesEndThemselves, OneReplySpelling, OneRequestSpelling};
 
-use pl_block::one_spelling;
+use pl_block::laws::one_spelling;
 
 /// No frame is the beginning of another, so that frames in a row can be told apart.
 pub fn frames_end_themselves()
-    ensures { FramesEndThemselves }
+    ensures law { FramesEndThemselves }
 {}
 
 /// A request is read again from its spelling, what is read as a request is its spelling, and no
 /// two requests have one spelling.
 pub fn one_request_spelling()
-    ensures { OneRequestSpelling }
+    ensures law { OneRequestSpelling }
 {
     one_spelling();
 }
 
 /// No two replies have one spelling.
 pub fn one_reply_spelling()
-    ensures { OneReplySpelling }
+    ensures law { OneReplySpelling }
 {
     one_spelling();
 }

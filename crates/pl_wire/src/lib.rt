@@ -8,11 +8,9 @@ mod decoding;
 mod encoding;
 mod fault;
 mod kind;
-mod laws;
+pub mod laws;
 mod numbers;
 
-pub use decoding::decode_request;
+pub use decoding::{decode_request, decode_request_shared};
 pub use encoding::encode_reply;
 pub use fault::{BodyFault, WireFault};
-pub use laws::{frames_end_themselves, one_reply_spelling, one_request_spelling};
-pub use pl_block::NoMemory;

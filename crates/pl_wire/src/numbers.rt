@@ -8,7 +8,7 @@ use bytes::Buf;
 
 pub(crate) fn u16_in(bytes: &[u8], at: usize) -> u16
     requires { at + 2 ≤ length bytes.now }
-    ensures { result ≡ number_in w16 at bytes.now }
+    ensures value { result ≡ number_in w16 at bytes.now }
 {
     let (_, mut rest) = bytes.split_at(at);
     rest.get_u16()
@@ -16,7 +16,7 @@ pub(crate) fn u16_in(bytes: &[u8], at: usize) -> u16
 
 pub(crate) fn u32_in(bytes: &[u8], at: usize) -> u32
     requires { at + 4 ≤ length bytes.now }
-    ensures { result ≡ number_in w32 at bytes.now }
+    ensures value { result ≡ number_in w32 at bytes.now }
 {
     let (_, mut rest) = bytes.split_at(at);
     rest.get_u32()
@@ -24,7 +24,7 @@ pub(crate) fn u32_in(bytes: &[u8], at: usize) -> u32
 
 pub(crate) fn u64_in(bytes: &[u8], at: usize) -> u64
     requires { at + 8 ≤ length bytes.now }
-    ensures { result ≡ number_in w64 at bytes.now }
+    ensures value { result ≡ number_in w64 at bytes.now }
 {
     let (_, mut rest) = bytes.split_at(at);
     rest.get_u64()

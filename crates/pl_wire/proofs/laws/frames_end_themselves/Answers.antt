@@ -2,4 +2,4 @@ use Rattle.pl_wire.proofs.FrameLemmas.{frames_end}
 use Rattle.pl_wire.proofs.laws.frames_end_themselves.Goals as goal
 
 pub returns : goal.returns
-returns c = frames_end
+returns c = record { law = frames_end }
