@@ -1,15 +1,15 @@
 //! A request, read from its bytes.
 
-ghost use Rattle.std.specs.Prelude.{◌≡◌, ◌≤◌, IfOk, IsSome, drop, length, slice_index, take};
+ghost use Rattle.std.specs.Prelude.{◌≡◌, ◌+◌, ◌≤◌, IfOk, IsSome, drop, length, slice_index, take};
+ghost use Rattle.std.specs.Int.{w16, w32, w64};
 ghost use Rattle.pl_block.specs.declared.fault.Failed.TheVariants.{NoMemory};
 ghost use Rattle.pl_block.specs.Faults.{Returns};
 ghost use Rattle.pl_table.specs.Ops.{op_of_number, role_of_number};
 ghost use Rattle.pl_table.specs.Request.{IsRequest, Query};
 ghost use Rattle.pl_wire.specs.Spelling.{request_spelling};
-ghost use Rattle.pl_wire.specs.Reading.{AsksMemory, MayLackMemory, head_in, sized, write_reading, report_reading, pull_reading, status_reading, failover_reading, set_table_reading, act_reading, ranged, opening_reading, request_reading};
+ghost use Rattle.pl_wire.specs.Reading.{AsksMemory, MayLackMemory, head_in, number_in, sized, write_reading, report_reading, pull_reading, status_reading, failover_reading, set_table_reading, act_reading, ranged, opening_reading, request_reading};
 
 use crate::fault::{BodyFault, WireFault, of_block};
-use crate::numbers::{u16_in, u32_in, u64_in};
 use bytes::{Buf, Bytes};
 use pl_block::decode;
 use pl_block::laws::one_spelling;
@@ -22,6 +22,31 @@ const HEAD_BYTES: usize = 30;
 
 /// The bytes of a token.
 const TOKEN_BYTES: usize = 16;
+
+// The number of two bytes at the place, big-endian, as the two that follow.
+fn u16_in(bytes: &[u8], at: usize) -> u16
+    requires { at + 2 ≤ length bytes.now }
+    ensures value { result ≡ number_in w16 at bytes.now }
+{
+    let (_, mut rest) = bytes.split_at(at);
+    rest.get_u16()
+}
+
+fn u32_in(bytes: &[u8], at: usize) -> u32
+    requires { at + 4 ≤ length bytes.now }
+    ensures value { result ≡ number_in w32 at bytes.now }
+{
+    let (_, mut rest) = bytes.split_at(at);
+    rest.get_u32()
+}
+
+fn u64_in(bytes: &[u8], at: usize) -> u64
+    requires { at + 8 ≤ length bytes.now }
+    ensures value { result ≡ number_in w64 at bytes.now }
+{
+    let (_, mut rest) = bytes.split_at(at);
+    rest.get_u64()
+}
 
 fn token_in(body: &[u8]) -> [u8; 16]
     requires { 30 ≤ length body.now }

@@ -4,15 +4,38 @@ ghost use Rattle.std.specs.Prelude.{◌≡◌, ◌≤◌, ◌++◌, ◌^◌, len
 ghost use Rattle.std.specs.List.{flat_map};
 ghost use Rattle.std.specs.Int.{w16, w64, to_be_bytes};
 ghost use Rattle.pl_core.specs.Reply.{FitsReply};
-ghost use Rattle.pl_wire.specs.Replies.{served, reply_spelling, FitsReplyFields, IsReply};
+ghost use Rattle.pl_wire.specs.Replies.{served, reply_spelling, IsReply, kind_number};
 
-use crate::kind::Kind;
+use crate::seen::each_number_fits;
 use bytes::BufMut;
-use pl_block::seen::each_is_block;
 use pl_block::{Block, encode_onto, encoded_len};
 use pl_core::{Blocks, Reply};
 use pl_table::Section;
 use std::alloc::{AllocError, Global};
+
+/// What a reply is. The discriminant is the first byte of its spelling.
+#[derive(Clone, Copy)]
+pub enum ReplyKind {
+    Done = 0,
+    Blocks = 1,
+    Status = 4,
+    Denied = 5,
+    NoMemory = 6,
+    AuditFull = 7,
+    Spent = 8,
+    NoDatabase = 9,
+    Malformed = 10,
+}
+
+impl ReplyKind {
+    /// The first byte of each reply of this kind. The replies `NoMemory`, `AuditFull`, `Spent`,
+    /// `NoDatabase` and `Done` have no other.
+    pub fn number(self) -> u8
+        ensures value { result ≡ kind_number self }
+    {
+        self as u8
+    }
+}
 
 // How many bytes the blocks take in a reply.
 #[tactic(auto, unfolding(crate::specs::Replies::served))]
@@ -54,7 +77,7 @@ fn put_served(out: &mut Vec<u8>, next: u64, blocks: &Blocks) -> Result<(), Alloc
     ensures ok { OnOk result (out.new.items ≡ out.old.items
         ++ reply_spelling (Reply.Blocks next blocks.now)) }
 {
-    out.put_u8(Kind::Blocks as u8)?;
+    out.put_u8(ReplyKind::Blocks.number())?;
     out.put_u64(next)?;
     put_blocks(out, blocks.as_slice())
 }
@@ -79,7 +102,7 @@ fn put_status(
     ensures ok { OnOk result (out.new.items ≡ out.old.items
         ++ reply_spelling (Reply.Status epoch primary hard pending landing)) }
 {
-    out.put_u8(Kind::Status as u8)?;
+    out.put_u8(ReplyKind::Status.number())?;
     out.put_u32(epoch)?;
     out.put_u32(primary)?;
     put_counts(out, hard, pending, landing)
@@ -89,7 +112,7 @@ fn put_denied(out: &mut Vec<u8>, section: Section, row: u16, value: u64) -> Resu
     ensures ok { OnOk result (out.new.items ≡ out.old.items
         ++ reply_spelling (Reply.Denied section row value)) }
 {
-    out.put_u8(Kind::Denied as u8)?;
+    out.put_u8(ReplyKind::Denied.number())?;
     out.put_u8(section.number())?;
     out.put_u16(row)?;
     out.put_u64(value)
@@ -98,7 +121,7 @@ fn put_denied(out: &mut Vec<u8>, section: Section, row: u16, value: u64) -> Resu
 fn put_malformed(out: &mut Vec<u8>, code: u8) -> Result<(), AllocError>
     ensures ok { OnOk result (out.new.items ≡ out.old.items ++ reply_spelling (Reply.Malformed code)) }
 {
-    out.put_u8(Kind::Malformed as u8)?;
+    out.put_u8(ReplyKind::Malformed.number())?;
     out.put_u8(code)
 }
 
@@ -107,7 +130,7 @@ fn put_reply(out: &mut Vec<u8>, reply: &Reply) -> Result<(), AllocError>
     ensures ok { OnOk result (out.new.items ≡ out.old.items ++ reply_spelling reply.now) }
 {
     match reply {
-        Reply::Done => out.put_u8(Kind::Done as u8),
+        Reply::Done => out.put_u8(ReplyKind::Done.number()),
         Reply::Blocks { next, blocks } => put_served(out, *next, blocks),
         Reply::Status {
             epoch,
@@ -121,45 +144,18 @@ fn put_reply(out: &mut Vec<u8>, reply: &Reply) -> Result<(), AllocError>
             row,
             value,
         } => put_denied(out, *section, *row, *value),
-        Reply::NoMemory => out.put_u8(Kind::NoMemory as u8),
-        Reply::AuditFull => out.put_u8(Kind::AuditFull as u8),
-        Reply::Spent => out.put_u8(Kind::Spent as u8),
-        Reply::NoDatabase => out.put_u8(Kind::NoDatabase as u8),
+        Reply::NoMemory => out.put_u8(ReplyKind::NoMemory.number()),
+        Reply::AuditFull => out.put_u8(ReplyKind::AuditFull.number()),
+        Reply::Spent => out.put_u8(ReplyKind::Spent.number()),
+        Reply::NoDatabase => out.put_u8(ReplyKind::NoDatabase.number()),
         Reply::Malformed { code } => put_malformed(out, *code),
     }
 }
 
-// A number that is read is known to be in the range of its type.
-fn each_number_fits(reply: &Reply)
-    ensures value { FitsReplyFields reply.now }
-{
-    match reply {
-        Reply::Blocks { next, blocks } => {
-            let _next = *next;
-            each_is_block(blocks.as_slice());
-        }
-        Reply::Status {
-            epoch,
-            primary,
-            hard,
-            pending,
-            landing,
-        } => {
-            let _of_epoch = (*epoch, *primary);
-            let _counts = (*hard, *pending, *landing);
-        }
-        Reply::Denied { row, value, .. } => {
-            let _row = *row;
-            let _value = *value;
-        }
-        _ => {}
-    }
-}
-
 /// The one spelling of the reply: its kind in a byte, and what the kind has, at most 2^20 bytes.
-/// Whether the reply can be written is told by [`Reply::fits`]; it fails only for want of memory.
 ///
-/// Room for the blocks of a reply is made at once, and the bytes of each are copied into it once.
+/// [`Reply::fits`] tests the condition. The only error is a failed allocation. Room for the blocks
+/// of a reply is made at once, and the bytes of each are copied into it once.
 #[tactic(auto, using(crate::proofs::ReplyLemmas::reply_fits_frame))]
 pub fn encode_reply(alloc: Global, reply: &Reply) -> Result<Vec<u8>, AllocError>
     requires { FitsReply reply.now }

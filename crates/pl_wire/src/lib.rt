@@ -7,10 +7,9 @@
 mod decoding;
 mod encoding;
 mod fault;
-mod kind;
 pub mod laws;
-mod numbers;
+mod seen;
 
 pub use decoding::{decode_request, decode_request_shared};
-pub use encoding::encode_reply;
+pub use encoding::{ReplyKind, encode_reply};
 pub use fault::{BodyFault, WireFault};
