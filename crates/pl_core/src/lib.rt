@@ -27,6 +27,3 @@ pub use line::Line;
 pub use pl_block::NoMemory;
 pub use pl_decide::Epochs;
 pub use reply::{Blocks, Reply};
-
-#[cfg(test)]
-mod tests;
