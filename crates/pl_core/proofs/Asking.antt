@@ -1,5 +1,6 @@
 -- A pull that is asked at another number: only the number's own row decides otherwise.
-use Rattle.std.proofs.Common.{◌≡◌, ℕ, zero, suc, ◌+◌, ◌<◌, ◌≤◌, Bool, true, false, cond, List, [], ◌∷◌, ◌++◌, length, map, Option, Some, refl, sym, ap, ◌∙◌, inl, inr, arith}
+use Rattle.std.proofs.Common.{◌≡◌, ℕ, zero, suc, ◌+◌, ◌<◌, ◌≤◌, Bool, true, false, cond, List, [], ◌∷◌, ◌++◌, length, map, Option, None, Some, refl, sym, ap, ◌∙◌, inl, inr, arith}
+use Rattle.std.specs.Prelude.{IfSome}
 use Rattle.std.specs.List.{range_with_len}
 use Rattle.std.proofs.lemmas.Bool.{cases_lt, lt-ltb, le-ltb, ltb-false}
 use Rattle.pl_table.specs.declared.head.Head.{Head}
@@ -22,8 +23,8 @@ use Rattle.pl_core.specs.Epoch.{table_of}
 use Rattle.pl_core.specs.Log.{hard_of}
 use Rattle.pl_decide.specs.WrittenOrder.{Rule, a1, a2, a3, a4, a5, b as table_row, b0, section_c, behind_a, denies_at, is_unmatched, first_denial, decision}
 use Rattle.pl_core.specs.Verdict.{epochs_of, view_of, verdict_of}
-use Rattle.pl_core.specs.Numbers.{first_number}
-use Rattle.pl_core.specs.Reach.{asked_at, IsAllowedTo}
+use Rattle.pl_core.specs.Acts.{number_of, asked_at}
+use Rattle.pl_core.specs.Reach.{IsAllowedTo, IsReach}
 use Rattle.pl_core.specs.Laws.{PullsReachTheHardenedEnd, PullsAboveAreDenied}
 use Rattle.pl_core.proofs.Allowed.{passes, clear}
 
@@ -64,19 +65,19 @@ decision-asked head lo hi max n m t e v h =
     rw (p1.0, p2.0, p3.0, p4.0, p5.0) (rows.0 ∙ rw matched refl)
 
 -- so it is allowed up to the hardened end
-asked_below : (h : History) (head : Head) (lo hi max n m : ℕ) → verdict_of (pull head lo hi max n) h ≡ verdicts.Allowed → m ≤ hard_of h.entries → verdict_of (pull head lo hi max m) h ≡ verdicts.Allowed
+asked_below : (h : History) (head : Head) (lo hi max n m : ℕ) → verdict_of (pull head lo hi max n) h ≡ verdicts.Allowed → m ≤ hard_of h → verdict_of (pull head lo hi max m) h ≡ verdicts.Allowed
 asked_below h head lo hi max n m allowed le =
-    decision-asked head lo hi max n m (table_of h) (epochs_of h) (view_of (acts.Pull lo hi n max) h.entries) allowed
-    ∙ rw (le-ltb (hard_of h.entries) m le) refl
+    decision-asked head lo hi max n m (table_of h) (epochs_of h) (view_of (acts.Pull lo hi n max) h) allowed
+    ∙ rw (le-ltb (hard_of h) m le) refl
 
 -- and denied above it
-asked_above : (h : History) (head : Head) (lo hi max n m : ℕ) → verdict_of (pull head lo hi max n) h ≡ verdicts.Allowed → hard_of h.entries < m → verdict_of (pull head lo hi max m) h ≡ verdicts.Denied sections.C 1 (hard_of h.entries)
+asked_above : (h : History) (head : Head) (lo hi max n m : ℕ) → verdict_of (pull head lo hi max n) h ≡ verdicts.Allowed → hard_of h < m → verdict_of (pull head lo hi max m) h ≡ verdicts.Denied sections.C 1 (hard_of h)
 asked_above h head lo hi max n m allowed lt =
-    decision-asked head lo hi max n m (table_of h) (epochs_of h) (view_of (acts.Pull lo hi n max) h.entries) allowed
-    ∙ rw (lt-ltb (hard_of h.entries) m lt) refl
+    decision-asked head lo hi max n m (table_of h) (epochs_of h) (view_of (acts.Pull lo hi n max) h) allowed
+    ∙ rw (lt-ltb (hard_of h) m lt) refl
 
-above_of : (head : Head) (act : Act) (h : History) (k : ℕ) → same_op (op_of act) ops.Pull ≡ true → verdict_of (record { head = head; act = act }) h ≡ verdicts.Allowed → hard_of h.entries < k
-    → verdict_of (asked_at (record { head = head; act = act }) k) h ≡ verdicts.Denied sections.C 1 (hard_of h.entries)
+above_of : (head : Head) (act : Act) (h : History) (k : ℕ) → same_op (op_of act) ops.Pull ≡ true → verdict_of (record { head = head; act = act }) h ≡ verdicts.Allowed → hard_of h < k
+    → verdict_of (asked_at (record { head = head; act = act }) k) h ≡ verdicts.Denied sections.C 1 (hard_of h)
 above_of head (acts.Write copy block) h k is_pull allowed lt = absurd cc
 above_of head (acts.Report lsn) h k is_pull allowed lt = absurd cc
 above_of head (acts.Failover primary) h k is_pull allowed lt = absurd cc
@@ -90,24 +91,28 @@ pulls_above h q is_pull allowed k lt = above_of q.head q.act h k is_pull allowed
 not_both : (v : Verdict) (value : ℕ) → v ≡ verdicts.Allowed → v ≡ verdicts.Denied sections.C 1 value → ⊥
 not_both v value e f = let clash : verdicts.Allowed ≡ verdicts.Denied sections.C 1 value = sym e ∙ f in cc
 
+later : (o : Option ℕ) (m n : ℕ) → m ≤ n → IfSome o (λ own. own ≤ m) → IfSome o (λ own. own ≤ n)
+later None m n le h = tt
+later (Some own) m n le h = omega (arith, le, h)
+
 -- where it is allowed, it is not above the hardened end
-greatest_of : (h : History) (q : Query) → same_op (op_of q.act) ops.Pull ≡ true → verdict_of q h ≡ verdicts.Allowed → first_number q.act ≤ hard_of h.entries → (k : ℕ) → IsAllowedTo h q k → k ≤ hard_of h.entries
+greatest_of : (h : History) (q : Query) → same_op (op_of q.act) ops.Pull ≡ true → verdict_of q h ≡ verdicts.Allowed → IfSome (number_of q.act) (λ own. own ≤ hard_of h) → (k : ℕ) → IsAllowedTo h q k → k ≤ hard_of h
 greatest_of h q is_pull allowed own k all =
-    elim (cases_lt (hard_of h.entries) k) [
-      | inl above ↦ absurd (not_both (verdict_of (asked_at q k) h) (hard_of h.entries) (all k (omega arith) (omega arith)) (pulls_above h q is_pull allowed k above))
+    elim (cases_lt (hard_of h) k) [
+      | inl above ↦ absurd (not_both (verdict_of (asked_at q k) h) (hard_of h) (all k (later (number_of q.act) (hard_of h) k (omega arith) own) (omega arith)) (pulls_above h q is_pull allowed k above))
       | inr below ↦ below
     ]
 
-own_of : (head : Head) (act : Act) (h : History) → same_op (op_of act) ops.Pull ≡ true → verdict_of (record { head = head; act = act }) h ≡ verdicts.Allowed → first_number act ≤ hard_of h.entries
+own_of : (head : Head) (act : Act) (h : History) → same_op (op_of act) ops.Pull ≡ true → verdict_of (record { head = head; act = act }) h ≡ verdicts.Allowed → IfSome (number_of act) (λ own. own ≤ hard_of h)
 own_of head (acts.Write copy block) h is_pull allowed = absurd cc
 own_of head (acts.Report lsn) h is_pull allowed = absurd cc
 own_of head (acts.Failover primary) h is_pull allowed = absurd cc
 own_of head acts.Status h is_pull allowed = absurd cc
 own_of head (acts.SetTable text) h is_pull allowed = absurd cc
 own_of head (acts.Pull lo hi lsn max) h is_pull allowed =
-    ltb-false (hard_of h.entries) lsn (clear (pull head lo hi max lsn) (table_of h) (epochs_of h) (view_of (acts.Pull lo hi lsn max) h.entries) allowed).by1
+    ltb-false (hard_of h) lsn (clear (pull head lo hi max lsn) (table_of h) (epochs_of h) (view_of (acts.Pull lo hi lsn max) h) allowed).by1
 
-allowed_of : (head : Head) (act : Act) (h : History) → same_op (op_of act) ops.Pull ≡ true → verdict_of (record { head = head; act = act }) h ≡ verdicts.Allowed → IsAllowedTo h (record { head = head; act = act }) (hard_of h.entries)
+allowed_of : (head : Head) (act : Act) (h : History) → same_op (op_of act) ops.Pull ≡ true → verdict_of (record { head = head; act = act }) h ≡ verdicts.Allowed → IsAllowedTo h (record { head = head; act = act }) (hard_of h)
 allowed_of head (acts.Write copy block) h is_pull allowed = absurd cc
 allowed_of head (acts.Report lsn) h is_pull allowed = absurd cc
 allowed_of head (acts.Failover primary) h is_pull allowed = absurd cc
@@ -119,3 +124,11 @@ pub pulls_reach : PullsReachTheHardenedEnd
 pulls_reach h q is_pull allowed =
     let own = own_of q.head q.act h is_pull allowed in
     record { own = own; allowed = allowed_of q.head q.act h is_pull allowed; greatest = greatest_of h q is_pull allowed own }
+
+-- and nothing else is its reach
+pub reach_is_hard : (h : History) (q : Query) (k : ℕ) → same_op (op_of q.act) ops.Pull ≡ true → verdict_of q h ≡ verdicts.Allowed → IsReach h q k → k ≡ hard_of h
+reach_is_hard h q k is_pull allowed reach =
+    let to = pulls_reach h q is_pull allowed in
+    let up = reach.greatest (hard_of h) to.allowed in
+    let down = to.greatest k reach.allowed in
+    omega (arith, up, down)

@@ -5,6 +5,12 @@ use Rattle.pl_core.specs.declared.reply.Reply.TheVariants as replies
 
 -- at most 16 blocks are served, and a code is 1 to 15
 abbrev pub FitsReply : Reply → Type 0
+FitsReply replies.Done = Unit {0}
 FitsReply (replies.Blocks next blocks) = length blocks ≤ 16
+FitsReply (replies.Status epoch primary hard pending landing) = Unit {0}
+FitsReply (replies.Denied section row value) = Unit {0}
+FitsReply replies.NoMemory = Unit {0}
+FitsReply replies.AuditFull = Unit {0}
+FitsReply replies.Spent = Unit {0}
+FitsReply replies.NoDatabase = Unit {0}
 FitsReply (replies.Malformed code) = (1 ≤ code) × (code ≤ 15)
-FitsReply _ = Unit {0}

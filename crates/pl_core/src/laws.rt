@@ -1,56 +1,58 @@
 //! What follows from the definitions, for the crates above. Each function is a law: its clauses
-//! hold of all histories, and its body does nothing but to call on a law of the log.
+//! hold of all histories, and its body does nothing but call a law of the log.
 
 ghost use Rattle.pl_core.specs.Laws.{DenialsChangeNothing, DeniedChangesNothing, LogsOnlyGrow};
 ghost use Rattle.pl_core.specs.Laws.{PullsReachTheHardenedEnd, PullsAboveAreDenied};
 ghost use Rattle.pl_core.specs.Laws.{ServedBlocksAreHardened, HardenedBlocksAreNumbered, PullsMissNothing, PullsJoin};
 ghost use Rattle.pl_core.specs.Laws.{OlderEpochsAreFenced, HistoriesStayLegal};
+ghost use Rattle.pl_core.specs.Laws.{NothingStandsAboveTheWindow, RunsEndInTheWindow};
+ghost use Rattle.pl_core.specs.Laws.{FullListsAreTold, UnknownPrincipalsAreTold, NoMemoryChangesNothing, StepsReplyTheirOwn};
 
-/// After a denial the hardened log, each number's content and the copies it stands in, the epoch, its
-/// primary and the table in force are what they were.
+/// After a denial the hardened log, its marks and their counts, each LSN's content and the copies it
+/// stands in, the epoch, its primary and the table in force are what they were.
 pub fn denials_change_nothing()
-    ensures same { DenialsChangeNothing }
-    ensures kept { DeniedChangesNothing }
+    ensures entry { DenialsChangeNothing }
+    ensures reply { DeniedChangesNothing }
 {}
 
-/// No entry takes a hardened block away, and a number that has a content keeps it to the end of the
+/// No entry takes a hardened block away, and an LSN that has a content keeps it to the end of the
 /// epoch.
 pub fn logs_only_grow()
-    ensures { LogsOnlyGrow }
+    ensures grows { LogsOnlyGrow }
 {}
 
-/// A known principal's request of an older epoch is denied A2 and told the present one: what it asks
-/// and what it would write make no difference.
+/// A known principal's request of an older epoch is denied by row A2 with the present epoch: what it
+/// asks and what it would write make no difference.
 pub fn older_epochs_are_fenced()
-    ensures { OlderEpochsAreFenced }
+    ensures fenced { OlderEpochsAreFenced }
 {}
 
-/// The hardened end is how far an allowed pull goes: asked at each number up to it, it is allowed,
-/// and at each number above it is denied.
+/// The hardened end is how far an allowed pull goes: asked at each LSN up to it, it is allowed,
+/// and at each LSN above it is denied.
 pub fn pulls_reach_the_hardened_end()
     ensures exact { PullsReachTheHardenedEnd }
     ensures only { PullsAboveAreDenied }
 {}
 
 /// Each block that a pull of a legal history is answered is hardened, touches a partition that was
-/// asked for, and has a number from the one asked to the hardened end.
+/// asked for, and has an LSN from the one asked to the hardened end.
 pub fn served_blocks_are_hardened()
     ensures members { ServedBlocksAreHardened }
     ensures rising { HardenedBlocksAreNumbered }
 {}
 
-/// Of one pull of a legal history: whatever was asked for below the number to go on from was served,
-/// each served block is below it, and it is above the number that was asked, so that each pull gets
+/// Of one pull of a legal history: whatever was asked for below the LSN to go on from was served,
+/// each served block is below it, and it is above the LSN that was asked, so that each pull gets
 /// further.
 pub fn pulls_miss_nothing()
-    ensures { PullsMissNothing }
+    ensures complete { PullsMissNothing }
 {}
 
 /// Two pulls in a row, the second asked where the first said to go on, serve what one pull would, also
-/// where the history has grown in between. So who goes on pulling where the last reply says gets each
-/// hardened block of the partitions once, in order.
+/// where the history has grown in between. So whoever goes on pulling where the last reply says gets
+/// each hardened block of the partitions once, in order.
 pub fn pulls_join()
-    ensures { PullsJoin }
+    ensures same { PullsJoin }
 {
     pl_log::pulls_join();
 }
@@ -58,4 +60,21 @@ pub fn pulls_join()
 /// A legal history stays legal with a request in its ranges, and a reply that it may have.
 pub fn histories_stay_legal()
     ensures legal { HistoriesStayLegal }
+{}
+
+/// In a legal history no LSN more than 64 above the hardened ones stands in a copy, so that the run
+/// that a failover hardens is the same however far one looks.
+pub fn runs_end_in_the_window()
+    ensures above { NothingStandsAboveTheWindow }
+    ensures same { RunsEndInTheWindow }
+{}
+
+/// What a reply says of the step that gave it: `AuditFull` comes exactly where the audit list is full,
+/// the denial of an unknown principal exactly where there is room and the principal is not known, and
+/// `NoMemory` enters nothing. `Spent`, `NoDatabase` and `Malformed` never come.
+pub fn replies_tell_their_cause()
+    ensures full { FullListsAreTold }
+    ensures unknown { UnknownPrincipalsAreTold }
+    ensures no_memory { NoMemoryChangesNothing }
+    ensures never { StepsReplyTheirOwn }
 {}

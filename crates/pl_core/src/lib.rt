@@ -6,10 +6,10 @@
 //! answered all follow from that list; the code keeps them at hand.
 #![tactic(auto)]
 
-mod changes;
 mod db;
 mod entry;
-mod laws;
+mod kept;
+pub mod laws;
 mod limits;
 mod line;
 mod reply;
@@ -18,10 +18,6 @@ mod step;
 mod verdict;
 
 pub use db::{Db, DbFault};
-pub use laws::{
-    denials_change_nothing, histories_stay_legal, logs_only_grow, older_epochs_are_fenced,
-    pulls_join, pulls_miss_nothing, pulls_reach_the_hardened_end, served_blocks_are_hardened,
-};
 pub use limits::Limits;
 pub use line::Line;
 pub use pl_block::NoMemory;

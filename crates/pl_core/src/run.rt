@@ -1,6 +1,8 @@
 //! A run: one step for each request, in order.
 
 ghost use Rattle.std.specs.Prelude.{◌≡◌, IfOk, OnErr};
+ghost use Rattle.std.specs.List.{All};
+ghost use Rattle.pl_core.specs.Reply.{FitsReply};
 ghost use Rattle.pl_core.specs.Run.{IsRun};
 
 use crate::db::Db;
@@ -9,11 +11,12 @@ use pl_table::Request;
 use std::alloc::AllocError;
 
 impl Db {
-    /// Takes one step for each request, each under the pass of its number, and gives the replies in
-    /// the same order. Room for them is made first: where it is refused, no step is taken.
+    /// Takes one step for each request, each under the pass of its number, and returns the replies in
+    /// the same order. Room for them is made first: where that fails, no step is taken.
     pub fn run(&mut self, requests: Vec<(u64, Request)>) -> Result<Vec<Reply>, AllocError>
         ensures run { IfOk result (λ replies.
             IsRun self.old requests.items replies.items self.new) }
+        ensures fits { IfOk result (λ replies. All FitsReply replies.items) }
         ensures err { OnErr result (self.new ≡ self.old) }
     {
         let mut replies = Vec::with_capacity(self.alloc, requests.len())?;

@@ -1,5 +1,0 @@
-use Rattle.pl_core.proofs.Denials.{denied_entry, denied_reply}
-use Rattle.pl_core.proofs.laws.denials_change_nothing.Goals as goal
-
-pub returns : goal.returns
-returns c = record { same = denied_entry; kept = denied_reply }
