@@ -29,7 +29,7 @@ IsTooLong (Some bytes) = longest_text < length bytes
 
 -- a table and its first primary, and an audit list of at most 65,536 entries
 abbrev pub start_with : WrittenTable → ℕ → Start
-start_with table primary = record { table = table; primary = primary; limit = 65536 }
+start_with table primary = record { table = table; primary = primary; limits = record { audit = 65536; chunks = 16 } }
 
 -- nothing was asked yet
 abbrev pub new_history : WrittenTable → ℕ → History

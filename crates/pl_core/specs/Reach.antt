@@ -2,7 +2,7 @@
 use Rattle.std.specs.Prelude.{◌≡◌, ℕ, ◌≤◌, IfSome}
 use Rattle.pl_table.specs.declared.verdict.Verdict.TheVariants as verdicts
 use Rattle.pl_table.specs.Request.{Query}
-use Rattle.pl_core.specs.Acts.{number_of, asked_at}
+use Rattle.pl_table.specs.Acts.{number_of, asked_at}
 use Rattle.pl_core.specs.History.{History}
 use Rattle.pl_core.specs.Verdict.{verdict_of}
 

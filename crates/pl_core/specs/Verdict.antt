@@ -6,7 +6,7 @@ use Rattle.pl_table.specs.declared.request.Act.{Act}
 use Rattle.pl_table.specs.declared.request.Act.TheVariants as acts
 use Rattle.pl_table.specs.declared.verdict.Verdict.{Verdict}
 use Rattle.pl_table.specs.Request.{Query}
-use Rattle.pl_decide.specs.declared.epochs.Epochs.{Epochs}
+use Rattle.pl_decide.specs.declared.view.Epochs.{Epochs}
 use Rattle.pl_decide.specs.declared.view.View.{View}
 use Rattle.pl_decide.specs.WrittenOrder.{decision}
 use Rattle.pl_core.specs.History.{History}

@@ -1,12 +1,14 @@
 //! What follows from the definitions, for the crates above. Each function is a law: its clauses
-//! hold of all histories, and its body does nothing but call a law of the log.
+//! hold of all histories, and its body does nothing but call laws of the crates below.
 
 ghost use Rattle.pl_core.specs.Laws.{DenialsChangeNothing, DeniedChangesNothing, LogsOnlyGrow};
 ghost use Rattle.pl_core.specs.Laws.{PullsReachTheHardenedEnd, PullsAboveAreDenied};
-ghost use Rattle.pl_core.specs.Laws.{ServedBlocksAreHardened, HardenedBlocksAreNumbered, PullsMissNothing, PullsJoin};
+ghost use Rattle.pl_core.specs.Laws.{ServedBlocksAreHardened, HardenedBlocksAreNumbered, HardenedBlocksAreBlocks, PullsMissNothing, PullsJoin};
 ghost use Rattle.pl_core.specs.Laws.{OlderEpochsAreFenced, HistoriesStayLegal};
 ghost use Rattle.pl_core.specs.Laws.{NothingStandsAboveTheWindow, RunsEndInTheWindow};
 ghost use Rattle.pl_core.specs.Laws.{FullListsAreTold, UnknownPrincipalsAreTold, NoMemoryChangesNothing, StepsReplyTheirOwn};
+
+use crate::lower::order_laws;
 
 /// After a denial the hardened log, its marks and their counts, each LSN's content and the copies it
 /// stands in, the epoch, its primary and the table in force are what they were.
@@ -25,28 +27,38 @@ pub fn logs_only_grow()
 /// asks and what it would write make no difference.
 pub fn older_epochs_are_fenced()
     ensures fenced { OlderEpochsAreFenced }
-{}
+{
+    order_laws();
+}
 
 /// The hardened end is how far an allowed pull goes: asked at each LSN up to it, it is allowed,
 /// and at each LSN above it is denied.
 pub fn pulls_reach_the_hardened_end()
     ensures exact { PullsReachTheHardenedEnd }
     ensures only { PullsAboveAreDenied }
-{}
+{
+    order_laws();
+}
 
 /// Each block that a pull of a legal history is answered is hardened, touches a partition that was
-/// asked for, and has an LSN from the one asked to the hardened end.
+/// asked for, and has an LSN from the one asked to the hardened end. The hardened blocks have the LSNs
+/// from 1 on, and each is a block by the grammar of blocks.
 pub fn served_blocks_are_hardened()
     ensures members { ServedBlocksAreHardened }
     ensures rising { HardenedBlocksAreNumbered }
-{}
+    ensures blocks { HardenedBlocksAreBlocks }
+{
+    order_laws();
+}
 
 /// Of one pull of a legal history: whatever was asked for below the LSN to go on from was served,
 /// each served block is below it, and it is above the LSN that was asked, so that each pull gets
 /// further.
 pub fn pulls_miss_nothing()
     ensures complete { PullsMissNothing }
-{}
+{
+    order_laws();
+}
 
 /// Two pulls in a row, the second asked where the first said to go on, serve what one pull would, also
 /// where the history has grown in between. So whoever goes on pulling where the last reply says gets
@@ -54,7 +66,8 @@ pub fn pulls_miss_nothing()
 pub fn pulls_join()
     ensures same { PullsJoin }
 {
-    pl_log::pulls_join();
+    order_laws();
+    pl_log::laws::pulls_join();
 }
 
 /// A legal history stays legal with a request in its ranges, and a reply that it may have.
@@ -67,7 +80,9 @@ pub fn histories_stay_legal()
 pub fn runs_end_in_the_window()
     ensures above { NothingStandsAboveTheWindow }
     ensures same { RunsEndInTheWindow }
-{}
+{
+    order_laws();
+}
 
 /// What a reply says of the step that gave it: `AuditFull` comes exactly where the audit list is full,
 /// the denial of an unknown principal exactly where there is room and the principal is not known, and
@@ -77,4 +92,6 @@ pub fn replies_tell_their_cause()
     ensures unknown { UnknownPrincipalsAreTold }
     ensures no_memory { NoMemoryChangesNothing }
     ensures never { StepsReplyTheirOwn }
-{}
+{
+    order_laws();
+}

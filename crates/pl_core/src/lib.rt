@@ -1,9 +1,9 @@
 //! One database: who may do what is decided, blocks are hardened and served, and each decision is
-//! entered in a list.
+//! entered in an audit list.
 //!
-//! A contract sees a [`Db`] as its history alone: what it began from, and what was decided of each
-//! request. Which blocks are hardened, what a window of numbers has and what the next request is
-//! answered all follow from that list; the code keeps them at hand.
+//! A contract sees a [`Db`] as its history alone: what it began from, and each entry with what it did.
+//! Which blocks are hardened, what stands above them and what the next request is answered all follow
+//! from the history; the code keeps them at hand.
 #![tactic(auto)]
 
 mod db;
@@ -12,6 +12,7 @@ mod kept;
 pub mod laws;
 mod limits;
 mod line;
+mod lower;
 mod reply;
 mod run;
 mod step;

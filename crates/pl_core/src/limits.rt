@@ -6,7 +6,7 @@ ghost use Rattle.pl_core.specs.Limits.{AreLimits};
 /// How much a database may hold.
 #[derive(Clone, Copy, Debug, PartialEq, Eq)]
 pub struct Limits {
-    /// The entries of the list of decisions, at least 1.
+    /// The most entries of the audit list, at least 1.
     pub audit: u64,
     /// The chunks of 64 page versions, 1 to 65,536. A database keeps no page.
     pub chunks: usize,
@@ -15,7 +15,7 @@ pub struct Limits {
 impl Limits {
     /// Whether both numbers are in their ranges.
     pub fn are_valid(&self) -> bool
-        ensures { IsTrue result ↔ AreLimits self.now.audit self.now.chunks }
+        ensures exact { IsTrue result ↔ AreLimits self.now.audit self.now.chunks }
     {
         1 <= self.audit && 1 <= self.chunks && self.chunks <= 65_536
     }

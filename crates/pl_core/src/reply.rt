@@ -13,7 +13,7 @@ const MAX_SERVED: usize = 16;
 /// The greatest code of a malformed body.
 const MAX_CODE: u8 = 15;
 
-/// Blocks in the order of their numbers.
+/// Blocks in the order of their LSNs.
 #[derive(Debug, Drop)]
 pub struct Blocks {
     items: Vec<Block>,
@@ -31,21 +31,21 @@ impl Model for Blocks {
 impl Blocks {
     /// These blocks.
     pub fn new(blocks: Vec<Block>) -> Blocks
-        ensures { result ≡ blocks.items }
+        ensures value { result ≡ blocks.items }
     {
         Blocks { items: blocks }
     }
 
     /// The blocks.
     pub fn as_slice(&self) -> &[Block]
-        ensures { result.now ≡ self.now }
+        ensures value { result.now ≡ self.now }
     {
         &self.items
     }
 
-    /// The blocks as a `Vec`, which takes no memory.
+    /// The blocks as a `Vec`, without an allocation.
     pub fn into_vec(self) -> Vec<Block>
-        ensures { result.items ≡ self }
+        ensures value { result.items ≡ self }
     {
         let Blocks { items } = self;
         items
@@ -57,12 +57,12 @@ impl Blocks {
 pub enum Reply {
     /// The request was carried out.
     Done,
-    /// The blocks of a pull, at most 16, and the number from which to go on.
+    /// The blocks of a pull, at most 16, and the LSN from which to go on.
     Blocks {
         next: u64,
         blocks: Blocks,
     },
-    /// The current epoch and its primary, the number of the last hardened block, 0 where there is
+    /// The current epoch and its primary, the LSN of the last hardened block, 0 where there is
     /// none, and how many blocks were hardened from the pending area and from the landing zone.
     Status {
         epoch: u32,
@@ -71,16 +71,16 @@ pub enum Reply {
         pending: u64,
         landing: u64,
     },
-    /// The first row of the written order that stands against the request, and the value that it
-    /// tells. But for the entry of the denial nothing has changed.
+    /// The first row of the written order that stands against the request, by section and number, and
+    /// the value that it reports. But for the entry of the denial nothing has changed.
     Denied {
         section: Section,
         row: u16,
         value: u64,
     },
-    /// Memory was refused. Nothing has changed.
+    /// An allocation failed. Nothing has changed.
     NoMemory,
-    /// The list of decisions holds as many entries as it may. Nothing has changed.
+    /// The audit list holds as many entries as it may. Nothing has changed.
     AuditFull,
     /// Has a number in the format. Never from a step of the database.
     Spent,
@@ -96,7 +96,7 @@ impl Reply {
     /// Whether counts and codes are in the ranges of the reply format, so that the reply can be
     /// written.
     pub fn fits(&self) -> bool
-        ensures { IsTrue result ↔ FitsReply self.now }
+        ensures exact { IsTrue result ↔ FitsReply self.now }
     {
         match self {
             Reply::Blocks { blocks, .. } => blocks.as_slice().len() <= MAX_SERVED,

@@ -1,15 +1,17 @@
 //! The verdict on a request: what is kept is looked at, and the history is what it stands for.
 
 ghost use Rattle.std.specs.Prelude.{◌≡◌, ◌+◌, ◌<◌, ◌≤◌, true, length, IfSome};
-ghost use Rattle.pl_core.specs.Acts.{number_of};
+ghost use Rattle.pl_block.specs.Bounds.{window};
+ghost use Rattle.pl_table.specs.Acts.{block_of};
 ghost use Rattle.pl_core.specs.Epoch.{epoch_of, table_of};
 ghost use Rattle.pl_core.specs.Keeping.{table_at};
 ghost use Rattle.pl_core.specs.Log.{copies_of, hard_of};
-ghost use Rattle.pl_decide.specs.WrittenOrder.{is_known};
+ghost use Rattle.pl_decide.specs.Asked.{is_known};
 ghost use Rattle.pl_core.specs.Verdict.{agrees, can_harden, verdict_of};
 
 use crate::db::Db;
 use crate::entry::Entry;
+use crate::lower::order_laws;
 use pl_decide::{View, known};
 use pl_table::{Act, Head, Request, Table, Verdict};
 
@@ -49,8 +51,9 @@ impl Db {
         ensures can_harden { request.now.head.epoch ≡ epoch_of self.now →
             result.can_harden ≡ can_harden request.now.act self.now }
         ensures agrees { request.now.head.epoch ≡ epoch_of self.now →
-            IfSome (number_of request.now.act) (λ n. hard_of self.now < n × n ≤ hard_of self.now + 64) →
-            result.agrees ≡ agrees request.now.act self.now }
+            IfSome (block_of request.now.act) (λ block. hard_of self.now < block.lsn →
+            block.lsn ≤ hard_of self.now + window →
+            result.agrees ≡ agrees request.now.act self.now) }
     {
         let log = &self.kept.log;
         let in_epoch = request.head().epoch == self.kept.epochs.epoch;
@@ -76,9 +79,10 @@ impl Db {
         ensures value { result ≡ verdict_of request.now self.old }
         ensures same { self.new ≡ self.old }
     {
+        order_laws();
         let epochs = self.epochs();
         let view = self.view(request);
         let table = table_at(&self.table, &self.entries, self.kept.in_force);
-        self.decider.decide(table, &epochs, &view, request)
+        self.decider.decide_known(table, &epochs, &view, request)
     }
 }

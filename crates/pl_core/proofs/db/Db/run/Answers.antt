@@ -12,3 +12,6 @@ returns-clause-run c =
     let none : c.loop-pass_no.left.items ≡ [] = nil_from_length c.loop-pass_no.left.items (sym c.loop-pass_no.left.ok.0 ∙ empty.0) in
     let done : IsRun h (reverse c.loop-pass_no.left.items) [] h = subst (λ (qs : List (ℕ × Query)). IsRun h (reverse qs) [] h) (sym none) refl in
     subst (λ (rs : List Reply). IsRun c.args.self.now c.args.requests.items rs h) (append-nil c.loop-pass_no.replies.items) (c.loop-pass_no.invariant.goes_on [] h done)
+
+pub returns-clause-fits : goal.returns-clause-fits
+returns-clause-fits c = c.loop-pass_no.invariant.fits

@@ -1,5 +1,5 @@
 use Rattle.std.proofs.Common.{◌≡◌, sym, ap, ◌∙◌}
-use Rattle.pl_decide.specs.declared.epochs.Epochs.{Epochs}
+use Rattle.pl_decide.specs.declared.view.Epochs.{Epochs}
 use Rattle.pl_table.specs.declared.request.Act.{Act}
 use Rattle.pl_table.specs.declared.request.Act.TheVariants as acts
 use Rattle.pl_table.specs.declared.head.Head.{Head}
@@ -14,11 +14,11 @@ pub returns-clause-can_harden : goal.returns-clause-can_harden
 returns-clause-can_harden c =
     let d = c.self.inside in
     let h = history_kept (record { table = d.table; primary = d.primary; limits = d.limits }) d.kept d.entries.items in
-    let present : d.kept.epochs.epoch ≡ epoch_of c.args.self.now = ap (λ (e : Epochs). e.epoch) c.self.invariant.epochs ∙ ap epoch_of c.self.view_is in
+    let present : d.kept.epochs.epoch ≡ epoch_of c.args.self.now = ap (λ (e : Epochs). e.epoch) c.self.invariant.history.epochs ∙ ap epoch_of c.self.view_is in
     λ now. elim c.match-act-2.branch [
-      | in-Report+then-not-in_epoch-2 w ↦ absurd (w.if-not-in_epoch-2.true (ap (λ (x : Head). x.epoch) c.head.ensures ∙ now ∙ sym present))
+      | in-Report+then-not-in_epoch-2 w ↦ absurd (w.if-not-in_epoch-2.true (ap (λ (x : Head). x.epoch) c.head.ensures.value ∙ now ∙ sym present))
       | in-Report+else-not-in_epoch-2 w ↦
-          w.can_harden-is ∙ w.can_harden.ensures ∙ can_harden_by h d.kept.log w.in-Report.lsn c.self.invariant.log
+          w.can_harden-is ∙ w.can_harden.ensures.value ∙ can_harden_by h d.kept.log w.in-Report.lsn c.self.invariant.history.log
           ∙ ap (can_harden (acts.Report w.in-Report.lsn)) c.self.view_is
           ∙ ap (λ (a : Act). can_harden a c.args.self.now) (sym w.in-Report.is ∙ c.act-2.ensures.value)
       | in_default-act w ↦ w.can_harden-is ∙ sym (can_harden_other c.args.request.now.act c.args.self.now (λ lsn e. w.in_default-act.not-Report lsn (c.act-2.ensures.value ∙ e)))
