@@ -167,3 +167,28 @@ act 4 9 fill 20 65507           = fault 6
 fn longest_text(rt: HostRuntime) -> Result<(), Fail> {
     plays::<Wire>(&rt, rt.alloc(), LONGEST_TEXT)
 }
+
+// No UTF-8: a byte that is none, a wrong second byte, and half of a character.
+const BYTES_THAT_ARE_NO_TEXT: &str = "\
+act 4 9 ff                      = set_table 1 fault 1
+act 4 9 2320 c328 0a            = set_table 5 fault 1
+act 4 9 2320 c3                 = set_table 3 fault 1
+act 4 9 2320 c3a9 0a            = set_table 5 fault 3
+";
+
+#[test]
+fn bytes_that_are_no_text(rt: HostRuntime) -> Result<(), Fail> {
+    plays::<Wire>(&rt, rt.alloc(), BYTES_THAT_ARE_NO_TEXT)
+}
+
+// The head that a request lends is the one that it gives up.
+const PARTS_OF_A_REQUEST: &str = "\
+body 00000003 00000000000000000000000000000000 02 00000000 00000001 05 \
+0001 0002 0000000000000003 0004 \
+= 3 00000000000000000000000000000000 secondary 0 1 pull 1 2 3 4
+";
+
+#[test]
+fn parts_of_a_request(rt: HostRuntime) -> Result<(), Fail> {
+    plays::<Wire>(&rt, rt.alloc(), PARTS_OF_A_REQUEST)
+}
