@@ -1,4 +1,4 @@
--- What a block is: a number and records, and the partitions that they touch.
+-- What a block is: an LSN and records, and the partitions that they touch.
 use Rattle.std.specs.Prelude.{ℕ, ◌+◌, ◌/◌, ◌^◌, ◌<◌, ◌≤◌, Bool, ◌&&◌, ◌==◌, nat_lt, if◌then◌else◌, List, [], ◌∷◌, length, fold}
 use Rattle.std.specs.Cmp.Lexicographic.{pointwise}
 use Rattle.std.specs.Str.{bytes_eq}
@@ -6,7 +6,7 @@ use Rattle.pl_block.specs.Bounds.{page_size}
 use Rattle.pl_block.specs.declared.record.Record.{Record}
 use Rattle.pl_block.specs.declared.record.Record.TheVariants.{Put}
 
--- a block as its number and its records
+-- a block as its LSN and its records
 pub record Content : Type 0 where
   pub lsn : ℕ
   pub records : List Record

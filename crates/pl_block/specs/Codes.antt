@@ -1,8 +1,9 @@
--- The numbers of the block format's faults.
+-- The codes of the block format's faults.
 use Rattle.std.specs.Prelude.{ℕ}
 use Rattle.pl_block.specs.declared.fault.Fault.{Fault}
 use Rattle.pl_block.specs.declared.fault.Fault.TheVariants.{EndsInField, NumberOutOfRange, PartitionNotAbove, UnknownKind, EmptyPut, PutPastPage, BytesAfterEnd, WrongAnnotations, TooLong}
 
+-- the code of a fault
 abbrev pub code_of : Fault → ℕ
 code_of EndsInField = 1
 code_of NumberOutOfRange = 2

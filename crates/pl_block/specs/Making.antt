@@ -1,4 +1,4 @@
--- Making a block of a number and records, with the first fault that is met.
+-- Making a block of an LSN and records, with the first fault that is met.
 use Rattle.std.specs.Prelude.{ℕ, List, [], ◌∷◌, length, Result, Ok}
 use Rattle.pl_block.specs.declared.fault.Fault.{Fault}
 use Rattle.pl_block.specs.declared.record.Record.{Record}
@@ -17,6 +17,6 @@ unfoldable pub records_fault : List Record → Result (Unit {0}) Fault
 records_fault [] = Ok tt
 records_fault (first ∷ others) = record_fault first >>= λ _. records_fault others
 
--- what a number and records make: a block, or the fault that is told
+-- what an LSN and records make: a block, or the fault that is met first
 unfoldable pub block_made : ℕ → List Record → Result Content Fault
 block_made lsn records = lsn_fault lsn >>= λ _. records_fault records >>= λ _. len_fault (length (block_spelling (record { lsn = lsn; records = records }))) >>= λ _. Ok (record { lsn = lsn; records = records })

@@ -14,7 +14,7 @@ use Rattle.pl_block.specs.Faults.{◌>>=◌}
 abbrev pub number_at : Width → List ℕ → Result (ℕ × List ℕ) Fault
 number_at w bytes = if nat_lt (length bytes) (byte_len w) then Err EndsInField else Ok (from_be_bytes w (take (byte_len w) bytes), drop (byte_len w) bytes)
 
--- the fault of a block's number, if any: it is 1 to last_lsn
+-- the fault of a block's LSN, if any: it is 1 to last_lsn
 abbrev pub lsn_fault : ℕ → Result (Unit {0}) Fault
 lsn_fault lsn = if lsn == 0 || nat_lt last_lsn lsn then Err NumberOutOfRange else Ok tt
 
@@ -26,7 +26,7 @@ put_fault offset len = if len == 0 then Err EmptyPut else if nat_lt page_size (o
 abbrev pub len_fault : ℕ → Result (Unit {0}) Fault
 len_fault len = if nat_lt longest_block len then Err TooLong else Ok tt
 
--- the block's number
+-- the block's LSN
 unfoldable pub lsn_at : List ℕ → Result (ℕ × List ℕ) Fault
 lsn_at bytes = number_at w64 bytes >>= λ lsn. lsn_fault lsn.0 >>= λ _. Ok lsn
 

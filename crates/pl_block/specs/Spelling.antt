@@ -15,11 +15,11 @@ annotations ps = to_be_bytes w16 (length ps) ++ flat_map (to_be_bytes w16) ps
 abbrev pub record_spelling : Record → List ℕ
 record_spelling (Put page offset bytes) = 1 ∷ (to_be_bytes w32 page ++ (to_be_bytes w16 offset ++ (to_be_bytes w16 (length bytes) ++ bytes)))
 
--- number, annotations, a count and the records
+-- LSN, annotations, a count and the records
 abbrev pub block_spelling : Content → List ℕ
 block_spelling b = to_be_bytes w64 b.lsn ++ (annotations (touched b.records) ++ (to_be_bytes w16 (length b.records) ++ flat_map record_spelling b.records))
 
--- the number is in its range, each record is one, and the spelling is not too long
+-- the LSN is in its range, each record is one, and the spelling is not too long
 pub record IsBlock (b : Content) : Type 0 where
   pub positive : 0 < b.lsn
   pub in_range : b.lsn ≤ last_lsn

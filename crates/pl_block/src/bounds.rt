@@ -18,7 +18,7 @@ pub const LONGEST_BLOCK: usize = 32_768;
 /// The bytes of a page.
 pub const PAGE_SIZE: usize = 8_192;
 
-/// Whether a block can have the number.
+/// Whether a block can have the LSN.
 pub(crate) fn check_lsn(lsn: u64) -> Result<(), Fault>
     ensures value { result ≡ lsn_fault lsn }
 {

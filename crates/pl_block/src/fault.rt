@@ -1,4 +1,4 @@
-//! Why bytes are no block, and why a number and records make none.
+//! Why bytes are no block, and why an LSN and records make none.
 
 ghost use Rattle.std.specs.Prelude.{◌≡◌, ◌≤◌};
 ghost use Rattle.pl_block.specs.declared.fault.Fault.TheVariants.{EndsInField};
@@ -13,11 +13,11 @@ use std::alloc::{AllocError, AllocFailed};
 pub enum Fault {
     /// The bytes end inside a field.
     EndsInField = 1,
-    /// The block's number is 0 or above 2^48.
+    /// The block's LSN is 0 or above 2^48.
     NumberOutOfRange = 2,
     /// An annotated partition is not above the one before it.
     PartitionNotAbove = 3,
-    /// A record's kind is not the number of a kind of record.
+    /// A record's kind is not known.
     UnknownKind = 4,
     /// A Put has no bytes.
     EmptyPut = 5,
@@ -32,21 +32,21 @@ pub enum Fault {
 }
 
 impl Fault {
-    /// The fault's number in the block format, 1 to 9.
+    /// The fault's code in the block format, 1 to 9.
     pub fn code(self) -> u8
         ensures value { result ≡ code_of self }
-        ensures small { result ≤ 9 }
+        ensures fits { (1 ≤ result) × (result ≤ 9) }
     {
         self as u8
     }
 }
 
-/// Why a call gave no value.
+/// Why a call gave no value: what it was given is malformed, or memory ran out.
 #[derive(Debug, Drop)]
 pub enum Failed<F> {
-    /// What was handed in is malformed: the first fault, in the order that the call tells.
+    /// What was given is malformed, by this fault. The call says which of several faults is reported.
     Malformed(F),
-    /// Out of memory: an allocation failed.
+    /// An allocation failed.
     NoMemory,
 }
 
@@ -56,7 +56,7 @@ pub type BlockFault = Failed<Fault>;
 impl<F: Drop> From<AllocError> for Failed<F> {
     ghost from_gives = { λ _ e. e ≡ NoMemory };
 
-    fn from(_refused: AllocError) -> Failed<F> {
+    fn from(_failed: AllocError) -> Failed<F> {
         Failed::NoMemory
     }
 }
@@ -64,7 +64,7 @@ impl<F: Drop> From<AllocError> for Failed<F> {
 impl<T: Drop, F: Drop> From<AllocFailed<T>> for Failed<F> {
     ghost from_gives = { λ _ e. e ≡ NoMemory };
 
-    fn from(_refused: AllocFailed<T>) -> Failed<F> {
+    fn from(_failed: AllocFailed<T>) -> Failed<F> {
         Failed::NoMemory
     }
 }

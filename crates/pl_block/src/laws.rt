@@ -1,11 +1,11 @@
 //! What the definitions say of one another, for the crates above. Each function is a law: its
-//! clauses hold of all blocks and bytes, and its body does nothing.
+//! clause holds of all blocks and bytes. It does nothing when run.
 
 ghost use Rattle.std.specs.Prelude.{◌≡◌, ◌↔◌, IsTrue};
 ghost use Rattle.pl_block.specs.Block.{Content, same_block};
 ghost use Rattle.pl_block.specs.Laws.{OneSpelling};
 
-/// Two blocks that are the same by the test are equal, and no others are.
+/// The test of sameness holds of equal blocks, and of no others.
 pub fn same_blocks_are_equal()
     ensures law { (a b : Content) → IsTrue (same_block a b) ↔ (a ≡ b) }
 {}

@@ -1,8 +1,9 @@
-//! Log blocks: a number and the page records written under it, and the one spelling of each block
-//! in bytes.
+//! Log blocks: an LSN and the page records written under it, and the one spelling of each block in
+//! bytes.
 //!
-//! A contract sees a [`Block`] as its number and its records. That the code also keeps the list of
-//! the partitions touched, and that blocks share their bytes, is seen by no contract.
+//! A contract sees a [`Block`] as its LSN and its records. That a block also keeps the partitions
+//! that it touches and the length of its spelling, and that blocks share their bytes, is seen by no
+//! contract. The bounds and the kind of failure that every crate shares stand here too.
 #![tactic(auto)]
 
 mod block;

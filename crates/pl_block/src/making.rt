@@ -1,4 +1,4 @@
-//! A block, made of a number and records.
+//! A block, made of an LSN and records.
 
 ghost use Rattle.std.specs.Prelude.{◌≡◌, ◌+◌, ◌*◌, ◌^◌, ◌<◌, ◌≤◌, length, IfOk, Ok};
 ghost use Rattle.std.specs.List.{AllByRecursion, flat_map};
@@ -66,7 +66,7 @@ fn spelling_len(partitions: &[u16], records: &[Record]) -> usize
     len
 }
 
-// What the number and the records make, with the partitions that they touch.
+// What the LSN and the records make, with what is kept beside them.
 #[tactic(auto, unfolding(crate::specs::Making::block_made))]
 fn parts_of(alloc: Global, lsn: u64, records: Vec<Record>) -> Result<Parts, BlockFault>
     ensures exact { Returns result (block_made lsn records.items) }
@@ -87,19 +87,19 @@ fn parts_of(alloc: Global, lsn: u64, records: Vec<Record>) -> Result<Parts, Bloc
 }
 
 impl Block {
-    /// A block of the number, 1 to 2^48, and the records, which are kept as they stand: each Put has
-    /// at least one byte and ends within its page, and the spelling has at most 32,768 bytes.
+    /// A block of the LSN and the records, which are kept as they stand. The LSN is 1 to 2^48, each
+    /// Put has at least one byte and ends within its page, and the spelling has at most 32,768 bytes.
     ///
-    /// The number is tested first, then each record in turn, and the length of the spelling last.
-    /// After a fault the records are dropped.
+    /// The LSN is tested first, then each record in turn, and the length of the spelling last. After
+    /// a fault the records are dropped.
     pub fn new(alloc: Global, lsn: u64, records: Vec<Record>) -> Result<Block, BlockFault>
         ensures valid { IfOk result (λ b. IsBlock b) }
-        // What is a block is made, unless memory runs out.
+        // Whatever is a block is made, unless memory runs out.
         ensures only { IsBlock (record { lsn = lsn; records = records.items }) →
             Returns result (Ok (record { lsn = lsn; records = records.items })) }
         // Which fault it is.
         ensures exact { Returns result (block_made lsn records.items) }
-        // Memory runs out only where the number and each record are in their ranges.
+        // Memory runs out only after the tests of the LSN and of the records.
         ensures no_memory { result ≡ Err NoMemory →
             (1 ≤ lsn) × (lsn ≤ last_lsn) × (records_fault records.items ≡ Ok tt) }
     {

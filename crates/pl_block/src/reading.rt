@@ -106,7 +106,7 @@ fn check_annotations(
     Ok(())
 }
 
-// The number, the annotations and the records of a block.
+// The LSN, the annotations and the records of a block.
 #[tactic(auto, unfolding(crate::specs::Reading::block_reading))]
 fn fields_of(alloc: Global, input: Bytes) -> Result<(u64, Vec<u16>, Vec<Record>), BlockFault>
     ensures exact { Gives (λ x. record { lsn = x.0; records = x.2.items }) result
@@ -143,7 +143,7 @@ fn parts_in(alloc: Global, input: Bytes) -> Result<Parts, BlockFault>
     })
 }
 
-/// The block that the bytes spell. The records keep the bytes of the input, and none is copied.
+/// The block that the bytes spell. Its records keep the bytes of the input, and none is copied.
 ///
 /// The first fault is reported in the order of the format: the length of the input, then each
 /// field from the front, then bytes that are left over, and the annotations last.
@@ -154,7 +154,7 @@ pub fn decode(alloc: Global, input: Bytes) -> Result<Block, BlockFault>
     ensures only { (b : Content) → IsBlock b → input ≡ block_spelling b → Returns result (Ok b) }
     // Which fault it is.
     ensures exact { Returns result (block_reading input) }
-    // What is too long is refused before memory is asked for.
+    // Memory runs out only after the test of the length.
     ensures no_memory { result ≡ Err NoMemory → length input ≤ longest_block }
 {
     each_is_byte(input.as_slice());

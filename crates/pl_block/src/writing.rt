@@ -56,8 +56,7 @@ fn put_records(out: &mut Vec<u8>, records: &[Record]) -> Result<(), AllocError>
     Ok(())
 }
 
-/// How many bytes the spelling of the block has, at least 12. The number is kept, so no record is
-/// looked at.
+/// The length of the spelling of the block, at least 12. It is kept, so the call costs nothing.
 pub fn encoded_len(block: &Block) -> usize
     ensures value { result ≡ length (block_spelling block.now) }
     ensures fits { result ≤ longest_block }
@@ -76,12 +75,12 @@ fn put_block(out: &mut Vec<u8>, block: &Block) -> Result<(), AllocError>
     put_records(out, records)
 }
 
-/// Appends the one spelling of the block to `out`. Memory is asked for once, where `out` lacks
-/// room for the whole of it; where the allocation fails, `out` has what it had.
+/// Appends the one spelling of the block to `out`. Memory is asked for once, and only where `out`
+/// lacks room for the whole of it. Where the allocation fails, `out` has what it had.
 pub fn encode_onto(out: &mut Vec<u8>, block: &Block) -> Result<(), AllocError>
     ensures ok { OnOk result (out.new.items ≡ out.old.items ++ block_spelling block.now) }
     ensures err { OnErr result (out.new.items ≡ out.old.items) }
-    // It fails only where `out` lacks room for the spelling, and takes no more room than that.
+    // It fails only where the spelling does not fit in the room left, and uses no more than that.
     ensures spare { UsesSpare result out.old out.new (length (block_spelling block.now)) }
     ensures fits { length (block_spelling block.now) ≤ longest_block }
 {
@@ -89,7 +88,7 @@ pub fn encode_onto(out: &mut Vec<u8>, block: &Block) -> Result<(), AllocError>
     put_block(out, block)
 }
 
-/// The one spelling of the block. Memory is asked for once, and for no more bytes than it has.
+/// The one spelling of the block, in a vector of its own, for which memory is asked once.
 pub fn encode(alloc: Global, block: &Block) -> Result<Vec<u8>, AllocError>
     ensures ok { IfOk result (λ bytes. bytes.items ≡ block_spelling block.now) }
     ensures fits { IfOk result (λ bytes. length bytes.items ≤ longest_block) }

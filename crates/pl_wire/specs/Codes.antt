@@ -1,4 +1,4 @@
--- The numbers of the faults of a body.
+-- The codes of the faults of a body.
 use Rattle.std.specs.Prelude.{ℕ, ◌+◌}
 use Rattle.pl_block.specs.Codes as blocks
 use Rattle.pl_block.specs.declared.fault.Failed.{Failed}
@@ -17,7 +17,7 @@ code_of BytesAfterEnd = 5
 code_of OutOfRange = 6
 code_of (Block fault) = blocks.code_of fault + 6
 
--- why there is no body where there is no block
+-- why a write could not be read, where its block could not
 abbrev pub of_block : Failed Fault → Failed WireFault
 of_block (Malformed fault) = Malformed (Block fault)
 of_block NoMemory = NoMemory

@@ -39,11 +39,11 @@ abbrev pub write_reading : List ℕ → Result Act WireFault
 write_reading [] = Err EndsInField
 write_reading (copy ∷ bytes) = write_to copy (block_reading bytes)
 
--- a number, and no more
+-- an LSN, and no more
 abbrev pub report_reading : List ℕ → Result Act WireFault
 report_reading bytes = sized 8 bytes (Report (number_in w64 0 bytes))
 
--- partitions from and to, number and count, and no more
+-- partitions from and to, LSN and count, and no more
 abbrev pub pull_reading : List ℕ → Result Act WireFault
 pull_reading bytes = sized 14 bytes (Pull (number_in w16 0 bytes) (number_in w16 2 bytes) (number_in w64 4 bytes) (number_in w16 12 bytes))
 
@@ -91,11 +91,11 @@ request_reading body = do
   act ← act_reading opening.1 (drop 30 body)
   ranged opening.0 act
 
--- only a write with a copy and a set_table ask for memory
+-- an operation whose arguments are kept, and so ask for memory: a write with a copy, or a set_table
 abbrev pub AsksMemory : Op → List ℕ → Type 0
 AsksMemory op arguments = ((op ≡ ops.Write) × (1 ≤ length arguments)) ⊎ (op ≡ ops.SetTable)
 
--- and only behind a head whose role is known
+-- a body for which memory may run out: behind a head whose role is known, an operation that asks for it
 pub record MayLackMemory (body : List ℕ) : Type 0 where
   pub op : Op
   pub long : 30 ≤ length body

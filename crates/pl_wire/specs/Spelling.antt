@@ -7,7 +7,7 @@ use Rattle.pl_table.specs.declared.request.Act.TheVariants.{Write, Report, Pull,
 use Rattle.pl_table.specs.Ops.{role_number, op_number}
 use Rattle.pl_table.specs.Request.{Query, op_of}
 
--- the arguments: copy and block; a number; partitions from and to, number and count; none; a text
+-- the arguments: copy and block; an LSN; partitions from and to, LSN and count; none; a principal; a text
 abbrev pub act_spelling : Act → List ℕ
 act_spelling (Write copy block) = copy ∷ block_spelling block
 act_spelling (Report lsn) = to_be_bytes w64 lsn

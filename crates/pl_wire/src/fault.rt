@@ -29,7 +29,7 @@ pub enum WireFault {
 }
 
 impl WireFault {
-    /// The fault's number in the format of bodies, 1 to 15.
+    /// The fault's code in the format of bodies, 1 to 15.
     pub fn code(self) -> u8
         ensures value { result ≡ code_of self }
         ensures fits { (1 ≤ result) × (result ≤ 15) }

@@ -1,6 +1,5 @@
 //! What the definitions say of one another, for the crates above. Each function is a law: its
-//! clause holds of all requests, replies and bytes, and its body does nothing but to call on the
-//! law of blocks.
+//! clause holds of all requests, replies and bytes. It does nothing when run.
 
 ghost use Rattle.pl_wire.specs.Laws.{FramesEndThemselves, OneReplySpelling, OneRequestSpelling};
 

@@ -1,7 +1,7 @@
 //! Requests and replies as bytes, and the frame in which a served block stands.
 //!
 //! Each request and each reply that fits has one spelling. What is read is the request of its
-//! spelling, and bytes that spell none are told the fault of the least code.
+//! spelling; of bytes that spell none, the fault of the least code is reported.
 #![tactic(auto)]
 
 mod decoding;
