@@ -3,8 +3,8 @@ use Rattle.std.specs.Prelude.{◌≡◌, ◌<◌, ℕ, ⊤, List, [], length, Op
 use Rattle.pl_table.specs.Table.{WrittenTable, token_of}
 use Rattle.pl_table.specs.TableText.{table_reading}
 use Rattle.pl_table.specs.declared.fault.TableFault.{TableFault}
-use Rattle.pl_table.specs.declared.fault.ReadFault.{ReadFault}
-use Rattle.pl_table.specs.declared.fault.ReadFault.TheVariants as texts
+use Rattle.pl_block.specs.declared.fault.Failed.{Failed}
+use Rattle.pl_block.specs.declared.fault.Failed.TheVariants as texts
 use Rattle.pl_core.specs.History.{Start, History}
 use Rattle.pl_core.specs.declared.db.DbFault.{DbFault}
 use Rattle.pl_core.specs.declared.db.DbFault.TheVariants as dbs
@@ -57,7 +57,7 @@ start_fault_of_file files.Long = faults.File
 start_fault_of_file files.NoMemory = faults.NoMemory
 
 -- the fault of the start where the text gave no table
-abbrev pub start_fault_of_text : ReadFault → StartFault
+abbrev pub start_fault_of_text : Failed TableFault → StartFault
 start_fault_of_text (texts.Malformed fault) = faults.Table fault
 start_fault_of_text texts.NoMemory = faults.NoMemory
 
