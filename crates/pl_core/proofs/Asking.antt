@@ -1,5 +1,5 @@
 -- How far a pull goes.
-use Rattle.std.proofs.Common.{◌≡◌, ℕ, ◌<◌, ◌≤◌, true, Option, None, Some, refl, sym, ◌∙◌, inl, inr, arith}
+use Rattle.std.proofs.Common.{◌≡◌, ℕ, ◌<◌, ◌≤◌, true, Option, None, Some, sym, ◌∙◌, inl, inr, arith}
 use Rattle.std.specs.Prelude.{IfSome}
 use Rattle.std.proofs.lemmas.Bool.{cases_lt}
 use Rattle.pl_table.specs.declared.head.Head.{Head}
@@ -16,7 +16,7 @@ use Rattle.pl_core.specs.History.{History}
 use Rattle.pl_core.specs.Epoch.{table_of}
 use Rattle.pl_core.specs.Log.{hard_of}
 use Rattle.pl_core.specs.Verdict.{epochs_of, view_of, verdict_of}
-use Rattle.pl_core.specs.Reach.{IsAllowedTo, IsReach}
+use Rattle.pl_core.specs.Reach.{IsReach}
 use Rattle.pl_core.specs.Laws.{PullsReachTheHardenedEnd, PullsAboveAreDenied}
 use Rattle.pl_core.specs.Performing.{OrderLaws}
 
