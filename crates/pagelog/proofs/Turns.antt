@@ -4,7 +4,7 @@ use Rattle.std.specs.List.{concat}
 use Rattle.std.proofs.lemmas.List.{length-replicate}
 use Rattle.std.proofs.lemmas.List.Folds.{concat-append}
 use Rattle.std.specs.Prelude.{Option, ⊤, Result, Err, IfErr}
-use Rattle.std.specs.Io.KnownBytes.{Appends, Keeps}
+use Rattle.std.specs.Io.KnownBytes.{Appends}
 use Rattle.std.proofs.KnownBytes.{Appends-nil, Appends-trans, Keeps-refl}
 use Rattle.pagelog.specs.Lines.{lines_of, longest_line, TakesLine, BeginsLong, IsLong, OnFirst, input_fault_at}
 use Rattle.pagelog.specs.declared.lines.InputFault.{InputFault}
