@@ -1,0 +1,62 @@
+-- Replays of a log that grows, and of one block more.
+use Rattle.std.proofs.Common.{◌≡◌, ℕ, zero, suc, ◌+◌, ◌-◌, ◌≤◌, List, [], ◌∷◌, ◌++◌, length, take, replicate, Some, Result, Ok, Err, OnOk, is_ok, if◌then◌else◌, slice_get, refl, sym, ap, ◌∙◌, arith, length-append}
+use Rattle.std.proofs.lemmas.List.{length-replicate}
+use Rattle.std.proofs.lemmas.Option.{slice_get_within, get_or_from_slice_get}
+use Rattle.std.proofs.Math.Seq.{take-suc}
+use Rattle.std.proofs.lemmas.List.Sums.{fold-append}
+use Rattle.pl_block.specs.Bounds.{page_size}
+use Rattle.std.proofs.lemmas.List.{take-append-le}
+use Rattle.pl_block.specs.Block.{Content}
+use Rattle.pl_pages.specs.Page.{zeros, after_blocks, page_at, after_block}
+use Rattle.pl_pages.specs.State.{Version, PagesState, AreVersions, FitsLog}
+
+-- a page at an LSN of a log is that of each longer log
+pub page_of_longer : (page lsn : ℕ) (log more : List Content) → lsn ≤ length log → page_at page lsn (log ++ more) ≡ page_at page lsn log
+page_of_longer page lsn log more within = ap (after_blocks page zeros) (take-append-le lsn log more within)
+
+versions_of_longer : (vs : List Version) (log more : List Content) → AreVersions vs log → AreVersions vs (log ++ more)
+versions_of_longer [] log more are = tt
+versions_of_longer (v ∷ vs) log more are =
+    ((omega (arith, are.0.0, length-append log more), are.0.1 ∙ sym (page_of_longer v.page v.lsn log more are.0.0)), versions_of_longer vs log more are.1)
+
+pub fits_longer : (pages : PagesState) (log more : List Content) → FitsLog pages log → FitsLog pages (log ++ more)
+fits_longer pages log more fits = record {
+  applied = λ partition. omega (arith, fits.applied partition, length-append log more);
+  versions = versions_of_longer pages.versions log more fits.versions;
+}
+
+-- the replay of one block more
+pub block_more : (page : ℕ) (old : List ℕ) (log : List Content) (k : ℕ) (block : Content) → slice_get log k ≡ Some block → after_block page (after_blocks page old (take k log)) block ≡ after_blocks page old (take (k + 1) log)
+block_more page old log k block is =
+    let within = slice_get_within log k block is in
+    let more : k + 1 ≡ suc k = omega arith in
+    let here : take (k + 1) log ≡ take k log ++ block ∷ [] = ap (λ n. take n log) more ∙ take-suc log k block within ∙ ap (λ b. take k log ++ b ∷ []) (get_or_from_slice_get log k block block is) in
+    sym (ap (after_blocks page old) here ∙ fold-append (after_block page) old (take k log) (block ∷ []))
+
+no_bytes : List ℕ
+no_bytes = []
+
+take_none : (m : ℕ) (xs : List ℕ) → take m no_bytes ++ xs ≡ xs
+unfolding no_bytes
+take_none zero xs = refl
+take_none (suc m) xs = refl
+
+from_none : (m : ℕ) → take m no_bytes ++ replicate (m - 0) 0 ≡ replicate m 0
+from_none m =
+    let all : m - 0 ≡ m = omega arith in
+    ap (λ k. take m no_bytes ++ replicate k 0) all ∙ take_none m (replicate m 0)
+
+-- a list that is cleared and filled up again has zeros alone
+pub blanked : {U E : Type 0} (r : Result U E) (n len : ℕ) (old new : List ℕ) → old ≡ [] → len ≡ 0 → new ≡ (if is_ok r then take n old ++ replicate (n - len) 0 else old) → OnOk r (new ≡ replicate n 0)
+unfolding no_bytes
+blanked (Ok u) n len old new none at_start is = is ∙ ap (λ xs. take n xs ++ replicate (n - len) 0) none ∙ ap (λ k. take n no_bytes ++ replicate (n - k) 0) at_start ∙ from_none n
+blanked (Err e) n len old new none at_start is = tt
+
+pub length-zeros : length zeros ≡ page_size
+unfolding zeros
+length-zeros = let none : ℕ = 0 in length-replicate page_size none
+
+-- what holds anyway holds where a call succeeded
+pub anyway : {U E : Type 0} (r : Result U E) (P : Type 0) → P → OnOk r P
+anyway (Ok u) P p = p
+anyway (Err e) P p = tt

@@ -1,0 +1,4 @@
+pub mod Page
+pub mod State
+pub mod Ends
+pub mod Laws
