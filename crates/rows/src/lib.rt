@@ -29,7 +29,11 @@ mod logs;
 #[cfg(test)]
 mod numbers;
 #[cfg(test)]
+mod offers;
+#[cfg(test)]
 mod one_database;
+#[cfg(test)]
+mod pages;
 #[cfg(test)]
 mod reply_bodies;
 #[cfg(test)]
