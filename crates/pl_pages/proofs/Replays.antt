@@ -8,21 +8,22 @@ use Rattle.pl_block.specs.Bounds.{page_size}
 use Rattle.std.proofs.lemmas.List.{take-append-le}
 use Rattle.pl_block.specs.Block.{Content}
 use Rattle.pl_pages.specs.Page.{zeros, after_blocks, page_at, after_block}
-use Rattle.pl_pages.specs.State.{Version, PagesState, AreVersions, FitsLog}
+use Rattle.pl_pages.specs.State.{Version, PagesState, IsVersion, FitsLog}
 
 -- a page at an LSN of a log is that of each longer log
 pub page_of_longer : (page lsn : ℕ) (log more : List Content) → lsn ≤ length log → page_at page lsn (log ++ more) ≡ page_at page lsn log
 page_of_longer page lsn log more within = ap (after_blocks page zeros) (take-append-le lsn log more within)
 
-versions_of_longer : (vs : List Version) (log more : List Content) → AreVersions vs log → AreVersions vs (log ++ more)
-versions_of_longer [] log more are = tt
-versions_of_longer (v ∷ vs) log more are =
-    ((omega (arith, are.0.0, length-append log more), are.0.1 ∙ sym (page_of_longer v.page v.lsn log more are.0.0)), versions_of_longer vs log more are.1)
+version_of_longer : (log more : List Content) (v : Version) → IsVersion log v → IsVersion (log ++ more) v
+version_of_longer log more v is = record {
+  within = omega (arith, is.within, length-append log more);
+  bytes = is.bytes ∙ sym (page_of_longer v.page v.lsn log more is.within);
+}
 
 pub fits_longer : (pages : PagesState) (log more : List Content) → FitsLog pages log → FitsLog pages (log ++ more)
 fits_longer pages log more fits = record {
   applied = λ partition. omega (arith, fits.applied partition, length-append log more);
-  versions = versions_of_longer pages.versions log more fits.versions;
+  versions = λ k d within. version_of_longer log more _ (fits.versions k d within);
 }
 
 -- the replay of one block more

@@ -1,5 +1,5 @@
 -- What is kept of pages, as contracts see it, and when it fits a log.
-use Rattle.std.specs.Prelude.{◌≡◌, ℕ, ◌/◌, ◌≤◌, Bool, ◌&&◌, not, nat_le, List, [], ◌∷◌, length, slice_index_or, if◌then◌else◌}
+use Rattle.std.specs.Prelude.{◌≡◌, ℕ, ◌/◌, ◌≤◌, Bool, ◌&&◌, not, nat_le, All, List, length, slice_index_or, if◌then◌else◌}
 use Rattle.pl_block.specs.Block.{Content}
 use Rattle.pl_pages.specs.Page.{page_at}
 
@@ -28,10 +28,14 @@ chosen applied lsn exact = if not exact && nat_le lsn applied then applied else 
 abbrev pub choice_of : PagesState → ℕ → ℕ → Bool → ℕ
 choice_of pages page lsn exact = chosen (applied_at pages (page / 65536)) lsn exact
 
--- each version is its page at an LSN of the log
+-- a version is its page at an LSN of the log
+pub record IsVersion (log : List Content) (v : Version) : Type 0 where
+  pub within : v.lsn ≤ length log
+  pub bytes : v.bytes ≡ page_at v.page v.lsn log
+
+-- each is
 abbrev pub AreVersions : List Version → List Content → Type 0
-AreVersions [] log = Unit {0}
-AreVersions (v ∷ vs) log = ((v.lsn ≤ length log) × (v.bytes ≡ page_at v.page v.lsn log)) × AreVersions vs log
+AreVersions vs log = All (IsVersion log) vs
 
 -- what is kept of pages fits a log: no partition is applied above its end, and versions are pages of it
 pub record FitsLog (pages : PagesState) (log : List Content) : Type 0 where
