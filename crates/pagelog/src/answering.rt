@@ -10,8 +10,9 @@ ghost use Rattle.pagelog.specs.Text.{line_text};
 use crate::fault::PlayFault;
 use crate::text::line_of_bytes;
 use crate::writing::write_whole;
+use bytes::Bytes;
 use pl_core::{Db, Reply};
-use pl_wire::{BodyFault, decode_request, encode_reply};
+use pl_wire::{BodyFault, decode_request_shared, encode_reply};
 use std::alloc::{AllocError, Global};
 use std::io::Write;
 
@@ -23,16 +24,16 @@ const NO_MEMORY: &[u8] = b"06\n";
 
 /// Replies to one body: by a step of the database, or by the fault that makes the body no request.
 ///
-/// A step that runs out of memory has a reply too. `AllocError` comes where a block or a table's
-/// text could not be copied, before any step.
-pub(crate) fn reply_to(alloc: Global, body: &[u8], db: &mut Db) -> Result<Reply, AllocError>
+/// A written block keeps the bytes of the body. A step that runs out of memory has a reply too.
+/// `AllocError` comes where the records of a block or a table's text found no memory, before any step.
+pub(crate) fn reply_to(alloc: Global, body: Bytes, db: &mut Db) -> Result<Reply, AllocError>
     ensures answers { IfOk result (λ reply.
-        AnswersBody own_pass db.old body.now (reply_spelling reply) db.new) }
+        AnswersBody own_pass db.old body (reply_spelling reply) db.new) }
     ensures fits { IfOk result (λ reply. FitsReply reply) }
     ensures same { OnErr result (db.new ≡ db.old) }
-    ensures copied { OnErr result (IsCopied body.now) }
+    ensures copied { OnErr result (IsCopied body) }
 {
-    match decode_request(alloc, body) {
+    match decode_request_shared(alloc, body) {
         Ok(request) => Ok(db.step(PASS, request)),
         Err(BodyFault::Malformed(fault)) => Ok(Reply::Malformed { code: fault.code() }),
         Err(BodyFault::NoMemory) => Err(AllocError),

@@ -9,6 +9,7 @@ use crate::answering::{reply_to, write_reply};
 use crate::fault::PlayFault;
 use crate::lines::take_line;
 use crate::text::bytes_of_line;
+use bytes::Bytes;
 use pl_core::Db;
 use std::alloc::Global;
 use std::io::{BufRead, Write};
@@ -61,6 +62,9 @@ fn play_line<W: Write>(
         Ok(body) => body,
         Err(fault) => return Err(fault.at_line(number)),
     };
-    let reply = reply_to(alloc, body.as_slice(), db)?;
+    let Ok(body) = Bytes::from_vec(body) else {
+        return Err(PlayFault::NoMemory);
+    };
+    let reply = reply_to(alloc, body, db)?;
     write_reply(alloc, &reply, writer)
 }
