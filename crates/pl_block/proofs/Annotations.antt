@@ -6,7 +6,7 @@ use Rattle.std.proofs.lemmas.Bool.{le-ltb}
 use Rattle.std.proofs.lemmas.List.Concat.{flat_map-cons}
 use Rattle.pl_block.specs.declared.fault.Fault.TheVariants.{PartitionNotAbove}
 use Rattle.pl_block.specs.declared.record.Record.{Record}
-use Rattle.pl_block.specs.declared.record.Record.TheVariants.{Put}
+use Rattle.pl_block.specs.declared.record.Record.TheVariants.{Put, Zero}
 use Rattle.pl_block.specs.Block.{partition_of, touched, IsRecord}
 use Rattle.pl_block.specs.Spelling.{annotations}
 use Rattle.pl_block.specs.Laws.{AreBytes}
@@ -62,6 +62,7 @@ annotations_again ps rest rises fits few =
 
 partition_of-small : (r : Record) → IsRecord r → partition_of r < 2 ^ 16
 partition_of-small (Put page offset bytes) h = omega (arith, h.0)
+partition_of-small (Zero page) h = omega (arith, h)
 
 partitions_small : (records : List Record) → AllByRecursion IsRecord records → (p : ℕ) → In p (map partition_of records) → p < 2 ^ 16
 partitions_small [] h p i = absurd i

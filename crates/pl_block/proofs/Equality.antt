@@ -5,7 +5,7 @@ use Rattle.std.specs.Cmp.Lexicographic.{pointwise}
 use Rattle.std.proofs.lemmas.Bool.{eqb-true, eq-eqb}
 use Rattle.std.proofs.lemmas.Slice.Eq.{bytes_eq-Decides, slice_eq-Decides}
 use Rattle.pl_block.specs.declared.record.Record.{Record}
-use Rattle.pl_block.specs.declared.record.Record.TheVariants.{Put}
+use Rattle.pl_block.specs.declared.record.Record.TheVariants.{Put, Zero}
 use Rattle.pl_block.specs.Block.{Content, same_record, same_block}
 
 both : (a b : Bool) → (a && b) ≡ true → (a ≡ true) × (b ≡ true)
@@ -29,6 +29,12 @@ same_record-Decides (Put p o b) (Put q u c) = (
       let texts : b ≡ c = cc in
       rw (eq-eqb p q pages, eq-eqb o u offsets, (bytes_eq-Decides b c).1 texts) refl,
 )
+same_record-Decides (Zero p) (Zero q) = (
+  λ e. ap Zero (eqb-true p q e),
+  λ e. let pages : p ≡ q = cc in eq-eqb p q pages,
+)
+same_record-Decides (Put p o b) (Zero q) = (λ e. absurd cc, λ e. absurd cc)
+same_record-Decides (Zero p) (Put q u c) = (λ e. absurd cc, λ e. absurd cc)
 
 -- blocks are one where their numbers and records are
 Content-same : (a b : Content) → a.lsn ≡ b.lsn → a.records ≡ b.records → a ≡ b
@@ -45,8 +51,18 @@ same_block-Decides a b =
     )
 
 -- tests that agree on records agree on lists of them
-pub pointwise-agree : (test : Record → Record → Bool) → ((p o q u : ℕ) (b c : List ℕ) → test (Put p o b) (Put q u c) ≡ (eqb p q && (eqb o u && bytes_eq b c))) → (xs ys : List Record) → pointwise test xs ys ≡ pointwise same_record xs ys
+pub pointwise-agree : (test : Record → Record → Bool) → ((x y : Record) → test x y ≡ same_record x y) → (xs ys : List Record) → pointwise test xs ys ≡ pointwise same_record xs ys
 pointwise-agree test is [] [] = refl
 pointwise-agree test is [] (y ∷ ys) = refl
 pointwise-agree test is (x ∷ xs) [] = refl
-pointwise-agree test is (Put p o b ∷ xs) (Put q u c ∷ ys) = rw (is, pointwise-agree test is xs ys) refl
+pointwise-agree test is (x ∷ xs) (y ∷ ys) = rw (is, pointwise-agree test is xs ys) refl
+
+-- a test that is told of each two variants agrees on records
+pub same_record-agree : (test : Record → Record → Bool)
+    → ((p o q u : ℕ) (b c : List ℕ) → test (Put p o b) (Put q u c) ≡ (eqb p q && (eqb o u && bytes_eq b c))) → ((p q : ℕ) → test (Zero p) (Zero q) ≡ eqb p q)
+    → ((p o q : ℕ) (b : List ℕ) → test (Put p o b) (Zero q) ≡ false) → ((p q u : ℕ) (c : List ℕ) → test (Zero p) (Put q u c) ≡ false)
+    → (x y : Record) → test x y ≡ same_record x y
+same_record-agree test puts zeros put_zero zero_put (Put p o b) (Put q u c) = puts p o q u b c
+same_record-agree test puts zeros put_zero zero_put (Zero p) (Zero q) = zeros p q
+same_record-agree test puts zeros put_zero zero_put (Put p o b) (Zero q) = put_zero p o q b
+same_record-agree test puts zeros put_zero zero_put (Zero p) (Put q u c) = zero_put p q u c

@@ -4,6 +4,6 @@ pub mod Fields
 pub mod Fronts
 pub mod Annotations
 pub mod Spare
-pub mod Puts
+pub mod Records
 pub mod Spellings
 pub mod RecordFaults

@@ -13,9 +13,9 @@ use Rattle.pl_block.specs.Spelling.{record_spelling, block_spelling, IsBlock}
 use Rattle.pl_block.specs.Faults.{◌>>=◌, Returns}
 use Rattle.pl_block.specs.Reading.{lsn_fault, len_fault}
 use Rattle.pl_block.specs.Making.{record_fault, records_fault, block_made}
-use Rattle.pl_block.specs.declared.record.Record.TheVariants.{Put}
+use Rattle.pl_block.specs.declared.record.Record.TheVariants.{Put, Zero}
 use Rattle.pl_block.proofs.Fields.{bind_ok, guard_ok}
-use Rattle.pl_block.proofs.Puts.{put_fault-none}
+use Rattle.pl_block.proofs.Records.{put_fault-none}
 use Rattle.pl_block.proofs.Spellings.{length-counted, lsn_fault-ok, lsn_fault-none}
 
 -- the record at a place, and those after it
@@ -95,6 +95,7 @@ len_fault-told lsn records ps rs counted told all exact long =
 
 record_fault-none : (r : Record) → IsRecord r → record_fault r ≡ Ok tt
 record_fault-none (Put page offset bytes) h = put_fault-none offset (length bytes) h.1 h.2
+record_fault-none (Zero page) h = refl
 
 records_fault-none : (records : List Record) → AllByRecursion IsRecord records → records_fault records ≡ Ok tt
 unfolding records_fault

@@ -12,7 +12,7 @@ use Rattle.std.proofs.lemmas.Slice.Eq.{bytes_eq-Decides}
 use Rattle.pl_block.specs.declared.fault.Fault.{Fault}
 use Rattle.pl_block.specs.declared.fault.Fault.TheVariants.{NumberOutOfRange, TooLong, BytesAfterEnd, WrongAnnotations}
 use Rattle.pl_block.specs.declared.record.Record.{Record}
-use Rattle.pl_block.specs.declared.record.Record.TheVariants.{Put}
+use Rattle.pl_block.specs.declared.record.Record.TheVariants.{Put, Zero}
 use Rattle.pl_block.specs.Bounds.{longest_block}
 use Rattle.pl_block.specs.Block.{Content, touched, IsRecord}
 use Rattle.pl_block.specs.Spelling.{annotations, record_spelling, block_spelling, IsBlock}
@@ -23,14 +23,15 @@ use Rattle.pl_block.specs.Reading.{number_at, lsn_fault, len_fault, lsn_at, anno
 use Rattle.pl_block.proofs.Fields.{bind_ok, guard_ok, ok_is, IsFront, IsFront-then, wide16, wide64, number_takes, number_again}
 use Rattle.pl_block.proofs.Touched.{RisesFrom-touched}
 use Rattle.pl_block.proofs.Annotations.{length-partitions, annotations_take, annotations_again, touched_small}
-use Rattle.pl_block.proofs.Puts.{records_take, records_again}
+use Rattle.pl_block.proofs.Records.{records_take, records_again}
 
 -- ---- lengths
 
-record_spelling-long : (r : Record) → IsRecord r → 10 ≤ length (record_spelling r)
+record_spelling-long : (r : Record) → IsRecord r → 5 ≤ length (record_spelling r)
 record_spelling-long (Put page offset bytes) h = simp length-append (omega (arith, h.1))
+record_spelling-long (Zero page) h = omega arith
 
-pub records_long : (records : List Record) → AllByRecursion IsRecord records → 10 * length records ≤ length (flat_map record_spelling records)
+pub records_long : (records : List Record) → AllByRecursion IsRecord records → 5 * length records ≤ length (flat_map record_spelling records)
 records_long [] h = omega arith
 records_long (r ∷ rs) h = rw (flat_map-cons record_spelling r rs, length-append (record_spelling r) (flat_map record_spelling rs)) (omega (arith, records_long rs h.1, record_spelling-long r h.0))
 

@@ -2,7 +2,7 @@
 use Rattle.std.specs.Prelude.{ℕ, List, [], ◌∷◌, length, Result, Ok}
 use Rattle.pl_block.specs.declared.fault.Fault.{Fault}
 use Rattle.pl_block.specs.declared.record.Record.{Record}
-use Rattle.pl_block.specs.declared.record.Record.TheVariants.{Put}
+use Rattle.pl_block.specs.declared.record.Record.TheVariants.{Put, Zero}
 use Rattle.pl_block.specs.Block.{Content}
 use Rattle.pl_block.specs.Faults.{◌>>=◌}
 use Rattle.pl_block.specs.Spelling.{block_spelling}
@@ -11,6 +11,7 @@ use Rattle.pl_block.specs.Reading.{lsn_fault, put_fault, len_fault}
 -- the fault of one record, if any
 abbrev pub record_fault : Record → Result (Unit {0}) Fault
 record_fault (Put page offset bytes) = put_fault offset (length bytes)
+record_fault (Zero page) = Ok tt
 
 -- the fault of the first faulty record, if any
 unfoldable pub records_fault : List Record → Result (Unit {0}) Fault

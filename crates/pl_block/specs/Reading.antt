@@ -6,7 +6,7 @@ use Rattle.pl_block.specs.Bounds.{last_lsn, longest_block, page_size}
 use Rattle.pl_block.specs.declared.fault.Fault.{Fault}
 use Rattle.pl_block.specs.declared.fault.Fault.TheVariants.{EndsInField, NumberOutOfRange, PartitionNotAbove, UnknownKind, EmptyPut, PutPastPage, BytesAfterEnd, WrongAnnotations, TooLong}
 use Rattle.pl_block.specs.declared.record.Record.{Record}
-use Rattle.pl_block.specs.declared.record.Record.TheVariants.{Put}
+use Rattle.pl_block.specs.declared.record.Record.TheVariants.{Put, Zero}
 use Rattle.pl_block.specs.Block.{Content, touched}
 use Rattle.pl_block.specs.Faults.{◌>>=◌}
 
@@ -51,10 +51,16 @@ put_at bytes = do
   len ← number_at w16 offset.1
   put_fault offset.0 len.0 >>= λ _. if nat_lt (length len.1) len.0 then Err EndsInField else Ok (Put page.0 offset.0 (take len.0 len.1), drop len.0 len.1)
 
+-- page
+unfoldable pub zero_at : List ℕ → Result (Record × List ℕ) Fault
+zero_at bytes = do
+  page ← number_at w32 bytes
+  Ok (Zero page.0, page.1)
+
 -- a kind, and what the kind has
 unfoldable pub record_at : List ℕ → Result (Record × List ℕ) Fault
 record_at [] = Err EndsInField
-record_at (kind ∷ rest) = if kind == 1 then put_at rest else Err UnknownKind
+record_at (kind ∷ rest) = if kind == 1 then put_at rest else if kind == 2 then zero_at rest else Err UnknownKind
 
 -- so many records
 unfoldable pub records_at : ℕ → List ℕ → Result (List Record × List ℕ) Fault

@@ -4,16 +4,17 @@ use Rattle.std.specs.List.{flat_map, AllByRecursion}
 use Rattle.std.specs.Int.{w16, w32, w64, to_be_bytes}
 use Rattle.pl_block.specs.Bounds.{last_lsn, longest_block}
 use Rattle.pl_block.specs.declared.record.Record.{Record}
-use Rattle.pl_block.specs.declared.record.Record.TheVariants.{Put}
+use Rattle.pl_block.specs.declared.record.Record.TheVariants.{Put, Zero}
 use Rattle.pl_block.specs.Block.{Content, touched, IsRecord}
 
 -- a count, and the partitions
 abbrev pub annotations : List ℕ → List ℕ
 annotations ps = to_be_bytes w16 (length ps) ++ flat_map (to_be_bytes w16) ps
 
--- kind, page, offset, length, bytes
+-- kind and page, and of a Put offset, length, bytes
 abbrev pub record_spelling : Record → List ℕ
 record_spelling (Put page offset bytes) = 1 ∷ (to_be_bytes w32 page ++ (to_be_bytes w16 offset ++ (to_be_bytes w16 (length bytes) ++ bytes)))
+record_spelling (Zero page) = 2 ∷ to_be_bytes w32 page
 
 -- LSN, annotations, a count and the records
 abbrev pub block_spelling : Content → List ℕ

@@ -20,13 +20,20 @@ fn check_record(entry: &Record) -> Result<(), Fault>
     ensures value { result ≡ record_fault entry.now }
     ensures valid { IfOk result (λ _. IsRecord entry.now) }
 {
-    let Record::Put {
-        page,
-        offset,
-        bytes,
-    } = entry;
-    is_u32(page);
-    check_put(*offset, bytes.len())
+    match entry {
+        Record::Put {
+            page,
+            offset,
+            bytes,
+        } => {
+            is_u32(page);
+            check_put(*offset, bytes.len())
+        }
+        Record::Zero { page } => {
+            is_u32(page);
+            Ok(())
+        }
+    }
 }
 
 fn check_records(records: &[Record]) -> Result<(), Fault>
@@ -43,8 +50,10 @@ fn record_len(entry: &Record) -> usize
     ensures value { result ≡ length (record_spelling entry.now) }
     ensures fits { result < 2 ^ 63 + 9 }
 {
-    let Record::Put { bytes, .. } = entry;
-    9 + bytes.len()
+    match entry {
+        Record::Put { bytes, .. } => 9 + bytes.len(),
+        Record::Zero { .. } => 5,
+    }
 }
 
 // The length of the spelling of a block with these partitions and records, where a block can

@@ -6,12 +6,12 @@ ghost use Rattle.pl_block.specs.Bounds.{longest_block};
 ghost use Rattle.pl_block.specs.Spelling.{IsBlock, block_spelling};
 ghost use Rattle.pl_block.specs.declared.fault.Failed.TheVariants.{NoMemory};
 ghost use Rattle.pl_block.specs.Faults.{Gives, Reads, Returns, Takes};
-ghost use Rattle.pl_block.specs.Reading.{lsn_at, rising_at, annotations_at, annotations_fault, put_at, record_at, records_at, block_reading};
+ghost use Rattle.pl_block.specs.Reading.{lsn_at, rising_at, annotations_at, annotations_fault, put_at, zero_at, record_at, records_at, block_reading};
 
 use crate::block::{Block, Parts};
 use crate::bounds::{check_len, check_lsn, check_put};
 use crate::fault::{BlockFault, Fault};
-use crate::record::{PUT, Record, touched_partitions};
+use crate::record::{PUT, Record, ZERO, touched_partitions};
 use crate::seen::each_is_byte;
 use bytes::{Buf, Bytes};
 use std::alloc::Global;
@@ -69,12 +69,21 @@ fn take_put(rest: &mut Bytes) -> Result<Record, BlockFault>
     })
 }
 
+#[tactic(auto, unfolding(crate::specs::Reading::zero_at))]
+fn take_zero(rest: &mut Bytes) -> Result<Record, BlockFault>
+    ensures exact { Takes (λ x. x) result rest.new (zero_at rest.old) }
+{
+    let page = rest.try_get_u32()?;
+    Ok(Record::Zero { page })
+}
+
 #[tactic(auto, unfolding(crate::specs::Reading::record_at))]
 fn take_record(rest: &mut Bytes) -> Result<Record, BlockFault>
     ensures exact { Takes (λ x. x) result rest.new (record_at rest.old) }
 {
     match rest.try_get_u8()? {
         PUT => take_put(rest),
+        ZERO => take_zero(rest),
         _ => Err(BlockFault::Malformed(Fault::UnknownKind)),
     }
 }

@@ -1,7 +1,7 @@
 //! One change to one page.
 
 ghost use Rattle.std.specs.Prelude.{◌≡◌, IfOk, map};
-ghost use Rattle.pl_block.specs.Block.{partition_of, touched};
+ghost use Rattle.pl_block.specs.Block.{changed_page, partition_of, touched};
 
 use bytes::Bytes;
 use std::alloc::{AllocError, Global};
@@ -11,6 +11,9 @@ pub const PAGES_PER_PARTITION: u32 = 65_536;
 
 /// The number of a Put among the kinds of record.
 pub(crate) const PUT: u8 = 1;
+
+/// The number of a Zero among them.
+pub(crate) const ZERO: u8 = 2;
 
 /// A change to one page.
 #[derive(Debug, Drop, PartialEq)]
@@ -22,15 +25,27 @@ pub enum Record {
         offset: u16,
         bytes: Bytes,
     },
+    /// Makes each byte of the page 0.
+    Zero {
+        page: u32,
+    },
 }
 
 impl Record {
+    /// The page that the record changes.
+    pub fn page(&self) -> u32
+        ensures value { result ≡ changed_page self.now }
+    {
+        match self {
+            Record::Put { page, .. } | Record::Zero { page } => *page,
+        }
+    }
+
     /// The partition of the page that the record changes.
     pub fn partition(&self) -> u16
         ensures value { result ≡ partition_of self.now }
     {
-        let Record::Put { page, .. } = self;
-        (*page / PAGES_PER_PARTITION) as u16
+        (self.page() / PAGES_PER_PARTITION) as u16
     }
 }
 

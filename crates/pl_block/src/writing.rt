@@ -8,7 +8,7 @@ ghost use Rattle.pl_block.specs.Spelling.{annotations, record_spelling, block_sp
 ghost use Rattle.pl_block.specs.Spare.{UsesSpare};
 
 use crate::block::Block;
-use crate::record::{PUT, Record};
+use crate::record::{PUT, Record, ZERO};
 use bytes::BufMut;
 use std::alloc::{AllocError, Global};
 
@@ -29,16 +29,23 @@ fn put_record(out: &mut Vec<u8>, entry: &Record) -> Result<(), AllocError>
     ensures ok { OnOk result (out.new.items ≡ out.old.items ++ record_spelling entry.now) }
     ensures spare { UsesSpare result out.old out.new (length (record_spelling entry.now)) }
 {
-    let Record::Put {
-        page,
-        offset,
-        bytes,
-    } = entry;
-    out.put_u8(PUT)?;
-    out.put_u32(*page)?;
-    out.put_u16(*offset)?;
-    out.put_u16(bytes.len() as u16)?;
-    out.put_slice(bytes.as_slice())
+    match entry {
+        Record::Put {
+            page,
+            offset,
+            bytes,
+        } => {
+            out.put_u8(PUT)?;
+            out.put_u32(*page)?;
+            out.put_u16(*offset)?;
+            out.put_u16(bytes.len() as u16)?;
+            out.put_slice(bytes.as_slice())
+        }
+        Record::Zero { page } => {
+            out.put_u8(ZERO)?;
+            out.put_u32(*page)
+        }
+    }
 }
 
 fn put_records(out: &mut Vec<u8>, records: &[Record]) -> Result<(), AllocError>

@@ -1,7 +1,7 @@
-//! A block as a word, `LSN:PUT,PUT..`, and the other way round.
+//! A block as a word, `LSN:RECORD,RECORD..`, and the other way round.
 //!
 //! A Put is its bytes in hexadecimal, or `COUNT*BYTE`, and `@PAGE` or `@PAGE+OFFSET` behind them
-//! where they do not stand at the beginning of page 0.
+//! where they do not stand at the beginning of page 0. A Zero is `zero`, and `@PAGE` likewise.
 
 use crate::answer::push_numbers;
 use crate::transcript::Stop;
@@ -19,8 +19,13 @@ fn bytes_of(alloc: Global, text: &str) -> Result<Vec<u8>, Stop> {
     }
 }
 
-fn put_of(alloc: Global, text: &str) -> Result<Record, Stop> {
+fn record_of(alloc: Global, text: &str) -> Result<Record, Stop> {
     let (bytes, place) = text.split_once('@').unwrap_or((text, "0"));
+    if bytes == "zero" {
+        return Ok(Record::Zero {
+            page: place.parse()?,
+        });
+    }
     let (page, offset) = place.split_once('+').unwrap_or((place, "0"));
     Ok(Record::Put {
         page: page.parse()?,
@@ -31,11 +36,11 @@ fn put_of(alloc: Global, text: &str) -> Result<Record, Stop> {
 
 /// The number and the records of the word.
 pub(crate) fn parts_of(alloc: Global, word: &str) -> Result<(u64, Vec<Record>), Stop> {
-    let (lsn, puts) = word.split_once(':').ok_or(Stop::Unread)?;
+    let (lsn, entries) = word.split_once(':').ok_or(Stop::Unread)?;
     let mut records = Vec::new(alloc);
-    for put in puts.split(',') {
-        if !put.is_empty() {
-            records.push(put_of(alloc, put)?)?;
+    for entry in entries.split(',') {
+        if !entry.is_empty() {
+            records.push(record_of(alloc, entry)?)?;
         }
     }
     Ok((lsn.parse()?, records))
@@ -47,22 +52,33 @@ pub(crate) fn block_of(alloc: Global, word: &str) -> Result<Block, Stop> {
     Ok(Block::new(alloc, lsn, records)?)
 }
 
-fn push_put(out: &mut String, put: &Record) -> Result<(), Stop> {
-    let Record::Put {
-        page,
-        offset,
-        bytes,
-    } = put;
-    for byte in bytes.as_slice() {
-        write!(out, "{byte:02x}")?;
-    }
-    if *page != 0 || *offset != 0 {
+fn push_place(out: &mut String, page: u32, offset: u16) -> Result<(), Stop> {
+    if page != 0 || offset != 0 {
         write!(out, "@{page}")?;
     }
-    if *offset != 0 {
+    if offset != 0 {
         write!(out, "+{offset}")?;
     }
     Ok(())
+}
+
+fn push_record(out: &mut String, entry: &Record) -> Result<(), Stop> {
+    match entry {
+        Record::Put {
+            page,
+            offset,
+            bytes,
+        } => {
+            for byte in bytes.as_slice() {
+                write!(out, "{byte:02x}")?;
+            }
+            push_place(out, *page, *offset)
+        }
+        Record::Zero { page } => {
+            out.push_str("zero")?;
+            push_place(out, *page, 0)
+        }
+    }
 }
 
 /// Pushes the block's word.
@@ -72,9 +88,9 @@ pub(crate) fn push_block(out: &mut String, block: &Block) -> Result<(), Stop> {
     if block.records().is_empty() {
         out.push(mark)?;
     }
-    for put in block.records() {
+    for entry in block.records() {
         out.push(mark)?;
-        push_put(out, put)?;
+        push_record(out, entry)?;
         mark = ',';
     }
     Ok(())

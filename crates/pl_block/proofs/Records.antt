@@ -1,5 +1,5 @@
 -- Records that are read are the ones that were written, and records with a spelling are read again.
-use Rattle.std.proofs.Common.{◌≡◌, ℕ, zero, suc, ◌+◌, ◌^◌, ◌<◌, ◌≤◌, Bool, true, false, cond, ltb, eqb, List, [], ◌∷◌, ◌++◌, length, take, drop, Result, Ok, Err, refl, sym, ap, subst, ◌∙◌, append_assoc, arith}
+use Rattle.std.proofs.Common.{◌≡◌, ℕ, zero, suc, ◌+◌, ◌^◌, ◌<◌, ◌≤◌, Bool, true, false, cond, ltb, eqb, ◌⊎◌, inl, inr, List, [], ◌∷◌, ◌++◌, length, take, drop, Result, Ok, Err, refl, sym, ap, subst, ◌∙◌, append_assoc, arith}
 use Rattle.std.specs.List.{flat_map, AllByRecursion}
 use Rattle.std.specs.Int.{w16, w32, to_be_bytes}
 use Rattle.std.proofs.lemmas.Bool.{ltb-false, le-ltb, eqb-true}
@@ -9,12 +9,12 @@ use Rattle.std.proofs.lemmas.List.Concat.{flat_map-cons}
 use Rattle.pl_block.specs.declared.fault.Fault.{Fault}
 use Rattle.pl_block.specs.declared.fault.Fault.TheVariants.{EndsInField, UnknownKind, EmptyPut, PutPastPage}
 use Rattle.pl_block.specs.declared.record.Record.{Record}
-use Rattle.pl_block.specs.declared.record.Record.TheVariants.{Put}
+use Rattle.pl_block.specs.declared.record.Record.TheVariants.{Put, Zero}
 use Rattle.pl_block.specs.Block.{IsRecord}
 use Rattle.pl_block.specs.Spelling.{record_spelling}
 use Rattle.pl_block.specs.Laws.{AreBytes}
 use Rattle.pl_block.specs.Faults.{◌>>=◌}
-use Rattle.pl_block.specs.Reading.{number_at, put_fault, put_at, record_at, records_at}
+use Rattle.pl_block.specs.Reading.{number_at, put_fault, put_at, zero_at, record_at, records_at}
 use Rattle.pl_block.proofs.Fields.{AreBytes-drop, bind_ok, guard_ok, ok_is, IsFront, IsFront-then, wide16, wide32, number_takes, number_again}
 
 -- what the test of a Put tells
@@ -40,6 +40,7 @@ put_text page offset bytes = to_be_bytes w32 page ++ (to_be_bytes w16 offset ++ 
 -- a Put without its kind
 abbrev IsPut : List ℕ → Record → List ℕ → Type 0
 IsPut bytes (Put page offset text) rest = IsFront bytes (put_text page offset text) rest × IsRecord (Put page offset text)
+IsPut bytes (Zero page) rest = ⊥
 
 put_takes : (bytes : List ℕ) (x : Record × List ℕ) → AreBytes bytes → put_at bytes ≡ Ok x → IsPut bytes x.0 x.1
 unfolding put_at
@@ -85,22 +86,41 @@ AreBytes-rest b bytes h i = h (suc i)
 -- a Put with its kind
 kind_put : (r : Record) (bytes rest : List ℕ) → IsPut bytes r rest → IsFront (1 ∷ bytes) (record_spelling r) rest × IsRecord r
 kind_put (Put page offset text) bytes rest h = (record { parts = ap (λ (t : List ℕ). 1 ∷ t) h.0.parts; rest_fits = h.0.rest_fits }, h.1)
+kind_put (Zero page) bytes rest h = absurd h
 
-kind_ok : (b : Bool) (r : Result (Record × List ℕ) Fault) (x : Record × List ℕ) → cond b r (Err UnknownKind) ≡ Ok x → (b ≡ true) × (r ≡ Ok x)
-kind_ok true r x e = (refl, e)
-kind_ok false r x e = absurd cc
+-- a Zero with its kind
+zero_takes : (bytes : List ℕ) (x : Record × List ℕ) → AreBytes bytes → zero_at bytes ≡ Ok x → IsFront (2 ∷ bytes) (record_spelling x.0) x.1 × IsRecord x.0
+unfolding zero_at
+zero_takes bytes x fits e =
+    let a = bind_ok (number_at w32 bytes) (λ page. Ok (Zero page.0, page.1)) x e in
+    let page = number_takes w32 (2 ^ 32) wide32 bytes a.value.0 a.value.1 fits a.first in
+    let front : IsFront (2 ∷ bytes) (record_spelling (Zero a.value.0)) a.value.1 = record { parts = ap (λ (t : List ℕ). 2 ∷ t) page.0.parts; rest_fits = page.0.rest_fits } in
+    subst (λ (y : Record × List ℕ). IsFront (2 ∷ bytes) (record_spelling y.0) y.1 × IsRecord y.0) (ok_is (Zero a.value.0, a.value.1) x a.next) (front, page.1)
+
+zero_again : (page : ℕ) (rest : List ℕ) → IsRecord (Zero page) → zero_at (to_be_bytes w32 page ++ rest) ≡ Ok (Zero page, rest)
+unfolding zero_at
+zero_again page rest h = rw (number_again w32 (2 ^ 32) wide32 page rest h) refl
+
+-- a kind that is known is 1 or 2
+known_kind : (is_put is_zero : Bool) (put zeroed : Result (Record × List ℕ) Fault) (x : Record × List ℕ) → cond is_put put (cond is_zero zeroed (Err UnknownKind)) ≡ Ok x → ((is_put ≡ true) × (put ≡ Ok x)) ⊎ ((is_zero ≡ true) × (zeroed ≡ Ok x))
+known_kind true is_zero put zeroed x e = inl (refl, e)
+known_kind false true put zeroed x e = inr (refl, e)
+known_kind false false put zeroed x e = absurd cc
 
 pub record_takes : (bytes : List ℕ) (x : Record × List ℕ) → AreBytes bytes → record_at bytes ≡ Ok x → IsFront bytes (record_spelling x.0) x.1 × IsRecord x.0
 unfolding record_at
 record_takes [] x fits e = absurd cc
 record_takes (kind ∷ bytes) x fits e =
-    let g = kind_ok (eqb kind 1) (put_at bytes) x e in
-    let is : 1 ≡ kind = sym (eqb-true _ _ g.0) in
-    subst (λ (k : ℕ). IsFront (k ∷ bytes) (record_spelling x.0) x.1 × IsRecord x.0) is (kind_put x.0 bytes x.1 (put_takes bytes x (AreBytes-rest kind bytes fits) g.1))
+    let rest_fits = AreBytes-rest kind bytes fits in
+    elim (known_kind (eqb kind 1) (eqb kind 2) (put_at bytes) (zero_at bytes) x e) [
+      | inl is ↦ subst (λ (k : ℕ). IsFront (k ∷ bytes) (record_spelling x.0) x.1 × IsRecord x.0) (sym (eqb-true kind 1 is.0)) (kind_put x.0 bytes x.1 (put_takes bytes x rest_fits is.1))
+      | inr is ↦ subst (λ (k : ℕ). IsFront (k ∷ bytes) (record_spelling x.0) x.1 × IsRecord x.0) (sym (eqb-true kind 2 is.0)) (zero_takes bytes x rest_fits is.1)
+    ]
 
 pub record_again : (r : Record) (rest : List ℕ) → IsRecord r → record_at (record_spelling r ++ rest) ≡ Ok (r, rest)
 unfolding record_at
 record_again (Put page offset bytes) rest h = put_again page offset bytes rest h
+record_again (Zero page) rest h = zero_again page rest h
 
 pub records_take : (n : ℕ) (bytes : List ℕ) (x : List Record × List ℕ) → AreBytes bytes → records_at n bytes ≡ Ok x → IsFront bytes (flat_map record_spelling x.0) x.1 × (length x.0 ≡ n) × AllByRecursion IsRecord x.0
 unfolding records_at
