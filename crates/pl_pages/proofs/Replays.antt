@@ -1,18 +1,21 @@
 -- Replays of a log that grows, and of one block more.
-use Rattle.std.proofs.Common.{◌≡◌, ℕ, zero, suc, ◌+◌, ◌-◌, ◌≤◌, List, [], ◌∷◌, ◌++◌, length, take, replicate, Some, Result, Ok, Err, OnOk, is_ok, if◌then◌else◌, slice_get, refl, sym, ap, ◌∙◌, arith, length-append}
+use Rattle.std.proofs.Common.{◌≡◌, ℕ, zero, suc, ◌+◌, ◌-◌, ◌≤◌, Bool, true, false, ◌&&◌, not, cond, leb, List, [], ◌∷◌, ◌++◌, length, take, replicate, Some, Result, Ok, Err, OnOk, is_ok, if◌then◌else◌, slice_get, refl, sym, ap, ◌∙◌, arith, length-append}
+use Rattle.std.proofs.lemmas.Bool.{leb-true}
 use Rattle.std.proofs.lemmas.List.{length-replicate}
 use Rattle.std.proofs.lemmas.Option.{slice_get_within, get_or_from_slice_get}
 use Rattle.std.proofs.Math.Seq.{take-suc}
 use Rattle.std.proofs.lemmas.List.Sums.{fold-append}
+use Rattle.std.specs.FinMap as maps
 use Rattle.pl_block.specs.Bounds.{page_size}
 use Rattle.std.proofs.lemmas.List.{take-append-le}
 use Rattle.pl_block.specs.Block.{Content}
-use Rattle.pl_pages.specs.Page.{zeros, after_blocks, page_at, after_block}
-use Rattle.pl_pages.specs.State.{Version, PagesState, IsVersion, FitsLog}
+use Rattle.pl_pages.specs.Page.{zeros, after_blocks, page_of, after_block}
+use Rattle.pl_pages.specs.State.{Version, PagesState, IsVersion, FitsLog, lsns_of, chosen}
+use Rattle.pl_pages.specs.Laws.{AnswersReach}
 
 -- a page at an LSN of a log is that of each longer log
-pub page_of_longer : (page lsn : ℕ) (log more : List Content) → lsn ≤ length log → page_at page lsn (log ++ more) ≡ page_at page lsn log
-page_of_longer page lsn log more within = ap (after_blocks page zeros) (take-append-le lsn log more within)
+pub page_of_longer : (page lsn : ℕ) (log more : List Content) → lsn ≤ length log → page_of page (take lsn (log ++ more)) ≡ page_of page (take lsn log)
+page_of_longer page lsn log more within = ap (page_of page) (take-append-le lsn log more within)
 
 version_of_longer : (log more : List Content) (v : Version) → IsVersion log v → IsVersion (log ++ more) v
 version_of_longer log more v is = record {
@@ -23,7 +26,36 @@ version_of_longer log more v is = record {
 pub fits_longer : (pages : PagesState) (log more : List Content) → FitsLog pages log → FitsLog pages (log ++ more)
 fits_longer pages log more fits = record {
   applied = λ partition. omega (arith, fits.applied partition, length-append log more);
+  indexed = omega (arith, fits.indexed, length-append log more);
+  index = λ page. fits.index page ∙ ap (lsns_of page) (sym (take-append-le pages.indexed log more fits.indexed));
   versions = λ k d within. version_of_longer log more _ (fits.versions k d within);
+}
+
+-- pages of which none was applied, indexed or kept fit every log
+pub nothing_fits : (applied : List ℕ) (chunks : ℕ) (log : List Content) → applied ≡ [] → FitsLog (record { applied = applied; indexed = 0; index = maps.empty; versions = []; chunks = chunks }) log
+nothing_fits applied chunks log none = record {
+  applied = λ partition. rw none (omega arith);
+  indexed = omega arith;
+  index = λ page. rw maps.get-empty refl;
+  versions = λ k d within. absurd (omega (arith, within));
+}
+
+-- an answer is not below what was asked for
+answered : (applied lsn : ℕ) (exact passed : Bool) → leb lsn applied ≡ passed → lsn ≤ cond (not exact && passed) applied lsn
+answered applied lsn true passed e = omega arith
+answered applied lsn false true e = leb-true lsn applied e
+answered applied lsn false false e = omega arith
+
+-- an answer is not above the end of the log
+answered_within : (applied lsn hard : ℕ) (later : Bool) → applied ≤ hard → lsn ≤ hard → cond later applied lsn ≤ hard
+answered_within applied lsn hard true one other = one
+answered_within applied lsn hard false one other = other
+
+pub answers_reach : AnswersReach
+answers_reach = record {
+  reached = λ applied lsn exact. answered applied lsn exact (leb lsn applied) refl;
+  exact = λ applied lsn. refl;
+  within = λ applied lsn hard exact. answered_within applied lsn hard (not exact && leb lsn applied);
 }
 
 -- the replay of one block more

@@ -1,8 +1,22 @@
 -- What follows from the definitions.
-use Rattle.std.specs.Prelude.{List, ◌++◌}
+use Rattle.std.specs.Prelude.{◌≡◌, ℕ, ◌≤◌, Bool, true, List, ◌++◌, length, take}
 use Rattle.pl_block.specs.Block.{Content}
-use Rattle.pl_pages.specs.State.{PagesState, FitsLog}
+use Rattle.pl_pages.specs.Page.{page_of}
+use Rattle.pl_pages.specs.State.{PagesState, FitsLog, chosen}
 
 -- what fits a log fits each log that begins with it
 abbrev pub FitsLongerLogs : Type 0
 FitsLongerLogs = (pages : PagesState) (log more : List Content) → FitsLog pages log → FitsLog pages (log ++ more)
+
+-- a page at an LSN of a log is that of each log that begins with it
+abbrev pub PagesStay : Type 0
+PagesStay = (page lsn : ℕ) (log more : List Content) → lsn ≤ length log → page_of page (take lsn (log ++ more)) ≡ page_of page (take lsn log)
+
+-- the LSN that a get is answered at
+pub record AnswersReach : Type 0 where
+  -- it is not below the one that was asked for
+  pub reached : (applied lsn : ℕ) (exact : Bool) → lsn ≤ chosen applied lsn exact
+  -- it is that one where the get is exact
+  pub exact : (applied lsn : ℕ) → chosen applied lsn true ≡ lsn
+  -- it is not above the end of a log that ends below neither
+  pub within : (applied lsn hard : ℕ) (exact : Bool) → applied ≤ hard → lsn ≤ hard → chosen applied lsn exact ≤ hard

@@ -1,4 +1,5 @@
 pub mod Page
 pub mod State
+pub mod Codes
 pub mod Ends
 pub mod Laws

@@ -1,25 +1,23 @@
--- What records do to a page, and a page as the replay of a log.
+-- What records do to a page, and a page as the replay of blocks.
 use Rattle.std.specs.Prelude.{ℕ, ◌+◌, ◌==◌, ◌≤◌, List, ◌++◌, length, take, drop, replicate, fold, if◌then◌else◌}
-use Rattle.pl_block.specs.Block.{Content}
+use Rattle.pl_block.specs.Block.{Content, changed_page}
 use Rattle.pl_block.specs.Bounds.{page_size}
 use Rattle.pl_block.specs.declared.record.Record.{Record}
-use Rattle.pl_block.specs.declared.record.Record.TheVariants.{Put}
+use Rattle.pl_block.specs.declared.record.Record.TheVariants.{Put, Zero}
 
 -- a page that nothing changed
 unfoldable pub zeros : List ℕ
 zeros = replicate page_size 0
 
--- the page that a record changes
-abbrev pub changed_page : Record → ℕ
-changed_page (Put page offset bytes) = page
-
--- its page after a record: a Put replaces the bytes from its offset on
+-- its page after a record: a Put replaces the bytes from its offset on, a Zero makes each byte 0
 abbrev pub changed : Record → List ℕ → List ℕ
 changed (Put page offset bytes) old = take offset old ++ bytes ++ drop (offset + length bytes) old
+changed (Zero page) old = replicate (length old) 0
 
--- what a record writes ends within so many bytes
+-- what a record writes ends within so many bytes; a Zero writes what is there
 abbrev pub EndsWithin : ℕ → Record → Type 0
 EndsWithin len (Put page offset bytes) = offset + length bytes ≤ len
+EndsWithin len (Zero page) = Unit {0}
 
 -- a page after a record of any page
 abbrev pub after_record : ℕ → List ℕ → Record → List ℕ
@@ -33,6 +31,6 @@ after_block page old block = fold (after_record page) old block.records
 abbrev pub after_blocks : ℕ → List ℕ → List Content → List ℕ
 after_blocks page old blocks = fold (after_block page) old blocks
 
--- the page at an LSN: zeros, changed by the blocks of the log up to it
-abbrev pub page_at : ℕ → ℕ → List Content → List ℕ
-page_at page lsn log = after_blocks page zeros (take lsn log)
+-- the page of blocks: zeros, changed by each of their records of the page, in order
+abbrev pub page_of : ℕ → List Content → List ℕ
+page_of page blocks = after_blocks page zeros blocks

@@ -1,7 +1,10 @@
 -- What is kept of pages, as contracts see it, and when it fits a log.
-use Rattle.std.specs.Prelude.{◌≡◌, ℕ, ◌/◌, ◌≤◌, Bool, ◌&&◌, not, nat_le, All, List, length, slice_index_or, if◌then◌else◌}
-use Rattle.pl_block.specs.Block.{Content}
-use Rattle.pl_pages.specs.Page.{page_at}
+use Rattle.std.specs.Prelude.{◌≡◌, ℕ, ◌/◌, ◌≤◌, ◌==◌, Bool, ◌&&◌, not, nat_le, All, List, [], length, map, filter, take, unwrap_or, slice_index_or, if◌then◌else◌}
+use Rattle.std.specs.List.{list_any}
+use Rattle.std.specs.Ordering.{nat_cmp}
+use Rattle.std.specs.FinMap as maps
+use Rattle.pl_block.specs.Block.{Content, changed_page}
+use Rattle.pl_pages.specs.Page.{page_of}
 
 -- a page as it was at an LSN
 pub record Version : Type 0 where
@@ -9,10 +12,13 @@ pub record Version : Type 0 where
   pub lsn : ℕ
   pub bytes : List ℕ
 
--- the applied LSN of each partition, those behind the end of the list being 0; the versions that are
--- kept; how many chunks of 64 versions there may be
+-- The applied LSN of each partition, those behind the end of the list being 0; how many blocks of the
+-- log the index was made of, and the index, which has under a page the LSNs of those that change it;
+-- the versions that are kept; how many chunks of 64 versions there may be.
 pub record PagesState : Type 0 where
   pub applied : List ℕ
+  pub indexed : ℕ
+  pub index : maps.FinMap nat_cmp (List ℕ)
   pub versions : List Version
   pub chunks : ℕ
 
@@ -28,18 +34,33 @@ chosen applied lsn exact = if not exact && nat_le lsn applied then applied else 
 abbrev pub choice_of : PagesState → ℕ → ℕ → Bool → ℕ
 choice_of pages page lsn exact = chosen (applied_at pages (page / 65536)) lsn exact
 
+-- a block changes the page
+abbrev pub changes_page : ℕ → Content → Bool
+changes_page page block = list_any (λ change. changed_page change == page) block.records
+
+-- the LSNs of the blocks that change a page
+abbrev pub lsns_of : ℕ → List Content → List ℕ
+lsns_of page blocks = map (λ block. block.lsn) (filter (changes_page page) blocks)
+
+-- the LSNs that the index has under a page
+abbrev pub indexed_at : PagesState → ℕ → List ℕ
+indexed_at pages page = unwrap_or (maps.get pages.index page) []
+
 -- a version is its page at an LSN of the log
 pub record IsVersion (log : List Content) (v : Version) : Type 0 where
   pub within : v.lsn ≤ length log
-  pub bytes : v.bytes ≡ page_at v.page v.lsn log
+  pub bytes : v.bytes ≡ page_of v.page (take v.lsn log)
 
 -- each is
 abbrev pub AreVersions : List Version → List Content → Type 0
 AreVersions vs log = All (IsVersion log) vs
 
--- what is kept of pages fits a log: no partition is applied above its end, and versions are pages of it
+-- What is kept of pages fits a log: no partition is applied above its end; the index was made of no
+-- more blocks than it has, and has the LSNs of these; versions are pages of it.
 pub record FitsLog (pages : PagesState) (log : List Content) : Type 0 where
   pub applied : (partition : ℕ) → applied_at pages partition ≤ length log
+  pub indexed : pages.indexed ≤ length log
+  pub index : (page : ℕ) → indexed_at pages page ≡ lsns_of page (take pages.indexed log)
   pub versions : AreVersions pages.versions log
 
 -- the applied LSNs are the same

@@ -1,16 +1,16 @@
 //! What records and blocks do to a page.
 
-ghost use Rattle.std.specs.Prelude.{◌≡◌, ◌≤◌, length};
-ghost use Rattle.std.specs.List.{slice_range};
+ghost use Rattle.std.specs.Prelude.{◌≡◌, length};
 ghost use Rattle.pl_block.specs.Bounds.{page_size};
-ghost use Rattle.pl_pages.specs.Page.{EndsWithin, after_block, changed, changed_page};
+ghost use Rattle.pl_pages.specs.Page.{EndsWithin, after_block, changed};
 
 use pl_block::{Block, Record};
 
-/// Makes one change of a page: a Put replaces the bytes from its offset on.
+/// Makes one change of a page: a Put replaces the bytes from its offset on, a Zero makes each byte
+/// 0.
 ///
-/// The page has 8,192 bytes, and the change ends within them, as each record of a block does.
-/// Whether the record is of this page is not looked at. No memory is taken.
+/// The page has 8,192 bytes, and a Put ends within them, as each Put of a block does. Whether the
+/// record is of this page is not looked at. No memory is taken.
 pub fn redo(change: &Record, page: &mut [u8])
     requires len { length page.old ≡ page_size }
     requires within { EndsWithin page_size change.now }
@@ -21,15 +21,7 @@ pub fn redo(change: &Record, page: &mut [u8])
             let start = usize::from(*offset);
             page[start..start + bytes.len()].copy_from_slice(bytes.as_slice());
         }
-    }
-}
-
-// The page that a record changes.
-fn page_of(change: &Record) -> u32
-    ensures value { result ≡ changed_page change.now }
-{
-    match change {
-        Record::Put { page, .. } => *page,
+        Record::Zero { .. } => page.fill(0),
     }
 }
 
@@ -39,7 +31,7 @@ pub(crate) fn redo_block(block: &Block, page: u32, bytes: &mut [u8])
     ensures value { bytes.new ≡ after_block page bytes.old block.now }
 {
     for change in block.records() {
-        if page_of(change) == page {
+        if change.page() == page {
             redo(change, bytes);
         }
     }

@@ -1,9 +1,21 @@
 //! What follows from the definitions. Each function is a law: its clause holds of all values, and
 //! its body does nothing.
 
-ghost use Rattle.pl_pages.specs.Laws.{FitsLongerLogs};
+ghost use Rattle.pl_pages.specs.Laws.{AnswersReach, FitsLongerLogs, PagesStay};
 
 /// What fits a log fits each log that begins with it, so that pages stay true while the log grows.
 pub fn pages_fit_longer_logs()
     ensures fits { FitsLongerLogs }
+{}
+
+/// A page at an LSN of a log is that of each log that begins with it, so that a get at one LSN gives
+/// the same bytes however the log has grown.
+pub fn pages_stay()
+    ensures page { PagesStay }
+{}
+
+/// The LSN that a get is answered at is not below the one that was asked for, is that one where the
+/// get is exact, and is not above the end of the log.
+pub fn answers_reach()
+    ensures at { AnswersReach }
 {}

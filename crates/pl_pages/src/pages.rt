@@ -4,7 +4,7 @@ ghost use Rattle.std.specs.Prelude.{◌≡◌, ◌≢◌, ◌+◌, ◌≤◌, �
 ghost use Rattle.std.specs.Borrow.{sem};
 ghost use Rattle.pl_block.specs.Block.{Content};
 ghost use Rattle.pl_block.specs.Bounds.{page_size};
-ghost use Rattle.pl_pages.specs.Page.{after_blocks, page_at, zeros};
+ghost use Rattle.pl_pages.specs.Page.{after_blocks, page_of, zeros};
 ghost use Rattle.pl_pages.specs.Ends.{EndsFitting};
 ghost use Rattle.pl_pages.specs.State.{FitsLog, SameApplied, applied_at, choice_of, chosen};
 
@@ -32,11 +32,21 @@ pub struct Pages {
 
 impl Model for Pages {
     ghost use Rattle.std.specs.Prelude.{[]};
+    ghost use Rattle.std.specs.FinMap as maps;
     ghost use Rattle.pl_pages.specs.State.{PagesState};
+    ghost use Rattle.pl_pages.specs.Codes.{pages_code};
 
     ghost Value = { PagesState };
 
-    ghost view = { λ p. record { applied = p.applied.items; versions = []; chunks = p.chunks } };
+    ghost coded = { pages_code };
+
+    ghost view = { λ p. record {
+      applied = p.applied.items;
+      indexed = 0;
+      index = maps.empty;
+      versions = [];
+      chunks = p.chunks;
+    } };
 }
 
 impl Pages {
@@ -77,6 +87,7 @@ impl Pages {
         ensures others { (other : ℕ) → other ≢ partition →
             applied_at self.new other ≡ applied_at self.old other }
         ensures err { OnErr result (SameApplied self.old self.new) }
+        ensures chunks { self.new.chunks ≡ self.old.chunks }
     {
         let applied = self.applied(partition);
         let target = applied.saturating_add(steps).min(log.hard());
@@ -100,7 +111,7 @@ impl Pages {
         ensures* keeps { sem 𝓛 (EndsFitting self.entry log.old.hardened) }
         ensures at { IfOk result (λ given. given.0 ≡ choice_of self.old page lsn exact) }
         ensures page { IfOk result (λ given. given.1.now ≡
-            page_at page (choice_of self.old page lsn exact) log.old.hardened) }
+            page_of page (take (choice_of self.old page lsn exact) log.old.hardened)) }
         ensures len { IfOk result (λ given. length given.1.now ≡ page_size) }
         ensures log { log.new ≡ log.old }
     {
@@ -176,7 +187,7 @@ fn redo_blocks(log: &mut DbLog, page: u32, lsn: u64, bytes: &mut [u8]) -> Result
 fn replay(log: &mut DbLog, page: u32, lsn: u64, bytes: &mut Vec<u8>) -> Result<(), AllocError>
     requires to { lsn ≤ length log.old.hardened }
     ensures log { log.new ≡ log.old }
-    ensures ok { OnOk result (bytes.new.items ≡ page_at page lsn log.old.hardened) }
+    ensures ok { OnOk result (bytes.new.items ≡ page_of page (take lsn log.old.hardened)) }
     ensures len { OnOk result (vec_len bytes.new ≡ page_size) }
 {
     blank(bytes)?;

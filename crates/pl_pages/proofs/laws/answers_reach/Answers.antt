@@ -1,0 +1,5 @@
+use Rattle.pl_pages.proofs.Replays.{answers_reach}
+use Rattle.pl_pages.proofs.laws.answers_reach.Goals as goal
+
+pub returns : goal.returns
+returns c = record { at = answers_reach }
