@@ -1,1 +1,2 @@
 mod Replays
+mod Sizes

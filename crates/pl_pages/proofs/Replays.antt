@@ -85,10 +85,6 @@ unfolding no_bytes
 blanked (Ok u) n len old new none at_start is = is ∙ ap (λ xs. take n xs ++ replicate (n - len) 0) none ∙ ap (λ k. take n no_bytes ++ replicate (n - k) 0) at_start ∙ from_none n
 blanked (Err e) n len old new none at_start is = tt
 
-pub length-zeros : length zeros ≡ page_size
-unfolding zeros
-length-zeros = let none : ℕ = 0 in length-replicate page_size none
-
 -- what holds anyway holds where a call succeeded
 pub anyway : {U E : Type 0} (r : Result U E) (P : Type 0) → P → OnOk r P
 anyway (Ok u) P p = p

@@ -1,6 +1,9 @@
 -- What follows from the definitions.
 use Rattle.std.specs.Prelude.{◌≡◌, ℕ, ◌≤◌, Bool, true, List, ◌++◌, length, take}
+use Rattle.std.specs.List.{AllByRecursion}
 use Rattle.pl_block.specs.Block.{Content}
+use Rattle.pl_block.specs.Bounds.{page_size}
+use Rattle.pl_block.specs.Spelling.{IsBlock}
 use Rattle.pl_pages.specs.Page.{page_of}
 use Rattle.pl_pages.specs.State.{PagesState, FitsLog, chosen}
 
@@ -11,6 +14,10 @@ FitsLongerLogs = (pages : PagesState) (log more : List Content) → FitsLog page
 -- a page at an LSN of a log is that of each log that begins with it
 abbrev pub PagesStay : Type 0
 PagesStay = (page lsn : ℕ) (log more : List Content) → lsn ≤ length log → page_of page (take lsn (log ++ more)) ≡ page_of page (take lsn log)
+
+-- the page of blocks has the bytes of a page
+abbrev pub PagesKeepTheirSize : Type 0
+PagesKeepTheirSize = (page : ℕ) (blocks : List Content) → AllByRecursion IsBlock blocks → length (page_of page blocks) ≡ page_size
 
 -- the LSN that a get is answered at
 pub record AnswersReach : Type 0 where

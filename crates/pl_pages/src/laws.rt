@@ -1,7 +1,7 @@
 //! What follows from the definitions. Each function is a law: its clause holds of all values, and
 //! its body does nothing.
 
-ghost use Rattle.pl_pages.specs.Laws.{AnswersReach, FitsLongerLogs, PagesStay};
+ghost use Rattle.pl_pages.specs.Laws.{AnswersReach, FitsLongerLogs, PagesKeepTheirSize, PagesStay};
 
 /// What fits a log fits each log that begins with it, so that pages stay true while the log grows.
 pub fn pages_fit_longer_logs()
@@ -12,6 +12,11 @@ pub fn pages_fit_longer_logs()
 /// the same bytes however the log has grown.
 pub fn pages_stay()
     ensures page { PagesStay }
+{}
+
+/// The page of blocks has 8,192 bytes.
+pub fn pages_keep_their_size()
+    ensures len { PagesKeepTheirSize }
 {}
 
 /// The LSN that a get is answered at is not below the one that was asked for, is that one where the

@@ -1,6 +1,6 @@
 //! The pages of one database.
 
-ghost use Rattle.std.specs.Prelude.{◌≡◌, ◌≢◌, ◌+◌, ◌≤◌, ◌<◌, ℕ, List, length, min, IfOk, OnOk, OnErr, slice_index_or, take, vec_len, ◌==◌, if◌then◌else◌};
+ghost use Rattle.std.specs.Prelude.{◌≡◌, ◌≢◌, ◌+◌, ◌≤◌, ℕ, List, length, min, IfOk, OnOk, OnErr, slice_index_or, take, vec_len, ◌==◌, if◌then◌else◌};
 ghost use Rattle.std.specs.Borrow.{sem};
 ghost use Rattle.pl_block.specs.Block.{Content};
 ghost use Rattle.pl_block.specs.Bounds.{page_size};

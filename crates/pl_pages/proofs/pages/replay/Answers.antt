@@ -1,5 +1,6 @@
 use Rattle.std.proofs.Common.{ap, ◌∙◌, length}
-use Rattle.pl_pages.proofs.Replays.{anyway, length-zeros}
+use Rattle.pl_pages.proofs.Replays.{anyway}
+use Rattle.pl_pages.proofs.Sizes.{length-zeros}
 use Rattle.pl_pages.proofs.pages.replay.Goals as goal
 
 pub redo_blocks-requires-clause-len : goal.redo_blocks-requires-clause-len
