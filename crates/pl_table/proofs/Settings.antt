@@ -7,7 +7,7 @@ use Rattle.pl_table.specs.declared.op.Role.TheVariants.{Operator}
 use Rattle.pl_table.specs.declared.op.Op.TheVariants as ops
 use Rattle.pl_table.specs.declared.range.PartitionRange.{PartitionRange}
 use Rattle.pl_table.specs.declared.request.Act.{Act}
-use Rattle.pl_table.specs.declared.request.Act.TheVariants.{Write, Report, Pull, Status, Failover, SetTable}
+use Rattle.pl_table.specs.declared.request.Act.TheVariants.{Write, Offer, Report, Get, Pull, Advance, Status, Failover, SetTable, Audit, Tidy}
 use Rattle.pl_table.specs.declared.row.Row.{Row}
 use Rattle.pl_table.specs.declared.table.Principal.{Principal}
 use Rattle.pl_table.specs.Ops.{lists_op}
@@ -22,11 +22,16 @@ use Rattle.pl_table.specs.Laws.{AsksToSet, RowsSpeakOfSetting, SomebodyIsAllowed
 -- what sets a table names no partition
 names_none : (act : Act) → op_of act ≡ ops.SetTable → partitions_of act ≡ []
 names_none (Write copy block) e = cc
+names_none (Offer block) e = cc
 names_none (Report lsn) e = refl
+names_none (Get page lsn exact) e = cc
 names_none (Pull lo hi lsn max) e = cc
+names_none (Advance partition steps) e = cc
 names_none Status e = refl
 names_none (Failover primary) e = refl
 names_none (SetTable text) e = refl
+names_none (Audit first max) e = refl
+names_none Tidy e = refl
 
 -- where none is named each range matches
 each_range : (allows : Bool) (range : Option PartitionRange) → part_matches (range_matches allows []) range ≡ true

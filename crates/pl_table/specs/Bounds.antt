@@ -9,6 +9,14 @@ longest_text = 65506
 abbrev pub most_pulled : ℕ
 most_pulled = 16
 
+-- the most blocks that one advance goes on by
+abbrev pub most_steps : ℕ
+most_steps = 1024
+
+-- the most entries that one audit asks for
+abbrev pub most_listed : ℕ
+most_listed = 1024
+
 -- the most principals of a table
 abbrev pub most_principals : ℕ
 most_principals = 64

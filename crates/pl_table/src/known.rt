@@ -26,16 +26,30 @@ pub(crate) fn act_fits(act: &Act)
             let _copy = *copy;
             let _lsn = block.lsn();
         }
+        Act::Offer { block } => {
+            let _lsn = block.lsn();
+        }
         Act::Report { lsn } => {
+            let _lsn = *lsn;
+        }
+        Act::Get { page, lsn, .. } => {
+            let _page = *page;
             let _lsn = *lsn;
         }
         Act::Pull { lo, hi, lsn, max } => {
             let _partitions = (*lo, *hi);
             let _blocks = (*lsn, *max);
         }
+        Act::Advance { partition, steps } => {
+            let _partition = *partition;
+            let _steps = *steps;
+        }
         Act::Failover { primary } => {
             let _primary = *primary;
         }
-        Act::Status | Act::SetTable { .. } => {}
+        Act::Audit { first, max } => {
+            let _entries = (*first, *max);
+        }
+        Act::Status | Act::SetTable { .. } | Act::Tidy => {}
     }
 }

@@ -24,7 +24,7 @@ pub use head::Head;
 pub use op::{Op, Role};
 pub use pl_block::NoMemory;
 pub use range::PartitionRange;
-pub use request::{Act, LONGEST_TEXT, MOST_PULLED, Request};
+pub use request::{Act, LONGEST_TEXT, MOST_LISTED, MOST_PULLED, MOST_STEPS, Request};
 pub use row::{Ops, Row};
 pub use table::{MOST_PRINCIPALS, MOST_ROWS, Principal, Table};
 pub use text::{TableText, read_table};

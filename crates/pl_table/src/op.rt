@@ -19,9 +19,8 @@ pub enum Role {
     Operator = 4,
 }
 
-/// What a request asks for. The discriminant is the number of the operation in a request. Only write,
-/// report, pull, status, failover and set_table have an [`Act`](crate::Act); the others have a number
-/// and a word, so that a table can list them.
+/// What a request asks for. The discriminant is the number of the operation in a request. An
+/// [`Act`](crate::Act) is an operation with its arguments.
 #[derive(Clone, Copy, Debug, PartialEq, Eq)]
 pub enum Op {
     /// Writes a block to one copy of the landing zone.

@@ -13,6 +13,12 @@ use std::marker::Model;
 /// The most blocks that one pull asks for.
 pub const MOST_PULLED: u16 = 16;
 
+/// The most blocks that one advance goes on by.
+pub const MOST_STEPS: u16 = 1_024;
+
+/// The most entries of the audit list that one audit asks for.
+pub const MOST_LISTED: u16 = 1_024;
+
 /// The most bytes of a table's text.
 pub const LONGEST_TEXT: usize = 65_506;
 
@@ -24,9 +30,20 @@ pub enum Act {
         copy: u8,
         block: Block,
     },
+    /// Put the block into the pending area.
+    Offer {
+        block: Block,
+    },
     /// Harden the log up to the LSN, 0 to 2^48.
     Report {
         lsn: u64,
+    },
+    /// Read the page as it is at an LSN: at `lsn`, 0 to 2^48, where `exact` holds; else at `lsn` or
+    /// above it. At 0 every page is zeros.
+    Get {
+        page: u32,
+        lsn: u64,
+        exact: bool,
     },
     /// Read at most `max` hardened blocks, 1 to 16, that touch a partition from `lo` to `hi`. The
     /// first may have the LSN `lsn`, 1 to 2^48, and `lo` is at most `hi`.
@@ -35,6 +52,11 @@ pub enum Act {
         hi: u16,
         lsn: u64,
         max: u16,
+    },
+    /// Apply the log to the partition: at most `steps` blocks more, 1 to 1,024.
+    Advance {
+        partition: u16,
+        steps: u16,
     },
     /// Report the epoch, the primary and how many blocks are hardened.
     Status,
@@ -46,6 +68,14 @@ pub enum Act {
     SetTable {
         text: TableText,
     },
+    /// Read at most `max` entries of the audit list, 1 to 1,024, from the one with the number `first`,
+    /// at least 1.
+    Audit {
+        first: u64,
+        max: u16,
+    },
+    /// Move old blocks to long-term storage.
+    Tidy,
 }
 
 impl Act {
@@ -55,34 +85,42 @@ impl Act {
     {
         match self {
             Act::Write { .. } => Op::Write,
+            Act::Offer { .. } => Op::Offer,
             Act::Report { .. } => Op::Report,
+            Act::Get { .. } => Op::Get,
             Act::Pull { .. } => Op::Pull,
+            Act::Advance { .. } => Op::Advance,
             Act::Status => Op::Status,
             Act::Failover { .. } => Op::Failover,
             Act::SetTable { .. } => Op::SetTable,
+            Act::Audit { .. } => Op::Audit,
+            Act::Tidy => Op::Tidy,
         }
     }
 
     /// Whether the numbers of the act are in their ranges, and the length of its text: the LSN of a
-    /// report is at most 2^48; a pull names a partition, an LSN from 1 to 2^48 and 1 to 16 blocks; a
-    /// text has at most 65,506 bytes. The other acts have no range but that of their fields.
+    /// report and that of a get are at most 2^48; a pull names a partition, an LSN from 1 to 2^48 and
+    /// 1 to 16 blocks; an advance has 1 to 1,024 steps; a text has at most 65,506 bytes; an audit is
+    /// of 1 to 1,024 entries from 1 on. The other acts have no range but that of their fields.
     pub fn is_in_range(&self) -> bool
         ensures value { result ≡ is_in_range self.now }
     {
         match self {
-            Act::Write { .. } => true,
-            Act::Report { lsn } => *lsn <= LAST_LSN,
+            Act::Write { .. } | Act::Offer { .. } => true,
+            Act::Report { lsn } | Act::Get { lsn, .. } => *lsn <= LAST_LSN,
             Act::Pull { lo, hi, lsn, max } => {
                 lo <= hi && 1 <= *lsn && *lsn <= LAST_LSN && 1 <= *max && *max <= MOST_PULLED
             }
-            Act::Status | Act::Failover { .. } => true,
+            Act::Advance { steps, .. } => 1 <= *steps && *steps <= MOST_STEPS,
+            Act::Status | Act::Failover { .. } | Act::Tidy => true,
             Act::SetTable { text } => text.text().len() <= LONGEST_TEXT,
+            Act::Audit { first, max } => 1 <= *first && 1 <= *max && *max <= MOST_LISTED,
         }
     }
 }
 
-/// An act, and who asks for it. The act is in its ranges, and the block of a write is one by the
-/// grammar of blocks.
+/// An act, and who asks for it. The act is in its ranges, and the block of a write or an offer is one
+/// by the grammar of blocks.
 #[derive(Drop)]
 pub struct Request {
     head: Head,

@@ -1,6 +1,7 @@
 //! A row of the table.
 
 ghost use Rattle.std.specs.Prelude.{◌≡◌, ◌==◌, ◌&&◌, IfOk};
+ghost use Rattle.pl_block.specs.Block.{touched};
 ghost use Rattle.pl_table.specs.Request.{InRange};
 ghost use Rattle.pl_table.specs.Acts.{partitions_of};
 ghost use Rattle.pl_table.specs.Absent.{part_matches};
@@ -10,6 +11,7 @@ ghost use Rattle.pl_table.specs.Ops.{same_role, lists_op};
 use crate::op::{Op, Role};
 use crate::range::PartitionRange;
 use crate::request::{Act, Request};
+use pl_block::{Block, PAGES_PER_PARTITION};
 use std::alloc::{AllocError, Global};
 use std::marker::Model;
 
@@ -174,14 +176,8 @@ fn range_covers(allows: bool, range: PartitionRange, act: &Act) -> bool
     ensures value { result ≡ range_matches allows (partitions_of act.now) range }
 {
     match act {
-        Act::Write { block, .. } => {
-            if allows {
-                range.has_all(block.partitions())
-            } else {
-                block.partitions().is_empty() || range.has_any(block.partitions())
-            }
-        }
-        Act::Report { .. } | Act::Status | Act::Failover { .. } | Act::SetTable { .. } => true,
+        Act::Write { block, .. } | Act::Offer { block } => covers_block(allows, range, block),
+        Act::Get { page, .. } => range.has((*page / PAGES_PER_PARTITION) as u16),
         Act::Pull { lo, hi, .. } => {
             if allows {
                 range.has_all_between(*lo, *hi)
@@ -189,5 +185,22 @@ fn range_covers(allows: bool, range: PartitionRange, act: &Act) -> bool
                 range.has_any_between(*lo, *hi)
             }
         }
+        Act::Advance { partition, .. } => range.has(*partition),
+        Act::Report { .. }
+        | Act::Status
+        | Act::Failover { .. }
+        | Act::SetTable { .. }
+        | Act::Audit { .. }
+        | Act::Tidy => true,
+    }
+}
+
+fn covers_block(allows: bool, range: PartitionRange, block: &Block) -> bool
+    ensures value { result ≡ range_matches allows (touched block.now.records) range }
+{
+    if allows {
+        range.has_all(block.partitions())
+    } else {
+        block.partitions().is_empty() || range.has_any(block.partitions())
     }
 }
