@@ -90,8 +90,17 @@ act_served head (acts.Write copy block) t e v h =
       agrees = not-false v.agrees (stands_not rules.OtherContent q t e v h);
       copy = leb-false v.copies copy (stands_not rules.NoSuchCopy q t e v h);
     }
+act_served head (acts.Offer block) t e v h =
+    let q : Query = record { head = head; act = acts.Offer block } in
+    record {
+      above = leb-false block.lsn v.hard (stands_not rules.HardenedAlready q t e v h);
+      within = ltb-false (v.hard + 64) block.lsn (stands_not rules.AboveTheWindow q t e v h);
+      agrees = not-false v.agrees (stands_not rules.OtherContent q t e v h);
+    }
 act_served head (acts.Report lsn) t e v h = not-false v.can_harden (stands_not rules.BelowQuorum (record { head = head; act = acts.Report lsn }) t e v h)
+act_served head (acts.Get page lsn exact) t e v h = ltb-false v.hard lsn (stands_not rules.AboveTheEnd (record { head = head; act = acts.Get page lsn exact }) t e v h)
 act_served head (acts.Pull lo hi lsn max) t e v h = ltb-false v.hard lsn (stands_not rules.AboveTheEnd (record { head = head; act = acts.Pull lo hi lsn max }) t e v h)
+act_served head (acts.Advance partition steps) t e v h = tt
 act_served head acts.Status t e v h = tt
 act_served head (acts.Failover primary) t e v h =
     let q : Query = record { head = head; act = acts.Failover primary } in
@@ -100,6 +109,8 @@ act_served head (acts.Failover primary) t e v h =
       not_last = λ last. let clash : true ≡ false = sym (eq-eqb e.epoch (2 ^ 32 - 1) last) ∙ stands_not rules.LastEpoch q t e v h in cc;
     }
 act_served head (acts.SetTable text) t e v h = ok_of (table_reading text) (stands_not rules.NoTable (record { head = head; act = acts.SetTable text }) t e v h)
+act_served head (acts.Audit first max) t e v h = tt
+act_served head acts.Tidy t e v h = tt
 
 pub may_be_served : AllowedMayBeServed
 may_be_served q t e v h =

@@ -37,12 +37,24 @@ same_log head (acts.Write copy block) t e hard copies x y can can' agrees cans =
       ]
       | inr below ↦ rw (le-leb block.lsn hard below) refl
     ]
+same_log head (acts.Offer block) t e hard copies x y can can' agrees cans =
+    elim (cases_lt hard block.lsn) [
+      | inl above ↦ elim (cases_lt (hard + 64) block.lsn) [
+        | inl far ↦ rw (lt-leb block.lsn hard above, lt-ltb (hard + 64) block.lsn far) refl
+        | inr within ↦ ap (λ (a : Bool). first_denial section_c (record { head = head; act = acts.Offer block }) t e (seen hard copies a can)) (agrees above within)
+      ]
+      | inr below ↦ rw (le-leb block.lsn hard below) refl
+    ]
 same_log head (acts.Report lsn) t e hard copies x y can can' agrees cans =
     ap (λ (c : Bool). first_denial section_c (record { head = head; act = acts.Report lsn }) t e (seen hard copies x c)) (cans refl)
+same_log head (acts.Get page lsn exact) t e hard copies x y can can' agrees cans = refl
 same_log head (acts.Pull lo hi lsn max) t e hard copies x y can can' agrees cans = refl
+same_log head (acts.Advance partition steps) t e hard copies x y can can' agrees cans = refl
 same_log head acts.Status t e hard copies x y can can' agrees cans = refl
 same_log head (acts.Failover primary) t e hard copies x y can can' agrees cans = refl
 same_log head (acts.SetTable text) t e hard copies x y can can' agrees cans = refl
+same_log head (acts.Audit first max) t e hard copies x y can can' agrees cans = refl
+same_log head acts.Tidy t e hard copies x y can can' agrees cans = refl
 
 -- sections A and B look at no view
 same_rows : (k n : ℕ) (q : Query) (t : WrittenTable) (e : Epochs) (v w : View) → first_denial section_c q t e v ≡ first_denial section_c q t e w

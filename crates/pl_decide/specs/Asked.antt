@@ -1,8 +1,10 @@
 -- What the rules ask: of the principal, of the table's rows, of the arguments of the act.
-use Rattle.std.specs.Prelude.{ℕ, ◌-◌, ◌^◌, Bool, false, not, ◌&&◌, nat_lt, List, take, slice_get, Option, Some, None, Result, Ok, Err}
+use Rattle.std.specs.Prelude.{ℕ, ◌-◌, ◌^◌, Bool, true, false, not, ◌&&◌, nat_lt, List, take, slice_get, Option, Some, None, Result, Ok, Err}
 use Rattle.std.specs.List.{list_all}
 use Rattle.std.specs.Str.{bytes_eq}
 use Rattle.pl_table.specs.declared.head.Head.{Head}
+use Rattle.pl_table.specs.declared.op.Op.{Op}
+use Rattle.pl_table.specs.declared.op.Op.TheVariants as ops
 use Rattle.pl_table.specs.declared.request.Act.{Act}
 use Rattle.pl_table.specs.declared.request.Act.TheVariants as acts
 use Rattle.pl_table.specs.declared.row.Row.{Row}
@@ -36,32 +38,61 @@ denies_first number rows q = nat_lt 0 number
     && is_some_and (slice_get rows (number - 1)) (λ row. row_matches row q && not row.allows)
     && none_matches (take (number - 1) rows) q
 
+-- the operation reads the hardened log: a page of it, or its blocks
+abbrev pub reads_the_log : Op → Bool
+reads_the_log ops.Write = false
+reads_the_log ops.Offer = false
+reads_the_log ops.Report = false
+reads_the_log ops.Get = true
+reads_the_log ops.Pull = true
+reads_the_log ops.Advance = false
+reads_the_log ops.Status = false
+reads_the_log ops.Failover = false
+reads_the_log ops.SetTable = false
+reads_the_log ops.Audit = false
+reads_the_log ops.Tidy = false
+
 -- the copy that an act names
 abbrev pub copy_of : Act → Option ℕ
 copy_of (acts.Write copy block) = Some copy
+copy_of (acts.Offer block) = None
 copy_of (acts.Report lsn) = None
+copy_of (acts.Get page lsn exact) = None
 copy_of (acts.Pull lo hi lsn max) = None
+copy_of (acts.Advance partition steps) = None
 copy_of acts.Status = None
 copy_of (acts.Failover primary) = None
 copy_of (acts.SetTable text) = None
+copy_of (acts.Audit first max) = None
+copy_of acts.Tidy = None
 
 -- the primary that an act names
 abbrev pub primary_named : Act → Option ℕ
 primary_named (acts.Write copy block) = None
+primary_named (acts.Offer block) = None
 primary_named (acts.Report lsn) = None
+primary_named (acts.Get page lsn exact) = None
 primary_named (acts.Pull lo hi lsn max) = None
+primary_named (acts.Advance partition steps) = None
 primary_named acts.Status = None
 primary_named (acts.Failover primary) = Some primary
 primary_named (acts.SetTable text) = None
+primary_named (acts.Audit first max) = None
+primary_named acts.Tidy = None
 
 -- the text that an act has
 abbrev pub text_of : Act → Option (List ℕ)
 text_of (acts.Write copy block) = None
+text_of (acts.Offer block) = None
 text_of (acts.Report lsn) = None
+text_of (acts.Get page lsn exact) = None
 text_of (acts.Pull lo hi lsn max) = None
+text_of (acts.Advance partition steps) = None
 text_of acts.Status = None
 text_of (acts.Failover primary) = None
 text_of (acts.SetTable text) = Some text
+text_of (acts.Audit first max) = None
+text_of acts.Tidy = None
 
 -- the number of the fault for which a text is no table, or 0
 abbrev pub fault_code : Result WrittenTable TableFault → ℕ

@@ -16,7 +16,7 @@ use Rattle.pl_decide.specs.declared.rule.Rule.{Rule}
 use Rattle.pl_decide.specs.declared.view.Epochs.{Epochs}
 use Rattle.pl_decide.specs.declared.view.View.{View}
 use Rattle.pl_table.specs.Acts.{block_of, asked_at}
-use Rattle.pl_decide.specs.Asked.{is_known, last_epoch}
+use Rattle.pl_decide.specs.Asked.{is_known, reads_the_log, last_epoch}
 use Rattle.pl_decide.specs.Rules.{stands_against}
 use Rattle.pl_decide.specs.WrittenOrder.{first_denial, decision, NoneStands, IsFirstDenial}
 
@@ -43,6 +43,12 @@ pub record MayWrite (to : ℕ) (block : Content) (v : View) : Type 0 where
   pub agrees : v.agrees ≡ true
   pub copy : to < v.copies
 
+-- an allowed offer: its block is in the window and agrees
+pub record MayOffer (block : Content) (v : View) : Type 0 where
+  pub above : v.hard < block.lsn
+  pub within : block.lsn ≤ v.hard + window
+  pub agrees : v.agrees ≡ true
+
 -- an allowed failover: the table lists the primary, and another epoch is left
 pub record MayFailOver (primary : ℕ) (t : WrittenTable) (e : Epochs) : Type 0 where
   pub listed : IsSome (token_of primary t.principals)
@@ -51,11 +57,16 @@ pub record MayFailOver (primary : ℕ) (t : WrittenTable) (e : Epochs) : Type 0 
 -- what section C asks of an act
 abbrev pub MayBeServed : Act → WrittenTable → Epochs → View → Type 0
 MayBeServed (acts.Write copy block) t e v = MayWrite copy block v
+MayBeServed (acts.Offer block) t e v = MayOffer block v
 MayBeServed (acts.Report lsn) t e v = v.can_harden ≡ true
+MayBeServed (acts.Get page lsn exact) t e v = lsn ≤ v.hard
 MayBeServed (acts.Pull lo hi lsn max) t e v = lsn ≤ v.hard
+MayBeServed (acts.Advance partition steps) t e v = Unit {0}
 MayBeServed acts.Status t e v = Unit {0}
 MayBeServed (acts.Failover primary) t e v = MayFailOver primary t e
 MayBeServed (acts.SetTable text) t e v = IsOk (table_reading text)
+MayBeServed (acts.Audit first max) t e v = Unit {0}
+MayBeServed acts.Tidy t e v = Unit {0}
 
 -- an allowed request is of a known principal and of the epoch, and may be served
 pub record IsServable (q : Query) (t : WrittenTable) (e : Epochs) (v : View) : Type 0 where
@@ -105,14 +116,14 @@ abbrev pub ViewsDecideAlike : Type 0
 ViewsDecideAlike = (q : Query) (t : WrittenTable) (e : Epochs) (v w : View)
     → (q.head.epoch ≡ e.epoch → LooksAlike q.act v w) → decision q t e v ≡ decision q t e w
 
--- a pull that is allowed at one LSN is allowed at each up to the hardened end, and denied above it
-pub record PullsTo (q : Query) (t : WrittenTable) (e : Epochs) (v : View) (lsn : ℕ) : Type 0 where
+-- a pull or a get at an LSN is allowed up to the hardened end, and denied above it
+pub record ReadsTo (q : Query) (t : WrittenTable) (e : Epochs) (v : View) (lsn : ℕ) : Type 0 where
   pub within : lsn ≤ v.hard → decision (asked_at q lsn) t e v ≡ verdicts.Allowed
   pub above : v.hard < lsn
       → decision (asked_at q lsn) t e v ≡ verdicts.Denied sections.C 1 v.hard
 
--- so is each allowed pull
-abbrev pub PullsReachTheEnd : Type 0
-PullsReachTheEnd = (q : Query) (t : WrittenTable) (e : Epochs) (v : View)
-    → same_op (op_of q.act) ops.Pull ≡ true → decision q t e v ≡ verdicts.Allowed
-    → (lsn : ℕ) → PullsTo q t e v lsn
+-- so is each that is allowed at one LSN
+abbrev pub ReadsReachTheEnd : Type 0
+ReadsReachTheEnd = (q : Query) (t : WrittenTable) (e : Epochs) (v : View)
+    → reads_the_log (op_of q.act) ≡ true → decision q t e v ≡ verdicts.Allowed
+    → (lsn : ℕ) → ReadsTo q t e v lsn

@@ -1,6 +1,6 @@
 //! The decision: the first rule of the written order that stands against a request.
 
-ghost use Rattle.std.specs.Prelude.{◌≡◌, ◌≢◌, ◌==◌, ◌&&◌, ◌↔◌, ◌++◌, not, true, length};
+ghost use Rattle.std.specs.Prelude.{◌≡◌, ◌≢◌, ◌==◌, ◌&&◌, ◌↔◌, ◌++◌, not, true, length, ℕ, Some, None};
 ghost use Rattle.pl_block.specs.Block.{Content};
 ghost use Rattle.pl_table.specs.Ops.{same_role};
 ghost use Rattle.pl_table.specs.Table.{WrittenTable};
@@ -144,7 +144,8 @@ fn decide_by_log(table: &Table, epochs: Epochs, view: View, act: &Act) -> Verdic
         (record { head = head; act = act.now }) table.now epochs view }
 {
     match act {
-        Act::Write { copy, block } => decide_write(view, *copy, block.lsn()),
+        Act::Write { copy, block } => decide_block(view, Some(*copy), block.lsn()),
+        Act::Offer { block } => decide_block(view, None, block.lsn()),
         Act::Report { .. } => {
             if view.can_harden {
                 Verdict::Allowed
@@ -152,14 +153,14 @@ fn decide_by_log(table: &Table, epochs: Epochs, view: View, act: &Act) -> Verdic
                 Rule::BelowQuorum.denial(view.hard)
             }
         }
-        Act::Pull { lsn, .. } => {
+        Act::Get { lsn, .. } | Act::Pull { lsn, .. } => {
             if view.hard < *lsn {
                 Rule::AboveTheEnd.denial(view.hard)
             } else {
                 Verdict::Allowed
             }
         }
-        Act::Status => Verdict::Allowed,
+        Act::Advance { .. } | Act::Status | Act::Audit { .. } | Act::Tidy => Verdict::Allowed,
         Act::Failover { primary } => decide_failover(table, epochs, *primary),
         Act::SetTable { text } => match text.reading() {
             Ok(_) => Verdict::Allowed,
@@ -182,11 +183,15 @@ fn decide_failover(table: &Table, epochs: Epochs, primary: u32) -> Verdict
     Verdict::Allowed
 }
 
-// The verdict of section C on a write of a block with this LSN.
-fn decide_write(view: View, copy: u8, lsn: u64) -> Verdict
-    ensures value { (head : Head) (t : WrittenTable) (e : Epochs) (block : Content) →
-        block.lsn ≡ lsn → result ≡ first_denial section_c
-        (record { head = head; act = Act.Write copy block }) t e view }
+// The verdict of section C on a block with this LSN: on a write of it, which names a copy, or on an
+// offer.
+fn decide_block(view: View, copy: Option<u8>, lsn: u64) -> Verdict
+    ensures write { (head : Head) (t : WrittenTable) (e : Epochs) (block : Content) (to : ℕ) →
+        block.lsn ≡ lsn → copy ≡ Some to → result ≡ first_denial section_c
+        (record { head = head; act = Act.Write to block }) t e view }
+    ensures offer { (head : Head) (t : WrittenTable) (e : Epochs) (block : Content) →
+        block.lsn ≡ lsn → copy ≡ None → result ≡ first_denial section_c
+        (record { head = head; act = Act.Offer block }) t e view }
 {
     if lsn <= view.hard {
         return Rule::HardenedAlready.denial(view.hard);
@@ -197,8 +202,8 @@ fn decide_write(view: View, copy: u8, lsn: u64) -> Verdict
     if !view.agrees {
         return Rule::OtherContent.denial(0);
     }
-    if view.copies <= copy {
-        return Rule::NoSuchCopy.denial(0);
+    match copy {
+        Some(copy) if view.copies <= copy => Rule::NoSuchCopy.denial(0),
+        _ => Verdict::Allowed,
     }
-    Verdict::Allowed
 }

@@ -1,7 +1,7 @@
 //! What follows from the written order. Each function is a law: its clauses hold of all requests,
 //! tables, epochs and views, and its body does nothing.
 
-ghost use Rattle.pl_decide.specs.Laws.{AllowedExactly, DeniedByTheFirst, AllowedMeetsNoRule, AllowedMayBeServed, UnknownIsDenied, KnownIsNotUnknown, OlderEpochIsDenied, ViewsDecideAlike, PullsReachTheEnd};
+ghost use Rattle.pl_decide.specs.Laws.{AllowedExactly, DeniedByTheFirst, AllowedMeetsNoRule, AllowedMayBeServed, UnknownIsDenied, KnownIsNotUnknown, OlderEpochIsDenied, ViewsDecideAlike, ReadsReachTheEnd};
 
 /// In any order of rules, a request is allowed exactly where no rule stands against it. Elsewhere
 /// the verdict is the denial of the first rule that does.
@@ -11,9 +11,10 @@ pub fn the_first_rule_decides()
 {}
 
 /// No rule stands against an allowed request. So it is of a known principal and of the current
-/// epoch; a write is in the window, its block agrees, and its copy is there; a report can be
-/// hardened; a pull begins at the hardened end or below; the primary of a failover is listed, and
-/// the epoch is not the last; the text of a set_table is a table.
+/// epoch; the block of a write or an offer is in the window and agrees, and the copy of a write is
+/// there; a report can be hardened; a get is of the hardened end or below, and there a pull begins;
+/// the primary of a failover is listed, and the epoch is not the last; the text of a set_table is a
+/// table.
 pub fn allowed_requests_meet_no_rule()
     ensures rules { AllowedMeetsNoRule }
     ensures served { AllowedMayBeServed }
@@ -37,7 +38,8 @@ pub fn views_decide_alike()
     ensures same { ViewsDecideAlike }
 {}
 
-/// A pull that is allowed is allowed from each LSN up to the hardened end, and from none above it.
-pub fn pulls_reach_the_end()
-    ensures reach { PullsReachTheEnd }
+/// A pull or a get that is allowed at one LSN is allowed at each up to the hardened end. At each above
+/// it, it is denied as C1.
+pub fn reads_reach_the_end()
+    ensures reach { ReadsReachTheEnd }
 {}

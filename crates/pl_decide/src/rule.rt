@@ -22,13 +22,13 @@ pub enum Rule {
     TableRow(u16),
     /// B0: no row of the table matches.
     NoRowMatches,
-    /// C1: a pull begins above the hardened end, which is reported.
+    /// C1: a pull begins, or a get is of, an LSN above the hardened end, which is reported.
     AboveTheEnd,
-    /// C2: a write is of an LSN that is hardened; the hardened end is reported.
+    /// C2: a write or an offer is of an LSN that is hardened; the hardened end is reported.
     HardenedAlready,
-    /// C3: a write is of an LSN above the window; the hardened end is reported.
+    /// C3: a write or an offer is of an LSN above the window; the hardened end is reported.
     AboveTheWindow,
-    /// C4: a write brings another block than the content of its LSN.
+    /// C4: a write or an offer brings another block than the content of its LSN.
     OtherContent,
     /// C5: a write is to a copy that the landing zone does not have.
     NoSuchCopy,

@@ -14,8 +14,8 @@ pub struct Epochs {
 pub struct View {
     /// How many blocks are hardened.
     pub hard: u64,
-    /// Whether the block of a write is the content of its LSN, or the first block written there. It
-    /// matters for a write of the current epoch to an LSN in the window alone.
+    /// Whether the block of a write or an offer is the content of its LSN, or the first block accepted
+    /// there. It matters for one of the current epoch alone, and of an LSN in the window.
     pub agrees: bool,
     /// How many copies the landing zone has.
     pub copies: u8,

@@ -1,0 +1,5 @@
+use Rattle.pl_decide.proofs.Reached.{reach_the_end}
+use Rattle.pl_decide.proofs.laws.reads_reach_the_end.Goals as goal
+
+pub returns : goal.returns
+returns c = record { reach = reach_the_end }
