@@ -1,16 +1,14 @@
 -- Replays of a log that grows, and of one block more.
 use Rattle.std.proofs.Common.{◌≡◌, ℕ, zero, suc, ◌+◌, ◌-◌, ◌≤◌, Bool, true, false, ◌&&◌, not, cond, leb, List, [], ◌∷◌, ◌++◌, length, take, replicate, Some, Result, Ok, Err, OnOk, is_ok, if◌then◌else◌, slice_get, refl, sym, ap, ◌∙◌, arith, length-append}
 use Rattle.std.proofs.lemmas.Bool.{leb-true}
-use Rattle.std.proofs.lemmas.List.{length-replicate}
 use Rattle.std.proofs.lemmas.Option.{slice_get_within, get_or_from_slice_get}
 use Rattle.std.proofs.Math.Seq.{take-suc}
 use Rattle.std.proofs.lemmas.List.Sums.{fold-append}
 use Rattle.std.specs.FinMap as maps
-use Rattle.pl_block.specs.Bounds.{page_size}
 use Rattle.std.proofs.lemmas.List.{take-append-le}
 use Rattle.pl_block.specs.Block.{Content}
-use Rattle.pl_pages.specs.Page.{zeros, after_blocks, page_of, after_block}
-use Rattle.pl_pages.specs.State.{Version, PagesState, IsVersion, FitsLog, lsns_of, chosen}
+use Rattle.pl_pages.specs.Page.{after_blocks, page_of, after_block}
+use Rattle.pl_pages.specs.State.{Version, PagesState, IsVersion, FitsLog, lsns_of}
 use Rattle.pl_pages.specs.Laws.{AnswersReach}
 
 -- a page at an LSN of a log is that of each longer log

@@ -9,13 +9,13 @@ use Rattle.pl_pages.specs.State.{Version, PagesState}
 abbrev pub version_code : Coded Version
 version_code =
     code_by (ℕ × (ℕ × List ℕ)) (coded× coded_ℕ (coded× coded_ℕ (coded_list coded_ℕ)))
-        (λ v. (v.page, (v.lsn, v.bytes))) (λ p. record { page = p.0; lsn = p.1.0; bytes = p.1.1 }) (λ _. refl)
+    (λ v. (v.page, (v.lsn, v.bytes))) (λ p. record { page = p.0; lsn = p.1.0; bytes = p.1.1 }) (λ _. refl)
 
 -- of what is kept of pages
 abbrev pub pages_code : Coded PagesState
 pages_code =
     code_by (List ℕ × (ℕ × (maps.FinMap nat_cmp (List ℕ) × (List Version × ℕ))))
-        (coded× (coded_list coded_ℕ) (coded× coded_ℕ (coded× (maps.code coded_ℕ (coded_list coded_ℕ)) (coded× (coded_list version_code) coded_ℕ))))
-        (λ s. (s.applied, (s.indexed, (s.index, (s.versions, s.chunks)))))
-        (λ p. record { applied = p.0; indexed = p.1.0; index = p.1.1.0; versions = p.1.1.1.0; chunks = p.1.1.1.1 })
-        (λ _. refl)
+    (coded× (coded_list coded_ℕ) (coded× coded_ℕ (coded× (maps.code coded_ℕ (coded_list coded_ℕ)) (coded× (coded_list version_code) coded_ℕ))))
+    (λ s. (s.applied, (s.indexed, (s.index, (s.versions, s.chunks)))))
+    (λ p. record { applied = p.0; indexed = p.1.0; index = p.1.1.0; versions = p.1.1.1.0; chunks = p.1.1.1.1 })
+    (λ _. refl)
