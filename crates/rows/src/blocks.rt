@@ -13,8 +13,8 @@ decode 0001000000000001                                                 = fault 
 decode 0001000000000000 0000 0000                                       = 281474976710656:
 # Partition 5 twice.
 decode 0000000000000001 0002 0005 0005                                  = fault 3
-# Kind 2.
-decode 0000000000000001 0001 0000 0001 02 00000000                      = fault 4
+# Kind 3.
+decode 0000000000000001 0001 0000 0001 03 00000000                      = fault 4
 # A Put of no bytes, and one of 8,193 bytes.
 decode 0000000000000001 0001 0000 0001 01 00000000 0000 0000            = fault 5
 decode 0000000000000001 0001 0000 0001 01 00000000 0000 2001            = fault 6
@@ -39,7 +39,7 @@ decode 0000000000000000 00                                              = fault 
 # 3 before the list is missed.
 decode 0000000000000001 0009 0005 0004                                  = fault 3
 # 4 before the page is missed.
-decode 0000000000000001 0000 0001 02                                    = fault 4
+decode 0000000000000001 0000 0001 03                                    = fault 4
 # 5 before 6.
 decode 0000000000000001 0000 0001 01 00000000 2001 0000                 = fault 5
 # 6 before the bytes are missed.
