@@ -1,6 +1,7 @@
 //! Pages as replays of the hardened log, given at a log sequence number (LSN).
 //!
-//! A contract sees [`Pages`] as the applied LSN of each partition and the versions that it keeps.
+//! A contract sees [`Pages`] as the applied LSN of each partition, an index of the blocks that change
+//! each page, the versions that are kept, and the number of chunks that versions may take.
 #![tactic(auto)]
 
 mod changes;

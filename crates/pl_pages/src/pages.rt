@@ -67,7 +67,7 @@ impl Pages {
         }
     }
 
-    /// The LSN up to which the partition is applied, 0 at the start.
+    /// The LSN up to which the partition is applied, 0 at the start. The cost is constant.
     pub fn applied(&self, partition: u16) -> u64
         ensures value { result ≡ applied_at self.now partition }
     {
@@ -77,7 +77,8 @@ impl Pages {
     /// Applies the log to the partition: its applied LSN becomes the smaller of `hard` and what it
     /// was plus `steps`.
     ///
-    /// An error means that an allocation failed: no applied LSN has changed.
+    /// It allocates only for a partition above all that were advanced before: 8 bytes for each up to
+    /// it. An error means that an allocation failed: no applied LSN has changed.
     pub fn advance(&mut self, log: &mut DbLog, partition: u16, steps: u64) -> Result<(), AllocError>
         requires fits { FitsLog self.old log.old.hardened }
         ensures log { log.new ≡ log.old }
@@ -97,8 +98,9 @@ impl Pages {
     /// The bytes of the page at an LSN of the log, and that LSN: the one asked for where `exact` is
     /// set or the partition is applied no further, else the one that the partition is applied to.
     ///
-    /// The LSN is at most `hard`. The 8,192 bytes are lent until the next call. The log is replayed
-    /// from its beginning. An error means that an allocation failed: no applied LSN has changed.
+    /// The LSN is at most `hard`. The 8,192 bytes are lent until the next call. Each block up to the
+    /// LSN that is answered is read once, and none is copied. An error means that an allocation failed:
+    /// no applied LSN has changed.
     pub fn get(
         &mut self,
         log: &mut DbLog,
