@@ -1,12 +1,14 @@
 -- The epoch, its primary and the table in force.
 use Rattle.std.specs.Prelude.{ℕ, ◌+◌, Bool, true, false, List, [], ◌∷◌, if◌then◌else◌}
 use Rattle.pl_table.specs.Table.{WrittenTable}
-use Rattle.pl_core.specs.History.{Effect, wrote, hardened, failed_over, set, nothing, Entry, Start, History}
+use Rattle.pl_core.specs.History.{Effect, wrote, offered, hardened, advanced, failed_over, set, nothing, Entry, Start, History}
 
 -- the effect begins the next epoch
 abbrev pub begins_epoch : Effect → Bool
 begins_epoch (wrote copy block) = false
+begins_epoch (offered block) = false
 begins_epoch (hardened to) = false
+begins_epoch (advanced partition steps) = false
 begins_epoch (failed_over primary) = true
 begins_epoch (set table) = false
 begins_epoch nothing = false
@@ -28,7 +30,9 @@ this_epoch (e ∷ es) = if begins_epoch e.effect then [] else e ∷ this_epoch e
 -- the primary after an effect: a failover names it
 abbrev pub primary_by : Effect → ℕ → ℕ
 primary_by (wrote copy block) before = before
+primary_by (offered block) before = before
 primary_by (hardened to) before = before
+primary_by (advanced partition steps) before = before
 primary_by (failed_over primary) before = primary
 primary_by (set table) before = before
 primary_by nothing before = before
@@ -45,7 +49,9 @@ primary_of h = primary_after h.start h.entries
 -- the table after an effect
 abbrev pub table_by : Effect → WrittenTable → WrittenTable
 table_by (wrote copy block) before = before
+table_by (offered block) before = before
 table_by (hardened to) before = before
+table_by (advanced partition steps) before = before
 table_by (failed_over primary) before = before
 table_by (set table) before = table
 table_by nothing before = before

@@ -2,16 +2,18 @@
 //! hold of all histories, and its body does nothing but call laws of the crates below.
 
 ghost use Rattle.pl_core.specs.Laws.{DenialsChangeNothing, DeniedChangesNothing, LogsOnlyGrow};
-ghost use Rattle.pl_core.specs.Laws.{PullsReachTheHardenedEnd, PullsAboveAreDenied};
+ghost use Rattle.pl_core.specs.Laws.{ReadsReachTheHardenedEnd, ReadsAboveAreDenied};
+ghost use Rattle.pl_core.specs.Laws.{AppliedLsnsOnlyRise, PagesAreReplays, GetsAreRepeatable};
 ghost use Rattle.pl_core.specs.Laws.{ServedBlocksAreHardened, HardenedBlocksAreNumbered, HardenedBlocksAreBlocks, PullsMissNothing, PullsJoin};
 ghost use Rattle.pl_core.specs.Laws.{OlderEpochsAreFenced, HistoriesStayLegal};
 ghost use Rattle.pl_core.specs.Laws.{NothingStandsAboveTheWindow, RunsEndInTheWindow};
 ghost use Rattle.pl_core.specs.Laws.{FullListsAreTold, UnknownPrincipalsAreTold, NoMemoryChangesNothing, StepsReplyTheirOwn};
 
-use crate::lower::order_laws;
+use crate::lower::{order_laws, page_laws};
 
-/// After a denial the hardened log, its marks and their counts, each LSN's content and the copies it
-/// stands in, the epoch, its primary and the table in force are what they were.
+/// After a denial the hardened log, its marks and their counts, each LSN's content, the copies it
+/// stands in and whether it was offered, the LSN that each partition is applied to, the epoch, its
+/// primary and the table in force are what they were.
 pub fn denials_change_nothing()
     ensures entry { DenialsChangeNothing }
     ensures reply { DeniedChangesNothing }
@@ -31,13 +33,35 @@ pub fn older_epochs_are_fenced()
     order_laws();
 }
 
-/// The hardened end is how far an allowed pull goes: asked at each LSN up to it, it is allowed,
-/// and at each LSN above it is denied.
-pub fn pulls_reach_the_hardened_end()
-    ensures exact { PullsReachTheHardenedEnd }
-    ensures only { PullsAboveAreDenied }
+/// The hardened end is how far an allowed pull or get goes: asked at each LSN up to it, it is
+/// allowed, and at each LSN above it is denied.
+pub fn reads_reach_the_hardened_end()
+    ensures exact { ReadsReachTheHardenedEnd }
+    ensures only { ReadsAboveAreDenied }
 {
     order_laws();
+}
+
+/// No partition is applied above the hardened end, and no entry takes back what was applied.
+pub fn applied_lsns_only_rise()
+    ensures rises { AppliedLsnsOnlyRise }
+{}
+
+/// Each page that is served is its database's hardened log, replayed to the answered LSN. That LSN is
+/// at least the one requested, and just that where the get is exact; it is at most the hardened end.
+pub fn pages_are_replays()
+    ensures replay { PagesAreReplays }
+{
+    order_laws();
+}
+
+/// Two gets of a page that are answered at the same LSN are answered the same bytes, whatever was
+/// written, reported or failed over in between.
+pub fn gets_are_repeatable()
+    ensures same { GetsAreRepeatable }
+{
+    order_laws();
+    page_laws();
 }
 
 /// Each block that a pull of a legal history is answered is hardened, touches a partition that was

@@ -23,4 +23,4 @@ pub use limits::Limits;
 pub use line::Line;
 pub use pl_block::NoMemory;
 pub use pl_decide::Epochs;
-pub use reply::{Blocks, Reply};
+pub use reply::{Blocks, Lines, PageBytes, Reply};

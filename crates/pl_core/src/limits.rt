@@ -8,7 +8,7 @@ ghost use Rattle.pl_core.specs.Limits.{AreLimits};
 pub struct Limits {
     /// The most entries of the audit list, at least 1.
     pub audit: u64,
-    /// The chunks of 64 page versions, 1 to 65,536. A database keeps no page.
+    /// How many chunks of 64 page versions there may be, 1 to 65,536.
     pub chunks: usize,
 }
 

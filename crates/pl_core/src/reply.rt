@@ -3,12 +3,16 @@
 ghost use Rattle.std.specs.Prelude.{◌≡◌, ◌↔◌, IsTrue};
 ghost use Rattle.pl_core.specs.Reply.{FitsReply};
 
-use pl_block::Block;
+use crate::line::Line;
+use pl_block::{Block, PAGE_SIZE};
 use pl_table::Section;
 use std::marker::Model;
 
 /// The most blocks that one reply serves.
 const MAX_SERVED: usize = 16;
+
+/// The most lines of the audit list that one reply has.
+const MAX_LINES: usize = 1_024;
 
 /// The greatest code of a malformed body.
 const MAX_CODE: u8 = 15;
@@ -52,6 +56,83 @@ impl Blocks {
     }
 }
 
+/// The bytes of a page.
+#[derive(Debug, Drop)]
+pub struct PageBytes {
+    bytes: Vec<u8>,
+}
+
+impl Model for PageBytes {
+    ghost use Rattle.std.specs.Prelude.{ℕ, List};
+
+    ghost Value = { List ℕ };
+
+    ghost view = { λ p. p.bytes.items };
+}
+
+impl PageBytes {
+    /// These bytes.
+    pub fn new(bytes: Vec<u8>) -> PageBytes
+        ensures value { result ≡ bytes.items }
+    {
+        PageBytes { bytes }
+    }
+
+    /// The bytes.
+    pub fn as_slice(&self) -> &[u8]
+        ensures value { result.now ≡ self.now }
+    {
+        &self.bytes
+    }
+
+    /// The bytes as a `Vec`, without an allocation.
+    pub fn into_vec(self) -> Vec<u8>
+        ensures value { result.items ≡ self }
+    {
+        let PageBytes { bytes } = self;
+        bytes
+    }
+}
+
+/// Lines of the audit list, the oldest first.
+#[derive(Debug, Drop)]
+pub struct Lines {
+    items: Vec<Line>,
+}
+
+impl Model for Lines {
+    ghost use Rattle.std.specs.Prelude.{List};
+    ghost use Rattle.pl_core.specs.declared.line.Line.{Line};
+
+    ghost Value = { List Line };
+
+    ghost view = { λ l. l.items.items };
+}
+
+impl Lines {
+    /// These lines.
+    pub fn new(lines: Vec<Line>) -> Lines
+        ensures value { result ≡ lines.items }
+    {
+        Lines { items: lines }
+    }
+
+    /// The lines.
+    pub fn as_slice(&self) -> &[Line]
+        ensures value { result.now ≡ self.now }
+    {
+        &self.items
+    }
+
+    /// The lines as a `Vec`, without an allocation.
+    pub fn into_vec(self) -> Vec<Line>
+        ensures value { result.items ≡ self }
+    {
+        let Lines { items } = self;
+        items
+    }
+}
+
 /// What a request is answered.
 #[derive(Debug, Drop)]
 pub enum Reply {
@@ -61,6 +142,16 @@ pub enum Reply {
     Blocks {
         next: u64,
         blocks: Blocks,
+    },
+    /// The 8,192 bytes of a page, and the LSN that it is given at: the page has the changes of all
+    /// hardened blocks up to it, and no later one.
+    Page {
+        at: u64,
+        bytes: PageBytes,
+    },
+    /// The lines of an audit, at most 1,024. There may be none.
+    Entries {
+        lines: Lines,
     },
     /// The current epoch and its primary, the LSN of the last hardened block, 0 where there is
     /// none, and how many blocks were hardened from the pending area and from the landing zone.
@@ -93,13 +184,15 @@ pub enum Reply {
 }
 
 impl Reply {
-    /// Whether counts and codes are in the ranges of the reply format, so that the reply can be
-    /// written.
+    /// Whether counts, codes and the length of a page are in the ranges of the reply format, so
+    /// that the reply can be written.
     pub fn fits(&self) -> bool
         ensures exact { IsTrue result ↔ FitsReply self.now }
     {
         match self {
             Reply::Blocks { blocks, .. } => blocks.as_slice().len() <= MAX_SERVED,
+            Reply::Page { bytes, .. } => bytes.as_slice().len() == PAGE_SIZE,
+            Reply::Entries { lines } => lines.as_slice().len() <= MAX_LINES,
             Reply::Malformed { code } => 1 <= *code && *code <= MAX_CODE,
             _ => true,
         }

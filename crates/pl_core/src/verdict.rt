@@ -44,7 +44,8 @@ impl Db {
     }
 
     // What section C looks at. The log is looked at for a request of the present epoch alone: another
-    // is denied by a row above. So is a write outside the window, whatever is said of its block.
+    // is denied by a row above. So is a write or an offer outside the window, whatever is said of its
+    // block.
     fn view(&self, request: &Request) -> View
         ensures hard { result.hard ≡ hard_of self.now }
         ensures copies { result.copies ≡ copies_of self.now }
@@ -58,7 +59,7 @@ impl Db {
         let log = &self.kept.log;
         let in_epoch = request.head().epoch == self.kept.epochs.epoch;
         let agrees = match request.act() {
-            Act::Write { block, .. } => !in_epoch || log.agrees(block),
+            Act::Write { block, .. } | Act::Offer { block } => !in_epoch || log.agrees(block),
             _ => true,
         };
         let can_harden = match request.act() {

@@ -1,0 +1,32 @@
+-- How far each partition is applied, and the LSN that a get is answered at.
+use Rattle.std.specs.Prelude.{ℕ, ◌+◌, ◌/◌, ◌==◌, Bool, min, List, [], ◌∷◌, if◌then◌else◌}
+use Rattle.pl_pages.specs.State.{chosen}
+use Rattle.pl_core.specs.History.{Effect, wrote, offered, hardened, advanced, failed_over, set, nothing, Entry, Start, History}
+use Rattle.pl_core.specs.Log.{hard_of}
+
+-- The applied LSN of a partition after an effect on a history. An advance of the partition makes it
+-- the smaller of the hardened end and what it was plus the steps.
+abbrev pub applied_by : Effect → History → ℕ → ℕ → ℕ
+applied_by (wrote copy block) h partition before = before
+applied_by (offered block) h partition before = before
+applied_by (hardened to) h partition before = before
+applied_by (advanced other steps) h partition before =
+    if other == partition then min (hard_of h) (before + steps) else before
+applied_by (failed_over primary) h partition before = before
+applied_by (set table) h partition before = before
+applied_by nothing h partition before = before
+
+-- the applied LSN of a partition after these entries: 0 where there are none
+abbrev pub applied_after : Start → List Entry → ℕ → ℕ
+applied_after start [] partition = 0
+applied_after start (e ∷ es) partition =
+    applied_by e.effect (record { start = start; entries = es }) partition (applied_after start es partition)
+
+-- the LSN that a partition is applied to
+abbrev pub applied_of : History → ℕ → ℕ
+applied_of h partition = applied_after h.start h.entries partition
+
+-- the LSN that a get of the page is answered at: its own where it is exact or above the applied one,
+-- else the applied one
+abbrev pub choice_of : History → ℕ → ℕ → Bool → ℕ
+choice_of h page lsn exact = chosen (applied_of h (page / 65536)) lsn exact
