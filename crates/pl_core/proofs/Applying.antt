@@ -12,7 +12,7 @@ use Rattle.pl_table.specs.declared.verdict.Verdict.TheVariants as verdicts
 use Rattle.pl_table.specs.Table.{WrittenTable}
 use Rattle.pl_table.specs.TableText.{table_reading}
 use Rattle.pl_core.specs.declared.kept.Kept.{Kept}
-use Rattle.pl_core.specs.declared.entry.Entry.{Entry as KeptEntry}
+use Rattle.pl_audit.specs.declared.audit.Entry.{Entry as KeptEntry}
 use Rattle.pl_core.specs.History.{Effect, wrote, offered, hardened, advanced, failed_over, set, nothing, Entry, Start, History, grown, effect_of_reading, effect_of_act, effect_of}
 use Rattle.pl_core.specs.Log.{hardened_log, hard_of}
 use Rattle.pl_core.specs.Applied.{applied_by, applied_after, applied_of}

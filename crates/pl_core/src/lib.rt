@@ -7,7 +7,6 @@
 #![tactic(auto)]
 
 mod db;
-mod entry;
 mod kept;
 pub mod laws;
 mod limits;
@@ -20,7 +19,7 @@ mod verdict;
 
 pub use db::{Db, DbFault};
 pub use limits::Limits;
-pub use line::Line;
+pub use pl_audit::Line;
 pub use pl_block::NoMemory;
 pub use pl_decide::Epochs;
 pub use reply::{Blocks, Lines, PageBytes, Reply};

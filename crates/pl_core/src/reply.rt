@@ -3,7 +3,7 @@
 ghost use Rattle.std.specs.Prelude.{◌≡◌, ◌↔◌, IsTrue};
 ghost use Rattle.pl_core.specs.Reply.{FitsReply};
 
-use crate::line::Line;
+use pl_audit::Line;
 use pl_block::{Block, PAGE_SIZE};
 use pl_table::Section;
 use std::marker::Model;
@@ -102,7 +102,7 @@ pub struct Lines {
 
 impl Model for Lines {
     ghost use Rattle.std.specs.Prelude.{List};
-    ghost use Rattle.pl_core.specs.declared.line.Line.{Line};
+    ghost use Rattle.pl_audit.specs.declared.line.Line.{Line};
 
     ghost Value = { List Line };
 

@@ -1,39 +1,32 @@
 //! The verdict on a request: what is kept is looked at, and the history is what it stands for.
 
-ghost use Rattle.std.specs.Prelude.{◌≡◌, ◌+◌, ◌<◌, ◌≤◌, true, length, IfSome};
+ghost use Rattle.std.specs.Prelude.{◌≡◌, ◌+◌, ◌<◌, ◌≤◌, true, unwrap_or, IfSome};
 ghost use Rattle.pl_block.specs.Bounds.{window};
 ghost use Rattle.pl_table.specs.Acts.{block_of};
 ghost use Rattle.pl_core.specs.Epoch.{epoch_of, table_of};
-ghost use Rattle.pl_core.specs.Keeping.{table_at};
+ghost use Rattle.pl_audit.specs.Audit.{last_table};
 ghost use Rattle.pl_core.specs.Log.{copies_of, hard_of};
 ghost use Rattle.pl_decide.specs.Asked.{is_known};
 ghost use Rattle.pl_core.specs.Verdict.{agrees, can_harden, verdict_of};
 
 use crate::db::Db;
-use crate::entry::Entry;
 use crate::lower::order_laws;
+use pl_audit::Audit;
 use pl_decide::{View, known};
 use pl_table::{Act, Head, Request, Table, Verdict};
 
-// The table that the entry at the index keeps, or the first one.
-fn table_at<'a>(first: &'a Table, entries: &'a [Entry], index: Option<usize>) -> &'a Table
-    requires within { IfSome index (λ i. i < length entries.now) }
-    ensures value { result.now ≡ table_at first.now entries.now index }
+// The table that was set last, or the first one.
+fn in_force<'a>(audit: &'a Audit, first: &'a Table) -> &'a Table
+    ensures value { result.now ≡ unwrap_or (last_table audit.now.entries) first.now }
 {
-    let Some(index) = index else {
-        return first;
-    };
-    match &entries[index].table {
-        Some(table) => table,
-        None => first,
-    }
+    audit.last_table().unwrap_or(first)
 }
 
 impl Db {
     fn table_in_force(&self) -> &Table
         ensures value { result.now ≡ table_of self.now }
     {
-        table_at(&self.table, &self.entries, self.kept.in_force)
+        in_force(&self.audit, &self.table)
     }
 
     // Whether the table in force lists the principal with this token.
@@ -83,7 +76,7 @@ impl Db {
         order_laws();
         let epochs = self.epochs();
         let view = self.view(request);
-        let table = table_at(&self.table, &self.entries, self.kept.in_force);
+        let table = in_force(&self.audit, &self.table);
         self.decider.decide_known(table, &epochs, &view, request)
     }
 }

@@ -13,7 +13,7 @@ use Rattle.pl_core.proofs.db.Db.view.Goals.{in-Report+then-not-in_epoch-2, in-Re
 pub returns-clause-can_harden : goal.returns-clause-can_harden
 returns-clause-can_harden c =
     let d = c.self.inside in
-    let h = history_kept (record { table = d.table; primary = d.primary; limits = d.limits }) d.kept d.entries.items in
+    let h = history_kept (record { table = d.table; primary = d.primary; limits = d.limits }) d.kept d.audit.entries in
     let present : d.kept.epochs.epoch ≡ epoch_of c.args.self.now = ap (λ (e : Epochs). e.epoch) c.self.invariant.history.epochs ∙ ap epoch_of c.self.view_is in
     λ now. elim c.match-act-2.branch [
       | in-Report+then-not-in_epoch-2 w ↦ absurd (w.if-not-in_epoch-2.true (ap (λ (x : Head). x.epoch) c.head.ensures.value ∙ now ∙ sym present))
