@@ -54,7 +54,10 @@ WITHOUT_5 = Table([1, 2, 3, 4], [
 ONE_ROW = Table([1, 2, 3, 4, 5], [allow(lo=0, hi=65535)])
 MANY = Table(range(1, 65), [allow(who=1)] + [
     deny(who=i, op=[wire.FAILOVER], lo=i, hi=i) for i in range(3, 64)] + [allow(role=wire.PRIMARY), allow()])
-TABLES = [START, NO_PULL_OF_2, WITHOUT_5, ONE_ROW]
+BY_PARTITION = Table([1, 2, 3, 4, 5], [
+    deny(op=[wire.GET, wire.OFFER], lo=1, hi=2), allow(op=[wire.ADVANCE], lo=2, hi=4), deny(op=[wire.ADVANCE]),
+    allow()])
+TABLES = [START, NO_PULL_OF_2, WITHOUT_5, ONE_ROW, BY_PARTITION]
 
 PRINCIPAL = principal_text(1)
 OPERATOR = PRINCIPAL + row_text(allow(who=1, role=wire.OPERATOR))

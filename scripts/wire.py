@@ -19,17 +19,24 @@ def token(principal):
 
 
 def partitions(records):
-    """The partitions that records (page, offset, bytes) touch, in order."""
-    return sorted({page // PAGES_OF_A_PARTITION for page, _, _ in records})
+    """The partitions that records touch, in order."""
+    return sorted({page // PAGES_OF_A_PARTITION for page, *_ in records})
+
+
+def record(page, *put):
+    """A Put of (offset, bytes), or a Zero where there is none."""
+    if not put:
+        return b"\2" + number(page, 4)
+    offset, data = put
+    return b"\1" + number(page, 4) + number(offset, 2) + number(len(data), 2) + data
 
 
 def block(lsn, records):
-    """A block of this LSN with Puts (page, offset, bytes)."""
+    """A block of this LSN with Puts (page, offset, bytes) and Zeros (page,)."""
     annotations = partitions(records)
     out = number(lsn, 8) + number(len(annotations), 2)
     out += b"".join(number(partition, 2) for partition in annotations) + number(len(records), 2)
-    puts = (b"\1" + number(page, 4) + number(offset, 2) + number(len(data), 2) + data for page, offset, data in records)
-    return out + b"".join(puts)
+    return out + b"".join(record(*parts) for parts in records)
 
 
 def puts_of(size, byte):
@@ -48,13 +55,29 @@ def write(copy, spelled):
     return bytes([copy]) + spelled
 
 
+def offer(spelled):
+    return spelled
+
+
 def report(lsn):
     return number(lsn, 8)
+
+
+def get(page, lsn, exact):
+    return number(page, 4) + number(lsn, 8) + bytes([exact])
 
 
 def pull(lo, hi, lsn, most):
     return number(lo, 2) + number(hi, 2) + number(lsn, 8) + number(most, 2)
 
 
+def advance(partition, steps):
+    return number(partition, 2) + number(steps, 2)
+
+
 def failover(primary):
     return number(primary, 4)
+
+
+def audit(first, most):
+    return number(first, 8) + number(most, 2)

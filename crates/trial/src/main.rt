@@ -1,17 +1,22 @@
-//! The stored trial: request bodies in hexadecimal on standard input, one a line, and the reply body
-//! to each on standard output.
+//! The stored trial: request bodies on standard input, one a line, and the reply body to each on
+//! standard output.
 //!
-//! A line `open FILE PRIMARY LIMIT` drops the database and opens another, with the table of that
-//! file, that first primary and an audit list of at most so many entries. A line that is neither is
-//! answered `?`. `scripts/trial.py` writes the stored lines and replies from a model of its own.
+//! Bodies are words: hexadecimal digits, and `COUNT*BYTE` for a run of equal bytes, which a reply has
+//! wherever eight or more stand in a row. A line `open FILE PRIMARY LIMIT` drops the database and
+//! opens another, with the table of that file, that first primary and an audit list of at most so many
+//! entries. A line that is neither is answered `?`. `scripts/trial.py` writes the stored lines and
+//! replies from a model of its own.
 #![tactic(auto)]
 
 use pl_core::{Db, Limits, Reply};
 use pl_table::read_table;
 use pl_wire::{BodyFault, decode_request, encode_reply};
-use std::alloc::{AllocGlobal, Global};
+use std::alloc::{AllocError, AllocGlobal, Global};
 use std::rt::Files;
 use std::{fs, io};
+
+/// The least run of equal bytes that a reply has as one word.
+const LONG_RUN: usize = 8;
 
 fn main(rt: HostRuntime) -> io::Result<()> {
     let mut db = None;
@@ -27,7 +32,7 @@ fn main(rt: HostRuntime) -> io::Result<()> {
                 Some(db) => reply_line(rt.alloc(), db, pass, &line),
                 None => None,
             };
-            println!(rt; "{}", reply.as_ref().map_or("?", |text| text.as_str()))?;
+            println!(rt; "{}", reply.as_ref().map_or("?", |text| text.trim()))?;
         }
     }
     Ok(())
@@ -51,9 +56,62 @@ fn opened(rt: &(impl Files + AllocGlobal), words: &str) -> Option<Db> {
     Db::new(rt.alloc(), table, primary.parse().ok()?, limits).ok()
 }
 
-/// The reply to a body, both in hexadecimal. The pass decides nothing, so each line has its own.
+/// The bytes of the words.
+fn bytes_of(alloc: Global, words: &str) -> Option<Vec<u8>> {
+    let mut bytes = Vec::new(alloc);
+    for word in words.split_whitespace() {
+        let part = match word.split_once('*') {
+            Some((count, byte)) => {
+                let byte = u8::from_str_radix(byte, 16).ok()?;
+                vec![in alloc; byte; count.parse().ok()?].ok()?
+            }
+            None => hex::decode(alloc, word).ok()?,
+        };
+        bytes.extend_from_slice(&part).ok()?;
+    }
+    Some(bytes)
+}
+
+/// Equal bytes in a row.
+#[derive(Clone, Copy)]
+struct Run {
+    byte: u8,
+    count: usize,
+}
+
+impl Run {
+    fn push_onto(self, words: &mut String) -> Result<(), AllocError> {
+        if LONG_RUN <= self.count {
+            return write!(words, " {}*{:02x} ", self.count, self.byte);
+        }
+        for _ in 0..self.count {
+            write!(words, "{:02x}", self.byte)?;
+        }
+        Ok(())
+    }
+}
+
+/// The bytes as words.
+fn words_of(alloc: Global, bytes: &[u8]) -> Result<String, AllocError> {
+    let mut words = String::new(alloc);
+    let mut run = Run { byte: 0, count: 0 };
+    for byte in bytes {
+        if *byte != run.byte {
+            run.push_onto(&mut words)?;
+            run = Run {
+                byte: *byte,
+                count: 0,
+            };
+        }
+        run.count = run.count.wrapping_add(1);
+    }
+    run.push_onto(&mut words)?;
+    Ok(words)
+}
+
+/// The reply to a body, both in words. The pass decides nothing, so each line has its own.
 fn reply_line(alloc: Global, db: &mut Db, pass: u64, body: &str) -> Option<String> {
-    let body = hex::decode(alloc, body).ok()?;
+    let body = bytes_of(alloc, body)?;
     let reply = match decode_request(alloc, &body) {
         Ok(request) => db.step(pass, request),
         Err(BodyFault::Malformed(fault)) => Reply::Malformed { code: fault.code() },
@@ -63,5 +121,5 @@ fn reply_line(alloc: Global, db: &mut Db, pass: u64, body: &str) -> Option<Strin
         return None;
     }
     let bytes = encode_reply(alloc, &reply).ok()?;
-    hex::encode(alloc, bytes.as_slice()).ok()
+    words_of(alloc, bytes.as_slice()).ok()
 }
