@@ -45,20 +45,50 @@ pub(crate) fn act_of(alloc: Global, words: &[&str]) -> Result<Act, Stop> {
             copy: copy.parse()?,
             block: block_of(alloc, block)?,
         },
-        ["report", lsn] => Act::Report { lsn: lsn.parse()? },
+        ["offer", block] => Act::Offer {
+            block: block_of(alloc, block)?,
+        },
+        ["get", page, lsn] => get_of(page, lsn, false)?,
+        ["get", page, lsn, "exact"] => get_of(page, lsn, true)?,
         ["pull", lo, hi, lsn, max] => Act::Pull {
             lo: lo.parse()?,
             hi: hi.parse()?,
             lsn: lsn.parse()?,
             max: max.parse()?,
         },
+        ["set_table", text @ ..] => Act::SetTable {
+            text: text_of(alloc, text)?,
+        },
+        _ => return short_act_of(words),
+    };
+    Ok(act)
+}
+
+fn get_of(page: &str, lsn: &str, exact: bool) -> Result<Act, Stop> {
+    Ok(Act::Get {
+        page: page.parse()?,
+        lsn: lsn.parse()?,
+        exact,
+    })
+}
+
+// An act of one or two numbers, or of none.
+fn short_act_of(words: &[&str]) -> Result<Act, Stop> {
+    let act = match words {
+        ["report", lsn] => Act::Report { lsn: lsn.parse()? },
+        ["advance", partition, steps] => Act::Advance {
+            partition: partition.parse()?,
+            steps: steps.parse()?,
+        },
         ["status"] => Act::Status,
         ["failover", primary] => Act::Failover {
             primary: primary.parse()?,
         },
-        ["set_table", text @ ..] => Act::SetTable {
-            text: text_of(alloc, text)?,
+        ["audit", first, max] => Act::Audit {
+            first: first.parse()?,
+            max: max.parse()?,
         },
+        ["tidy"] => Act::Tidy,
         _ => return Err(Stop::Unread),
     };
     Ok(act)

@@ -9,7 +9,8 @@ use bytes::Bytes;
 use pl_block::{Block, Record};
 use std::alloc::Global;
 
-fn bytes_of(alloc: Global, text: &str) -> Result<Vec<u8>, Stop> {
+/// The bytes of the word: hexadecimal digits, or `COUNT*BYTE`.
+pub(crate) fn bytes_in(alloc: Global, text: &str) -> Result<Vec<u8>, Stop> {
     match text.split_once('*') {
         Some((count, byte)) => {
             let byte = u8::from_str_radix(byte, 16)?;
@@ -30,7 +31,7 @@ fn record_of(alloc: Global, text: &str) -> Result<Record, Stop> {
     Ok(Record::Put {
         page: page.parse()?,
         offset: offset.parse()?,
-        bytes: Bytes::from_vec(bytes_of(alloc, bytes)?)?,
+        bytes: Bytes::from_vec(bytes_in(alloc, bytes)?)?,
     })
 }
 

@@ -13,16 +13,21 @@ decode 0001000000000001                                                 = fault 
 decode 0001000000000000 0000 0000                                       = 281474976710656:
 # Partition 5 twice.
 decode 0000000000000001 0002 0005 0005                                  = fault 3
-# Kind 3.
+# The kinds 0 and 3.
+decode 0000000000000001 0001 0000 0001 00 00000000                      = fault 4
 decode 0000000000000001 0001 0000 0001 03 00000000                      = fault 4
+# A Zero that is cut in its page.
+decode 0000000000000001 0001 0000 0001 02 000000                        = fault 1
 # A Put of no bytes, and one of 8,193 bytes.
 decode 0000000000000001 0001 0000 0001 01 00000000 0000 0000            = fault 5
 decode 0000000000000001 0001 0000 0001 01 00000000 0000 2001            = fault 6
 # A byte more.
 decode 0000000000000001 0000 0000 00                                    = fault 7
-# An annotation without a record, and page 65536 annotated as partition 0.
+# An annotation without a record, and page 65536 annotated as partition 0 or not at all.
 decode 0000000000000001 0001 0000 0000                                  = fault 8
 decode 0000000000000001 0001 0000 0001 01 00010000 0000 0001 aa         = fault 8
+decode 0000000000000001 0001 0000 0001 02 00010000                      = fault 8
+decode 0000000000000001 0000 0001 02 00010000                           = fault 8
 # Bytes of 0, which are too many or have the number 0.
 decode zeros 32769                                                      = fault 9
 decode zeros 32768                                                      = fault 2
@@ -75,6 +80,12 @@ decode 0000000000000007 0002 0001 ffff 0002 \
  01 ffffffff 0102 0002 0a0b 01 00010000 0000 0001 0c = 7:0a0b@4294967295+258,0c@65536
 encode 7:0a0b@4294967295+258,0c@65536 \
  = 000000000000000700020001ffff000201ffffffff010200020a0b0100010000000000010c
+decode 0000000000000001 0001 0000 0001 02 00000000                      = 1:zero
+encode 1:zero                 = 00000000000000010001000000010200000000
+decode 0000000000000002 0002 0000 ffff 0003 \
+ 02 ffffffff 01 00000001 0000 0001 aa 02 00000001 = 2:zero@4294967295,aa@1,zero@1
+encode 2:zero@4294967295,aa@1,zero@1 \
+ = 000000000000000200020000ffff000302ffffffff010000000100000001aa0200000001
 ";
 
 #[test]
@@ -103,6 +114,8 @@ block 281474976710657:aa,aa                      = fault 2
 block 1:0*aa,2*aa@0+8191                         = fault 5
 block 1:2*aa@0+8191,0*aa                         = fault 6
 block 281474976710656:aa@0+8191,8192*aa          = 8225 bytes
+block 1:zero,2*aa@0+8191,0*aa                    = fault 6
+block 1:zero,zero@4294967295                     = 26 bytes
 ";
 
 #[test]
@@ -151,6 +164,12 @@ same 7:aa@65536,aa,aa@131071 7:aa@65536,aa       = false
 same 7:aa@65536,aa 7:aa@65536,ab                 = false
 same 7:aa@65536 7:aa@65536+1                     = false
 same 7:aa 1:aa                                   = false
+partitions 7:zero@65536,aa,zero@4294967295       = 0 1 65535
+touches 7:zero@65536 1                           = true
+touches 7:zero@65536 0                           = false
+same 7:zero@65536 7:zero@65536                   = true
+same 7:zero@65536 7:zero@65537                   = false
+same 7:zero 7:00                                 = false
 ";
 
 #[test]

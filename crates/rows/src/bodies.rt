@@ -13,24 +13,28 @@ body 00000002 22222222222222222222222222222222 01 00000000 00000001 = fault 1
 # The roles 0 and 5.
 act 0 1 00 0000000000000001 0001 0000 0001 01 00000000 0000 0001 aa = fault 2
 act 5 1 00 0000000000000001 0001 0000 0001 01 00000000 0000 0001 aa = fault 2
-# The operations 0 and 12, and those that are not read: offer, get, advance, audit and tidy.
+# The operations 0, 12 and 255.
 act 1 0                                            = fault 3
 act 1 12                                           = fault 3
-act 1 2 0000000000000001 0001 0000 0001 01 00000000 0000 0001 aa = fault 3
-act 2 4 00000000 0000000000000000 00               = fault 3
-act 3 6 0000 0001                                  = fault 3
-act 4 10 0000000000000001 0001                     = fault 3
-act 4 11                                           = fault 3
+act 1 255                                          = fault 3
 # A write without copy, a report of 7 bytes, a pull without its max, a failover of 3 bytes.
 act 1 1                                            = fault 4
 act 1 3 00000000000001                             = fault 4
 act 2 5 0000 ffff 0000000000000001                 = fault 4
 act 4 8 000002                                     = fault 4
+# A get without its exact, an advance without its steps, an audit of 9 bytes.
+act 2 4 00000000 0000000000000000                  = fault 4
+act 3 6 0000                                       = fault 4
+act 4 10 0000000000000001 00                       = fault 4
 # A byte more.
 act 4 8 00000002 00                                = fault 5
 act 1 3 0000000000000001 00                        = fault 5
 act 2 5 0000 ffff 0000000000000001 0010 00         = fault 5
 act 4 7 00                                         = fault 5
+act 2 4 00000000 0000000000000000 00 00            = fault 5
+act 3 6 0000 0001 00                               = fault 5
+act 4 10 0000000000000001 0001 00                  = fault 5
+act 4 11 00                                        = fault 5
 # A report of 2^48 + 1; pulls from 2 to 1, from number 0 and 2^48 + 1, of no and 17 blocks.
 act 1 3 0001000000000001                           = fault 6
 act 2 5 0002 0001 0000000000000001 0010            = fault 6
@@ -38,12 +42,28 @@ act 2 5 0000 0001 0000000000000000 0010            = fault 6
 act 2 5 0000 0001 0001000000000001 0010            = fault 6
 act 2 5 0000 0001 0000000000000001 0000            = fault 6
 act 2 5 0000 0001 0000000000000001 0011            = fault 6
+# A get at 2^48 + 1, and two that are neither exact nor not; advances by 0 and 1,025; audits from 0, of 0 and of 1,025.
+act 2 4 00000000 0001000000000001 00               = fault 6
+act 2 4 00000000 0000000000000000 02               = fault 6
+act 2 4 00000000 0000000000000000 ff               = fault 6
+act 3 6 0000 0000                                  = fault 6
+act 3 6 0000 0401                                  = fault 6
+act 4 10 0000000000000000 0001                     = fault 6
+act 4 10 0000000000000001 0000                     = fault 6
+act 4 10 0000000000000001 0401                     = fault 6
 # Requests.
 act 4 7                                            = status
 act 4 8 00000002                                   = failover 2
 act 1 3 0000000000000000                           = report 0
 act 1 3 0001000000000000                           = report 281474976710656
 act 2 5 0000 ffff 0000000000000001 0010            = pull 0 65535 1 16
+act 2 4 ffffffff 0001000000000000 01               = get 4294967295 281474976710656 exact
+act 2 4 00000009 0000000000000000 00               = get 9 0
+act 3 6 0003 0400                                  = advance 3 1024
+act 3 6 ffff 0001                                  = advance 65535 1
+act 4 10 ffffffffffffffff 0400                     = audit 18446744073709551615 1024
+act 4 10 0000000000000001 0001                     = audit 1 1
+act 4 11                                           = tidy
 ";
 
 #[test]
@@ -65,6 +85,15 @@ act 1 1 00 0000000000000001 0000 0001 01 00000000 0000 2001 = fault 12
 act 1 1 00 0000000000000001 0000 0000 00                = fault 13
 act 1 1 00 0000000000000001 0001 0000 0000              = fault 14
 act 1 1 fill 00 32770                                   = fault 15
+# An offer's block is all that stands behind the head.
+act 1 2                                                 = fault 7
+act 1 2 0000000000000000                                = fault 8
+act 1 2 0000000000000001 0002 0005 0005                 = fault 9
+act 1 2 0000000000000001 0000 0001 03 00000000          = fault 10
+act 1 2 0000000000000001 0000 0001 02 000000            = fault 7
+act 1 2 0000000000000001 0000 0001 02 00000000          = fault 14
+act 1 2 0000000000000001 0000 0000 00                   = fault 13
+act 1 2 fill 00 32769                                   = fault 15
 # Copy 255 is a request.
 act 1 1 ff 0000000000000001 0000 0000                   = write 1: 255
 ";
@@ -131,6 +160,49 @@ body 00000003 33333333333333333333333333333333 02 00000000 00000001 05 \
 #[test]
 fn run_is_read(rt: HostRuntime) -> Result<(), Fail> {
     plays::<Wire>(&rt, rt.alloc(), RUN_IS_READ)
+}
+
+const OFFER_HAS_ITS_BLOCK: &str = "\
+act 1 2 0000000000000001 0001 0000 0001 01 00000000 0000 0001 aa = offer 1:aa
+act 1 2 0000000000000007 0001 0001 0002 02 00010002 01 00010002 0003 0002 0a0b \
+ = offer 7:zero@65538,0a0b@65538+3
+act 1 2 0001000000000000 0000 0000                      = offer 281474976710656:
+";
+
+#[test]
+fn offer_has_its_block(rt: HostRuntime) -> Result<(), Fail> {
+    plays::<Wire>(&rt, rt.alloc(), OFFER_HAS_ITS_BLOCK)
+}
+
+// Of database 7: principal, token, role, database, epoch, operation, and the arguments.
+const REQUESTS_AS_BYTES: &str = "\
+request 2 22 primary 1 write 1:aa 2 = 000000022222222222222222222222222222222201000000070000000101\
+020000000000000001000100000001010000000000000001aa
+request 2 22 primary 1 offer 1: = 000000022222222222222222222222222222222201000000070000000102\
+000000000000000100000000
+request 2 22 primary 1 report 5 = 000000022222222222222222222222222222222201000000070000000103\
+0000000000000005
+request 3 33 secondary 2 get 65537 9 exact = 000000033333333333333333333333333333333302000000070000000204\
+00010001000000000000000901
+request 3 33 secondary 2 get 0 0 = 000000033333333333333333333333333333333302000000070000000204\
+00000000000000000000000000
+request 3 33 secondary 2 pull 1 2 3 4 = 000000033333333333333333333333333333333302000000070000000205\
+0001000200000000000000030004
+request 4 44 page_server 2 advance 3 1024 = 000000044444444444444444444444444444444403000000070000000206\
+00030400
+request 1 11 operator 2 status = 000000011111111111111111111111111111111104000000070000000207
+request 1 11 operator 2 failover 5 = 000000011111111111111111111111111111111104000000070000000208\
+00000005
+request 1 11 operator 2 set_table x_is_1 = 000000011111111111111111111111111111111104000000070000000209\
+78203d2031
+request 1 11 operator 2 audit 258 1024 = 00000001111111111111111111111111111111110400000007000000020a\
+00000000000001020400
+request 1 11 operator 2 tidy = 00000001111111111111111111111111111111110400000007000000020b
+";
+
+#[test]
+fn requests_as_bytes(rt: HostRuntime) -> Result<(), Fail> {
+    plays::<Wire>(&rt, rt.alloc(), REQUESTS_AS_BYTES)
 }
 
 const WRITE_HAS_ITS_COPY_AND_BLOCK: &str = "\

@@ -1,7 +1,7 @@
 //! The block codec, asked line by line.
 
 use crate::answer::{push_bytes, push_fault, push_numbers, push_truth, push_word};
-use crate::block_text::{block_of, parts_of, push_block};
+use crate::block_text::{block_of, bytes_in, parts_of, push_block};
 use crate::transcript::{Stop, Subject};
 use bytes::Bytes;
 use pl_block::{Block, BlockFault, Record, decode, encode, encode_onto, encoded_len};
@@ -14,12 +14,11 @@ pub(crate) struct Codec {
     out: Vec<u8>,
 }
 
-/// The bytes of hexadecimal words.
+/// The bytes of the words, each of hexadecimal digits or `COUNT*BYTE`.
 pub(crate) fn bytes_of(alloc: Global, words: &[&str]) -> Result<Vec<u8>, Stop> {
     let mut bytes = Vec::new(alloc);
     for word in words {
-        let part = hex::decode(alloc, *word)?;
-        bytes.extend_from_slice(&part)?;
+        bytes.extend_from_slice(&bytes_in(alloc, word)?)?;
     }
     Ok(bytes)
 }

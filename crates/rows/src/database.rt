@@ -25,7 +25,7 @@ pub(crate) struct Database {
     db: Option<Db>,
     /// The requests of the next run.
     queue: Vec<(u64, Request)>,
-    /// How many requests were made.
+    /// How many requests were made, each once.
     asked: usize,
 }
 
@@ -38,8 +38,8 @@ enum Asked<'a> {
 }
 
 // What is read of a database in short.
-fn short_of(db: &Db) -> (u64, u64, Epochs) {
-    (db.audit_len(), db.hard(), db.epochs())
+fn short_of(db: &Db) -> (u64, (u64, u64), Epochs) {
+    (db.audit_len(), db.log().counts(), db.epochs())
 }
 
 impl Database {
@@ -79,20 +79,20 @@ impl Database {
         request.ok_or(Stop::Unread)
     }
 
-    fn next_pass(&mut self) -> u64 {
-        let pass = PASSES[self.asked % 3];
-        self.asked = self.asked.wrapping_add(1);
-        pass
+    fn pass(&self) -> u64 {
+        PASSES[self.asked % 3]
     }
 
     // The reply to a request. One of no memory has changed nothing.
     fn step(&mut self, asked: Asked) -> Result<Reply, Stop> {
         let request = self.request(asked)?;
-        let pass = self.next_pass();
+        let pass = self.pass();
         let db = self.db.as_mut().ok_or(Stop::Unread)?;
         let before = short_of(db);
         let reply = db.step(pass, request);
-        if matches!(reply, Reply::NoMemory) && short_of(db) != before {
+        if !matches!(reply, Reply::NoMemory) {
+            self.asked = self.asked.wrapping_add(1);
+        } else if short_of(db) != before {
             return Err(Stop::Changed);
         }
         Ok(reply)
@@ -108,20 +108,47 @@ impl Database {
         Ok(reply)
     }
 
-    // Writes each block from the first to the last, whose byte is its number, up to one that is not
-    // done.
-    fn fill(&mut self, words: [&str; 7], refused: &mut bool) -> Result<Reply, Stop> {
-        let [principal, token, role, epoch, first, last, copy] = words;
+    // Writes to the copy, or offers, each block from the first to the last, whose byte is its number,
+    // up to one that is not done.
+    fn fill(
+        &mut self,
+        head: [&str; 4],
+        words: [&str; 3],
+        refused: &mut bool,
+    ) -> Result<Reply, Stop> {
+        let [principal, token, role, epoch] = head;
+        let [first, last, copy] = words;
         for lsn in first.parse::<u64>()?..=last.parse::<u64>()? {
             let block = format!(in self.alloc; "{lsn}:{:02x}", lsn % 256)?;
             let block = block.as_str();
-            let words = [principal, token, role, epoch, "write", block, copy];
-            let reply = self.ask(Asked::Words(&words), refused)?;
+            let reply = if copy.is_empty() {
+                let offer = [principal, token, role, epoch, "offer", block];
+                self.ask(Asked::Words(&offer), refused)?
+            } else {
+                let write = [principal, token, role, epoch, "write", block, copy];
+                self.ask(Asked::Words(&write), refused)?
+            };
             if !matches!(reply, Reply::Done) {
                 return Ok(reply);
             }
         }
         Ok(Reply::Done)
+    }
+
+    // How many lines an audit serves.
+    fn lines(
+        &mut self,
+        head: [&str; 4],
+        words: [&str; 2],
+        refused: &mut bool,
+    ) -> Result<u64, Stop> {
+        let [principal, token, role, epoch] = head;
+        let [first, max] = words;
+        let audit = [principal, token, role, epoch, "audit", first, max];
+        match self.ask(Asked::Words(&audit), refused)? {
+            Reply::Entries { lines } => Ok(lines.as_slice().len() as u64),
+            _ => Err(Stop::Unread),
+        }
     }
 
     // How many of the statuses are answered, up to one that is not.
@@ -137,8 +164,8 @@ impl Database {
 
     fn queue(&mut self, words: &[&str]) -> Result<usize, Stop> {
         let request = self.request(Asked::Words(words))?;
-        let pass = self.next_pass();
-        self.queue.push((pass, request))?;
+        self.queue.push((self.pass(), request))?;
+        self.asked = self.asked.wrapping_add(1);
         Ok(self.queue.len())
     }
 
@@ -190,6 +217,9 @@ impl Database {
                 push_numbers(out, &[u64::from(epoch), u64::from(primary)])
             }
             ["log"] => push_log(out, db.log()),
+            ["applied", partition] => {
+                push_numbers(out, &[db.pages().applied(partition.parse()?)])
+            }
             ["annulled", epoch, lsn] => self.annulled(epoch, lsn, out),
             _ => Err(Stop::Unread),
         }
@@ -199,7 +229,14 @@ impl Database {
     fn reply(&mut self, words: &[&str], out: &mut String, refused: &mut bool) -> Result<(), Stop> {
         let reply = match words {
             [principal, token, role, epoch, "fill", first, last, copy] => {
-                self.fill([principal, token, role, epoch, first, last, copy], refused)?
+                self.fill(
+                    [principal, token, role, epoch],
+                    [first, last, copy],
+                    refused,
+                )?
+            }
+            [principal, token, role, epoch, "offers", first, last] => {
+                self.fill([principal, token, role, epoch], [first, last, ""], refused)?
             }
             _ => self.ask(Asked::Words(words), refused)?,
         };
@@ -229,13 +266,20 @@ impl Subject for Database {
     fn answer(&mut self, words: &[&str], out: &mut String, refused: &mut bool) -> Result<(), Stop> {
         match words {
             ["open", table, primary, audit] => push_word(out, self.open(table, primary, audit)?),
-            ["audit" | "hard" | "epochs" | "log" | "annulled", ..] => self.state(words, out),
+            [
+                "audit" | "hard" | "epochs" | "log" | "applied" | "annulled",
+                ..
+            ] => { self.state(words, out) }
             ["queue", request @ ..] => push_numbers(out, &[self.queue(request)? as u64]),
             ["run"] => self.run(out, refused),
             ["bytes", body @ ..] => self.bytes(body, out, refused),
             [principal, token, role, epoch, "statuses", count] => {
                 let head = head_of(0, [principal, token, role, epoch])?;
                 push_numbers(out, &[self.statuses(head, count.parse()?, refused)?])
+            }
+            [principal, token, role, epoch, "lines", first, max] => {
+                let head = [*principal, *token, *role, *epoch];
+                push_numbers(out, &[self.lines(head, [first, max], refused)?])
             }
             _ => self.reply(words, out, refused),
         }

@@ -98,6 +98,43 @@ fn rows_of_section_c(rt: HostRuntime) -> Result<(), Fail> {
     plays::<Rules>(&rt, rt.alloc(), ROWS_OF_SECTION_C)
 }
 
+// C2 to C4 are asked of a write and of an offer, C5 of a write alone; C1 of a pull and of a get.
+const ROWS_OF_READS_AND_OFFERS: &str = "\
+table start                            = Ok
+3 33 secondary   7 get 9 5             = Allowed
+3 33 secondary   7 get 9 0 exact       = Allowed
+3 33 secondary   7 get 9 6             = Denied C1 5
+3 33 secondary   7 get 9 6 exact       = Denied C1 5
+2 22 primary     7 get 458752 6        = Denied C1 5
+3 33 secondary   7 get 458752 6        = Denied B3 0
+4 44 page_server 7 get 9 0             = Denied A5 0
+2 22 primary     7 offer 6:            = Allowed
+2 22 primary     7 offer 69:           = Allowed
+2 22 primary     7 offer 5:            = Denied C2 5
+2 22 primary     7 offer 70:           = Denied C3 5
+view 5 false 0 false                   = Ok
+2 22 primary     7 offer 5:            = Denied C2 5
+2 22 primary     7 offer 70:           = Denied C3 5
+2 22 primary     7 offer 6:            = Denied C4 0
+view 5 true 0 false                    = Ok
+2 22 primary     7 offer 6:            = Allowed
+2 22 primary     6 offer 6:            = Denied A2 7
+5 55 primary     7 offer 6:            = Denied A4 0
+3 33 secondary   7 offer 6:            = Denied A5 0
+4 44 page_server 7 advance 3 1024      = Allowed
+4 44 page_server 7 advance 4 1         = Denied B0 0
+3 33 secondary   7 advance 3 1         = Denied A5 0
+1 11 operator    7 audit 1 1024        = Allowed
+1 11 operator    7 tidy                = Allowed
+2 22 primary     7 audit 1 1           = Denied A5 0
+3 33 operator    7 tidy                = Denied B0 0
+";
+
+#[test]
+fn rows_of_reads_and_offers(rt: HostRuntime) -> Result<(), Fail> {
+    plays::<Rules>(&rt, rt.alloc(), ROWS_OF_READS_AND_OFFERS)
+}
+
 const ANOTHER_TABLE: &str = "\
 table start                            = Ok
 3 33 secondary   7 pull 4 6 6 16       = Denied C1 5

@@ -9,6 +9,8 @@ mod answer;
 #[cfg(test)]
 mod asking;
 #[cfg(test)]
+mod audits;
+#[cfg(test)]
 mod block_text;
 #[cfg(test)]
 mod blocks;
@@ -21,13 +23,19 @@ mod database;
 #[cfg(test)]
 mod decisions;
 #[cfg(test)]
+mod entries;
+#[cfg(test)]
 mod failovers;
+#[cfg(test)]
+mod line_text;
 #[cfg(test)]
 mod log;
 #[cfg(test)]
 mod logs;
 #[cfg(test)]
 mod numbers;
+#[cfg(test)]
+mod offered_blocks;
 #[cfg(test)]
 mod offers;
 #[cfg(test)]
@@ -37,6 +45,8 @@ mod pages;
 #[cfg(test)]
 mod reply_bodies;
 #[cfg(test)]
+mod reply_faults;
+#[cfg(test)]
 mod reply_text;
 #[cfg(test)]
 mod rules;
@@ -44,6 +54,8 @@ mod rules;
 mod runs;
 #[cfg(test)]
 mod secrets;
+#[cfg(test)]
+mod served_pages;
 #[cfg(test)]
 mod sizes;
 #[cfg(test)]

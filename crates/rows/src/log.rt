@@ -6,6 +6,7 @@ ghost use Rattle.pl_log.specs.Change.{ArePast};
 use crate::answer::{push_numbers, push_truth, push_word};
 use crate::block_text::{block_of, push_block, push_blocks};
 use crate::transcript::{Stop, Subject};
+use pl_block::Block;
 use pl_log::DbLog;
 use pl_log::laws::failovers_harden_the_longest_run;
 use std::alloc::Global;
@@ -48,6 +49,26 @@ impl Driven {
             return Err(Stop::Unread);
         }
         Ok(self.log.write(copy, block)?)
+    }
+
+    // The block of the word, where it may be offered.
+    fn offered(&self, alloc: Global, word: &str) -> Result<Block, Stop> {
+        let block = block_of(alloc, word)?;
+        if !self.log.in_window(block.lsn()) || !self.log.agrees(&block) {
+            return Err(Stop::Unread);
+        }
+        Ok(block)
+    }
+
+    fn offer(&mut self, alloc: Global, word: &str, refused: &mut bool) -> Result<(), Stop> {
+        let block = self.offered(alloc, word)?;
+        let before = self.short();
+        if self.log.offer(block).is_ok() {
+            return Ok(());
+        }
+        meets_refusal(refused, self.short() == before)?;
+        let block = self.offered(alloc, word)?;
+        Ok(self.log.offer(block)?)
     }
 
     fn report(&mut self, lsn: u64, refused: &mut bool) -> Result<(), Stop> {
@@ -133,6 +154,10 @@ impl Log {
                 driven.write(self.alloc, block, copy.parse()?)?;
                 push_word(out, "Ok")
             }
+            ["offer", block] => {
+                driven.offer(self.alloc, block, refused)?;
+                push_word(out, "Ok")
+            }
             ["report", lsn] => {
                 driven.report(lsn.parse()?, refused)?;
                 push_word(out, "Ok")
@@ -177,9 +202,10 @@ impl Subject for Log {
                 self.driven = Some(open(self.alloc, copies.parse()?, quorum.parse()?)?);
                 push_word(out, "Ok")
             }
-            ["write" | "report" | "recover" | "read" | "pull", ..] => {
-                self.change(words, out, refused)
-            }
+            [
+                "write" | "offer" | "report" | "recover" | "read" | "pull",
+                ..
+            ] => { self.change(words, out, refused) }
             _ => self.state(words, out),
         }
     }

@@ -158,6 +158,51 @@ fn two_failovers(rt: HostRuntime) -> Result<(), Fail> {
     plays::<Log>(&rt, rt.alloc(), TWO_FAILOVERS)
 }
 
+// 1 and 3 are offered, 1 before it is written and 3 behind it; 5 is in no copy.
+const OFFERS_ARE_COUNTED: &str = "\
+log 3 2          = Ok
+offer 1:01       = Ok
+offer 1:01       = Ok
+agrees 1:01      = true
+agrees 1:02      = false
+can_harden 1     = false
+write 1:01 0     = Ok
+write 1:01 1     = Ok
+write 2:02 0     = Ok
+write 2:02 2     = Ok
+report 2         = Ok
+counts           = 1 1
+write 3:03 0     = Ok
+write 3:03 1     = Ok
+offer 3:03       = Ok
+write 4:04 1     = Ok
+write 4:04 2     = Ok
+offer 5:05       = Ok
+counts           = 1 1
+recover          = 2
+counts           = 2 2
+hard             = 4
+read 3           = 3:03
+annulled 1 3     = none
+annulled 1 5     = 5:05
+# The offers of the epoch before are gone.
+offer 5:55       = Ok
+agrees 5:05      = false
+write 5:55 0     = Ok
+write 5:55 1     = Ok
+write 6:06 0     = Ok
+write 6:06 1     = Ok
+report 6         = Ok
+counts           = 3 3
+recover          = 0
+annulled 2 5     = none
+";
+
+#[test]
+fn offers_are_counted(rt: HostRuntime) -> Result<(), Fail> {
+    plays::<Log>(&rt, rt.alloc(), OFFERS_ARE_COUNTED)
+}
+
 // Partition 0, partition 7, partition 0, none, partitions 7 and 0; then lo, hi, from, max and reach.
 const PULL_IN_PARTS: &str = "\
 log 3 2                  = Ok

@@ -198,6 +198,11 @@ open start 2 2                  = Ok
 2 22 primary 1 status           = AuditFull
 2 11 primary 1 status           = AuditFull
 1 11 operator 1 set_table other = AuditFull
+2 22 primary 1 offer 1:aa       = AuditFull
+3 33 secondary 1 get 0 0        = AuditFull
+4 44 page_server 1 advance 0 1  = AuditFull
+1 11 operator 1 audit 1 10      = AuditFull
+1 11 operator 1 tidy            = AuditFull
 audit                           = 2
 ";
 

@@ -9,8 +9,8 @@ const REPLIES_AS_BYTES: &str = "\
 reply Done                                   = 00
 reply Status 16909060 286397204 2387509390608836392 3544952156018063160 4702394921427289928 \
  = 040102030411121314212223242526272831323334353637384142434445464748
-reply Denied C 1 0                           = 050300010000000000000000
-reply Denied A 258 217304205466536202        = 05010102030405060708090a
+reply Denied C1 0                            = 050300010000000000000000
+reply Denied A258 217304205466536202         = 05010102030405060708090a
 reply NoMemory                               = 06
 reply AuditFull                              = 07
 reply Spent                                  = 08
@@ -24,6 +24,45 @@ reply Malformed 16                           = does not fit
 #[test]
 fn replies_as_bytes(rt: HostRuntime) -> Result<(), Fail> {
     plays::<Wire>(&rt, rt.alloc(), REPLIES_AS_BYTES)
+}
+
+// The LSN, and 8,192 bytes.
+const PAGES_AS_BYTES: &str = "\
+reply Page 0                                 = 02 8200*00
+reply Page 72623859790382856 aa+0            = 020102030405060708aa 8191*00
+reply Page 5 0a+1 ee+8191                    = 020000000000000005000a 8189*00 ee
+size Page 5 0a+1 ee+8191                     = 8201
+size Page 5 of 8192                          = 8201
+size Page 5 of 8191                          = does not fit
+size Page 5 of 8193                          = does not fit
+size Page 5 of 0                             = does not fit
+";
+
+#[test]
+fn pages_as_bytes(rt: HostRuntime) -> Result<(), Fail> {
+    plays::<Wire>(&rt, rt.alloc(), PAGES_AS_BYTES)
+}
+
+// A count; of each line number, pass, principal, role, epoch, operation, a, b, section, row and value.
+const ENTRIES_AS_BYTES: &str = "\
+reply Entries                                = 030000
+reply Entries 1/1/2/primary/0/status/0/0/A2:1 = 030001\
+00000000000000010000000000000001000000020100000000070000000000000000000000000000000001\
+00020000000000000001
+reply Entries 72623859790382856/1230066625199609624/555885348/page_server/825373492/tidy/\
+4702394921427289928/5859837686836516696/C24930:8174723217654970232 \
+1/0/4294967295/operator/1/audit/2/3/allowed = 030002\
+010203040506070811121314151617182122232403313233340b4142434445464748515253545556575803\
+61627172737475767778\
+00000000000000010000000000000000ffffffff04000000010a0000000000000002000000000000000300\
+00000000000000000000
+size Entries times 1024 1/1/2/primary/0/status/0/0/A2:1 = 54275
+size Entries times 1025 1/1/2/primary/0/status/0/0/A2:1 = does not fit
+";
+
+#[test]
+fn entries_as_bytes(rt: HostRuntime) -> Result<(), Fail> {
+    plays::<Wire>(&rt, rt.alloc(), ENTRIES_AS_BYTES)
 }
 
 // Next and count; then each block's length and its bytes.

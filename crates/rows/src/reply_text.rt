@@ -1,12 +1,15 @@
-//! Replies and verdicts as words.
+//! Replies and verdicts as words, and replies the other way round.
 
 use crate::answer::{push_numbers, push_word};
-use crate::block_text::push_blocks;
+use crate::block_text::{block_of, push_blocks};
+use crate::line_text::{line_of, push_lines, section_of};
 use crate::transcript::Stop;
-use pl_core::Reply;
+use pl_core::{Blocks, Lines, PageBytes, Reply};
 use pl_table::{Section, Verdict};
+use std::alloc::Global;
 
-fn letter(section: Section) -> char {
+/// The letter of a section.
+pub(crate) fn letter(section: Section) -> char {
     match section {
         Section::A => 'A',
         Section::B => 'B',
@@ -33,6 +36,18 @@ pub(crate) fn push_verdict(out: &mut String, verdict: Verdict) -> Result<(), Sto
     }
 }
 
+// Pushes the LSN of the page, and each byte that is not 0 with its offset, as `Page 2 aa+0 ee+8191`.
+fn push_page(out: &mut String, at: u64, bytes: &[u8]) -> Result<(), Stop> {
+    push_word(out, "Page")?;
+    push_numbers(out, &[at])?;
+    for (offset, byte) in bytes.iter().enumerate() {
+        if *byte != 0 {
+            write!(out, " {byte:02x}+{offset}")?;
+        }
+    }
+    Ok(())
+}
+
 /// Pushes the reply, as `Done` or `Blocks 2 1:aa`.
 pub(crate) fn push_reply(out: &mut String, reply: &Reply) -> Result<(), Stop> {
     match reply {
@@ -41,6 +56,11 @@ pub(crate) fn push_reply(out: &mut String, reply: &Reply) -> Result<(), Stop> {
             push_word(out, "Blocks")?;
             push_numbers(out, &[*next])?;
             push_blocks(out, blocks.as_slice())
+        }
+        Reply::Page { at, bytes } => push_page(out, *at, bytes.as_slice()),
+        Reply::Entries { lines } => {
+            push_word(out, "Entries")?;
+            push_lines(out, lines.as_slice())
         }
         Reply::Status {
             epoch,
@@ -67,5 +87,103 @@ pub(crate) fn push_reply(out: &mut String, reply: &Reply) -> Result<(), Stop> {
             push_word(out, "Malformed")?;
             push_numbers(out, &[u64::from(*code)])
         }
+    }
+}
+
+// The blocks of the words.
+fn blocks_of(alloc: Global, words: &[&str]) -> Result<Blocks, Stop> {
+    let mut blocks = Vec::new(alloc);
+    for word in words {
+        blocks.push(block_of(alloc, word)?)?;
+    }
+    Ok(Blocks::new(blocks))
+}
+
+// A page of so many bytes, which are 0 but for those of the words, `BYTE+OFFSET`.
+fn page_of(alloc: Global, len: usize, words: &[&str]) -> Result<PageBytes, Stop> {
+    let mut bytes = vec![in alloc; 0; len]?;
+    for word in words {
+        let (byte, offset) = word.split_once('+').ok_or(Stop::Unread)?;
+        let offset: usize = offset.parse()?;
+        let place = bytes.get_mut(offset).ok_or(Stop::Unread)?;
+        *place = u8::from_str_radix(byte, 16)?;
+    }
+    Ok(PageBytes::new(bytes))
+}
+
+// The lines of the words, all of them so many times over.
+fn lines_of(alloc: Global, times: usize, words: &[&str]) -> Result<Lines, Stop> {
+    let mut lines = Vec::new(alloc);
+    for _ in 0..times {
+        for word in words {
+            lines.push(line_of(alloc, word)?)?;
+        }
+    }
+    Ok(Lines::new(lines))
+}
+
+fn denied_of(place: &str, value: &str) -> Result<Reply, Stop> {
+    let (section, row) = section_of(place).ok_or(Stop::Unread)?;
+    Ok(Reply::Denied {
+        section,
+        row: row.parse()?,
+        value: value.parse()?,
+    })
+}
+
+// The reply that has a list.
+fn long_reply_of(alloc: Global, words: &[&str]) -> Result<Reply, Stop> {
+    let reply = match words {
+        ["Blocks", next, blocks @ ..] => Reply::Blocks {
+            next: next.parse()?,
+            blocks: blocks_of(alloc, blocks)?,
+        },
+        ["Page", at, "of", len] => Reply::Page {
+            at: at.parse()?,
+            bytes: page_of(alloc, len.parse()?, &[])?,
+        },
+        ["Page", at, bytes @ ..] => Reply::Page {
+            at: at.parse()?,
+            bytes: page_of(alloc, 8_192, bytes)?,
+        },
+        ["Entries", "times", times, lines @ ..] => Reply::Entries {
+            lines: lines_of(alloc, times.parse()?, lines)?,
+        },
+        ["Entries", lines @ ..] => Reply::Entries {
+            lines: lines_of(alloc, 1, lines)?,
+        },
+        _ => return Err(Stop::Unread),
+    };
+    Ok(reply)
+}
+
+/// The reply of the words.
+pub(crate) fn reply_of(alloc: Global, words: &[&str]) -> Result<Reply, Stop> {
+    match words {
+        ["Blocks" | "Page" | "Entries", ..] => long_reply_of(alloc, words),
+        ["Status", epoch, primary, hard, pending, landing] => Ok(Reply::Status {
+            epoch: epoch.parse()?,
+            primary: primary.parse()?,
+            hard: hard.parse()?,
+            pending: pending.parse()?,
+            landing: landing.parse()?,
+        }),
+        ["Denied", place, value] => denied_of(place, value),
+        ["Malformed", code] => Ok(Reply::Malformed {
+            code: code.parse()?,
+        }),
+        [word] => plain_reply(word).ok_or(Stop::Unread),
+        _ => Err(Stop::Unread),
+    }
+}
+
+fn plain_reply(word: &str) -> Option<Reply> {
+    match word {
+        "Done" => Some(Reply::Done),
+        "NoMemory" => Some(Reply::NoMemory),
+        "AuditFull" => Some(Reply::AuditFull),
+        "Spent" => Some(Reply::Spent),
+        "NoDatabase" => Some(Reply::NoDatabase),
+        _ => None,
     }
 }

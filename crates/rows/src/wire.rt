@@ -1,13 +1,15 @@
 //! Requests and replies as bytes, asked line by line.
 
 use crate::answer::{push_bytes, push_fault, push_numbers, push_word};
-use crate::block_text::{block_of, push_block};
+use crate::asking::request_of;
+use crate::block_text::push_block;
 use crate::codec::bytes_of;
+use crate::reply_text::{push_reply, reply_of};
 use crate::table_text::text_named;
 use crate::transcript::{Stop, Subject};
-use pl_core::{Blocks, Reply};
-use pl_table::{Act, Head, Request, Section, TableText};
-use pl_wire::{BodyFault, decode_request, encode_reply};
+use pl_core::Reply;
+use pl_table::{Act, Head, Request, TableText};
+use pl_wire::{BodyFault, decode_reply, decode_request, encode_reply, encode_request};
 use std::alloc::Global;
 
 /// The calls on bodies, each on its own.
@@ -40,14 +42,26 @@ fn push_act(out: &mut String, act: &Act) -> Result<(), Stop> {
             push_block(out, block)?;
             push_numbers(out, &[u64::from(*copy)])
         }
+        Act::Offer { block } => push_block(out, block),
         Act::Report { lsn } => push_numbers(out, &[*lsn]),
+        Act::Get { page, lsn, exact } => {
+            push_numbers(out, &[u64::from(*page), *lsn])?;
+            if *exact {
+                push_word(out, "exact")?;
+            }
+            Ok(())
+        }
         Act::Pull { lo, hi, lsn, max } => {
             let partitions = [u64::from(*lo), u64::from(*hi)];
             push_numbers(out, &partitions)?;
             push_numbers(out, &[*lsn, u64::from(*max)])
         }
-        Act::Status | Act::SetTable { .. } => Ok(()),
+        Act::Advance { partition, steps } => {
+            push_numbers(out, &[u64::from(*partition), u64::from(*steps)])
+        }
         Act::Failover { primary } => push_numbers(out, &[u64::from(*primary)]),
+        Act::Audit { first, max } => push_numbers(out, &[*first, u64::from(*max)]),
+        Act::Status | Act::SetTable { .. } | Act::Tidy => Ok(()),
     }
 }
 
@@ -78,31 +92,80 @@ impl Wire {
         Ok(body)
     }
 
+    // The request that the bytes spell, which is written as these bytes again; or their fault's code.
+    fn request_in(&self, body: &[u8]) -> Result<Result<Request, u8>, Stop> {
+        match decode_request(self.alloc, body) {
+            Ok(request) => {
+                let again = encode_request(self.alloc, &request)?;
+                let same = again.as_slice() == body;
+                if same {
+                    Ok(Ok(request))
+                } else {
+                    Err(Stop::Changed)
+                }
+            }
+            Err(BodyFault::Malformed(fault)) => Ok(Err(fault.code())),
+            Err(BodyFault::NoMemory) => Err(Stop::NoMemory),
+        }
+    }
+
     // Pushes the act that the bytes spell, or their fault's code.
     fn push_act_in(&self, body: &[u8], out: &mut String) -> Result<(), Stop> {
-        match decode_request(self.alloc, body) {
+        match self.request_in(body)? {
             Ok(request) => push_act(out, request.act()),
-            Err(BodyFault::Malformed(fault)) => push_fault(out, fault.code()),
-            Err(BodyFault::NoMemory) => Err(Stop::NoMemory),
+            Err(code) => push_fault(out, code),
         }
     }
 
     // Pushes the whole request that the bytes spell, or their fault's code.
     fn push_request_in(&self, body: &[u8], out: &mut String) -> Result<(), Stop> {
-        match decode_request(self.alloc, body) {
+        match self.request_in(body)? {
             Ok(request) => push_request(out, request),
-            Err(BodyFault::Malformed(fault)) => push_fault(out, fault.code()),
-            Err(BodyFault::NoMemory) => Err(Stop::NoMemory),
+            Err(code) => push_fault(out, code),
         }
     }
 
-    // Pushes the bytes of the reply.
-    fn push_reply(&self, words: &[&str], out: &mut String) -> Result<(), Stop> {
-        let reply = reply_of(self.alloc, words)?;
+    // Pushes the bytes of the request, which is of database 7.
+    fn push_body_of(&self, words: &[&str], out: &mut String) -> Result<(), Stop> {
+        let request = request_of(self.alloc, 7, words)?.ok_or(Stop::Unread)?;
+        push_bytes(out, &encode_request(self.alloc, &request)?)
+    }
+
+    // The bytes of the reply, which are read as it again; or none, where it does not fit.
+    fn reply_bytes(&self, reply: &Reply) -> Result<Option<Vec<u8>>, Stop> {
         if !reply.fits() {
-            return push_word(out, "does not fit");
+            return Ok(None);
         }
-        push_bytes(out, &encode_reply(self.alloc, &reply)?)
+        let bytes = encode_reply(self.alloc, reply)?;
+        let again = match decode_reply(self.alloc, &bytes) {
+            Ok(read) if read.fits() => encode_reply(self.alloc, &read)?,
+            Err(BodyFault::NoMemory) => return Err(Stop::NoMemory),
+            _ => return Err(Stop::Changed),
+        };
+        let same = again.as_slice() == bytes.as_slice();
+        if same {
+            Ok(Some(bytes))
+        } else {
+            Err(Stop::Changed)
+        }
+    }
+
+    // Pushes the bytes of the reply, or how many these are.
+    fn push_reply_of(&self, words: &[&str], out: &mut String, whole: bool) -> Result<(), Stop> {
+        match self.reply_bytes(&reply_of(self.alloc, words)?)? {
+            Some(bytes) if whole => push_bytes(out, &bytes),
+            Some(bytes) => push_numbers(out, &[bytes.len() as u64]),
+            None => push_word(out, "does not fit"),
+        }
+    }
+
+    // Pushes the reply that the bytes spell, or their fault's code.
+    fn push_reply_in(&self, body: &[u8], out: &mut String) -> Result<(), Stop> {
+        match decode_reply(self.alloc, body) {
+            Ok(reply) => push_reply(out, &reply),
+            Err(BodyFault::Malformed(fault)) => push_fault(out, fault.code()),
+            Err(BodyFault::NoMemory) => Err(Stop::NoMemory),
+        }
     }
 }
 
@@ -115,62 +178,6 @@ fn push_request(out: &mut String, request: Request) -> Result<(), Stop> {
     }
     push_head(out, &head)?;
     push_act(out, &act)
-}
-
-fn section_of(letter: &str) -> Option<Section> {
-    match letter {
-        "A" => Some(Section::A),
-        "B" => Some(Section::B),
-        "C" => Some(Section::C),
-        _ => None,
-    }
-}
-
-// The blocks of the words.
-fn blocks_of(alloc: Global, words: &[&str]) -> Result<Blocks, Stop> {
-    let mut blocks = Vec::new(alloc);
-    for word in words {
-        blocks.push(block_of(alloc, word)?)?;
-    }
-    Ok(Blocks::new(blocks))
-}
-
-// The reply of the words.
-fn reply_of(alloc: Global, words: &[&str]) -> Result<Reply, Stop> {
-    match words {
-        ["Done"] => Ok(Reply::Done),
-        ["Blocks", next, blocks @ ..] => Ok(Reply::Blocks {
-            next: next.parse()?,
-            blocks: blocks_of(alloc, blocks)?,
-        }),
-        ["Status", epoch, primary, hard, pending, landing] => Ok(Reply::Status {
-            epoch: epoch.parse()?,
-            primary: primary.parse()?,
-            hard: hard.parse()?,
-            pending: pending.parse()?,
-            landing: landing.parse()?,
-        }),
-        ["Denied", section, row, value] => Ok(Reply::Denied {
-            section: section_of(section).ok_or(Stop::Unread)?,
-            row: row.parse()?,
-            value: value.parse()?,
-        }),
-        ["Malformed", code] => Ok(Reply::Malformed {
-            code: code.parse()?,
-        }),
-        [word] => plain_reply(word).ok_or(Stop::Unread),
-        _ => Err(Stop::Unread),
-    }
-}
-
-fn plain_reply(word: &str) -> Option<Reply> {
-    match word {
-        "NoMemory" => Some(Reply::NoMemory),
-        "AuditFull" => Some(Reply::AuditFull),
-        "Spent" => Some(Reply::Spent),
-        "NoDatabase" => Some(Reply::NoDatabase),
-        _ => None,
-    }
 }
 
 impl Subject for Wire {
@@ -189,7 +196,10 @@ impl Subject for Wire {
                 self.push_act_in(&self.body_of(role, op, arguments)?, out)
             }
             ["body", bytes @ ..] => self.push_request_in(&bytes_of(self.alloc, bytes)?, out),
-            ["reply", reply @ ..] => self.push_reply(reply, out),
+            ["request", request @ ..] => self.push_body_of(request, out),
+            ["reply", reply @ ..] => self.push_reply_of(reply, out, true),
+            ["size", reply @ ..] => self.push_reply_of(reply, out, false),
+            ["answer", bytes @ ..] => self.push_reply_in(&bytes_of(self.alloc, bytes)?, out),
             _ => Err(Stop::Unread),
         }
     }

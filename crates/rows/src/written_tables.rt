@@ -168,6 +168,38 @@ fn ranges_against_requests_without_partitions(rt: HostRuntime) -> Result<(), Fai
     plays::<Rules>(&rt, rt.alloc(), RANGES_AGAINST_REQUESTS_WITHOUT_PARTITIONS)
 }
 
+// Row 1 of the second table lists write and status alone.
+const RANGES_AGAINST_PAGES_AND_OFFERS: &str = "\
+table start                                       = Ok
+first 3 00 secondary   1 get 458751 9             = 4 allow
+first 3 00 secondary   1 get 458752 9             = 3 deny
+first 3 00 page_server 1 get 524287 9 exact       = 3 deny
+first 3 00 page_server 1 get 524288 9             = none
+first 4 00 page_server 1 get 0 9                  = 5 allow
+first 4 00 page_server 1 advance 3 1              = 5 allow
+first 4 00 page_server 1 advance 4 1              = none
+first 4 00 page_server 1 offer 1:aa,aa@196608     = 5 allow
+first 4 00 page_server 1 offer 1:aa,aa@262144     = none
+first 4 00 page_server 1 offer 1:                 = 5 allow
+first 4 00 page_server 1 audit 1 1                = 5 allow
+first 4 00 page_server 1 tidy                     = 5 allow
+first 4 00 operator    1 tidy                     = none
+table ranges                                      = Ok
+first 1 00 primary     1 offer 1:aa@327680        = 2 allow
+first 1 00 primary     1 offer 1:aa,aa@393216     = none
+first 1 00 primary     1 get 327680 0             = 2 allow
+first 1 00 primary     1 get 393216 0             = none
+first 1 00 page_server 1 advance 5 1              = 2 allow
+first 1 00 page_server 1 advance 6 1              = none
+first 1 00 operator    1 audit 1 1                = 2 allow
+first 1 00 operator    1 tidy                     = 2 allow
+";
+
+#[test]
+fn ranges_against_pages_and_offers(rt: HostRuntime) -> Result<(), Fail> {
+    plays::<Rules>(&rt, rt.alloc(), RANGES_AGAINST_PAGES_AND_OFFERS)
+}
+
 const STATUS_AND_SET_TABLE_BY_START_TABLE: &str = "\
 table start                                       = Ok
 first 1 00 operator    1 status                   = 1 allow
@@ -206,6 +238,23 @@ request 3 00 secondary 1 write 281474976710656: 255        = made
 request 3 00 secondary 1 set_table empty                   = made
 request 3 00 secondary 1 set_table spaces 65506            = made
 request 3 00 secondary 1 set_table spaces 65507            = out of range
+request 3 00 secondary 1 offer 281474976710656:            = made
+request 3 00 secondary 1 tidy                              = made
+# Gets at 0, 2^48 and 2^48 + 1.
+request 3 00 secondary 1 get 4294967295 0                  = made
+request 3 00 secondary 1 get 0 281474976710656 exact       = made
+request 3 00 secondary 1 get 0 281474976710657             = out of range
+# Advances by no step, 1, 1,024 and 1,025.
+request 3 00 secondary 1 advance 65535 0                   = out of range
+request 3 00 secondary 1 advance 65535 1                   = made
+request 3 00 secondary 1 advance 0 1024                    = made
+request 3 00 secondary 1 advance 0 1025                    = out of range
+# Audits from 0, of no entry, of 1,024 and of 1,025.
+request 3 00 secondary 1 audit 0 1                         = out of range
+request 3 00 secondary 1 audit 1 0                         = out of range
+request 3 00 secondary 1 audit 1 1                         = made
+request 3 00 secondary 1 audit 18446744073709551615 1024   = made
+request 3 00 secondary 1 audit 1 1025                      = out of range
 ";
 
 #[test]
