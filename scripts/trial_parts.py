@@ -103,9 +103,10 @@ def offers(trial):
         trial.fail_over(5 if turn % 2 == 0 else 2)
         trial.play(late)
         trial.status()
-        # What was only offered may be another now.
+        # What was only offered may be another now, whether that is offered or not.
         if turn == 2:
             trial.offer(hard + 9, [(9, 9, b"other")])
+        if turn in (0, 2):
             for copy in (0, 1):
                 trial.write(copy, hard + 9, [(9, 9, b"other")])
             trial.report(hard + 9)
