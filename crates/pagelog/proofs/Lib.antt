@@ -4,3 +4,4 @@ mod Turns
 pub mod Matching
 pub mod Passes
 pub mod TakesPlay
+mod Words

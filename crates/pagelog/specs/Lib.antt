@@ -1,5 +1,7 @@
 pub mod Lines
 pub mod Text
+pub mod Admin
+pub mod AnswerText
 pub mod Answering
 pub mod Start
 pub mod Played
