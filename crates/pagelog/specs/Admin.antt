@@ -35,14 +35,27 @@ pub record NamesSetTable (words : Words) (text : Option (List ℕ)) (bytes : Lis
   pub words_are : words ≡ codes "set_table" ∷ file ∷ []
   pub text_is : text ≡ Some bytes
 
+-- `audit FIRST MAX`
+pub record NamesAudit (words : Words) (first max : ℕ) : Type 0 where
+  pub from : List ℕ
+  pub count : List ℕ
+  pub words_are : words ≡ codes "audit" ∷ from ∷ count ∷ []
+  pub first_is : IsNumber 64 from first
+  pub max_is : IsNumber 16 count max
+
 -- the words ask for the act; of the others none is an operator's
 abbrev pub AskFor : Words → Option (List ℕ) → Act → Type 0
 AskFor words text (acts.Write copy block) = ⊥
+AskFor words text (acts.Offer block) = ⊥
 AskFor words text (acts.Report lsn) = ⊥
+AskFor words text (acts.Get page lsn exact) = ⊥
 AskFor words text (acts.Pull lo hi lsn max) = ⊥
+AskFor words text (acts.Advance partition steps) = ⊥
 AskFor words text acts.Status = words ≡ codes "status" ∷ []
 AskFor words text (acts.Failover primary) = NamesFailover words primary
 AskFor words text (acts.SetTable bytes) = NamesSetTable words text bytes
+AskFor words text (acts.Audit first max) = NamesAudit words first max
+AskFor words text acts.Tidy = words ≡ codes "tidy" ∷ []
 
 -- what words ask for: an act, or none where they ask for no act
 abbrev pub ReadAs : Words → Option (List ℕ) → Option Act → Type 0

@@ -3,7 +3,7 @@
 ghost use Rattle.std.specs.Prelude.{◌≡◌, ℕ, List, [], ◌∷◌, Option, Err, IfOk, IfSome, IfNone, codes, map, string_bytes};
 ghost use Rattle.pl_table.specs.declared.request.Act.{Act as ActSeen};
 ghost use Rattle.pl_table.specs.Request.{InRange};
-ghost use Rattle.pagelog.specs.Admin.{AskFor, IsNumber, ReadAs, bytes_of, operator_head};
+ghost use Rattle.pagelog.specs.Admin.{AskFor, ReadAs, bytes_of, operator_head};
 
 use pl_table::{Act, Head, Request, Role, TableText};
 use std::alloc::{AllocError, Global};
@@ -43,20 +43,13 @@ impl From<AllocError> for AdminFault {
     }
 }
 
-// The number that a word writes in decimal digits, where 32 bits hold it.
-fn number(word: &str) -> Option<u32>
-    ensures some { IfSome result (IsNumber 32 word.now) }
-    ensures none { IfNone result ((n : ℕ) → IsNumber 32 word.now n → ⊥) }
-{
-    word.parse().ok()
-}
-
 // The act that one word asks for.
 fn act_of_one(word: &str) -> Option<Act>
     ensures exact { (text : Option (List ℕ)) → ReadAs (word.now ∷ []) text result }
 {
     match word {
         "status" => Some(Act::Status),
+        "tidy" => Some(Act::Tidy),
         _ => None,
     }
 }
@@ -66,8 +59,29 @@ fn failover_to(id: &str) -> Option<Act>
     ensures exact { (word : List ℕ) (text : Option (List ℕ)) → word ≡ codes "failover" →
         ReadAs (word ∷ id.now ∷ []) text result }
 {
-    let primary = number(id)?;
+    let primary = id.parse().ok()?;
     Some(Act::Failover { primary })
+}
+
+// The audit of so many entries from the first on.
+fn audit_of(first: &str, max: &str) -> Option<Act>
+    ensures exact { (word : List ℕ) (text : Option (List ℕ)) → word ≡ codes "audit" →
+        ReadAs (word ∷ first.now ∷ max.now ∷ []) text result }
+{
+    let first = first.parse().ok()?;
+    let max = max.parse().ok()?;
+    Some(Act::Audit { first, max })
+}
+
+// The act that three words ask for.
+fn act_of_three(word: &str, first: &str, max: &str) -> Option<Act>
+    ensures exact { (text : Option (List ℕ)) →
+        ReadAs (word.now ∷ first.now ∷ max.now ∷ []) text result }
+{
+    match word {
+        "audit" => audit_of(first, max),
+        _ => None,
+    }
 }
 
 // The set_table of this text.
@@ -104,6 +118,7 @@ fn act_of(alloc: Global, words: &[String], text: Option<Vec<u8>>) -> Result<Opti
     match words {
         [word] => Ok(act_of_one(word.as_str())),
         [word, argument] => act_of_two(alloc, word.as_str(), argument.as_str(), text),
+        [word, first, max] => Ok(act_of_three(word.as_str(), first.as_str(), max.as_str())),
         _ => Ok(None),
     }
 }

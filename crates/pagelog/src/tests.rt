@@ -1,5 +1,7 @@
-//! What no clause says of readers and writers that fail, and of how far the input is read.
+//! What no clause says of readers and writers that fail, and of how far the input is read; and the
+//! requests of an operator from end to end.
 
+mod operator;
 mod reading;
 mod writing;
 

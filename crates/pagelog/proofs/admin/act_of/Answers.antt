@@ -1,10 +1,15 @@
-use Rattle.std.proofs.Common.{rules, ◌≡◌, map, string_bytes}
-use Rattle.pagelog.specs.Admin.{ReadAs, bytes_of}
-use Rattle.pagelog.proofs.Words.{single}
+use Rattle.pagelog.specs.Admin.{bytes_of}
+use Rattle.pagelog.proofs.Words.{single, triple}
 use Rattle.pagelog.proofs.admin.act_of.Goals as goal
 
 -- src/admin.rt:100:1
 pub returns-in-len1 : goal.returns-in-len1
 returns-in-len1 c = record {
   exact = rw (single c.args.words.now c.word-item.result c.in-len1.len_at_least c.in-len1.len_below c.word-item.is) (rw (← c.as_str.ensures.value) (c.act_of_one.ensures.exact (bytes_of c.args.text)));
+}
+
+-- src/admin.rt:115:1
+pub returns-in-len3 : goal.returns-in-len3
+returns-in-len3 c = record {
+  exact = rw (triple c.args.words.now c.word-item-then-words-lt4.result c.first-item.result c.max-item.result c.in-len3.len_at_least c.in-len3.len_below c.word-item-then-words-lt4.is c.first-item.is c.max-item.is) (rw (← c.as_str-in-len3.ensures.value) (rw (← c.as_str-in-len3-2.ensures.value) (rw (← c.as_str-in-len3-3.ensures.value) (c.act_of_three.ensures.exact (bytes_of c.args.text)))));
 }
