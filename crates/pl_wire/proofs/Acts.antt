@@ -1,9 +1,10 @@
 -- Arguments that are read are those of their spelling, and spelled arguments are read again.
-use Rattle.std.proofs.Common.{◌≡◌, ℕ, suc, ◌^◌, Bool, true, false, cond, ltb, List, [], ◌∷◌, ◌++◌, length, drop, Some, Result, Ok, Err, refl, ap, subst, ◌∙◌, arith}
-use Rattle.std.specs.Int.{w16, w32, w64, to_be_bytes}
+use Rattle.std.proofs.Common.{◌≡◌, ℕ, suc, ◌+◌, ◌^◌, ◌≤◌, Bool, true, false, cond, ltb, List, [], ◌∷◌, ◌++◌, length, drop, get_or, Option, Some, Result, Ok, Err, refl, sym, ap, subst, ◌∙◌, arith}
+use Rattle.std.specs.Option.{ok_or}
+use Rattle.std.specs.Int.{Width, w16, w32, w64, byte_len, to_be_bytes}
 use Rattle.std.proofs.lemmas.Bool.{ltb-false}
 use Rattle.std.proofs.lemmas.Bool.Decides.{nat_tests}
-use Rattle.std.proofs.lemmas.List.{length-drop, nil_from_length}
+use Rattle.std.proofs.lemmas.List.{append-nil, length-drop, nil_from_length}
 use Rattle.std.proofs.lemmas.Nat.{from_be_bytes-to_be_bytes_2, from_be_bytes-to_be_bytes_4, from_be_bytes-to_be_bytes_8}
 use Rattle.pl_block.specs.Block.{Content}
 use Rattle.pl_block.specs.Faults.{◌>>=◌}
@@ -13,39 +14,16 @@ use Rattle.pl_block.specs.declared.fault.Fault.{Fault}
 use Rattle.pl_table.specs.declared.op.Op.{Op}
 use Rattle.pl_table.specs.declared.op.Op.TheVariants as ops
 use Rattle.pl_table.specs.declared.request.Act.{Act}
-use Rattle.pl_table.specs.declared.request.Act.TheVariants.{Write, Report, Pull, Status, Failover, SetTable}
-use Rattle.pl_table.specs.Ops.{op_number, op_of_number}
+use Rattle.pl_table.specs.declared.request.Act.TheVariants.{Write, Offer, Report, Get, Pull, Advance, Status, Failover, SetTable, Audit, Tidy}
 use Rattle.pl_table.specs.Request.{op_of, FitsActFields}
-use Rattle.pl_wire.specs.declared.fault.WireFault.{WireFault}
-use Rattle.pl_wire.specs.declared.fault.WireFault.TheVariants.{EndsInField, BytesAfterEnd}
-use Rattle.pl_wire.specs.Spelling.{act_spelling}
-use Rattle.pl_wire.specs.Reading.{number_in, sized, write_to, write_reading, report_reading, pull_reading, status_reading, failover_reading, set_table_reading, act_reading}
-use Rattle.pl_wire.proofs.Places.{wide16, wide32, wide64, number_cut, number_below}
-
-abbrev pub done : {X : Type 0} → X → Result X WireFault
-done x = Ok x
-
-pub ok_is : {X : Type 0} (x y : X) → done x ≡ done y → x ≡ y
-ok_is x y e = cc
-
--- a test that did not fail
-pub guard_ok : {X : Type 0} (b : Bool) (d : WireFault) (r : Result X WireFault) (y : X) → cond b (Err d) r ≡ Ok y → (b ≡ false) × (r ≡ Ok y)
-guard_ok true d r y e = absurd cc
-guard_ok false d r y e = (refl, e)
-
--- a step that gave a value, and a next one that gave y of it
-pub record IsBound {X Y : Type 0} (r : Result X WireFault) (f : X → Result Y WireFault) (y : Y) : Type 0 where
-  pub value : X
-  pub first : r ≡ Ok value
-  pub next : f value ≡ Ok y
-
--- two steps of which neither failed
-pub bind_ok : {X Y : Type 0} (r : Result X WireFault) (f : X → Result Y WireFault) (y : Y) → (r >>= f) ≡ Ok y → IsBound r f y
-bind_ok (Ok x) f y e = record { value = x; first = refl; next = e }
-bind_ok (Err d) f y e = absurd cc
+use Rattle.pl_wire.specs.declared.fault.WireFault.TheVariants.{EndsInField, BytesAfterEnd, OutOfRange}
+use Rattle.pl_wire.specs.Spelling.{flag_number, act_spelling}
+use Rattle.pl_wire.specs.Reading.{number_in, sized, block_in, write_reading, offer_reading, report_reading, flag_of_number, get_reading, pull_reading, advance_reading, failover_reading, audit_reading, act_reading}
+use Rattle.pl_wire.proofs.Steps.{bound, done, ok_is, ok_or-some, guard_ok}
+use Rattle.pl_wire.proofs.Places.{IsWide, wide16, wide32, wide64, number_cut, number_below, byte_cut}
 
 -- what a value of sized bytes tells
-sized_ok : (size : ℕ) (bytes : List ℕ) (x y : Act) → sized size bytes x ≡ Ok y → (length bytes ≡ size) × (x ≡ y)
+sized_ok : {X : Type 0} (size : ℕ) (bytes : List ℕ) (x y : X) → sized size bytes x ≡ Ok y → (length bytes ≡ size) × (x ≡ y)
 sized_ok size bytes x y e =
     let a = guard_ok (ltb (length bytes) size) EndsInField (cond (ltb size (length bytes)) (Err BytesAfterEnd) (Ok x)) y e in
     let b = guard_ok (ltb size (length bytes)) BytesAfterEnd (Ok x) y a.1 in
@@ -57,27 +35,64 @@ pub record IsRead (op : Op) (bytes : List ℕ) (act : Act) : Type 0 where
   pub fields : FitsActFields act
   pub spelled : bytes ≡ act_spelling act
 
-write_to_ok : (copy : ℕ) (r : Result Content Fault) (act : Act) → write_to copy r ≡ Ok act → (b : Content) × (r ≡ Ok b) × (Write copy b ≡ act)
-write_to_ok copy (Ok b) act e = (b, refl, ok_is (Write copy b) act e)
-write_to_ok copy (Err f) act e = absurd cc
+-- ---- blocks and a text
+
+pub block_is : (r : Result Content Fault) (b : Content) → block_in r ≡ Ok b → r ≡ Ok b
+block_is (Ok x) b e = cc
+block_is (Err f) b e = absurd cc
 
 write_takes : OneSpelling → (bytes : List ℕ) (act : Act) → AreBytes bytes → write_reading bytes ≡ Ok act → IsRead ops.Write bytes act
 write_takes law [] act fits e = absurd cc
 write_takes law (copy ∷ bytes) act fits e =
-    let w = write_to_ok copy (block_reading bytes) act e in
-    let b = law.spelled bytes w.0 (λ i. fits (suc i)) w.1 in
-    subst (IsRead ops.Write (copy ∷ bytes)) w.2 (record { of_op = refl; fields = (fits 0, b.0); spelled = ap (λ (t : List ℕ). copy ∷ t) b.1 })
+    bound (block_in (block_reading bytes)) (λ block. Ok (Write copy block)) act e (λ block read made.
+    let b = law.spelled bytes block (λ i. fits (suc i)) (block_is (block_reading bytes) block read) in
+    subst (IsRead ops.Write (copy ∷ bytes)) (ok_is (Write copy block) act made) (record { of_op = refl; fields = (fits 0, b.0); spelled = ap (λ (t : List ℕ). copy ∷ t) b.1 }))
+
+offer_takes : OneSpelling → (bytes : List ℕ) (act : Act) → AreBytes bytes → offer_reading bytes ≡ Ok act → IsRead ops.Offer bytes act
+offer_takes law bytes act fits e =
+    bound (block_in (block_reading bytes)) (λ block. Ok (Offer block)) act e (λ block read made.
+    let b = law.spelled bytes block fits (block_is (block_reading bytes) block read) in
+    subst (IsRead ops.Offer bytes) (ok_is (Offer block) act made) (record { of_op = refl; fields = b.0; spelled = b.1 }))
+
+set_table_takes : (bytes : List ℕ) (act : Act) → done (SetTable bytes) ≡ Ok act → IsRead ops.SetTable bytes act
+set_table_takes bytes act e = subst (IsRead ops.SetTable bytes) (ok_is (SetTable bytes) act e) (record { of_op = refl; fields = tt; spelled = refl })
+
+-- ---- arguments of one size
 
 -- nothing stands behind the last of so many bytes
 nothing_behind : (n : ℕ) (bytes : List ℕ) → length bytes ≡ n → drop n bytes ≡ []
 nothing_behind n bytes len = nil_from_length (drop n bytes) (omega (arith, length-drop n bytes))
 
+-- the last number of so many bytes
+last_number : (w : Width) (limit : ℕ) → IsWide w limit → (at : ℕ) (bytes : List ℕ) → AreBytes bytes → length bytes ≡ at + byte_len w → drop at bytes ≡ to_be_bytes w (number_in w at bytes)
+last_number w limit wide at bytes fits len =
+    number_cut w limit wide at bytes fits (omega (arith, len)) ∙ ap (λ (t : List ℕ). to_be_bytes w (number_in w at bytes) ++ t) (nothing_behind (at + byte_len w) bytes len) ∙ append-nil (to_be_bytes w (number_in w at bytes))
+
+-- a number before what stands behind it
+number_before : (w : Width) (limit : ℕ) → IsWide w limit → (at : ℕ) (bytes rest : List ℕ) → AreBytes bytes → at + byte_len w ≤ length bytes → drop (at + byte_len w) bytes ≡ rest → drop at bytes ≡ to_be_bytes w (number_in w at bytes) ++ rest
+number_before w limit wide at bytes rest fits long behind =
+    number_cut w limit wide at bytes fits long ∙ ap (λ (t : List ℕ). to_be_bytes w (number_in w at bytes) ++ t) behind
+
 report_takes : (bytes : List ℕ) (act : Act) → AreBytes bytes → report_reading bytes ≡ Ok act → IsRead ops.Report bytes act
 report_takes bytes act fits e =
-    let lsn = number_in w64 0 bytes in
-    let s = sized_ok 8 bytes (Report lsn) act e in
-    let whole : bytes ≡ to_be_bytes w64 lsn = number_cut w64 (2 ^ 64) wide64 0 bytes fits (omega (arith, s.0)) ∙ ap (λ (t : List ℕ). to_be_bytes w64 lsn ++ t) (nothing_behind 8 bytes s.0) in
+    let s = sized_ok 8 bytes (Report (number_in w64 0 bytes)) act e in
+    let whole = last_number w64 (2 ^ 64) wide64 0 bytes fits s.0 in
     subst (IsRead ops.Report bytes) s.1 (record { of_op = refl; fields = number_below w64 (2 ^ 64) wide64 0 bytes fits; spelled = whole })
+
+flag_told : (n : ℕ) (flag : Bool) → flag_of_number n ≡ Some flag → n ≡ flag_number flag
+flag_told n false e = grind (arith, nat_tests)
+flag_told n true e = grind (arith, nat_tests)
+
+get_takes : (bytes : List ℕ) (act : Act) → AreBytes bytes → get_reading bytes ≡ Ok act → IsRead ops.Get bytes act
+get_takes bytes act fits e =
+    bound (sized 13 bytes (flag_of_number (get_or bytes 12 0))) _ act e (λ flag is_sized e1.
+    bound (ok_or flag OutOfRange) _ act e1 (λ exact known made.
+    let s = sized_ok 13 bytes (flag_of_number (get_or bytes 12 0)) flag is_sized in
+    let told : get_or bytes 12 0 ≡ flag_number exact = flag_told (get_or bytes 12 0) exact (s.1 ∙ ok_or-some flag OutOfRange exact known) in
+    let three : drop 12 bytes ≡ flag_number exact ∷ [] = byte_cut 12 bytes (omega (arith, s.0)) ∙ ap (λ (n : ℕ). n ∷ drop 13 bytes) told ∙ ap (λ (t : List ℕ). flag_number exact ∷ t) (nothing_behind 13 bytes s.0) in
+    let two : drop 4 bytes ≡ to_be_bytes w64 (number_in w64 4 bytes) ++ (flag_number exact ∷ []) = number_before w64 (2 ^ 64) wide64 4 bytes (flag_number exact ∷ []) fits (omega (arith, s.0)) three in
+    let whole = number_before w32 (2 ^ 32) wide32 0 bytes (to_be_bytes w64 (number_in w64 4 bytes) ++ (flag_number exact ∷ [])) fits (omega (arith, s.0)) two in
+    subst (IsRead ops.Get bytes) (ok_is (Get (number_in w32 0 bytes) (number_in w64 4 bytes) exact) act made) (record { of_op = refl; fields = (number_below w32 (2 ^ 32) wide32 0 bytes fits, number_below w64 (2 ^ 64) wide64 4 bytes fits); spelled = whole })))
 
 pull_takes : (bytes : List ℕ) (act : Act) → AreBytes bytes → pull_reading bytes ≡ Ok act → IsRead ops.Pull bytes act
 pull_takes bytes act fits e =
@@ -86,62 +101,65 @@ pull_takes bytes act fits e =
     let lsn = number_in w64 4 bytes in
     let max = number_in w16 12 bytes in
     let s = sized_ok 14 bytes (Pull lo hi lsn max) act e in
-    let four : drop 12 bytes ≡ to_be_bytes w16 max = number_cut w16 (2 ^ 16) wide16 12 bytes fits (omega (arith, s.0)) ∙ ap (λ (t : List ℕ). to_be_bytes w16 max ++ t) (nothing_behind 14 bytes s.0) in
-    let three : drop 4 bytes ≡ to_be_bytes w64 lsn ++ to_be_bytes w16 max = number_cut w64 (2 ^ 64) wide64 4 bytes fits (omega (arith, s.0)) ∙ ap (λ (t : List ℕ). to_be_bytes w64 lsn ++ t) four in
-    let two : drop 2 bytes ≡ to_be_bytes w16 hi ++ (to_be_bytes w64 lsn ++ to_be_bytes w16 max) = number_cut w16 (2 ^ 16) wide16 2 bytes fits (omega (arith, s.0)) ∙ ap (λ (t : List ℕ). to_be_bytes w16 hi ++ t) three in
-    let whole : bytes ≡ act_spelling (Pull lo hi lsn max) = number_cut w16 (2 ^ 16) wide16 0 bytes fits (omega (arith, s.0)) ∙ ap (λ (t : List ℕ). to_be_bytes w16 lo ++ t) two in
+    let four = last_number w16 (2 ^ 16) wide16 12 bytes fits s.0 in
+    let three = number_before w64 (2 ^ 64) wide64 4 bytes (to_be_bytes w16 max) fits (omega (arith, s.0)) four in
+    let two = number_before w16 (2 ^ 16) wide16 2 bytes (to_be_bytes w64 lsn ++ to_be_bytes w16 max) fits (omega (arith, s.0)) three in
+    let whole = number_before w16 (2 ^ 16) wide16 0 bytes (to_be_bytes w16 hi ++ (to_be_bytes w64 lsn ++ to_be_bytes w16 max)) fits (omega (arith, s.0)) two in
     let below = λ (at : ℕ). number_below w16 (2 ^ 16) wide16 at bytes fits in
     subst (IsRead ops.Pull bytes) s.1 (record { of_op = refl; fields = (below 0, below 2, number_below w64 (2 ^ 64) wide64 4 bytes fits, below 12); spelled = whole })
 
-status_takes : (bytes : List ℕ) (act : Act) → status_reading bytes ≡ Ok act → IsRead ops.Status bytes act
-status_takes bytes act e =
-    let s = sized_ok 0 bytes Status act e in
-    subst (IsRead ops.Status bytes) s.1 (record { of_op = refl; fields = tt; spelled = nil_from_length bytes s.0 })
+advance_takes : (bytes : List ℕ) (act : Act) → AreBytes bytes → advance_reading bytes ≡ Ok act → IsRead ops.Advance bytes act
+advance_takes bytes act fits e =
+    let s = sized_ok 4 bytes (Advance (number_in w16 0 bytes) (number_in w16 2 bytes)) act e in
+    let two = last_number w16 (2 ^ 16) wide16 2 bytes fits s.0 in
+    let whole = number_before w16 (2 ^ 16) wide16 0 bytes (to_be_bytes w16 (number_in w16 2 bytes)) fits (omega (arith, s.0)) two in
+    let below = λ (at : ℕ). number_below w16 (2 ^ 16) wide16 at bytes fits in
+    subst (IsRead ops.Advance bytes) s.1 (record { of_op = refl; fields = (below 0, below 2); spelled = whole })
+
+-- an act without arguments
+bare_takes : (act made : Act) (bytes : List ℕ) → FitsActFields made → act_spelling made ≡ [] → sized 0 bytes made ≡ Ok act → IsRead (op_of made) bytes act
+bare_takes act made bytes fields none e =
+    let s = sized_ok 0 bytes made act e in
+    subst (IsRead (op_of made) bytes) s.1 (record { of_op = refl; fields = fields; spelled = nil_from_length bytes s.0 ∙ sym none })
 
 failover_takes : (bytes : List ℕ) (act : Act) → AreBytes bytes → failover_reading bytes ≡ Ok act → IsRead ops.Failover bytes act
 failover_takes bytes act fits e =
-    let primary = number_in w32 0 bytes in
-    let s = sized_ok 4 bytes (Failover primary) act e in
-    let whole : bytes ≡ to_be_bytes w32 primary = number_cut w32 (2 ^ 32) wide32 0 bytes fits (omega (arith, s.0)) ∙ ap (λ (t : List ℕ). to_be_bytes w32 primary ++ t) (nothing_behind 4 bytes s.0) in
+    let s = sized_ok 4 bytes (Failover (number_in w32 0 bytes)) act e in
+    let whole = last_number w32 (2 ^ 32) wide32 0 bytes fits s.0 in
     subst (IsRead ops.Failover bytes) s.1 (record { of_op = refl; fields = number_below w32 (2 ^ 32) wide32 0 bytes fits; spelled = whole })
 
-set_table_takes : (bytes : List ℕ) (act : Act) → set_table_reading bytes ≡ Ok act → IsRead ops.SetTable bytes act
-set_table_takes bytes act e = subst (IsRead ops.SetTable bytes) (ok_is (SetTable bytes) act e) (record { of_op = refl; fields = tt; spelled = refl })
+audit_takes : (bytes : List ℕ) (act : Act) → AreBytes bytes → audit_reading bytes ≡ Ok act → IsRead ops.Audit bytes act
+audit_takes bytes act fits e =
+    let s = sized_ok 10 bytes (Audit (number_in w64 0 bytes) (number_in w16 8 bytes)) act e in
+    let two = last_number w16 (2 ^ 16) wide16 8 bytes fits s.0 in
+    let whole = number_before w64 (2 ^ 64) wide64 0 bytes (to_be_bytes w16 (number_in w16 8 bytes)) fits (omega (arith, s.0)) two in
+    subst (IsRead ops.Audit bytes) s.1 (record { of_op = refl; fields = (number_below w64 (2 ^ 64) wide64 0 bytes fits, number_below w16 (2 ^ 16) wide16 8 bytes fits); spelled = whole })
+
+-- ---- all operations
 
 pub act_takes : OneSpelling → (op : Op) (bytes : List ℕ) (act : Act) → AreBytes bytes → act_reading op bytes ≡ Ok act → IsRead op bytes act
 act_takes law ops.Write bytes act fits e = write_takes law bytes act fits e
+act_takes law ops.Offer bytes act fits e = offer_takes law bytes act fits e
 act_takes law ops.Report bytes act fits e = report_takes bytes act fits e
+act_takes law ops.Get bytes act fits e = get_takes bytes act fits e
 act_takes law ops.Pull bytes act fits e = pull_takes bytes act fits e
-act_takes law ops.Status bytes act fits e = status_takes bytes act e
-act_takes law ops.SetTable bytes act fits e = set_table_takes bytes act e
-act_takes law ops.Offer bytes act fits e = absurd cc
-act_takes law ops.Get bytes act fits e = absurd cc
-act_takes law ops.Advance bytes act fits e = absurd cc
+act_takes law ops.Advance bytes act fits e = advance_takes bytes act fits e
+act_takes law ops.Status bytes act fits e = bare_takes act Status bytes tt refl e
 act_takes law ops.Failover bytes act fits e = failover_takes bytes act fits e
-act_takes law ops.Audit bytes act fits e = absurd cc
-act_takes law ops.Tidy bytes act fits e = absurd cc
+act_takes law ops.SetTable bytes act fits e = set_table_takes bytes act e
+act_takes law ops.Audit bytes act fits e = audit_takes bytes act fits e
+act_takes law ops.Tidy bytes act fits e = bare_takes act Tidy bytes tt refl e
 
 pub act_again : OneSpelling → (act : Act) → FitsActFields act → act_reading (op_of act) (act_spelling act) ≡ Ok act
-act_again law (Write copy block) h = ap (write_to copy) (law.again block h.1)
+act_again law (Write copy block) h = ap (λ (r : Result Content Fault). block_in r >>= λ b. done (Write copy b)) (law.again block h.1)
+act_again law (Offer block) h = ap (λ (r : Result Content Fault). block_in r >>= λ b. done (Offer b)) (law.again block h)
 act_again law (Report lsn) h = ap (λ (n : ℕ). done (Report n)) (from_be_bytes-to_be_bytes_8 lsn h)
+act_again law (Get page lsn false) h = rw (from_be_bytes-to_be_bytes_4 page h.0, from_be_bytes-to_be_bytes_8 lsn h.1) refl
+act_again law (Get page lsn true) h = rw (from_be_bytes-to_be_bytes_4 page h.0, from_be_bytes-to_be_bytes_8 lsn h.1) refl
 act_again law (Pull lo hi lsn max) h = rw (from_be_bytes-to_be_bytes_2 lo h.0, from_be_bytes-to_be_bytes_2 hi h.1, from_be_bytes-to_be_bytes_8 lsn h.2, from_be_bytes-to_be_bytes_2 max h.3) refl
+act_again law (Advance partition steps) h = rw (from_be_bytes-to_be_bytes_2 partition h.0, from_be_bytes-to_be_bytes_2 steps h.1) refl
 act_again law Status h = refl
 act_again law (Failover primary) h = ap (λ (n : ℕ). done (Failover n)) (from_be_bytes-to_be_bytes_4 primary h)
 act_again law (SetTable text) h = refl
-
--- the operation of an act that can be read, by its number
-pub op_told : (n : ℕ) (act : Act) → op_of_number n ≡ Some (op_of act) → n ≡ op_number (op_of act)
-op_told n (Write copy block) e = grind (arith, nat_tests)
-op_told n (Report lsn) e = grind (arith, nat_tests)
-op_told n (Pull lo hi lsn max) e = grind (arith, nat_tests)
-op_told n Status e = grind (arith, nat_tests)
-op_told n (Failover primary) e = grind (arith, nat_tests)
-op_told n (SetTable text) e = grind (arith, nat_tests)
-
-pub op_again : (act : Act) → op_of_number (op_number (op_of act)) ≡ Some (op_of act)
-op_again (Write copy block) = refl
-op_again (Report lsn) = refl
-op_again (Pull lo hi lsn max) = refl
-op_again Status = refl
-op_again (Failover primary) = refl
-op_again (SetTable text) = refl
+act_again law (Audit first max) h = rw (from_be_bytes-to_be_bytes_8 first h.0, from_be_bytes-to_be_bytes_2 max h.1) refl
+act_again law Tidy h = refl

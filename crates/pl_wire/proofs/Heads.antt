@@ -1,5 +1,5 @@
 -- A head that is read is the head of its spelling, and the head of a spelling is read again.
-use Rattle.std.proofs.Common.{◌≡◌, ℕ, ◌+◌, ◌^◌, ◌≤◌, List, ◌∷◌, ◌++◌, length, take, drop, get_or, Some, refl, sym, ap, subst, ◌∙◌, arith}
+use Rattle.std.proofs.Common.{◌≡◌, ℕ, ◌+◌, ◌^◌, ◌≤◌, List, ◌∷◌, ◌++◌, length, take, drop, get_or, Some, refl, sym, ap, subst, ◌∙◌, append_assoc, arith}
 use Rattle.std.specs.Int.{w32, from_be_bytes, to_be_bytes}
 use Rattle.std.proofs.Math.Seq.{drop-append-add}
 use Rattle.std.proofs.lemmas.Bool.Decides.{nat_tests}
@@ -11,24 +11,18 @@ use Rattle.pl_table.specs.declared.op.Role.{Role}
 use Rattle.pl_table.specs.declared.op.Role.TheVariants.{Primary, Secondary, PageServer, Operator}
 use Rattle.pl_table.specs.Ops.{role_number, role_of_number}
 use Rattle.pl_table.specs.Request.{IsHead}
+use Rattle.pl_wire.specs.Spelling.{head_spelling}
 use Rattle.pl_wire.specs.Reading.{number_in, head_in}
+use Rattle.pl_wire.proofs.Numbered.{roles_numbered}
 use Rattle.pl_wire.proofs.Places.{wide32, cut, number_cut, number_below, byte_cut}
-
-pub role_told : (n : ℕ) (role : Role) → role_of_number n ≡ Some role → n ≡ role_number role
-role_told n Primary e = grind (arith, nat_tests)
-role_told n Secondary e = grind (arith, nat_tests)
-role_told n PageServer e = grind (arith, nat_tests)
-role_told n Operator e = grind (arith, nat_tests)
-
-pub role_again : (role : Role) → role_of_number (role_number role) ≡ Some role
-role_again Primary = refl
-role_again Secondary = refl
-role_again PageServer = refl
-role_again Operator = refl
 
 -- a head, then the rest of a body
 abbrev pub headed : Head → List ℕ → List ℕ
 headed h rest = to_be_bytes w32 h.principal ++ (h.token ++ (role_number h.role ∷ (to_be_bytes w32 h.database ++ (to_be_bytes w32 h.epoch ++ rest))))
+
+-- so it is the spelling of the head, and the rest
+pub headed_is : (h : Head) (rest : List ℕ) → head_spelling h ++ rest ≡ headed h rest
+headed_is h rest = ap (λ (t : List ℕ). to_be_bytes w32 h.principal ++ t) (append_assoc h.token (role_number h.role ∷ (to_be_bytes w32 h.database ++ to_be_bytes w32 h.epoch)) rest)
 
 pub IsHead-head_in : (role : Role) (body : List ℕ) → AreBytes body → 30 ≤ length body → IsHead (head_in role body)
 IsHead-head_in role body fits long = record {
@@ -45,7 +39,7 @@ head_takes role body fits long e =
     let t : List ℕ = take 16 (drop 4 body) in
     let d : List ℕ = to_be_bytes w32 (number_in w32 21 body) in
     let f : List ℕ = to_be_bytes w32 (number_in w32 25 body) in
-    let is_role : get_or body 20 0 ≡ role_number role = role_told (get_or body 20 0) role e in
+    let is_role : get_or body 20 0 ≡ role_number role = roles_numbered.told (get_or body 20 0) role e in
     let op : drop 29 body ≡ get_or body 29 0 ∷ drop 30 body = byte_cut 29 body (omega arith) in
     let epoch : drop 25 body ≡ f ++ (get_or body 29 0 ∷ drop 30 body) = number_cut w32 (2 ^ 32) wide32 25 body fits (omega arith) ∙ ap (λ (x : List ℕ). f ++ x) op in
     let database : drop 21 body ≡ d ++ (f ++ (get_or body 29 0 ∷ drop 30 body)) = number_cut w32 (2 ^ 32) wide32 21 body fits (omega arith) ∙ ap (λ (x : List ℕ). d ++ x) epoch in

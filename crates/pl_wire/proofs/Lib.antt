@@ -1,6 +1,12 @@
+pub mod Steps
 pub mod Places
+pub mod Numbered
 pub mod FrameLemmas
 pub mod Heads
 pub mod Acts
 pub mod Requests
+pub mod Readers
+pub mod Fronts
+pub mod Lengths
+pub mod Listed
 pub mod ReplyLemmas

@@ -4,7 +4,7 @@ use Rattle.std.specs.Int.{Width, w16, w32, w64, byte_len, from_be_bytes, to_be_b
 use Rattle.std.proofs.Math.Seq.{drop-cons}
 use Rattle.std.proofs.lemmas.Bool.{cases_lt}
 use Rattle.std.proofs.lemmas.List.{take-append-drop, drop-drop, length-take, length-drop, get_or-drop, get_or-take, get_or_past}
-use Rattle.std.proofs.lemmas.Nat.{be_bytes_2, be_bytes_4, be_bytes_8}
+use Rattle.std.proofs.lemmas.Nat.{be_bytes_2, be_bytes_4, be_bytes_8, from_be_bytes-to_be_bytes_2, from_be_bytes-to_be_bytes_4, from_be_bytes-to_be_bytes_8}
 use Rattle.pl_block.specs.Laws.{AreBytes}
 use Rattle.pl_wire.specs.Reading.{number_in}
 
@@ -20,23 +20,31 @@ AreBytes-take n bytes h i =
 
 -- numbers of a width, below a limit, and their bytes
 pub record IsWide (w : Width) (limit : ℕ) : Type 0 where
+  pub len : (n : ℕ) → length (to_be_bytes w n) ≡ byte_len w
+  pub again : (n : ℕ) → n < limit → from_be_bytes w (to_be_bytes w n) ≡ n
   pub back : (bytes : List ℕ) → length bytes ≡ byte_len w → AreBytes bytes → to_be_bytes w (from_be_bytes w bytes) ≡ bytes
   pub below : (bytes : List ℕ) → AreBytes bytes → from_be_bytes w bytes < limit
 
 pub wide16 : IsWide w16 (2 ^ 16)
 wide16 = record {
+  len = λ n. refl;
+  again = λ n lt. from_be_bytes-to_be_bytes_2 n lt;
   back = λ bytes len fits. be_bytes_2 bytes _ len fits refl;
   below = λ bytes fits. omega (arith, fits 0, fits 1);
 }
 
 pub wide32 : IsWide w32 (2 ^ 32)
 wide32 = record {
+  len = λ n. refl;
+  again = λ n lt. from_be_bytes-to_be_bytes_4 n lt;
   back = λ bytes len fits. be_bytes_4 bytes _ len fits refl;
   below = λ bytes fits. omega (arith, fits 0, fits 1, fits 2, fits 3);
 }
 
 pub wide64 : IsWide w64 (2 ^ 64)
 wide64 = record {
+  len = λ n. refl;
+  again = λ n lt. from_be_bytes-to_be_bytes_8 n lt;
   back = λ bytes len fits. be_bytes_8 bytes _ len fits refl;
   below = λ bytes fits. omega (arith, fits 0, fits 1, fits 2, fits 3, fits 4, fits 5, fits 6, fits 7);
 }

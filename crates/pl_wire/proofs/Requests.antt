@@ -19,16 +19,10 @@ use Rattle.pl_wire.specs.Laws.{OneRequestSpelling}
 use Rattle.pl_wire.specs.Spelling.{act_spelling, request_spelling}
 use Rattle.pl_wire.specs.Reading.{head_in, act_reading, ranged, opening_reading, request_reading}
 use Rattle.pl_wire.proofs.Places.{AreBytes-drop}
-use Rattle.pl_wire.proofs.Heads.{headed, IsHead-head_in, head_takes, head_again, arguments_in, role_in, op_in, role_again}
-use Rattle.pl_wire.proofs.Acts.{done, ok_is, guard_ok, bind_ok, act_takes, act_again, op_told, op_again}
-
-guard_passed : {X : Type 0} (b : Bool) (d : WireFault) (x y : X) → cond b (Ok x) (Err d) ≡ Ok y → (b ≡ true) × (x ≡ y)
-guard_passed true d x y e = (refl, ok_is x y e)
-guard_passed false d x y e = absurd cc
-
-ok_or-some : {X : Type 0} (o : Option X) (d : WireFault) (x : X) → ok_or o d ≡ Ok x → o ≡ Some x
-ok_or-some None d x e = absurd cc
-ok_or-some (Some y) d x e = cc
+use Rattle.pl_wire.proofs.Heads.{headed, headed_is, IsHead-head_in, head_takes, head_again, arguments_in, role_in, op_in}
+use Rattle.pl_wire.proofs.Acts.{act_takes, act_again}
+use Rattle.pl_wire.proofs.Numbered.{roles_numbered, ops_numbered}
+use Rattle.pl_wire.proofs.Steps.{done, ok_is, guard_ok, guard_passed, ok_or-some, bind_ok}
 
 -- the role of a body that was opened, and where it stands
 record IsOpened (body : List ℕ) (opening : Head × Op) : Type 0 where
@@ -63,42 +57,49 @@ request_takes law body q fits e =
     let made : Query = record { head = o.value.0; act = a.value } in
     let g = guard_passed (is_in_range a.value) OutOfRange made q a.next in
     let read = act_takes law o.value.1 (drop 30 body) a.value (AreBytes-drop 30 body fits) a.first in
-    let op : get_or body 29 0 ≡ op_number (op_of a.value) = op_told (get_or body 29 0) a.value (is.op_is ∙ ap (λ (x : Op). Some x) (sym read.of_op)) in
+    let op : get_or body 29 0 ≡ op_number (op_of a.value) = ops_numbered.told (get_or body 29 0) (op_of a.value) (is.op_is ∙ ap (λ (x : Op). Some x) (sym read.of_op)) in
     let head : body ≡ headed o.value.0 (get_or body 29 0 ∷ drop 30 body) = head_takes is.role body fits is.long is.role_is ∙ ap (λ (x : Head). headed x (get_or body 29 0 ∷ drop 30 body)) is.head_is in
-    let whole : body ≡ request_spelling made = head ∙ ap (λ (n : ℕ). headed o.value.0 (n ∷ drop 30 body)) op ∙ ap (λ (t : List ℕ). headed o.value.0 (op_number (op_of a.value) ∷ t)) read.spelled in
+    let whole : body ≡ request_spelling made = head ∙ ap (λ (n : ℕ). headed o.value.0 (n ∷ drop 30 body)) op ∙ ap (λ (t : List ℕ). headed o.value.0 (op_number (op_of a.value) ∷ t)) read.spelled ∙ sym (headed_is o.value.0 (op_number (op_of a.value) ∷ act_spelling a.value)) in
     let is_made : IsRequest made = record { head = subst IsHead is.head_is (IsHead-head_in is.role body fits is.long); fields = read.fields; in_range = g.0 } in
     subst (λ (p : Query). IsRequest p × (body ≡ request_spelling p)) g.1 (is_made, whole)
 
-opening_again : (q : Query) → IsRequest q → opening_reading (request_spelling q) ≡ Ok (q.head, op_of q.act)
+-- a request as its head, its operation and its arguments
+abbrev spelled_out : Query → List ℕ
+spelled_out q = headed q.head (op_number (op_of q.act) ∷ act_spelling q.act)
+
+opening_again : (q : Query) → IsRequest q → opening_reading (spelled_out q) ≡ Ok (q.head, op_of q.act)
 unfolding opening_reading
 opening_again q is =
-    let body = request_spelling q in
+    let body = spelled_out q in
     let rest : List ℕ = op_number (op_of q.act) ∷ act_spelling q.act in
     let long : ltb (length body) 30 ≡ false = le-ltb _ _ (simp length-append (omega (arith, is.head.token))) in
     let behind = λ (role : Role). ok_or (op_of_number (get_or body 29 0)) UnknownKind >>= λ op. done (head_in role body, op) in
-    let role : role_of_number (get_or body 20 0) ≡ Some q.head.role = ap role_of_number (role_in q.head rest is.head) ∙ role_again q.head.role in
-    let op : op_of_number (get_or body 29 0) ≡ Some (op_of q.act) = ap op_of_number (op_in q.head (op_number (op_of q.act)) (act_spelling q.act) is.head) ∙ op_again q.act in
+    let role : role_of_number (get_or body 20 0) ≡ Some q.head.role = ap role_of_number (role_in q.head rest is.head) ∙ roles_numbered.found q.head.role in
+    let op : op_of_number (get_or body 29 0) ≡ Some (op_of q.act) = ap op_of_number (op_in q.head (op_number (op_of q.act)) (act_spelling q.act) is.head) ∙ ops_numbered.found (op_of q.act) in
     let head : head_in q.head.role body ≡ q.head = head_again q.head rest is.head in
     ap (λ (b : Bool). cond b (Err TooShort) (ok_or (role_of_number (get_or body 20 0)) UnknownRole >>= behind)) long
     ∙ ap (λ (r : Option Role). ok_or r UnknownRole >>= behind) role
     ∙ ap (λ (o : Option Op). ok_or o UnknownKind >>= λ op. done (head_in q.head.role body, op)) op
     ∙ ap (λ (h : Head). done (h, op_of q.act)) head
 
-pub request_again : OneSpelling → (q : Query) → IsRequest q → request_reading (request_spelling q) ≡ Ok q
+spelled_again : OneSpelling → (q : Query) → IsRequest q → request_reading (spelled_out q) ≡ Ok q
 unfolding request_reading
-request_again law q is =
-    let body = request_spelling q in
+spelled_again law q is =
+    let body = spelled_out q in
     let arguments : drop 30 body ≡ act_spelling q.act = arguments_in q.head (op_number (op_of q.act)) (act_spelling q.act) is.head in
     ap (λ (r : Result (Head × Op) WireFault). r >>= λ opening. act_reading opening.1 (drop 30 body) >>= λ act. ranged opening.0 act) (opening_again q is)
     ∙ ap (λ (t : List ℕ). act_reading (op_of q.act) t >>= λ act. ranged q.head act) arguments
     ∙ ap (λ (r : Result Act WireFault). r >>= λ act. ranged q.head act) (act_again law q.act is.fields)
     ∙ ap (λ (b : Bool). cond b (done q) (Err OutOfRange)) is.in_range
 
+pub request_again : OneSpelling → (q : Query) → IsRequest q → request_reading (request_spelling q) ≡ Ok q
+request_again law q is = ap request_reading (headed_is q.head (op_number (op_of q.act) ∷ act_spelling q.act)) ∙ spelled_again law q is
+
 pub same_requests : OneSpelling → (a b : Query) → IsRequest a → IsRequest b → request_spelling a ≡ request_spelling b → a ≡ b
 same_requests law a b is_a is_b e = ok_is a b (sym (request_again law a is_a) ∙ ap request_reading e ∙ request_again law b is_b)
 
 pub requests_law : OneSpelling → OneRequestSpelling
-requests_law law = record { again = request_again law; spelled = request_takes law; same = same_requests law }
+requests_law law = record { spelled = request_takes law; same = same_requests law }
 
 -- ---- as a call answers
 

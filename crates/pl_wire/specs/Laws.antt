@@ -7,16 +7,25 @@ use Rattle.pl_wire.specs.Frames.{frame}
 use Rattle.pl_wire.specs.Spelling.{request_spelling}
 use Rattle.pl_wire.specs.Reading.{request_reading}
 use Rattle.pl_wire.specs.Replies.{IsReply, reply_spelling}
+use Rattle.pl_wire.specs.ReplyReading.{reply_reading}
 
--- a request is read from its spelling, and what is read as a request is its spelling
+-- a request is read back from its spelling
+abbrev pub RequestsAreReadBack : Type 0
+RequestsAreReadBack = (q : Query) → IsRequest q → request_reading (request_spelling q) ≡ Ok q
+
+-- a reply is read back from its spelling
+abbrev pub RepliesAreReadBack : Type 0
+RepliesAreReadBack = (r : Reply) → IsReply r → reply_reading (reply_spelling r) ≡ Ok r
+
+-- what is read as a request is its spelling, and no two requests have one spelling
 pub record OneRequestSpelling : Type 0 where
-  pub again : (q : Query) → IsRequest q → request_reading (request_spelling q) ≡ Ok q
   pub spelled : (bytes : List ℕ) (q : Query) → AreBytes bytes → request_reading bytes ≡ Ok q → IsRequest q × (bytes ≡ request_spelling q)
   pub same : (a b : Query) → IsRequest a → IsRequest b → request_spelling a ≡ request_spelling b → a ≡ b
 
--- no two replies have one spelling
-abbrev pub OneReplySpelling : Type 0
-OneReplySpelling = (a b : Reply) → IsReply a → IsReply b → reply_spelling a ≡ reply_spelling b → a ≡ b
+-- what is read as a reply is its spelling, and no two replies have one spelling
+pub record OneReplySpelling : Type 0 where
+  pub spelled : (bytes : List ℕ) (r : Reply) → AreBytes bytes → reply_reading bytes ≡ Ok r → IsReply r × (bytes ≡ reply_spelling r)
+  pub same : (a b : Reply) → IsReply a → IsReply b → reply_spelling a ≡ reply_spelling b → a ≡ b
 
 -- no frame is the beginning of another: where bytes begin with a frame, they begin with no other
 abbrev pub FramesEndThemselves : Type 0

@@ -1,5 +1,5 @@
 -- Reading a request, with the fault of the least code.
-use Rattle.std.specs.Prelude.{◌≡◌, ◌≤◌, ◌⊎◌, ℕ, List, [], ◌∷◌, length, take, drop, slice_index, Some, IsSome, Result, Ok, Err, nat_lt, if◌then◌else◌}
+use Rattle.std.specs.Prelude.{◌≡◌, ◌≤◌, ◌⊎◌, ℕ, ◌==◌, Bool, false, true, List, [], ◌∷◌, length, take, drop, slice_index, Option, Some, None, IsSome, Result, Ok, Err, nat_lt, if◌then◌else◌}
 use Rattle.std.specs.Option.{ok_or}
 use Rattle.std.specs.Int.{Width, w16, w32, w64, byte_len, from_be_bytes}
 use Rattle.pl_block.specs.Block.{Content}
@@ -11,7 +11,7 @@ use Rattle.pl_table.specs.declared.op.Op.{Op}
 use Rattle.pl_table.specs.declared.op.Op.TheVariants as ops
 use Rattle.pl_table.specs.declared.op.Role.{Role}
 use Rattle.pl_table.specs.declared.request.Act.{Act}
-use Rattle.pl_table.specs.declared.request.Act.TheVariants.{Write, Report, Pull, Status, Failover, SetTable}
+use Rattle.pl_table.specs.declared.request.Act.TheVariants.{Write, Offer, Report, Get, Pull, Advance, Status, Failover, SetTable, Audit, Tidy}
 use Rattle.pl_table.specs.Ops.{role_of_number, op_of_number}
 use Rattle.pl_table.specs.Request.{Query, is_in_range}
 use Rattle.pl_wire.specs.declared.fault.WireFault.{WireFault}
@@ -29,49 +29,64 @@ head_in role body = record { principal = number_in w32 0 body; token = take 16 (
 abbrev pub sized : {X : Type 0} → ℕ → List ℕ → X → Result X WireFault
 sized size bytes x = if nat_lt (length bytes) size then Err EndsInField else if nat_lt size (length bytes) then Err BytesAfterEnd else Ok x
 
--- a write, where there is a block
-abbrev pub write_to : ℕ → Result Content Fault → Result Act WireFault
-write_to copy (Ok block) = Ok (Write copy block)
-write_to copy (Err fault) = Err (Block fault)
+-- the block, or its fault as a body's
+abbrev pub block_in : Result Content Fault → Result Content WireFault
+block_in (Ok block) = Ok block
+block_in (Err fault) = Err (Block fault)
 
 -- a copy, and then a block to the end
 abbrev pub write_reading : List ℕ → Result Act WireFault
 write_reading [] = Err EndsInField
-write_reading (copy ∷ bytes) = write_to copy (block_reading bytes)
+write_reading (copy ∷ bytes) = block_in (block_reading bytes) >>= λ block. Ok (Write copy block)
+
+-- a block to the end
+abbrev pub offer_reading : List ℕ → Result Act WireFault
+offer_reading bytes = block_in (block_reading bytes) >>= λ block. Ok (Offer block)
 
 -- an LSN, and no more
 abbrev pub report_reading : List ℕ → Result Act WireFault
 report_reading bytes = sized 8 bytes (Report (number_in w64 0 bytes))
 
+-- the flag that has a number
+abbrev pub flag_of_number : ℕ → Option Bool
+flag_of_number n = if n == 0 then Some false else if n == 1 then Some true else None
+
+-- page, LSN and flag, and no more; a flag that is none is out of range
+abbrev pub get_reading : List ℕ → Result Act WireFault
+get_reading bytes = do
+  flag ← sized 13 bytes (flag_of_number (slice_index bytes 12))
+  exact ← ok_or flag OutOfRange
+  Ok (Get (number_in w32 0 bytes) (number_in w64 4 bytes) exact)
+
 -- partitions from and to, LSN and count, and no more
 abbrev pub pull_reading : List ℕ → Result Act WireFault
 pull_reading bytes = sized 14 bytes (Pull (number_in w16 0 bytes) (number_in w16 2 bytes) (number_in w64 4 bytes) (number_in w16 12 bytes))
 
--- nothing
-abbrev pub status_reading : List ℕ → Result Act WireFault
-status_reading bytes = sized 0 bytes Status
+-- partition and steps, and no more
+abbrev pub advance_reading : List ℕ → Result Act WireFault
+advance_reading bytes = sized 4 bytes (Advance (number_in w16 0 bytes) (number_in w16 2 bytes))
 
 -- a principal, and no more
 abbrev pub failover_reading : List ℕ → Result Act WireFault
 failover_reading bytes = sized 4 bytes (Failover (number_in w32 0 bytes))
 
--- a text to the end, whether it is a table's or not
-abbrev pub set_table_reading : List ℕ → Result Act WireFault
-set_table_reading bytes = Ok (SetTable bytes)
+-- the number of an entry and a count, and no more
+abbrev pub audit_reading : List ℕ → Result Act WireFault
+audit_reading bytes = sized 10 bytes (Audit (number_in w64 0 bytes) (number_in w16 8 bytes))
 
--- the arguments of an operation
+-- the arguments of an operation; a text goes to the end, whether it is a table's or not
 abbrev pub act_reading : Op → List ℕ → Result Act WireFault
 act_reading ops.Write bytes = write_reading bytes
+act_reading ops.Offer bytes = offer_reading bytes
 act_reading ops.Report bytes = report_reading bytes
+act_reading ops.Get bytes = get_reading bytes
 act_reading ops.Pull bytes = pull_reading bytes
-act_reading ops.Status bytes = status_reading bytes
+act_reading ops.Advance bytes = advance_reading bytes
+act_reading ops.Status bytes = sized 0 bytes Status
 act_reading ops.Failover bytes = failover_reading bytes
-act_reading ops.SetTable bytes = set_table_reading bytes
-act_reading ops.Offer bytes = Err UnknownKind
-act_reading ops.Get bytes = Err UnknownKind
-act_reading ops.Advance bytes = Err UnknownKind
-act_reading ops.Audit bytes = Err UnknownKind
-act_reading ops.Tidy bytes = Err UnknownKind
+act_reading ops.SetTable bytes = Ok (SetTable bytes)
+act_reading ops.Audit bytes = audit_reading bytes
+act_reading ops.Tidy bytes = sized 0 bytes Tidy
 
 -- a request of a head and an act, where the act is in its ranges
 abbrev pub ranged : Head → Act → Result Query WireFault
@@ -91,9 +106,9 @@ request_reading body = do
   act ← act_reading opening.1 (drop 30 body)
   ranged opening.0 act
 
--- an operation whose arguments are kept, and so ask for memory: a write with a copy, or a set_table
+-- an operation whose arguments are kept, and so ask for memory: a write with a copy, an offer, or a set_table
 abbrev pub AsksMemory : Op → List ℕ → Type 0
-AsksMemory op arguments = ((op ≡ ops.Write) × (1 ≤ length arguments)) ⊎ (op ≡ ops.SetTable)
+AsksMemory op arguments = ((op ≡ ops.Write) × (1 ≤ length arguments)) ⊎ ((op ≡ ops.Offer) ⊎ (op ≡ ops.SetTable))
 
 -- a body for which memory may run out: behind a head whose role is known, an operation that asks for it
 pub record MayLackMemory (body : List ℕ) : Type 0 where

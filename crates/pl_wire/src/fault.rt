@@ -2,8 +2,10 @@
 
 ghost use Rattle.std.specs.Prelude.{◌≡◌, ◌≤◌};
 ghost use Rattle.pl_block.specs.declared.fault.Failed.TheVariants.{Malformed};
+ghost use Rattle.pl_wire.specs.declared.fault.WireFault.TheVariants.{EndsInField};
 ghost use Rattle.pl_wire.specs.Codes.{code_of, of_block};
 
+use bytes::TryGetError;
 use pl_block::{BlockFault, Failed, Fault};
 
 /// What is wrong with a body.
@@ -48,6 +50,14 @@ impl WireFault {
 
 /// Why a call gave no request: the fault of the least code, or out of memory.
 pub type BodyFault = Failed<WireFault>;
+
+impl From<TryGetError> for WireFault {
+    ghost from_gives = { λ _ e. e ≡ EndsInField };
+
+    fn from(_missing: TryGetError) -> WireFault {
+        WireFault::EndsInField
+    }
+}
 
 impl From<WireFault> for BodyFault {
     ghost from_gives = { λ fault e. e ≡ Malformed fault };

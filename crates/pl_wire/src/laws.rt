@@ -1,7 +1,7 @@
 //! What the definitions say of one another, for the crates above. Each function is a law: its
 //! clause holds of all requests, replies and bytes. It does nothing when run.
 
-ghost use Rattle.pl_wire.specs.Laws.{FramesEndThemselves, OneReplySpelling, OneRequestSpelling};
+ghost use Rattle.pl_wire.specs.Laws.{FramesEndThemselves, OneReplySpelling, OneRequestSpelling, RepliesAreReadBack, RequestsAreReadBack};
 
 use pl_block::laws::one_spelling;
 
@@ -10,15 +10,28 @@ pub fn frames_end_themselves()
     ensures law { FramesEndThemselves }
 {}
 
-/// A request is read again from its spelling, what is read as a request is its spelling, and no
-/// two requests have one spelling.
+/// A request is read back from its spelling: what is encoded decodes to the same.
+pub fn requests_are_read_back()
+    ensures law { RequestsAreReadBack }
+{
+    one_spelling();
+}
+
+/// A reply that fits is read back from its spelling: what is encoded decodes to the same.
+pub fn replies_are_read_back()
+    ensures law { RepliesAreReadBack }
+{
+    one_spelling();
+}
+
+/// What is read as a request is its spelling, and no two requests have one spelling.
 pub fn one_request_spelling()
     ensures law { OneRequestSpelling }
 {
     one_spelling();
 }
 
-/// No two replies have one spelling.
+/// What is read as a reply is its spelling, and no two replies have one spelling.
 pub fn one_reply_spelling()
     ensures law { OneReplySpelling }
 {

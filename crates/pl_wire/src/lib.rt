@@ -4,12 +4,19 @@
 //! spelling; of bytes that spell none, the fault of the least code is reported.
 #![tactic(auto)]
 
-mod decoding;
-mod encoding;
 mod fault;
+mod fields;
+mod kind;
 pub mod laws;
+mod reply_reading;
+mod reply_writing;
+mod request_reading;
+mod request_writing;
 mod seen;
 
-pub use decoding::{decode_request, decode_request_shared};
-pub use encoding::{ReplyKind, encode_reply};
 pub use fault::{BodyFault, WireFault};
+pub use kind::ReplyKind;
+pub use reply_reading::decode_reply;
+pub use reply_writing::encode_reply;
+pub use request_reading::{decode_request, decode_request_shared};
+pub use request_writing::encode_request;

@@ -7,7 +7,7 @@ ghost use Rattle.pl_block.specs.Faults.{Returns};
 ghost use Rattle.pl_table.specs.Ops.{op_of_number, role_of_number};
 ghost use Rattle.pl_table.specs.Request.{IsRequest, Query};
 ghost use Rattle.pl_wire.specs.Spelling.{request_spelling};
-ghost use Rattle.pl_wire.specs.Reading.{AsksMemory, MayLackMemory, head_in, number_in, sized, write_reading, report_reading, pull_reading, status_reading, failover_reading, set_table_reading, act_reading, ranged, opening_reading, request_reading};
+ghost use Rattle.pl_wire.specs.Reading.{AsksMemory, MayLackMemory, head_in, number_in, sized, write_reading, offer_reading, report_reading, flag_of_number, get_reading, pull_reading, advance_reading, failover_reading, audit_reading, act_reading, ranged, opening_reading, request_reading};
 
 use crate::fault::{BodyFault, WireFault, of_block};
 use bytes::{Buf, Bytes};
@@ -109,12 +109,49 @@ fn write_of(alloc: Global, arguments: &[u8]) -> Result<Act, BodyFault>
     write_in(alloc, Bytes::copy_from_slice(alloc, arguments)?)
 }
 
+// An offer, whose block keeps the bytes.
+fn offer_in(alloc: Global, arguments: Bytes) -> Result<Act, BodyFault>
+    ensures exact { Returns result (offer_reading arguments) }
+{
+    let block = decode(alloc, arguments).map_err(of_block)?;
+    Ok(Act::Offer { block })
+}
+
+// An offer, whose block keeps a copy of the bytes.
+fn offer_of(alloc: Global, arguments: &[u8]) -> Result<Act, BodyFault>
+    ensures exact { Returns result (offer_reading arguments.now) }
+{
+    offer_in(alloc, Bytes::copy_from_slice(alloc, arguments)?)
+}
+
 fn report_of(arguments: &[u8]) -> Result<Act, WireFault>
     ensures value { result ≡ report_reading arguments.now }
 {
     check_size(arguments, 8)?;
     Ok(Act::Report {
         lsn: u64_in(arguments, 0),
+    })
+}
+
+fn flag_of(number: u8) -> Option<bool>
+    ensures value { result ≡ flag_of_number number }
+{
+    match number {
+        0 => Some(false),
+        1 => Some(true),
+        _ => None,
+    }
+}
+
+fn get_of(arguments: &[u8]) -> Result<Act, WireFault>
+    ensures value { result ≡ get_reading arguments.now }
+{
+    check_size(arguments, 13)?;
+    let exact = flag_of(arguments[12]).ok_or(WireFault::OutOfRange)?;
+    Ok(Act::Get {
+        page: u32_in(arguments, 0),
+        lsn: u64_in(arguments, 4),
+        exact,
     })
 }
 
@@ -130,11 +167,22 @@ fn pull_of(arguments: &[u8]) -> Result<Act, WireFault>
     })
 }
 
-fn status_of(arguments: &[u8]) -> Result<Act, WireFault>
-    ensures value { result ≡ status_reading arguments.now }
+fn advance_of(arguments: &[u8]) -> Result<Act, WireFault>
+    ensures value { result ≡ advance_reading arguments.now }
+{
+    check_size(arguments, 4)?;
+    Ok(Act::Advance {
+        partition: u16_in(arguments, 0),
+        steps: u16_in(arguments, 2),
+    })
+}
+
+// An act that has no arguments.
+fn bare(arguments: &[u8], act: Act) -> Result<Act, WireFault>
+    ensures value { result ≡ sized 0 arguments.now act }
 {
     check_size(arguments, 0)?;
-    Ok(Act::Status)
+    Ok(act)
 }
 
 fn failover_of(arguments: &[u8]) -> Result<Act, WireFault>
@@ -146,11 +194,22 @@ fn failover_of(arguments: &[u8]) -> Result<Act, WireFault>
     })
 }
 
-fn set_table_of(alloc: Global, arguments: &[u8]) -> Result<Act, BodyFault>
-    ensures exact { Returns result (set_table_reading arguments.now) }
+// Reads the table of the text too, once.
+fn set_table_of(alloc: Global, text: &[u8]) -> Result<Act, BodyFault>
+    ensures exact { Returns result (act_reading Op.SetTable text.now) }
 {
-    let text = TableText::new(alloc, Vec::from_slice(alloc, arguments)?)?;
+    let text = TableText::new(alloc, Vec::from_slice(alloc, text)?)?;
     Ok(Act::SetTable { text })
+}
+
+fn audit_of(arguments: &[u8]) -> Result<Act, WireFault>
+    ensures value { result ≡ audit_reading arguments.now }
+{
+    check_size(arguments, 10)?;
+    Ok(Act::Audit {
+        first: u64_in(arguments, 0),
+        max: u16_in(arguments, 8),
+    })
 }
 
 fn act_of(alloc: Global, op: Op, arguments: &[u8]) -> Result<Act, BodyFault>
@@ -159,12 +218,16 @@ fn act_of(alloc: Global, op: Op, arguments: &[u8]) -> Result<Act, BodyFault>
 {
     match op {
         Op::Write => write_of(alloc, arguments),
+        Op::Offer => offer_of(alloc, arguments),
         Op::Report => Ok(report_of(arguments)?),
+        Op::Get => Ok(get_of(arguments)?),
         Op::Pull => Ok(pull_of(arguments)?),
-        Op::Status => Ok(status_of(arguments)?),
+        Op::Advance => Ok(advance_of(arguments)?),
+        Op::Status => Ok(bare(arguments, Act::Status)?),
         Op::Failover => Ok(failover_of(arguments)?),
         Op::SetTable => set_table_of(alloc, arguments),
-        _ => Err(BodyFault::Malformed(WireFault::UnknownKind)),
+        Op::Audit => Ok(audit_of(arguments)?),
+        Op::Tidy => Ok(bare(arguments, Act::Tidy)?),
     }
 }
 
@@ -174,6 +237,7 @@ fn act_in(alloc: Global, op: Op, arguments: Bytes) -> Result<Act, BodyFault>
 {
     match op {
         Op::Write => write_in(alloc, arguments),
+        Op::Offer => offer_in(alloc, arguments),
         _ => act_of(alloc, op, arguments.as_slice()),
     }
 }

@@ -1,0 +1,71 @@
+//! What a reply is, as its first byte tells.
+
+ghost use Rattle.std.specs.Prelude.{◌≡◌};
+ghost use Rattle.pl_wire.specs.Replies.{kind_number, kind_of, kind_of_number};
+
+use pl_core::Reply;
+
+/// What a reply is. The discriminant is the first byte of its spelling.
+#[derive(Clone, Copy)]
+pub enum ReplyKind {
+    Done = 0,
+    Blocks = 1,
+    Page = 2,
+    Entries = 3,
+    Status = 4,
+    Denied = 5,
+    NoMemory = 6,
+    AuditFull = 7,
+    Spent = 8,
+    NoDatabase = 9,
+    Malformed = 10,
+}
+
+impl ReplyKind {
+    /// What the reply is.
+    pub(crate) fn of(reply: &Reply) -> ReplyKind
+        ensures value { result ≡ kind_of reply.now }
+    {
+        match reply {
+            Reply::Done => ReplyKind::Done,
+            Reply::Blocks { .. } => ReplyKind::Blocks,
+            Reply::Page { .. } => ReplyKind::Page,
+            Reply::Entries { .. } => ReplyKind::Entries,
+            Reply::Status { .. } => ReplyKind::Status,
+            Reply::Denied { .. } => ReplyKind::Denied,
+            Reply::NoMemory => ReplyKind::NoMemory,
+            Reply::AuditFull => ReplyKind::AuditFull,
+            Reply::Spent => ReplyKind::Spent,
+            Reply::NoDatabase => ReplyKind::NoDatabase,
+            Reply::Malformed { .. } => ReplyKind::Malformed,
+        }
+    }
+
+    /// The first byte of each reply of this kind. The replies `NoMemory`, `AuditFull`, `Spent`,
+    /// `NoDatabase` and `Done` have no other.
+    pub fn number(self) -> u8
+        ensures value { result ≡ kind_number self }
+    {
+        self as u8
+    }
+
+    /// The kind of the replies with this first byte, or `None` where there is none.
+    pub fn of_number(number: u8) -> Option<ReplyKind>
+        ensures value { result ≡ kind_of_number number }
+    {
+        match number {
+            0 => Some(ReplyKind::Done),
+            1 => Some(ReplyKind::Blocks),
+            2 => Some(ReplyKind::Page),
+            3 => Some(ReplyKind::Entries),
+            4 => Some(ReplyKind::Status),
+            5 => Some(ReplyKind::Denied),
+            6 => Some(ReplyKind::NoMemory),
+            7 => Some(ReplyKind::AuditFull),
+            8 => Some(ReplyKind::Spent),
+            9 => Some(ReplyKind::NoDatabase),
+            10 => Some(ReplyKind::Malformed),
+            _ => None,
+        }
+    }
+}
