@@ -1,5 +1,7 @@
 pub mod Spans
 pub mod Tokens
+pub mod Marks
+pub mod Marked
 pub mod FirstMatch
 pub mod Trees
 pub mod Listings

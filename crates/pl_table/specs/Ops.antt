@@ -56,6 +56,10 @@ op_name SetTable = codes "set_table"
 op_name Audit = codes "audit"
 op_name Tidy = codes "tidy"
 
+-- all operations, in the order of their numbers
+abbrev pub all_ops : List Op
+all_ops = Write ∷ Offer ∷ Report ∷ Get ∷ Pull ∷ Advance ∷ Status ∷ Failover ∷ SetTable ∷ Audit ∷ Tidy ∷ []
+
 -- a test whether two roles are equal
 abbrev pub same_role : Role → Role → Bool
 same_role a b = role_number a == role_number b

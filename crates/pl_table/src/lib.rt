@@ -9,6 +9,7 @@
 mod fault;
 mod first_match;
 mod head;
+mod index;
 mod known;
 pub mod laws;
 mod op;

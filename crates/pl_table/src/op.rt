@@ -1,7 +1,7 @@
 //! Roles, and the operations that each has.
 
 ghost use Rattle.std.specs.Prelude.{◌≡◌, Some};
-ghost use Rattle.pl_table.specs.Ops.{op_number, op_of_number, op_name, role_number, role_of_number, role_name, has_op};
+ghost use Rattle.pl_table.specs.Ops.{all_ops, op_number, op_of_number, op_name, role_number, role_of_number, role_name, has_op};
 ghost use Rattle.pl_table.specs.Part.{role_of_name, op_of_name};
 
 use std::fmt;
@@ -165,7 +165,14 @@ impl Op {
     pub fn of_name(name: &str) -> Option<Op>
         ensures value { result ≡ op_of_name name.now }
     {
-        let ops = [
+        Op::all().iter().copied().find(|op| op.name() == name)
+    }
+
+    /// All operations, in the order of their numbers.
+    pub(crate) fn all() -> [Op; 11]
+        ensures value { result ≡ all_ops }
+    {
+        [
             Op::Write,
             Op::Offer,
             Op::Report,
@@ -177,8 +184,7 @@ impl Op {
             Op::SetTable,
             Op::Audit,
             Op::Tidy,
-        ];
-        ops.iter().copied().find(|op| op.name() == name)
+        ]
     }
 }
 

@@ -5,6 +5,7 @@ ghost use Rattle.pl_block.specs.Block.{touched};
 ghost use Rattle.pl_table.specs.Request.{InRange};
 ghost use Rattle.pl_table.specs.Acts.{partitions_of};
 ghost use Rattle.pl_table.specs.Absent.{part_matches};
+ghost use Rattle.pl_table.specs.Index.{is_asker, can_be_of, can_be_for};
 ghost use Rattle.pl_table.specs.Row.{range_matches, row_matches};
 ghost use Rattle.pl_table.specs.Ops.{same_role, lists_op};
 
@@ -115,6 +116,20 @@ impl Row {
         })
     }
 
+    // Whether the row can match a request of this principal; of one that no row names, for `None`.
+    pub(crate) fn can_be_of(&self, asker: Option<u32>) -> bool
+        ensures value { result ≡ can_be_of asker self.now }
+    {
+        matches_asker(self.who, asker)
+    }
+
+    // Whether the row can match a request for the operation.
+    pub(crate) fn can_be_for(&self, op: Op) -> bool
+        ensures value { result ≡ can_be_for op self.now }
+    {
+        matches_op(&self.op, op)
+    }
+
     // Whether the row matches a request of the principal, in the role, for an operation that names no
     // partition. Every range matches such a request.
     pub(crate) fn speaks_of(&self, principal: u32, role: Role, op: Op) -> bool
@@ -125,6 +140,15 @@ impl Row {
         matches_who(self.who, principal)
             && matches_role(self.role, role)
             && matches_op(&self.op, op)
+    }
+}
+
+fn matches_asker(who: Option<u32>, asker: Option<u32>) -> bool
+    ensures value { result ≡ part_matches (is_asker asker) who }
+{
+    match who {
+        Some(id) => asker == Some(id),
+        None => true,
     }
 }
 

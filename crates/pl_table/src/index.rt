@@ -1,0 +1,190 @@
+//! The index of a table: which rows can match, by the principal that asks and by the operation.
+
+ghost use Rattle.std.specs.Prelude.{◌≡◌, ◌≤◌, ◌<◌, ◌+◌, IfOk, Some, [], length, map, slice_get, slice_index_or, bit_and, ◌-◌, ◌^◌, All};
+ghost use Rattle.pl_table.specs.Ops.{all_ops, op_number};
+ghost use Rattle.pl_table.specs.Index.{askers, asker_of, can_be_for, can_be_of, marks, AreBlocksOf, AreMarked, IsBlockOf};
+ghost use Rattle.pl_table.specs.Bounds.{most_rows};
+ghost use Rattle.pl_table.specs.Table.{IsRowOf};
+ghost use Rattle.pl_table.specs.FirstMatch.{first_match_from};
+
+use crate::op::Op;
+use crate::request::Request;
+use crate::row::Row;
+use crate::table::Principal;
+use std::alloc::{AllocError, Global};
+
+// The rows that a word marks.
+const ROWS_PER_BLOCK: usize = 64;
+
+// Which of at most 64 rows can match: a word for each asker and one for each operation, whose bits
+// are the rows, the first the lowest. A row that names no principal is marked for every asker, and
+// one that lists no operation for every operation. The rows that both words mark are those to try,
+// in rising order.
+#[derive(Debug, Drop)]
+pub(crate) struct RowBlock {
+    // For each principal in the order of the table, and then for all that are not listed.
+    by_asker: Vec<u64>,
+    // For each operation in the order of the numbers.
+    by_op: Vec<u64>,
+}
+
+impl RowBlock {
+    // The block of these rows.
+    fn of_rows(
+        alloc: Global,
+        principals: &[Principal],
+        rows: &[Row],
+    ) -> Result<RowBlock, AllocError>
+        requires { length rows.now ≤ 64 }
+        ensures ok { IfOk result (IsBlockOf principals.now rows.now) }
+    {
+        let by_asker = marks_by_asker(alloc, principals, rows)?;
+        let by_op = marks_by_op(alloc, rows)?;
+        Ok(RowBlock { by_asker, by_op })
+    }
+
+    // The rows that can match a request for the operation, by the asker at this place.
+    fn marked(&self, place: usize, op: Op) -> u64
+        requires asker { place < length self.now.by_asker.items }
+        requires op { op_number op ≤ length self.now.by_op.items }
+        ensures value { result ≡ bit_and (slice_index_or self.now.by_asker.items place 0)
+            (slice_index_or self.now.by_op.items (op_number op - 1) 0) }
+    {
+        self.by_asker[place] & self.by_op[usize::from(op.number()) - 1]
+    }
+}
+
+// The blocks of the rows, at most 4.
+pub(crate) fn blocks_of(
+    alloc: Global,
+    principals: &[Principal],
+    rows: &[Row],
+) -> Result<Vec<RowBlock>, AllocError>
+    ensures ok { IfOk result
+        (λ blocks. AreBlocksOf principals.now rows.now blocks.items []) }
+{
+    let mut blocks = Vec::new(alloc);
+    let mut rest = rows;
+    while !rest.is_empty() {
+        let (here, others) = rest.split_at(rest.len().min(ROWS_PER_BLOCK));
+        blocks.push(RowBlock::of_rows(alloc, principals, here)?)?;
+        rest = others;
+    }
+    Ok(blocks)
+}
+
+fn marks_by_asker(
+    alloc: Global,
+    principals: &[Principal],
+    rows: &[Row],
+) -> Result<Vec<u64>, AllocError>
+    requires { length rows.now ≤ 64 }
+    ensures ok { IfOk result
+        (λ words. words.items ≡ map (λ asker. marks (can_be_of asker) rows.now)
+        (askers principals.now)) }
+{
+    let mut words = Vec::new(alloc);
+    for principal in principals {
+        words.push(marks_of_asker(rows, Some(principal.id)))?;
+    }
+    words.push(marks_of_asker(rows, None))?;
+    Ok(words)
+}
+
+fn marks_by_op(alloc: Global, rows: &[Row]) -> Result<Vec<u64>, AllocError>
+    requires { length rows.now ≤ 64 }
+    ensures ok { IfOk result
+        (λ words. words.items ≡ map (λ op. marks (can_be_for op) rows.now) all_ops) }
+{
+    let mut words = Vec::new(alloc);
+    for op in &Op::all() {
+        words.push(marks_of_op(rows, *op))?;
+    }
+    Ok(words)
+}
+
+fn marks_of_asker(rows: &[Row], asker: Option<u32>) -> u64
+    requires { length rows.now ≤ 64 }
+    ensures value { result ≡ marks (can_be_of asker) rows.now }
+{
+    let mut word = 0;
+    let mut rest = rows;
+    while let Some((last, others)) = rest.split_last() {
+        word = 2 * word + u64::from(last.can_be_of(asker));
+        rest = others;
+    }
+    word
+}
+
+fn marks_of_op(rows: &[Row], op: Op) -> u64
+    requires { length rows.now ≤ 64 }
+    ensures value { result ≡ marks (can_be_for op) rows.now }
+{
+    let mut word = 0;
+    let mut rest = rows;
+    while let Some((last, others)) = rest.split_last() {
+        word = 2 * word + u64::from(last.can_be_for(op));
+        rest = others;
+    }
+    word
+}
+
+// The place of the asker in each block.
+fn place_of(principals: &[Principal], id: u32) -> usize
+    ensures value { slice_get (askers principals.now) result ≡ Some (asker_of id principals.now) }
+{
+    for (place, principal) in principals.iter().enumerate() {
+        if principal.id == id {
+            return place;
+        }
+    }
+    principals.len()
+}
+
+// The first of these rows that matches, of those that are marked: its number, where the first of
+// them has this one, and whether it allows.
+fn first_marked(number: u16, rows: &[Row], word: u64, request: &Request) -> Option<(u16, bool)>
+    requires last { number + length rows.now ≤ 2 ^ 16 }
+    requires marked { AreMarked rows.now request.now word }
+    ensures value { result ≡ first_match_from number rows.now request.now }
+{
+    let mut word = word;
+    while word != 0 {
+        let place = word.trailing_zeros();
+        let row = &rows[place as usize];
+        if row.matches(request) {
+            return Some((number + place as u16, row.allows));
+        }
+        word &= !(1 << place);
+    }
+    None
+}
+
+// The first row that matches: its number, from 1, and whether it allows. Only the rows that can match
+// are looked at.
+pub(crate) fn first_in(
+    blocks: &[RowBlock],
+    principals: &[Principal],
+    rows: &[Row],
+    request: &Request,
+) -> Option<(u16, bool)>
+    requires few { length rows.now ≤ most_rows }
+    requires each_row { All (IsRowOf principals.now) rows.now }
+    requires blocks { AreBlocksOf principals.now rows.now blocks.now [] }
+    ensures value { result ≡ first_match_from 1 rows.now request.now }
+{
+    let place = place_of(principals, request.head().principal);
+    let op = request.act().op();
+    let mut number = 1;
+    let mut rest = rows;
+    for block in blocks {
+        let (here, others) = rest.split_at(rest.len().min(ROWS_PER_BLOCK));
+        let found = first_marked(number, here, block.marked(place, op), request);
+        if found.is_some() {
+            return found;
+        }
+        number += here.len() as u16;
+        rest = others;
+    }
+    None
+}
