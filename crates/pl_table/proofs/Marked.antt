@@ -1,11 +1,10 @@
 -- Rows that a word marks, and rows that can match.
-use Rattle.std.proofs.Common.{◌≡◌, ◌≢◌, ℕ, zero, suc, ◌+◌, ◌-◌, ◌*◌, ◌/◌, ◌%◌, ◌^◌, ◌<◌, ◌≤◌, min, Bool, true, false, cond, ◌&&◌, eqb, List, [], ◌∷◌, ◌++◌, length, map, take, drop, Option, Some, None, All, IfSome, Contains, refl, sym, ap, ◌∙◌, inl, inr, arith, bit_and, slice_get, slice_index_or, option_map, is_some}
+use Rattle.std.proofs.Common.{◌≡◌, ℕ, zero, suc, ◌+◌, ◌-◌, ◌*◌, ◌/◌, ◌%◌, ◌^◌, ◌<◌, ◌≤◌, min, Bool, true, false, cond, eqb, List, [], ◌∷◌, ◌++◌, length, map, take, drop, Option, Some, None, All, IfSome, Contains, refl, sym, ap, ◌∙◌, inl, inr, arith, bit_and, slice_get, slice_index_or, option_map, is_some}
 use Rattle.std.specs.Int.{w64, bit_at, bit_not, trailing_zeros}
 use Rattle.std.specs.Option.{option_map_or}
 use Rattle.std.specs.Cmp.{nat_eq_equiv}
 use Rattle.std.specs.List.{list_any}
 use Rattle.std.proofs.lemmas.Bool.{cases_Bool, cases_eq, cases_lt, eq-eqb, ne_eqb, and_right}
-use Rattle.std.proofs.lemmas.Bool.Decides.{nat_tests}
 use Rattle.std.proofs.lemmas.Nat.{and_le_l}
 use Rattle.std.proofs.lemmas.Nat.Bits.{bit_at_lowest, bit_at-suc, bit_at-zero, bit_at_and, bit_at_above, bit_at_clear_same, bit_at_clear_other, bit_at-trailing_zeros}
 use Rattle.std.proofs.lemmas.Option.{slice_get_within, slice_get-map, slice_get-get_or, get_or_from_slice_get}
@@ -17,11 +16,10 @@ use Rattle.pl_table.specs.declared.op.Op.{Op}
 use Rattle.pl_table.specs.declared.op.Op.TheVariants.{Write, Offer, Report, Get, Pull, Advance, Status, Failover, SetTable, Audit, Tidy}
 use Rattle.pl_table.specs.declared.row.Row.{Row}
 use Rattle.pl_table.specs.declared.table.Principal.{Principal}
-use Rattle.pl_table.specs.Ops.{same_role, lists_op, op_number, all_ops}
+use Rattle.pl_table.specs.Ops.{same_role, op_number, all_ops}
 use Rattle.pl_table.specs.Absent.{part_matches}
-use Rattle.pl_table.specs.Acts.{partitions_of}
 use Rattle.pl_table.specs.Request.{Query, op_of}
-use Rattle.pl_table.specs.Row.{row_matches, range_matches}
+use Rattle.pl_table.specs.Row.{row_matches}
 use Rattle.pl_table.specs.Table.{IsRowOf}
 use Rattle.pl_table.specs.FirstMatch.{first_match_from}
 use Rattle.pl_table.specs.Index.{askers, asker_of, is_asker, can_be_of, can_be_for, marks, IsBlockOf, AreBlocksOf, AreMarked}

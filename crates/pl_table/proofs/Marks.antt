@@ -1,6 +1,5 @@
 -- Marks of rows: made from the last row on, and read.
 use Rattle.std.proofs.Common.{◌≡◌, ℕ, ◌+◌, ◌*◌, ◌^◌, ◌<◌, ◌≤◌, Bool, true, false, cond, List, [], ◌∷◌, ◌++◌, length, map, refl, sym, ap, ◌∙◌, arith}
-use Rattle.std.specs.Simd.Lanes.{mask_l}
 use Rattle.std.specs.Int.{from_bool}
 use Rattle.std.proofs.lemmas.Simd.{mask_l-lt}
 use Rattle.std.proofs.Math.Pow.{pow_mono}

@@ -20,7 +20,7 @@ const ROWS_PER_BLOCK: usize = 64;
 // are the rows, the first the lowest. A row that names no principal is marked for every asker, and
 // one that lists no operation for every operation. The rows that both words mark are those to try,
 // in rising order.
-#[derive(Debug, Drop)]
+#[derive(Drop)]
 pub(crate) struct RowBlock {
     // For each principal in the order of the table, and then for all that are not listed.
     by_asker: Vec<u64>,
@@ -61,16 +61,16 @@ pub(crate) fn blocks_of(
     rows: &[Row],
 ) -> Result<Vec<RowBlock>, AllocError>
     ensures ok { IfOk result
-        (λ blocks. AreBlocksOf principals.now rows.now blocks.items []) }
+        (λ index. AreBlocksOf principals.now rows.now index.items []) }
 {
-    let mut blocks = Vec::new(alloc);
+    let mut index = Vec::new(alloc);
     let mut rest = rows;
     while !rest.is_empty() {
         let (here, others) = rest.split_at(rest.len().min(ROWS_PER_BLOCK));
-        blocks.push(RowBlock::of_rows(alloc, principals, here)?)?;
+        index.push(RowBlock::of_rows(alloc, principals, here)?)?;
         rest = others;
     }
-    Ok(blocks)
+    Ok(index)
 }
 
 fn marks_by_asker(

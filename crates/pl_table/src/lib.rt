@@ -7,7 +7,6 @@
 #![tactic(auto)]
 
 mod fault;
-mod first_match;
 mod head;
 mod index;
 mod known;

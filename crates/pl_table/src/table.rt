@@ -1,8 +1,12 @@
 //! The written table.
 
-ghost use Rattle.std.specs.Prelude.{◌≡◌, ◌↔◌, All, Contains, IfOk, IsSome, map};
+ghost use Rattle.std.specs.Prelude.{◌≡◌, ◌↔◌, All, Contains, IfNone, IfOk, IfSome, IsSome, false, map};
+ghost use Rattle.pl_table.specs.FirstMatch.{IsFirstMatch, first_match_from};
+ghost use Rattle.pl_table.specs.Row.{row_matches};
 ghost use Rattle.pl_table.specs.Table.{IsTable, token_of};
 
+use crate::index::{RowBlock, blocks_of, first_in};
+use crate::request::Request;
 use crate::row::Row;
 use std::alloc::{AllocError, Global};
 use std::fmt;
@@ -34,30 +38,50 @@ impl fmt::Debug for Principal {
 /// The written table: 1 to 64 principals with distinct ids, and at most 256 rows in their order. A row
 /// names only a listed principal, its range has a partition, and somebody may set the table: for some
 /// principal the first row that matches its set_table as operator allows it.
-#[derive(Debug, Drop)]
+#[derive(Drop)]
 pub struct Table {
     principals: Vec<Principal>,
-    pub(crate) rows: Vec<Row>,
+    rows: Vec<Row>,
+    // Which rows can match, by principal and by operation.
+    index: Vec<RowBlock>,
+}
+
+impl fmt::Debug for Table {
+    fn fmt<W: fmt::Write>(&self, f: &mut fmt::Formatter<W>) -> fmt::Result {
+        f.debug_struct("Table")
+            .field("principals", &self.principals)
+            .field("rows", &self.rows)
+            .finish()
+    }
 }
 
 impl Model for Table {
+    ghost use Rattle.std.specs.Prelude.{[]};
     ghost use Rattle.pl_table.specs.Table.{WrittenTable, IsTable};
+    ghost use Rattle.pl_table.specs.Index.{AreBlocksOf};
 
     ghost Value = { WrittenTable };
 
     ghost view = { λ t. record { principals = t.principals.items; rows = t.rows.items } };
 
     ghost invariant = { λ t.
-        IsTable (record { principals = t.principals.items; rows = t.rows.items }) };
+        IsTable (record { principals = t.principals.items; rows = t.rows.items })
+        × AreBlocksOf t.principals.items t.rows.items t.index.items [] };
 }
 
 impl Table {
-    // The table of these principals and rows.
-    pub(crate) fn of_parts(principals: Vec<Principal>, rows: Vec<Row>) -> Table
+    // The table of these principals and rows, with its index.
+    pub(crate) fn of_parts(principals: Vec<Principal>, rows: Vec<Row>) -> Result<Table, AllocError>
         requires { IsTable (record { principals = principals.items; rows = rows.items }) }
-        ensures value { result ≡ record { principals = principals.items; rows = rows.items } }
+        ensures ok { IfOk result
+            (λ t. t ≡ record { principals = principals.items; rows = rows.items }) }
     {
-        Table { principals, rows }
+        let index = blocks_of(*rows.allocator(), &principals, &rows)?;
+        Ok(Table {
+            principals,
+            rows,
+            index,
+        })
     }
 
     /// The principals, 1 to 64, in the order in which they are listed.
@@ -83,7 +107,20 @@ impl Table {
         let alloc = *self.rows.allocator();
         let principals = copy_of_principals(alloc, &self.principals)?;
         let rows = copy_of_rows(alloc, &self.rows)?;
-        Ok(Table { principals, rows })
+        Table::of_parts(principals, rows)
+    }
+
+    /// The first row that matches the request: its number, from 1, and whether it allows. `None`
+    /// where no row matches. Only the rows are tested that can match a request of the principal for
+    /// the operation, each once, up to that one. Nothing is allocated.
+    pub fn first_match(&self, request: &Request) -> Option<(u16, bool)>
+        ensures value { result ≡ first_match_from 1 self.now.rows request.now }
+        ensures some { IfSome result (IsFirstMatch self.now.rows request.now) }
+        ensures none { IfNone result
+            (All (λ row. row_matches row request.now ≡ false) self.now.rows) }
+        ensures valid { IsTable self.now }
+    {
+        first_in(&self.index, &self.principals, &self.rows, request)
     }
 
     /// The token listed for the id, or `None` where the id is not listed.

@@ -241,5 +241,5 @@ fn read_lists(alloc: Global, principals: &[Value], rows: &[Value]) -> Result<Tab
     if !somebody_sets(&principals, &rows) {
         return Err(ReadFault::Malformed(TableFault::NoOperator));
     }
-    Ok(Table::of_parts(principals, rows))
+    Ok(Table::of_parts(principals, rows)?)
 }

@@ -1,7 +1,6 @@
-use Rattle.std.proofs.Common.{◌≡◌, ◌∙◌, sym, All, length, take, arith}
+use Rattle.std.proofs.Common.{◌≡◌, ◌∙◌, sym, take, arith}
 use Rattle.std.proofs.lemmas.List.Elements.{All-take, All-drop}
 use Rattle.pl_table.specs.Table.{IsRowOf}
-use Rattle.pl_table.specs.Index.{IsBlockOf}
 use Rattle.pl_table.proofs.Marked.{take_block, drop_block, asker_in_block, AreBlocksOf-next, AreMarked-block, found-here, found-others}
 use Rattle.pl_table.proofs.index.first_in.Goals as goal
 
@@ -25,8 +24,7 @@ returns-then-is_some c =
 pub loop-block-preserved : goal.loop-block-preserved
 loop-block-preserved c =
     let blocks = AreBlocksOf-next c.args.principals.now c.loop-block.rest.now c.args.blocks.now c.block-item.result c.loop-block.block-index c.loop-block-test.true (sym c.block-item.is) c.loop-block.invariant.0 in
-    let back = c.split_at.ensures.back ∙ drop_block c.min.result c.loop-block.rest.now c.min.ensures in
-    (
+    let back = c.split_at.ensures.back ∙ drop_block c.min.result c.loop-block.rest.now c.min.ensures in (
       rw back blocks.1,
       rw c.split_at.ensures.back (All-drop (IsRowOf c.args.principals.now) c.min.result c.loop-block.rest.now c.loop-block.invariant.1),
       omega (arith, c.loop-block.invariant.2, c.split_at.ensures.front_len, c.split_at.ensures.back_len),

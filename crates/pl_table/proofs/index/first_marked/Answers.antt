@@ -1,4 +1,4 @@
-use Rattle.std.proofs.Common.{◌≡◌, ℕ, Option, Some, IfSome, sym, refl, ap, ◌∙◌, arith}
+use Rattle.std.proofs.Common.{ℕ, sym, refl, ap, ◌∙◌, arith}
 use Rattle.std.specs.Int.{w64, trailing_zeros, bit_at}
 use Rattle.std.proofs.lemmas.Nat.Bits.{bit_at-zero}
 use Rattle.std.proofs.lemmas.Option.{slice_get_read}

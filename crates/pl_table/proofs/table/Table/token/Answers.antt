@@ -3,7 +3,7 @@ use Rattle.pl_table.proofs.table.Table.token.Goals as goal
 
 pub returns-clause-only : goal.returns-clause-only
 returns-clause-only c =
-    let only = token_of-only c.args.id c.self.inside.principals.items c.self.invariant.distinct in
+    let only = token_of-only c.args.id c.self.inside.principals.items c.self.invariant.0.distinct in
     rw (c.token_in.ensures.value, c.deref.ensures.value, ← c.self.view_is) only
 
 pub returns-clause-found : goal.returns-clause-found
