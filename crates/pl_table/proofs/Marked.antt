@@ -1,26 +1,30 @@
 -- Rows that a word marks, and rows that can match.
-use Rattle.std.proofs.Common.{◌≡◌, ℕ, zero, suc, ◌+◌, ◌-◌, ◌*◌, ◌/◌, ◌%◌, ◌^◌, ◌<◌, ◌≤◌, min, Bool, true, false, cond, eqb, List, [], ◌∷◌, ◌++◌, length, map, take, drop, Option, Some, None, All, IfSome, Contains, refl, sym, ap, ◌∙◌, inl, inr, arith, bit_and, slice_get, slice_index_or, option_map, is_some}
+use Rattle.std.proofs.Common.{◌≡◌, ℕ, zero, suc, ◌+◌, ◌-◌, ◌*◌, ◌/◌, ◌%◌, ◌^◌, ◌<◌, ◌≤◌, min, Bool, true, false, cond, eqb, List, [], ◌∷◌, ◌++◌, length, map, take, drop, Option, Some, None, All, IfSome, Contains, refl, sym, ap, ◌∙◌, inl, inr, arith, bit_and, slice_get, slice_index_or, option_map, is_some, get_or, Result, MatchResult}
 use Rattle.std.specs.Int.{w64, bit_at, bit_not, trailing_zeros}
 use Rattle.std.specs.Option.{option_map_or}
 use Rattle.std.specs.Cmp.{nat_eq_equiv}
-use Rattle.std.specs.List.{list_any}
+use Rattle.std.specs.Ordering.{nat_cmp}
+use Rattle.std.specs.List.Sorted.{IsStrictlyIncreasing, IsBinarySearchResult, IsPermutation}
+use Rattle.std.proofs.lemmas.List.Sorted.{searched}
+use Rattle.std.proofs.lemmas.Map.Keys.{sorted_from_strictly_increasing, non_decreasing_from_sorted}
+use Rattle.std.specs.List.{list_any, filter_map, cons_option, dedup, AllByRecursion}
 use Rattle.std.proofs.lemmas.Bool.{cases_Bool, cases_eq, cases_lt, eq-eqb, ne_eqb, and_right}
 use Rattle.std.proofs.lemmas.Nat.{and_le_l}
 use Rattle.std.proofs.lemmas.Nat.Bits.{bit_at_lowest, bit_at-suc, bit_at-zero, bit_at_and, bit_at_above, bit_at_clear_same, bit_at_clear_other, bit_at-trailing_zeros}
 use Rattle.std.proofs.lemmas.Option.{slice_get_within, slice_get-map, slice_get-get_or, get_or_from_slice_get}
-use Rattle.std.proofs.lemmas.List.{take_min, drop_min, drop_more, drop_all, length-map}
-use Rattle.std.proofs.lemmas.List.Elements.{All-head, All-tail}
+use Rattle.std.proofs.lemmas.List.{take_min, drop_min, drop_more, length-map, get_or_default}
+use Rattle.std.proofs.lemmas.List.Elements.{All-head, All-tail, All-from_recursion}
+use Rattle.std.proofs.lemmas.List.Kept.{Contains-dedup_nat}
+use Rattle.std.proofs.lemmas.List.Sorted.{Contains-permutation}
 use Rattle.std.proofs.lemmas.Map.Views.{list_any-from_Contains}
 use Rattle.pl_table.specs.declared.index.RowBlock.{RowBlock}
 use Rattle.pl_table.specs.declared.op.Op.{Op}
 use Rattle.pl_table.specs.declared.op.Op.TheVariants.{Write, Offer, Report, Get, Pull, Advance, Status, Failover, SetTable, Audit, Tidy}
 use Rattle.pl_table.specs.declared.row.Row.{Row}
-use Rattle.pl_table.specs.declared.table.Principal.{Principal}
 use Rattle.pl_table.specs.Ops.{same_role, op_number, all_ops}
 use Rattle.pl_table.specs.Absent.{part_matches}
 use Rattle.pl_table.specs.Request.{Query, op_of}
 use Rattle.pl_table.specs.Row.{row_matches}
-use Rattle.pl_table.specs.Table.{IsRowOf}
 use Rattle.pl_table.specs.FirstMatch.{first_match_from}
 use Rattle.pl_table.specs.Index.{askers, asker_of, is_asker, can_be_of, can_be_for, marks, IsBlockOf, AreBlocksOf, AreMarked}
 
@@ -89,27 +93,34 @@ digit_of_marks test (row ∷ rows) (suc i) =
 
 -- ---- what cannot match
 
-asker_by_test : (id : ℕ) (ps : List Principal) → list_any (eqb id) (map (λ p. p.id) ps) ≡ true → asker_of id ps ≡ Some id
-asker_by_test id [] h = cc
-asker_by_test id (p ∷ ps) h =
-    elim (cases_eq p.id id) [
-      | inl same ↦ rw (eq-eqb p.id id same) (ap (λ (n : ℕ). Some n) same)
-      | inr other ↦ rw (ne_eqb p.id id other) (asker_by_test id ps (rw (ne_eqb id p.id (λ e. other (sym e))) at h))
+found_name : (id : ℕ) (names : List ℕ) → list_any (eqb id) names ≡ true → asker_of id names ≡ Some id
+found_name id [] h = cc
+found_name id (name ∷ names) h =
+    elim (cases_eq id name) [
+      | inl same ↦ rw (eq-eqb id name same) (ap (λ (n : ℕ). Some n) (sym same))
+      | inr other ↦ rw (ne_eqb id name other) (found_name id names (rw (ne_eqb id name other) at h))
     ]
 
+name_found : (id : ℕ) (names : List ℕ) → Contains names id → asker_of id names ≡ Some id
+name_found id names there = found_name id names (list_any-from_Contains nat_eq_equiv id names there)
+
 -- a row that names another than the asker
-not_named : (ps : List Principal) (who : Option ℕ) (id : ℕ) → IfSome who (Contains (map (λ p. p.id) ps)) → part_matches (is_asker (asker_of id ps)) who ≡ false → part_matches (λ w. eqb w id) who ≡ false
-not_named ps None id listed h = cc
-not_named ps (Some w) id listed h =
+not_named : (names : List ℕ) (who : Option ℕ) (id : ℕ) → IfSome who (Contains names) → part_matches (is_asker (asker_of id names)) who ≡ false → part_matches (λ w. eqb w id) who ≡ false
+not_named names None id listed h = cc
+not_named names (Some w) id listed h =
     elim (cases_eq w id) [
       | inl same ↦
-          let found : asker_of id ps ≡ Some id = asker_by_test id ps (list_any-from_Contains nat_eq_equiv id (map (λ p. p.id) ps) (rw same at listed)) in
+          let found : asker_of id names ≡ Some id = name_found id names (rw same at listed) in
           absurd (let clash : true ≡ false = sym (eq-eqb w id same) ∙ (rw found at h) in cc)
       | inr other ↦ ne_eqb w id other
     ]
 
-not_of : (ps : List Principal) (row : Row) (q : Query) → IsRowOf ps row → can_be_of (asker_of q.head.principal ps) row ≡ false → row_matches row q ≡ false
-not_of ps row q is fails = rw (not_named ps row.who q.head.principal is.who fails) refl
+-- the principal that the row names, if any, is one of the names
+abbrev Named : List ℕ → Row → Type 0
+Named names row = IfSome row.who (Contains names)
+
+not_of : (names : List ℕ) (row : Row) (q : Query) → Named names row → can_be_of (asker_of q.head.principal names) row ≡ false → row_matches row q ≡ false
+not_of names row q is fails = rw (not_named names row.who q.head.principal is fails) refl
 
 not_for : (row : Row) (q : Query) → can_be_for (op_of q.act) row ≡ false → row_matches row q ≡ false
 not_for row q fails =
@@ -127,25 +138,25 @@ within_at : (f g : Row → Bool) (rows : List Row) (i : ℕ) (o : Option Row) �
 within_at f g rows i None is h = absurd (let clash : 0 ≡ 1 = h in cc)
 within_at f g rows i (Some row) is h = slice_get_within rows i row is
 
-missed_at : (ps : List Principal) (q : Query) (o : Option Row) → IfSome o (IsRowOf ps) → min (digit (can_be_of (asker_of q.head.principal ps)) o) (digit (can_be_for (op_of q.act)) o) ≡ 0 → IfSome o (Misses q)
-missed_at ps q None is h = tt
-missed_at ps q (Some row) is h =
-    elim (cases_Bool (can_be_of (asker_of q.head.principal ps) row)) [
+missed_at : (names : List ℕ) (q : Query) (o : Option Row) → IfSome o (Named names) → min (digit (can_be_of (asker_of q.head.principal names)) o) (digit (can_be_for (op_of q.act)) o) ≡ 0 → IfSome o (Misses q)
+missed_at names q None is h = tt
+missed_at names q (Some row) is h =
+    elim (cases_Bool (can_be_of (asker_of q.head.principal names) row)) [
       | inl of ↦ elim (cases_Bool (can_be_for (op_of q.act) row)) [
         | inl for ↦ absurd (let clash : 1 ≡ 0 = rw (of, for) at h in cc)
         | inr fails ↦ not_for row q fails
       ]
-      | inr fails ↦ not_of ps row q is fails
+      | inr fails ↦ not_of names row q is fails
     ]
 
-both_marked : (ps : List Principal) (rows : List Row) (q : Query) → All (IsRowOf ps) rows → AreMarked rows q (bit_and (marks (can_be_of (asker_of q.head.principal ps)) rows) (marks (can_be_for (op_of q.act)) rows))
-both_marked ps rows q each =
-    let of = can_be_of (asker_of q.head.principal ps) in
+both_marked : (names : List ℕ) (rows : List Row) (q : Query) → All (Named names) rows → AreMarked rows q (bit_and (marks (can_be_of (asker_of q.head.principal names)) rows) (marks (can_be_for (op_of q.act)) rows))
+both_marked names rows q each =
+    let of = can_be_of (asker_of q.head.principal names) in
     let for = can_be_for (op_of q.act) in
     let digits = λ (i : ℕ). sym (bit_at_and (marks of rows) (marks for rows) i) in
     record {
       within = λ i e. within_at of for rows i (slice_get rows i) refl (rw (← digit_of_marks of rows i, ← digit_of_marks for rows i) (digits i ∙ e));
-      unmarked = λ i e. missed_at ps q (slice_get rows i) (row_at (IsRowOf ps) rows i each) (rw (← digit_of_marks of rows i, ← digit_of_marks for rows i) (digits i ∙ e));
+      unmarked = λ i e. missed_at names q (slice_get rows i) (row_at (Named names) rows i each) (rw (← digit_of_marks of rows i, ← digit_of_marks for rows i) (digits i ∙ e));
     }
 
 -- ---- one row that does not match is taken off
@@ -207,13 +218,13 @@ pub drop_block : (n : ℕ) (rows : List Row) → n ≡ min (length rows) 64 → 
 drop_block n rows e = let is : n ≡ min 64 (length rows) = omega (arith, e) in ap (λ (k : ℕ). drop k rows) is ∙ drop_min 64 rows
 
 -- one block more
-pub AreBlocksOf-push : (ps : List Principal) (rows rest here others : List Row) (blocks : List RowBlock) (block : RowBlock) → here ≡ take 64 rest → others ≡ drop 64 rest → AreBlocksOf ps rows blocks rest → IsBlockOf ps here block → AreBlocksOf ps rows (blocks ++ block ∷ []) others
-AreBlocksOf-push ps rows rest here others [] block front back are is = (rw (front ∙ ap (λ (rs : List Row). take 64 rs) (sym are)) at is, ap (λ (rs : List Row). drop 64 rs) are ∙ sym back)
-AreBlocksOf-push ps rows rest here others (first ∷ blocks) block front back are is = (are.0, AreBlocksOf-push ps (drop 64 rows) rest here others blocks block front back are.1 is)
+pub AreBlocksOf-push : (names : List ℕ) (rows rest here others : List Row) (blocks : List RowBlock) (block : RowBlock) → here ≡ take 64 rest → others ≡ drop 64 rest → AreBlocksOf names rows blocks rest → IsBlockOf names here block → AreBlocksOf names rows (blocks ++ block ∷ []) others
+AreBlocksOf-push names rows rest here others [] block front back are is = (rw (front ∙ ap (λ (rs : List Row). take 64 rs) (sym are)) at is, ap (λ (rs : List Row). drop 64 rs) are ∙ sym back)
+AreBlocksOf-push names rows rest here others (first ∷ blocks) block front back are is = (are.0, AreBlocksOf-push names (drop 64 rows) rest here others blocks block front back are.1 is)
 
 -- the next of the blocks, and those behind it
-pub AreBlocksOf-next : (ps : List Principal) (rest : List Row) (blocks : List RowBlock) (block : RowBlock) (i : ℕ) → i < length blocks → slice_index_or blocks i block ≡ block → AreBlocksOf ps rest (drop i blocks) [] → IsBlockOf ps (take 64 rest) block × AreBlocksOf ps (drop 64 rest) (drop (i + 1) blocks) []
-AreBlocksOf-next ps rest blocks block i lt is are = rw (drop_more blocks i block lt, is) at are
+pub AreBlocksOf-next : (names : List ℕ) (rest : List Row) (blocks : List RowBlock) (block : RowBlock) (i : ℕ) → i < length blocks → slice_index_or blocks i block ≡ block → AreBlocksOf names rest (drop i blocks) [] → IsBlockOf names (take 64 rest) block × AreBlocksOf names (drop 64 rest) (drop (i + 1) blocks) []
+AreBlocksOf-next names rest blocks block i lt is are = rw (drop_more blocks i block lt, is) at are
 
 -- ---- what a block marks for a request
 
@@ -233,37 +244,50 @@ op_at Tidy = refl
 mapped_at : {A : Type 0} (f : A → ℕ) (xs : List A) (words : List ℕ) (i : ℕ) (x : A) → words ≡ map f xs → slice_get xs i ≡ Some x → slice_index_or words i 0 ≡ f x
 mapped_at f xs words i x are is = get_or_from_slice_get words i (f x) 0 (ap (λ ws. slice_get ws i) are ∙ slice_get-map f xs i ∙ ap (option_map f) is)
 
-pub asker_in_block : (ps : List Principal) (rows : List Row) (block : RowBlock) (place : ℕ) (asker : Option ℕ) → IsBlockOf ps rows block → slice_get (askers ps) place ≡ Some asker → place < length block.by_asker.items
-asker_in_block ps rows block place asker is here =
-    rw (is.by_asker, length-map (askers ps) (λ a. marks (can_be_of a) rows)) (slice_get_within (askers ps) place asker here)
+pub asker_in_block : (names : List ℕ) (rows : List Row) (block : RowBlock) (place : ℕ) (asker : Option ℕ) → IsBlockOf names rows block → slice_get (askers names) place ≡ Some asker → place < length block.by_asker.items
+asker_in_block names rows block place asker is here =
+    rw (is.by_asker, length-map (askers names) (λ a. marks (can_be_of a) rows)) (slice_get_within (askers names) place asker here)
 
-pub AreMarked-block : (ps : List Principal) (rows : List Row) (block : RowBlock) (place : ℕ) (q : Query) → IsBlockOf ps rows block → All (IsRowOf ps) rows → slice_get (askers ps) place ≡ Some (asker_of q.head.principal ps) → AreMarked rows q (bit_and (slice_index_or block.by_asker.items place 0) (slice_index_or block.by_op.items (op_number (op_of q.act) - 1) 0))
-AreMarked-block ps rows block place q is each here =
-    let of = mapped_at (λ asker. marks (can_be_of asker) rows) (askers ps) block.by_asker.items place (asker_of q.head.principal ps) is.by_asker here in
+pub AreMarked-block : (names : List ℕ) (rows : List Row) (block : RowBlock) (place : ℕ) (q : Query) → IsBlockOf names rows block → All (Named names) rows → slice_get (askers names) place ≡ Some (asker_of q.head.principal names) → AreMarked rows q (bit_and (slice_index_or block.by_asker.items place 0) (slice_index_or block.by_op.items (op_number (op_of q.act) - 1) 0))
+AreMarked-block names rows block place q is each here =
+    let of = mapped_at (λ asker. marks (can_be_of asker) rows) (askers names) block.by_asker.items place (asker_of q.head.principal names) is.by_asker here in
     let for = mapped_at (λ op. marks (can_be_for op) rows) all_ops block.by_op.items (op_number (op_of q.act) - 1) (op_of q.act) is.by_op (op_at (op_of q.act)) in
-    rw (of, for) (both_marked ps rows q each)
+    rw (of, for) (both_marked names rows q each)
 
 -- ---- the place of an asker
 
-pub place-listed : (ps : List Principal) (p : Principal) (i : ℕ) → slice_get ps i ≡ Some p → slice_get (askers ps) i ≡ Some (Some p.id)
-place-listed [] p i e = absurd cc
-place-listed (first ∷ ps) p zero e = ap (λ (o : Option Principal). Some (Some (option_map_or (λ (x : Principal). x.id) o p.id))) e
-place-listed (first ∷ ps) p (suc i) e = place-listed ps p i e
+place_named : (names : List ℕ) (name i : ℕ) → slice_get names i ≡ Some name → slice_get (askers names) i ≡ Some (Some name)
+place_named [] name i e = absurd cc
+place_named (first ∷ names) name zero e = ap (λ (o : Option ℕ). Some o) e
+place_named (first ∷ names) name (suc i) e = place_named names name i e
 
-pub place-other : (ps : List Principal) → slice_get (askers ps) (length ps) ≡ Some None
-place-other [] = refl
-place-other (p ∷ ps) = place-other ps
+place_other : (names : List ℕ) → slice_get (askers names) (length names) ≡ Some None
+place_other [] = refl
+place_other (name ∷ names) = place_other names
 
-pub place-found : (ps : List Principal) (id place : ℕ) (d : Principal) → place < length ps → (slice_index_or ps place d).id ≡ id → asker_of id (drop place ps) ≡ asker_of id ps → slice_get (askers ps) place ≡ Some (asker_of id ps)
-place-found ps id place d lt is same =
-    let p = slice_index_or ps place d in
-    let found : asker_of id (drop place ps) ≡ Some p.id = ap (asker_of id) (drop_more ps place d lt) ∙ rw (eq-eqb p.id id is) refl in
-    place-listed ps p place (slice_get-get_or ps place d lt) ∙ ap (λ (o : Option ℕ). Some o) (sym found ∙ same)
+not_found : (id : ℕ) (names : List ℕ) → (Contains names id → ⊥) → asker_of id names ≡ None
+not_found id [] apart = refl
+not_found id (name ∷ names) apart =
+    elim (cases_eq id name) [
+      | inl same ↦ absurd (apart (0, omega arith, sym same))
+      | inr other ↦ rw (ne_eqb id name other) (not_found id names (λ w. apart (suc w.0, omega (arith, w.1), w.2)))
+    ]
 
-pub place-none : (ps : List Principal) (id place : ℕ) → length ps ≤ place → asker_of id (drop place ps) ≡ asker_of id ps → slice_get (askers ps) (length ps) ≡ Some (asker_of id ps)
-place-none ps id place all same =
-    let none : asker_of id (drop place ps) ≡ None = ap (asker_of id) (drop_all place ps all) in
-    place-other ps ∙ ap (λ (o : Option ℕ). Some o) (sym none ∙ same)
+pub place-found : (names : List ℕ) (id i : ℕ) → (i < length names) × (get_or names i 0 ≡ id) → slice_get (askers names) i ≡ Some (asker_of id names)
+place-found names id i at =
+    let here : slice_get names i ≡ Some id = slice_get-get_or names i 0 at.0 ∙ ap (λ (n : ℕ). Some n) at.1 in
+    place_named names id i here ∙ ap (λ (o : Option ℕ). Some o) (sym (name_found id names (i, at.0, get_or_default names i id 0 at.0 ∙ at.1)))
+
+pub place-none : (names : List ℕ) (id i : ℕ) → (i ≤ length names) × ((k : ℕ) → k < i → get_or names k 0 < id) × ((k : ℕ) → i ≤ k → k < length names → id < get_or names k 0) → slice_get (askers names) (length names) ≡ Some (asker_of id names)
+place-none names id i past =
+    place_other names ∙ ap (λ (o : Option ℕ). Some o) (sym (not_found id names (λ w. elim (cases_lt w.0 i) [
+      | inl lt ↦ omega (arith, past.1 w.0 lt, get_or_default names w.0 id 0 w.1, w.2)
+      | inr le ↦ omega (arith, past.2 w.0 le w.1, get_or_default names w.0 id 0 w.1, w.2)
+    ])))
+
+-- what a search in rising names tells
+pub searched-names : (names : List ℕ) (id : ℕ) (r : Result ℕ ℕ) → IsStrictlyIncreasing names → IsBinarySearchResult (λ y. nat_cmp y id) names r → MatchResult r (λ i. (i < length names) × (get_or names i 0 ≡ id)) (λ i. (i ≤ length names) × ((k : ℕ) → k < i → get_or names k 0 < id) × ((k : ℕ) → i ≤ k → k < length names → id < get_or names k 0))
+searched-names names id r rise h = searched names id r h (λ i j le lt. non_decreasing_from_sorted names (sorted_from_strictly_increasing names rise) i j 0 le lt)
 
 -- ---- a block among others
 
@@ -276,3 +300,20 @@ pub found-others : (k : ℕ) (here others rest : List Row) (q : Query) (found al
 found-others k here others rest q None all none is split same =
     sym (found-behind k here others q (sym is)) ∙ ap (λ (rows : List Row). first_match_from k rows q) (sym split) ∙ same
 found-others k here others rest q (Some f) all none is split same = absurd cc
+
+-- ---- the names that are kept
+
+more_names : (who : Option ℕ) (ids names : List ℕ) → ((x : ℕ) → Contains (cons_option who ids) x → Contains names x) → IfSome who (Contains names) × ((x : ℕ) → Contains ids x → Contains names x)
+more_names None ids names into = (tt, into)
+more_names (Some id) ids names into = (into id (0, omega arith, refl), λ x w. into x (suc w.0, omega (arith, w.1), w.2))
+
+named_within : (rows : List Row) (names : List ℕ) → ((x : ℕ) → Contains (filter_map (λ row. row.who) rows) x → Contains names x) → AllByRecursion (Named names) rows
+named_within [] names into = tt
+named_within (row ∷ rows) names into =
+    let more = more_names row.who (filter_map (λ r. r.who) rows) names into in
+    (more.0, named_within rows names more.1)
+
+-- so what is sorted and cleared of repeats has the names of all rows
+pub each-named : (rows : List Row) (ids sorted names : List ℕ) → ids ≡ filter_map (λ row. row.who) rows → IsPermutation ids sorted → names ≡ dedup eqb sorted → All (Named names) rows
+each-named rows ids sorted names are moved is =
+    All-from_recursion (Named names) rows (named_within rows names (λ x w. rw is (Contains-dedup_nat sorted x (Contains-permutation ids sorted x moved (rw are w)))))

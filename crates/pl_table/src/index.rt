@@ -1,16 +1,16 @@
 //! The index of a table: which rows can match, by the principal that asks and by the operation.
 
-ghost use Rattle.std.specs.Prelude.{◌≡◌, ◌≤◌, ◌<◌, ◌+◌, IfOk, Some, [], length, map, slice_get, slice_index_or, bit_and, ◌-◌, ◌^◌, All};
+ghost use Rattle.std.specs.Prelude.{◌≡◌, ◌≤◌, ◌<◌, ◌+◌, IfOk, IfSome, Some, [], length, map, slice_get, slice_index_or, bit_and, ◌-◌, ◌^◌, All};
 ghost use Rattle.pl_table.specs.Ops.{all_ops, op_number};
-ghost use Rattle.pl_table.specs.Index.{askers, asker_of, can_be_for, can_be_of, marks, AreBlocksOf, AreMarked, IsBlockOf};
+ghost use Rattle.pl_table.specs.Index.{askers, asker_of, can_be_for, can_be_of, marks, AreBlocksOf, AreMarked, IsBlockOf, IsIndexOf};
+ghost use Rattle.std.specs.List.{Contains, filter_map};
+ghost use Rattle.std.specs.List.Sorted.{IsStrictlyIncreasing};
 ghost use Rattle.pl_table.specs.Bounds.{most_rows};
-ghost use Rattle.pl_table.specs.Table.{IsRowOf};
 ghost use Rattle.pl_table.specs.FirstMatch.{first_match_from};
 
 use crate::op::Op;
 use crate::request::Request;
 use crate::row::Row;
-use crate::table::Principal;
 use std::alloc::{AllocError, Global};
 
 // The rows that a word marks.
@@ -21,24 +21,50 @@ const ROWS_PER_BLOCK: usize = 64;
 // one that lists no operation for every operation. The rows that both words mark are those to try,
 // in rising order.
 #[derive(Drop)]
-pub(crate) struct RowBlock {
-    // For each principal in the order of the table, and then for all that are not listed.
+struct RowBlock {
+    // For each id that rows name, in the order of the names, and then for all others.
     by_asker: Vec<u64>,
     // For each operation in the order of the numbers.
     by_op: Vec<u64>,
 }
 
+// Which rows of a table can match, by the principal that asks and by the operation.
+#[derive(Drop)]
+pub(crate) struct RowIndex {
+    // The ids that rows name, rising, each once.
+    names: Vec<u32>,
+    // The rows in their order, 64 by 64.
+    blocks: Vec<RowBlock>,
+}
+
+impl RowIndex {
+    // The index of these rows.
+    pub(crate) fn of_rows(alloc: Global, rows: &[Row]) -> Result<RowIndex, AllocError>
+        ensures ok { IfOk result (IsIndexOf rows.now) }
+    {
+        let names = names_in(alloc, rows)?;
+        let blocks = blocks_of(alloc, &names, rows)?;
+        Ok(RowIndex { names, blocks })
+    }
+
+    // The first row that matches: its number, from 1, and whether it allows. Only the rows that can
+    // match are looked at.
+    pub(crate) fn first_in(&self, rows: &[Row], request: &Request) -> Option<(u16, bool)>
+        requires few { length rows.now ≤ most_rows }
+        requires index { IsIndexOf rows.now self.now }
+        ensures value { result ≡ first_match_from 1 rows.now request.now }
+    {
+        first_in_blocks(&self.names, &self.blocks, rows, request)
+    }
+}
+
 impl RowBlock {
     // The block of these rows.
-    fn of_rows(
-        alloc: Global,
-        principals: &[Principal],
-        rows: &[Row],
-    ) -> Result<RowBlock, AllocError>
+    fn of_rows(alloc: Global, names: &[u32], rows: &[Row]) -> Result<RowBlock, AllocError>
         requires { length rows.now ≤ 64 }
-        ensures ok { IfOk result (IsBlockOf principals.now rows.now) }
+        ensures ok { IfOk result (IsBlockOf names.now rows.now) }
     {
-        let by_asker = marks_by_asker(alloc, principals, rows)?;
+        let by_asker = marks_by_asker(alloc, names, rows)?;
         let by_op = marks_by_op(alloc, rows)?;
         Ok(RowBlock { by_asker, by_op })
     }
@@ -54,38 +80,48 @@ impl RowBlock {
     }
 }
 
+// The ids that rows name, rising, each once.
+fn names_in(alloc: Global, rows: &[Row]) -> Result<Vec<u32>, AllocError>
+    ensures rise { IfOk result (λ names. IsStrictlyIncreasing names.items) }
+    ensures each { IfOk result
+        (λ names. All (λ row. IfSome row.who (Contains names.items)) rows.now) }
+{
+    let mut names = named_by(alloc, rows)?;
+    names.sort_unstable();
+    names.dedup();
+    Ok(names)
+}
+
+// The id that each row names, of those that name one.
+fn named_by(alloc: Global, rows: &[Row]) -> Result<Vec<u32>, AllocError>
+    ensures ok { IfOk result (λ names. names.items ≡ filter_map (λ row. row.who) rows.now) }
+{
+    rows.iter().filter_map(|row| row.who).collect(alloc)
+}
+
 // The blocks of the rows, at most 4.
-pub(crate) fn blocks_of(
-    alloc: Global,
-    principals: &[Principal],
-    rows: &[Row],
-) -> Result<Vec<RowBlock>, AllocError>
-    ensures ok { IfOk result
-        (λ index. AreBlocksOf principals.now rows.now index.items []) }
+fn blocks_of(alloc: Global, names: &[u32], rows: &[Row]) -> Result<Vec<RowBlock>, AllocError>
+    ensures ok { IfOk result (λ index. AreBlocksOf names.now rows.now index.items []) }
 {
     let mut index = Vec::new(alloc);
     let mut rest = rows;
     while !rest.is_empty() {
         let (here, others) = rest.split_at(rest.len().min(ROWS_PER_BLOCK));
-        index.push(RowBlock::of_rows(alloc, principals, here)?)?;
+        index.push(RowBlock::of_rows(alloc, names, here)?)?;
         rest = others;
     }
     Ok(index)
 }
 
-fn marks_by_asker(
-    alloc: Global,
-    principals: &[Principal],
-    rows: &[Row],
-) -> Result<Vec<u64>, AllocError>
+fn marks_by_asker(alloc: Global, names: &[u32], rows: &[Row]) -> Result<Vec<u64>, AllocError>
     requires { length rows.now ≤ 64 }
     ensures ok { IfOk result
         (λ words. words.items ≡ map (λ asker. marks (can_be_of asker) rows.now)
-        (askers principals.now)) }
+        (askers names.now)) }
 {
     let mut words = Vec::new(alloc);
-    for principal in principals {
-        words.push(marks_of_asker(rows, Some(principal.id)))?;
+    for name in names {
+        words.push(marks_of_asker(rows, Some(*name)))?;
     }
     words.push(marks_of_asker(rows, None))?;
     Ok(words)
@@ -129,16 +165,15 @@ fn marks_of_op(rows: &[Row], op: Op) -> u64
     word
 }
 
-// The place of the asker in each block.
-fn place_of(principals: &[Principal], id: u32) -> usize
-    ensures value { slice_get (askers principals.now) result ≡ Some (asker_of id principals.now) }
+// The place of the asker in each block: about log n steps for n names.
+fn place_of(names: &[u32], id: u32) -> usize
+    requires { IsStrictlyIncreasing names.now }
+    ensures value { slice_get (askers names.now) result ≡ Some (asker_of id names.now) }
 {
-    for (place, principal) in principals.iter().enumerate() {
-        if principal.id == id {
-            return place;
-        }
+    match names.binary_search(&id) {
+        Ok(place) => place,
+        Err(_) => names.len(),
     }
-    principals.len()
 }
 
 // The first of these rows that matches, of those that are marked: its number, where the first of
@@ -160,20 +195,20 @@ fn first_marked(number: u16, rows: &[Row], word: u64, request: &Request) -> Opti
     None
 }
 
-// The first row that matches: its number, from 1, and whether it allows. Only the rows that can match
-// are looked at.
-pub(crate) fn first_in(
+// The first row that matches, of those that the blocks mark.
+fn first_in_blocks(
+    names: &[u32],
     blocks: &[RowBlock],
-    principals: &[Principal],
     rows: &[Row],
     request: &Request,
 ) -> Option<(u16, bool)>
     requires few { length rows.now ≤ most_rows }
-    requires each_row { All (IsRowOf principals.now) rows.now }
-    requires blocks { AreBlocksOf principals.now rows.now blocks.now [] }
+    requires rise { IsStrictlyIncreasing names.now }
+    requires named { All (λ row. IfSome row.who (Contains names.now)) rows.now }
+    requires blocks { AreBlocksOf names.now rows.now blocks.now [] }
     ensures value { result ≡ first_match_from 1 rows.now request.now }
 {
-    let place = place_of(principals, request.head().principal);
+    let place = place_of(names, request.head().principal);
     let op = request.act().op();
     let mut number = 1;
     let mut rest = rows;

@@ -5,7 +5,7 @@ ghost use Rattle.pl_table.specs.FirstMatch.{IsFirstMatch, first_match_from};
 ghost use Rattle.pl_table.specs.Row.{row_matches};
 ghost use Rattle.pl_table.specs.Table.{IsTable, token_of};
 
-use crate::index::{RowBlock, blocks_of, first_in};
+use crate::index::RowIndex;
 use crate::request::Request;
 use crate::row::Row;
 use std::alloc::{AllocError, Global};
@@ -43,7 +43,7 @@ pub struct Table {
     principals: Vec<Principal>,
     rows: Vec<Row>,
     // Which rows can match, by principal and by operation.
-    index: Vec<RowBlock>,
+    index: RowIndex,
 }
 
 impl fmt::Debug for Table {
@@ -56,9 +56,8 @@ impl fmt::Debug for Table {
 }
 
 impl Model for Table {
-    ghost use Rattle.std.specs.Prelude.{[]};
     ghost use Rattle.pl_table.specs.Table.{WrittenTable, IsTable};
-    ghost use Rattle.pl_table.specs.Index.{AreBlocksOf};
+    ghost use Rattle.pl_table.specs.Index.{IsIndexOf};
 
     ghost Value = { WrittenTable };
 
@@ -66,7 +65,7 @@ impl Model for Table {
 
     ghost invariant = { λ t.
         IsTable (record { principals = t.principals.items; rows = t.rows.items })
-        × AreBlocksOf t.principals.items t.rows.items t.index.items [] };
+        × IsIndexOf t.rows.items t.index };
 }
 
 impl Table {
@@ -76,7 +75,7 @@ impl Table {
         ensures ok { IfOk result
             (λ t. t ≡ record { principals = principals.items; rows = rows.items }) }
     {
-        let index = blocks_of(*rows.allocator(), &principals, &rows)?;
+        let index = RowIndex::of_rows(*rows.allocator(), &rows)?;
         Ok(Table {
             principals,
             rows,
@@ -120,7 +119,7 @@ impl Table {
             (All (λ row. row_matches row request.now ≡ false) self.now.rows) }
         ensures valid { IsTable self.now }
     {
-        first_in(&self.index, &self.principals, &self.rows, request)
+        self.index.first_in(&self.rows, request)
     }
 
     /// The token listed for the id, or `None` where the id is not listed.

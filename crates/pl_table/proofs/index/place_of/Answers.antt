@@ -1,8 +1,12 @@
-use Rattle.pl_table.proofs.Marked.{place-found, place-none}
+use Rattle.pl_table.proofs.Marked.{searched-names, place-found, place-none}
 use Rattle.pl_table.proofs.index.place_of.Goals as goal
 
-pub returns-then-principal-id : goal.returns-then-principal-id
-returns-then-principal-id c = record { value = place-found c.args.principals.now c.args.id c.loop-place.place _ c.loop-place-test.true c.if-principal-id.true c.loop-place.invariant }
+pub returns-in-Ok : goal.returns-in-Ok
+returns-in-Ok c =
+    let found = searched-names c.args.names.now c.args.id c.binary_search.result c.requires c.binary_search.ensures.position in
+    record { value = place-found c.args.names.now c.args.id c.in-Ok.place (rw c.in-Ok.is at found) }
 
-pub returns : goal.returns
-returns c = record { value = place-none c.args.principals.now c.args.id c.loop-place.place c.loop-place-test.false c.loop-place.invariant }
+pub returns-in-Err : goal.returns-in-Err
+returns-in-Err c =
+    let found = searched-names c.args.names.now c.args.id c.binary_search.result c.requires c.binary_search.ensures.position in
+    record { value = place-none c.args.names.now c.args.id c.in-Err.field-0 (rw c.in-Err.is at found) }

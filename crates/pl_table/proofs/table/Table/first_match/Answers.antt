@@ -4,9 +4,9 @@ use Rattle.pl_table.proofs.table.Table.first_match.Goals as goal
 pub returns-clause-some : goal.returns-clause-some
 returns-clause-some c =
     let some = IsFirstMatch-first_match_from c.self.inside.rows.items c.args.request.now in
-    rw (c.first_in.ensures.value, c.deref-3.ensures.value, ← c.self.view_is) some
+    rw (c.first_in.ensures.value, c.deref.ensures.value, ← c.self.view_is) some
 
 pub returns-clause-none : goal.returns-clause-none
 returns-clause-none c =
     let none = All-none_found c.self.inside.rows.items c.args.request.now in
-    rw (c.first_in.ensures.value, c.deref-3.ensures.value, ← c.self.view_is) none
+    rw (c.first_in.ensures.value, c.deref.ensures.value, ← c.self.view_is) none
