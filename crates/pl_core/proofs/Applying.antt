@@ -16,7 +16,7 @@ use Rattle.pl_audit.specs.declared.audit.Entry.{Entry as KeptEntry}
 use Rattle.pl_core.specs.History.{Effect, wrote, offered, hardened, advanced, failed_over, set, nothing, Entry, Start, History, grown, effect_of_reading, effect_of_act, effect_of}
 use Rattle.pl_core.specs.Log.{hardened_log, hard_of}
 use Rattle.pl_core.specs.Applied.{applied_by, applied_after, applied_of}
-use Rattle.pl_core.specs.Keeping.{history_kept, Holds, HoldsPages, IsKept}
+use Rattle.pl_core.specs.Keeping.{Holds, HoldsPages, IsKept}
 use Rattle.pl_core.specs.Laws.{AppliedLsnsOnlyRise}
 use Rattle.pl_core.specs.Performing.{PagesFollow, with_pages, applied_then, applied_by_verdict}
 use Rattle.pl_core.proofs.AboveTheWindow.{hard_rises}

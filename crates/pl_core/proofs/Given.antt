@@ -1,6 +1,5 @@
 -- The pages that gets are answered.
-use Rattle.std.proofs.Common.{◌≡◌, ℕ, ◌≤◌, Bool, true, List, ◌++◌, length, take, sym, ap, ◌∙◌, inl, inr, arith}
-use Rattle.std.proofs.lemmas.Bool.{cases_lt}
+use Rattle.std.proofs.Common.{◌≡◌, ℕ, ◌≤◌, Bool, List, ◌++◌, take, sym, ap, ◌∙◌, arith}
 use Rattle.pl_block.specs.Block.{Content}
 use Rattle.pl_pages.specs.Page.{page_of}
 use Rattle.pl_table.specs.declared.head.Head.{Head}
