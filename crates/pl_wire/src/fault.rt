@@ -1,4 +1,4 @@
-//! Why a body is no request.
+//! Why a body is no request, or no reply.
 
 ghost use Rattle.std.specs.Prelude.{◌≡◌, ◌≤◌};
 ghost use Rattle.pl_block.specs.declared.fault.Failed.TheVariants.{Malformed};
@@ -10,21 +10,25 @@ use pl_block::{BlockFault, Failed, Fault};
 
 /// What is wrong with a body.
 ///
-/// Each fault has a code. Of the faults that a body has, the one of the least code is reported. Each
-/// is asked of the whole body, and presupposes that it has none of those before.
+/// Each fault has a code. Of the faults that a request has, the one of the least code is reported:
+/// each is asked of the whole body, and presupposes that it has none of those before. Of those that a
+/// reply has, the one that is met first is, from left to right.
 #[derive(Clone, Copy, Debug, PartialEq, Eq)]
 pub enum WireFault {
-    /// The body has fewer than 30 bytes, the least that a body has: code 1.
+    /// The body of a request has fewer than 30 bytes, the least that one has; that of a reply has
+    /// none: code 1.
     TooShort,
     /// The number of a role is not 1 to 4: code 2.
     UnknownRole,
-    /// The number of the operation is not one that is read: code 3.
+    /// The number of an operation is not 1 to 11, or the kind of a reply is above 10: code 3.
     UnknownKind,
-    /// The body ends inside a field: code 4. Where a block is cut, the fault is the block's.
+    /// The body ends inside a field: code 4. Where the block of a request is cut, the fault is the
+    /// block's.
     EndsInField,
     /// Bytes follow the last field: code 5.
     BytesAfterEnd,
-    /// A number, or the length of a table's text, is out of its range: code 6.
+    /// A number, a flag, or the length of a table's text is out of its range: code 6. In a reply it is
+    /// a count, a section or a code; or a line of an allowed request has a row or a value.
     OutOfRange,
     /// The block is malformed: the code of the block's fault, and 6 more, so 7 to 15.
     Block(Fault),
@@ -48,7 +52,7 @@ impl WireFault {
     }
 }
 
-/// Why a call gave no request: the fault of the least code, or out of memory.
+/// Why a call gave no request or no reply: the fault of the body, or out of memory.
 pub type BodyFault = Failed<WireFault>;
 
 impl From<TryGetError> for WireFault {

@@ -50,7 +50,7 @@ impl ReplyKind {
     }
 
     /// The kind of the replies with this first byte, or `None` where there is none.
-    pub fn of_number(number: u8) -> Option<ReplyKind>
+    pub(crate) fn of_number(number: u8) -> Option<ReplyKind>
         ensures value { result ≡ kind_of_number number }
     {
         match number {

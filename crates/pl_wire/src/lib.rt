@@ -1,7 +1,8 @@
-//! Requests and replies as bytes, and the frame in which a served block stands.
+//! Requests and replies as bytes, both ways, and the frame in which a served block stands.
 //!
-//! Each request and each reply that fits has one spelling. What is read is the request of its
-//! spelling; of bytes that spell none, the fault of the least code is reported.
+//! Each request, and each reply that fits, has one spelling. What is read is the request or the reply
+//! of its spelling. Of bytes that spell no request the fault of the least code is reported; of bytes
+//! that spell no reply, the fault that is met first.
 #![tactic(auto)]
 
 mod fault;

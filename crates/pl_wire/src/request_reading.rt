@@ -18,7 +18,7 @@ use pl_table::{Act, Head, Op, Request, Role, TableText};
 use std::alloc::Global;
 
 /// The bytes of a head, and of the operation behind it.
-const HEAD_BYTES: usize = 30;
+pub(crate) const OPENING_BYTES: usize = 30;
 
 /// The bytes of a token.
 const TOKEN_BYTES: usize = 16;
@@ -256,7 +256,7 @@ fn opening_of(body: &[u8]) -> Result<(Head, Op), WireFault>
     ensures role { IfOk result (λ _. IsSome (role_of_number (slice_index body.now 20))) }
     ensures op { IfOk result (λ opening. op_of_number (slice_index body.now 29) ≡ Some opening.1) }
 {
-    if body.len() < HEAD_BYTES {
+    if body.len() < OPENING_BYTES {
         return Err(WireFault::TooShort);
     }
     let role = Role::of_number(body[20]).ok_or(WireFault::UnknownRole)?;
@@ -270,7 +270,7 @@ fn request_of(alloc: Global, body: &[u8]) -> Result<Request, BodyFault>
     ensures no_memory { result ≡ Err NoMemory → MayLackMemory body.now }
 {
     let (head, op) = opening_of(body)?;
-    let (_, arguments) = body.split_at(HEAD_BYTES);
+    let (_, arguments) = body.split_at(OPENING_BYTES);
     let act = act_of(alloc, op, arguments)?;
     Ok(ranged_request(head, act)?)
 }
@@ -282,16 +282,16 @@ fn request_in(alloc: Global, body: Bytes) -> Result<Request, BodyFault>
 {
     let (head, op) = opening_of(body.as_slice())?;
     let mut arguments = body;
-    arguments.advance(HEAD_BYTES);
+    arguments.advance(OPENING_BYTES);
     let act = act_in(alloc, op, arguments)?;
     Ok(ranged_request(head, act)?)
 }
 
 /// The request that the bytes spell, or the fault of the least code.
 ///
-/// The bytes of a write's block are copied once, and the block keeps the copy. So are those of a
-/// table's text, which is read here, once, before its length is tested: a text that writes down no
-/// table is a request all the same. The other requests ask for no memory.
+/// The bytes of a block, in a write or an offer, are copied once, and the block keeps the copy. So
+/// are those of a table's text, which is read here, once, before its length is tested: a text that
+/// writes down no table is a request all the same. The other requests ask for no memory.
 #[tactic(auto, using(crate::proofs::Requests::is_found, crate::proofs::Requests::is_only))]
 pub fn decode_request(alloc: Global, body: &[u8]) -> Result<Request, BodyFault>
     // What is read is a request, and is spelled so.
@@ -301,7 +301,7 @@ pub fn decode_request(alloc: Global, body: &[u8]) -> Result<Request, BodyFault>
         Returns result (Ok q) }
     // Which fault it is.
     ensures exact { Returns result (request_reading body.now) }
-    // Memory runs out only where a write or a table's text was to be kept.
+    // Memory runs out only where a block or a table's text was to be kept.
     ensures no_memory { result ≡ Err NoMemory → MayLackMemory body.now }
 {
     each_is_byte(body);
@@ -311,7 +311,8 @@ pub fn decode_request(alloc: Global, body: &[u8]) -> Result<Request, BodyFault>
 
 /// The request that the bytes spell, or the fault of the least code, as [`decode_request`] has it.
 ///
-/// The block of a write keeps these bytes, and none is copied. Those of a table's text are.
+/// The block of a write or an offer keeps these bytes, and none is copied. Those of a table's text
+/// are.
 #[tactic(auto, using(crate::proofs::Requests::is_found, crate::proofs::Requests::is_only))]
 pub fn decode_request_shared(alloc: Global, body: Bytes) -> Result<Request, BodyFault>
     ensures found { IfOk result (λ q. IsRequest q × (body ≡ request_spelling q)) }

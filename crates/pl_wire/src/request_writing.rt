@@ -1,15 +1,14 @@
 //! A request, written as its bytes.
 
-ghost use Rattle.std.specs.Prelude.{◌≡◌, ◌≤◌, ◌++◌, length, IfOk, OnOk};
+ghost use Rattle.std.specs.Prelude.{◌≡◌, ◌≤◌, ◌++◌, ◌∷◌, [], length, IfOk, OnOk};
+ghost use Rattle.pl_table.specs.Ops.{op_number};
 ghost use Rattle.pl_wire.specs.Spelling.{act_spelling, head_spelling, request_spelling};
 
+use crate::request_reading::OPENING_BYTES;
 use bytes::BufMut;
 use pl_block::{Block, encode_onto, encoded_len};
-use pl_table::{Act, Head, Request};
+use pl_table::{Act, Head, Op, Request};
 use std::alloc::{AllocError, Global};
-
-/// The bytes of a head, and of the operation behind it.
-const HEAD_BYTES: usize = 30;
 
 // How many bytes the arguments take.
 fn arguments_len(act: &Act) -> usize
@@ -28,14 +27,17 @@ fn arguments_len(act: &Act) -> usize
     }
 }
 
-fn put_head(out: &mut Vec<u8>, head: &Head) -> Result<(), AllocError>
-    ensures ok { OnOk result (out.new.items ≡ out.old.items ++ head_spelling head.now) }
+// The head and the operation that a body begins with.
+fn put_opening(out: &mut Vec<u8>, head: &Head, op: Op) -> Result<(), AllocError>
+    ensures ok { OnOk result (out.new.items ≡ out.old.items
+        ++ (head_spelling head.now ++ (op_number op ∷ []))) }
 {
     out.put_u32(head.principal)?;
     out.put_slice(&head.token)?;
     out.put_u8(head.role.number())?;
     out.put_u32(head.database)?;
-    out.put_u32(head.epoch)
+    out.put_u32(head.epoch)?;
+    out.put_u8(op.number())
 }
 
 fn put_write(out: &mut Vec<u8>, copy: u8, block: &Block) -> Result<(), AllocError>
@@ -95,18 +97,18 @@ fn put_arguments(out: &mut Vec<u8>, act: &Act) -> Result<(), AllocError>
     }
 }
 
-/// The one spelling of the request: its head, the number of its operation, and the arguments, at
-/// most 65,536 bytes.
+/// The one spelling of the request: its head, the number of its operation and the arguments, at most
+/// 65,536 bytes.
 ///
-/// The only error is a failed allocation. Room is made at once, and each byte is copied into it once.
+/// The only error is a failed allocation. Room is made once, for the whole request, and the bytes of a
+/// block or of a text are copied into it once.
 pub fn encode_request(alloc: Global, request: &Request) -> Result<Vec<u8>, AllocError>
     ensures ok { IfOk result (λ bytes. bytes.items ≡ request_spelling request.now) }
     ensures fits { IfOk result (λ bytes. length bytes.items ≤ 65536) }
 {
     let act = request.act();
-    let mut out = Vec::with_capacity(alloc, HEAD_BYTES + arguments_len(act))?;
-    put_head(&mut out, request.head())?;
-    out.put_u8(act.op().number())?;
+    let mut out = Vec::with_capacity(alloc, OPENING_BYTES + arguments_len(act))?;
+    put_opening(&mut out, request.head(), act.op())?;
     put_arguments(&mut out, act)?;
     Ok(out)
 }
