@@ -1,0 +1,8 @@
+-- What lending a frame of a chunk leaves.
+use Rattle.std.specs.Prelude.{ℕ, List, slice_set}
+use Rattle.std.specs.Borrow.{MutBor, Fml, Lends, Array, u8}
+use Rattle.pl_arena.specs.contracts.chunk.Chunk.{the_row}
+
+-- the frame at the place has the bytes that were left
+abbrev pub LendsSlot : MutBor (List (List ℕ)) → ℕ → MutBor (List ℕ) → Fml
+LendsSlot chunk i bytes = Lends the_row (Array u8 8192) chunk bytes (slice_set chunk.now i)

@@ -1,0 +1,67 @@
+-- How an arena keeps which frames are out, and in which order the others are taken again.
+use Rattle.std.specs.Prelude.{◌≡◌, ℕ, ◌+◌, ◌*◌, ◌<◌, ◌≤◌, ◌⊎◌, ◌↔◌, zero, suc, Bool, false, List, [], ◌∷◌, length, Option, Some, None, slice_index_or, if◌then◌else◌}
+use Rattle.std.specs.Int.{w32, from_le_bytes}
+use Rattle.std.specs.Ordering.{nat_cmp}
+use Rattle.std.specs.FinMap as maps
+use Rattle.pl_arena.specs.Arena.{Arena}
+
+-- the number in the first four bytes of a free frame: 0 at the end of the list, else one more than the
+-- frame that follows
+unfoldable pub link : List ℕ → ℕ
+link bytes = from_le_bytes w32 (slice_index_or bytes 0 0 ∷ slice_index_or bytes 1 0 ∷ slice_index_or bytes 2 0 ∷ slice_index_or bytes 3 0 ∷ [])
+
+-- the link in each frame
+abbrev pub links : List (List ℕ) → ℕ → ℕ
+links frames id = link (slice_index_or frames id [])
+
+-- the list that a link leads to, where each frame has the link to the next
+abbrev pub IsChain : (ℕ → ℕ) → ℕ → List ℕ → Type 0
+IsChain next head [] = head ≡ 0
+IsChain next head (id ∷ ids) = (head ≡ id + 1) × IsChain next (next id) ids
+
+-- the list has the frame
+abbrev pub Among : ℕ → List ℕ → Type 0
+Among id [] = ⊥
+Among id (other ∷ others) = (id ≡ other) ⊎ Among id others
+
+-- it has no frame twice
+abbrev pub IsOnce : List ℕ → Type 0
+IsOnce [] = Unit {0}
+IsOnce (id ∷ ids) = (Among id ids → ⊥) × IsOnce ids
+
+-- the frame was out before, and is not now
+abbrev pub IsGiven : List Bool → ℕ → Type 0
+IsGiven outs id = (id < length outs) × (slice_index_or outs id false ≡ false)
+
+-- the frames that were given back, each once, in the order in which they are taken again
+pub record IsFreeList (next : ℕ → ℕ) (outs : List Bool) (head : ℕ) (ids : List ℕ) : Type 0 where
+  pub chain : IsChain next head ids
+  pub once : IsOnce ids
+  pub given : (id : ℕ) → Among id ids ↔ IsGiven outs id
+
+-- Of the frames in memory, those behind the end of outs were never out, and of the others it says
+-- which are; those that are not lie in the free list.
+pub record IsKept (frames : List (List ℕ)) (outs : List Bool) (head max_chunks : ℕ) : Type 0 where
+  pub memory : length outs ≤ length frames
+  pub limit : length outs ≤ 64 * max_chunks
+  pub some : 1 ≤ max_chunks
+  pub few : max_chunks ≤ 65536
+  pub list : (ids : List ℕ) × IsFreeList (links frames) outs head ids
+
+-- the bytes of a frame, if it is out
+abbrev pub held : List (List ℕ) → List Bool → ℕ → Option (List ℕ)
+held frames outs id = if slice_index_or outs id false then Some (slice_index_or frames id []) else None
+
+-- a map with what stands at one more number, if anything does
+abbrev pub put : maps.FinMap nat_cmp (List ℕ) → ℕ → Option (List ℕ) → maps.FinMap nat_cmp (List ℕ)
+put m id None = m
+put m id (Some bytes) = maps.insert m id bytes
+
+-- the map of what stands at the numbers below n
+unfoldable pub gathered : ℕ → (ℕ → Option (List ℕ)) → maps.FinMap nat_cmp (List ℕ)
+gathered zero f = maps.empty
+gathered (suc n) f = put (gathered n f) n (f n)
+
+-- the arena that these make
+abbrev pub arena_of : List (List ℕ) → List Bool → ℕ → Arena
+arena_of frames outs max_chunks = record { max_chunks = max_chunks; out = gathered (length outs) (held frames outs) }

@@ -1,0 +1,197 @@
+//! The arena: which frames are out, and which are taken again.
+
+ghost use Rattle.std.specs.Prelude.{◌≡◌, ◌<◌, ◌≤◌, ◌*◌, ◌↔◌, None, Some, length, is_some, IfOk, IfSome, OnErr, OnOk, IsErrOf};
+ghost use Rattle.std.specs.FinMap as maps;
+ghost use Rattle.std.specs.Borrow.{sem};
+ghost use Rattle.pl_arena.specs.Arena.{IsFull, IsOut, capacity, frame, with_frame, without_frame, zeros};
+ghost use Rattle.pl_arena.specs.Frames.{IsLonger};
+ghost use Rattle.pl_arena.specs.Lends.{LendsFrame};
+ghost use Rattle.pl_arena.specs.declared.arena.TakeFault.TheVariants.{Full};
+
+use crate::FRAME_SIZE;
+use crate::chunk::CHUNK_FRAMES;
+use crate::frames::Frames;
+use crate::links::{clear, link_of, set_link};
+use std::alloc::Global;
+use std::marker::Model;
+
+/// A frame of an arena, by its number. It is a name and no right: a frame that was given back may be
+/// taken again under the same number.
+#[derive(Clone, Copy, Debug, PartialEq, Eq)]
+pub struct FrameId {
+    number: u32,
+}
+
+impl Model for FrameId {
+    ghost use Rattle.std.specs.Prelude.{ℕ};
+
+    ghost Value = { ℕ };
+
+    ghost view = { λ id. id.number };
+
+    ghost inverse = { λ n. record { number = n } };
+}
+
+/// Why no frame was taken.
+#[derive(Clone, Copy, Debug, PartialEq, Eq)]
+pub enum TakeFault {
+    /// Each of the 64 frames of each chunk is out.
+    Full,
+    /// An allocation failed.
+    NoMemory,
+}
+
+/// Frames of 8,192 bytes in chunks of 64, up to a number of chunks.
+///
+/// A frame is out from the call of `take` that gave it to the call of `give` that takes it back. The
+/// frames lie in chunks that never move, and a chunk is freed with the arena. An arena may be moved
+/// to another thread.
+#[derive(Drop)]
+pub struct VersionArena {
+    /// The frames of all chunks, by number.
+    frames: Frames,
+    /// Of each frame that was ever taken, whether it is out.
+    out: Vec<bool>,
+    /// One more than the frame that was given back last, or 0 where there is none. A free frame has
+    /// the same of the one before it in its first four bytes.
+    free: u32,
+    max_chunks: u32,
+}
+
+impl Model for VersionArena {
+    ghost use Rattle.pl_arena.specs.Arena.{Arena};
+    ghost use Rattle.pl_arena.specs.Codes.{arena_code};
+    ghost use Rattle.pl_arena.specs.Free.{IsKept, arena_of};
+
+    ghost Value = { Arena };
+
+    ghost coded = { arena_code };
+
+    ghost view = { λ a. arena_of a.frames a.out.items a.max_chunks };
+
+    ghost invariant = { λ a. IsKept a.frames a.out.items a.free a.max_chunks };
+}
+
+impl VersionArena {
+    /// An arena of 1 to 65,536 chunks, of which no frame is out. It allocates nothing.
+    pub fn new(alloc: Global, max_chunks: u32) -> VersionArena
+        requires some { 1 ≤ max_chunks }
+        requires few { max_chunks ≤ 65536 }
+        ensures chunks { result.max_chunks ≡ max_chunks }
+        ensures none { result.out ≡ maps.empty }
+    {
+        VersionArena {
+            frames: Frames::new(alloc),
+            out: Vec::new(alloc),
+            free: 0,
+            max_chunks,
+        }
+    }
+
+    /// Whether the frame is out. The cost is constant.
+    pub fn is_out(&self, id: FrameId) -> bool
+        ensures value { result ≡ is_some (frame self.now id) }
+    {
+        match self.out.get(id.number as usize) {
+            Some(out) => *out,
+            None => false,
+        }
+    }
+
+    /// Takes a frame that was not out, and fills it with zeros.
+    ///
+    /// The frame that was given back last is taken first. A chunk is allocated where no frame is free
+    /// in those that there are. `Full` comes where all 64 frames of each of the chunks are out, and
+    /// `NoMemory` where an allocation failed; after either all is as before.
+    pub fn take(&mut self) -> Result<FrameId, TakeFault>
+        ensures within { IfOk result (λ id. id < capacity self.old) }
+        ensures fresh { IfOk result (λ id. frame self.old id ≡ None) }
+        ensures taken { IfOk result (λ id. self.new ≡ with_frame self.old id zeros) }
+        ensures out { IfOk result (λ id. IsOut self.new id) }
+        ensures full { IsErrOf result Full ↔ IsFull self.old }
+        ensures err { OnErr result (self.new ≡ self.old) }
+    {
+        if self.free > 0 {
+            let number = self.free - 1;
+            let place = number as usize;
+            self.free = link_of(self.frames.get(place));
+            self.out[place] = true;
+            clear(self.frames.get_mut(place));
+            return Ok(FrameId { number });
+        }
+        let place = self.out.len();
+        match make_room(&mut self.frames, place, self.max_chunks) {
+            Ok(()) => {}
+            Err(fault) => return Err(fault),
+        }
+        match self.out.push(true) {
+            Ok(()) => {}
+            Err(_) => return Err(TakeFault::NoMemory),
+        }
+        clear(self.frames.get_mut(place));
+        Ok(FrameId {
+            number: place as u32,
+        })
+    }
+
+    /// Takes back a frame that is out. Its memory is kept for the next that is taken.
+    pub fn give(&mut self, id: FrameId)
+        requires out { IsOut self.old id }
+        ensures value { self.new ≡ without_frame self.old id }
+    {
+        let place = id.number as usize;
+        set_link(self.frames.get_mut(place), self.free);
+        self.free = id.number + 1;
+        self.out[place] = false;
+    }
+
+    /// The 8,192 bytes of a frame that is out.
+    pub fn bytes(&self, id: FrameId) -> &[u8]
+        requires out { IsOut self.now id }
+        ensures value { frame self.now id ≡ Some result.now }
+        ensures len { length result.now ≡ 8192 }
+    {
+        self.frames.get(id.number as usize)
+    }
+
+    /// The 8,192 bytes of a frame that is out, to be written.
+    pub fn bytes_mut(&mut self, id: FrameId) -> &mut [u8]
+        requires out { IsOut self.old id }
+        ensures* writes_back { sem 𝓛 (LendsFrame self.entry id result) }
+        ensures value { frame self.old id ≡ Some result.now }
+        ensures len { length result.now ≡ 8192 }
+    {
+        let frame = self.frames.get_mut(id.number as usize);
+        frame.as_mut_slice()
+    }
+
+    /// Writes the bytes of `from` into `to`, which may be the same frame.
+    pub fn copy(&mut self, from: FrameId, to: FrameId)
+        requires from { IsOut self.old from }
+        requires to { IsOut self.old to }
+        ensures value { IfSome (frame self.old from) (λ bytes. self.new ≡ with_frame self.old to bytes) }
+    {
+        let bytes = *self.frames.get(from.number as usize);
+        *self.frames.get_mut(to.number as usize) = bytes;
+    }
+}
+
+// Sees that there is memory for one frame more than were ever out.
+fn make_room(frames: &mut Frames, used: usize, max_chunks: u32) -> Result<(), TakeFault>
+    requires memory { used ≤ length frames.old }
+    requires few { max_chunks ≤ 65536 }
+    ensures full { IsErrOf result Full ↔ (used ≡ 64 * max_chunks) }
+    ensures ok { OnOk result (IsLonger frames.old frames.new × (used < length frames.new)) }
+    ensures err { OnErr result (frames.new ≡ frames.old) }
+{
+    if used == CHUNK_FRAMES * max_chunks as usize {
+        return Err(TakeFault::Full);
+    }
+    if frames.has(used) {
+        return Ok(());
+    }
+    match frames.add_chunk() {
+        Ok(()) => Ok(()),
+        Err(_) => Err(TakeFault::NoMemory),
+    }
+}
