@@ -1,6 +1,6 @@
 //! The arena: which frames are out, and which are taken again.
 
-ghost use Rattle.std.specs.Prelude.{◌≡◌, ◌<◌, ◌≤◌, ◌*◌, ◌↔◌, None, Some, length, is_some, IfOk, IfSome, OnErr, OnOk, IsErrOf};
+ghost use Rattle.std.specs.Prelude.{◌≡◌, ◌<◌, ◌≤◌, ◌*◌, ◌↔◌, None, Some, false, length, is_some, slice_index_or, IfOk, IfSome, OnErr, OnOk, IsErrOf};
 ghost use Rattle.std.specs.FinMap as maps;
 ghost use Rattle.std.specs.Borrow.{sem};
 ghost use Rattle.pl_arena.specs.Arena.{IsFull, IsOut, capacity, frame, with_frame, without_frame, zeros};
@@ -8,7 +8,6 @@ ghost use Rattle.pl_arena.specs.Frames.{IsLonger};
 ghost use Rattle.pl_arena.specs.Lends.{LendsFrame};
 ghost use Rattle.pl_arena.specs.declared.arena.TakeFault.TheVariants.{Full};
 
-use crate::FRAME_SIZE;
 use crate::chunk::CHUNK_FRAMES;
 use crate::frames::Frames;
 use crate::links::{clear, link_of, set_link};
@@ -92,10 +91,7 @@ impl VersionArena {
     pub fn is_out(&self, id: FrameId) -> bool
         ensures value { result ≡ is_some (frame self.now id) }
     {
-        match self.out.get(id.number as usize) {
-            Some(out) => *out,
-            None => false,
-        }
+        flag_at(&self.out, id.number as usize)
     }
 
     /// Takes a frame that was not out, and fills it with zeros.
@@ -161,6 +157,8 @@ impl VersionArena {
         ensures value { frame self.old id ≡ Some result.now }
         ensures len { length result.now ≡ 8192 }
     {
+        // Looked at first, so that the length of what is lent is known.
+        let _bytes = self.bytes(id);
         let frame = self.frames.get_mut(id.number as usize);
         frame.as_mut_slice()
     }
@@ -173,6 +171,16 @@ impl VersionArena {
     {
         let bytes = *self.frames.get(from.number as usize);
         *self.frames.get_mut(to.number as usize) = bytes;
+    }
+}
+
+// Whether the frame at the place is out; those behind the end never were.
+fn flag_at(out: &[bool], place: usize) -> bool
+    ensures value { result ≡ slice_index_or out.now place false }
+{
+    match out.get(place) {
+        Some(is_out) => *is_out,
+        None => false,
     }
 }
 

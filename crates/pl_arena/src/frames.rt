@@ -51,7 +51,6 @@ impl Frames {
         ensures len { OnOk result (length self.new ≡ length self.old + 64) }
         ensures err { OnErr result (self.new ≡ self.old) }
     {
-        self.chunks.reserve(1)?;
         let chunk = Chunk::new(self.alloc)?;
         Ok(self.chunks.push(chunk)?)
     }

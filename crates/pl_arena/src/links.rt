@@ -28,5 +28,5 @@ pub(crate) fn set_link(frame: &mut [u8; FRAME_SIZE], next: u32)
 pub(crate) fn clear(frame: &mut [u8; FRAME_SIZE])
     ensures value { frame.new ≡ zeros }
 {
-    frame.fill(0);
+    *frame = [0; FRAME_SIZE];
 }

@@ -1,0 +1,5 @@
+mod Chains
+mod Gathered
+mod Keeping
+mod Linked
+mod Rows

@@ -1,0 +1,117 @@
+use Rattle.std.proofs.Common.{◌≡◌, ℕ, ◌-◌, ◌<◌, ◌*◌, Bool, List, length, set, true, Ok, Err, None, IsErrOf, refl, subst, sym, ap, ◌∙◌, arith}
+use Rattle.pl_arena.specs.Arena.{Arena, IsFull, IsOut, frame, with_frame, zeros, capacity}
+use Rattle.pl_arena.specs.Free.{links, link, IsKept, arena_of}
+use Rattle.pl_arena.specs.declared.arena.TakeFault.TheVariants.{Full, NoMemory}
+use Rattle.pl_arena.proofs.Keeping.{first_given, first_within, first_fresh, not_full, taken_kept, taken_is, longer_kept, longer_is, place_below, place_fresh, place_not_full, extended_kept, extended_is, now_out, ok_is_no_fault, of_fault, no_memory_is_not_full, full_only, full}
+use Rattle.pl_arena.proofs.arena.VersionArena.take.Goals as goal
+
+-- the frame that was given back last
+pub get-requires : goal.get-requires
+get-requires c =
+    let a = c.self.inside in
+    record { within = omega (arith, (first_given a.frames a.out.items a.free a.max_chunks c.self.invariant c.if-self-gt0.true zeros).0, c.self.invariant.memory) }
+
+pub index_mut-requires : goal.index_mut-requires
+index_mut-requires c =
+    let a = c.self.inside in
+    omega (arith, (first_given a.frames a.out.items a.free a.max_chunks c.self.invariant c.if-self-gt0.true zeros).0, a.out.ok.0)
+
+pub get_mut-requires : goal.get_mut-requires
+get_mut-requires c =
+    let a = c.self.inside in
+    record { within = omega (arith, (first_given a.frames a.out.items a.free a.max_chunks c.self.invariant c.if-self-gt0.true zeros).0, c.self.invariant.memory) }
+
+pub invariant_of-self : goal.invariant_of-self
+invariant_of-self c =
+    let a = c.self.inside in
+    let next : links a.frames (a.free - 1) ≡ c.link_of-self-inside.result = sym (c.link_of-self-inside.ensures.value ∙ ap link c.get.ensures.value) in
+    subst (λ (k : ℕ). IsKept (set a.frames (a.free - 1) c.clear.new.frame) (set a.out.items (a.free - 1) true) k a.max_chunks) next (taken_kept a.frames a.out.items a.free a.max_chunks c.self.invariant c.if-self-gt0.true c.clear.new.frame)
+
+pub returns-then-self-gt0-clause-within : goal.returns-then-self-gt0-clause-within
+returns-then-self-gt0-clause-within c =
+    let a = c.self.inside in
+    subst (λ (s : Arena). a.free - 1 < capacity s) c.self.view_is (first_within a.frames a.out.items a.free a.max_chunks c.self.invariant c.if-self-gt0.true zeros)
+
+pub returns-then-self-gt0-clause-fresh : goal.returns-then-self-gt0-clause-fresh
+returns-then-self-gt0-clause-fresh c =
+    let a = c.self.inside in
+    subst (λ (s : Arena). frame s (a.free - 1) ≡ None) c.self.view_is (first_fresh a.frames a.out.items a.free a.max_chunks c.self.invariant c.if-self-gt0.true zeros)
+
+pub returns-then-self-gt0-clause-taken : goal.returns-then-self-gt0-clause-taken
+returns-then-self-gt0-clause-taken c =
+    let a = c.self.inside in
+    taken_is a.frames a.out.items a.free a.max_chunks c.self.invariant c.if-self-gt0.true c.clear.new.frame
+    ∙ (λ j. with_frame (c.self.view_is j) (a.free - 1) (c.clear.ensures.value j))
+
+pub returns-then-self-gt0-clause-out : goal.returns-then-self-gt0-clause-out
+returns-then-self-gt0-clause-out c =
+    let a = c.self.inside in
+    now_out _ _ (a.free - 1) _ (taken_is a.frames a.out.items a.free a.max_chunks c.self.invariant c.if-self-gt0.true c.clear.new.frame)
+
+pub returns-then-self-gt0-clause-full : goal.returns-then-self-gt0-clause-full
+returns-then-self-gt0-clause-full c =
+    let a = c.self.inside in (
+      (λ e. absurd (ok_is_no_fault _ _ e)),
+      (λ f. absurd (not_full a.frames a.out.items a.free a.max_chunks c.self.invariant c.if-self-gt0.true zeros (subst IsFull (sym c.self.view_is) f))),
+    )
+
+-- no frame is free: each that there may be is out, or memory was refused
+pub returns-in-Err-clause-full : goal.returns-in-Err-clause-full
+returns-in-Err-clause-full c =
+    let a = c.self.inside in
+    let none : a.free ≡ 0 = omega (arith, c.if-self-gt0.false) in
+    let place : c.len-place.result ≡ length a.out.items = c.len-place.ensures ∙ a.out.ok.0 in (
+      (λ e. subst IsFull c.self.view_is (full a.frames a.out.items a.max_chunks (subst (λ (k : ℕ). IsKept a.frames a.out.items k a.max_chunks) none c.self.invariant)
+          (sym place ∙ c.in-Err.ensures.full.0 (of_fault c.in-Err.fault e)))),
+      (λ f. of_fault c.in-Err.fault (c.in-Err.ensures.full.1 (full_only a.frames a.out.items a.free a.max_chunks c.self.invariant c.len-place.result place (subst IsFull (sym c.self.view_is) f)))),
+    )
+
+-- a frame that was never out
+pub invariant_of-self-in-Err-push : goal.invariant_of-self-in-Err-push
+invariant_of-self-in-Err-push c =
+    let a = c.self.inside in
+    subst (λ (os : List Bool). IsKept c.make_room.new.frames os a.free a.max_chunks) (sym c.in-Err-push.ensures.items) (longer_kept a.frames a.out.items a.free a.max_chunks c.self.invariant c.make_room.new.frames c.in-Ok.ensures.ok.0)
+
+pub returns-in-Err-push-clause-full : goal.returns-in-Err-push-clause-full
+returns-in-Err-push-clause-full c =
+    let a = c.self.inside in
+    let place : c.len-place.result ≡ length a.out.items = c.len-place.ensures ∙ a.out.ok.0 in
+    let below : c.len-place.result ≡ 64 * a.max_chunks → ⊥ = λ e. ok_is_no_fault _ _ (c.in-Ok.ensures.full.1 e) in (
+      (λ e. absurd (no_memory_is_not_full e)),
+      (λ f. absurd (place_not_full a.frames a.out.items a.free a.max_chunks c.self.invariant c.len-place.result place below (subst IsFull (sym c.self.view_is) f))),
+    )
+
+pub invariant_of-self-2 : goal.invariant_of-self-2
+invariant_of-self-2 c =
+    let a = c.self.inside in
+    extended_kept a.frames a.out.items a.free a.max_chunks c.self.invariant c.make_room.new.frames c.in-Ok.ensures.ok.0 c.len-place.result (c.len-place.ensures ∙ a.out.ok.0)
+    (λ e. ok_is_no_fault _ _ (c.in-Ok.ensures.full.1 e)) c.in-Ok.ensures.ok.1 c.push.new.self.items c.in-Ok-push.ensures.items c.clear-2.new.frame
+
+pub returns-clause-fresh : goal.returns-clause-fresh
+returns-clause-fresh c =
+    let a = c.self.inside in
+    subst (λ (s : Arena). frame s c.len-place.result ≡ None) c.self.view_is
+    (place_fresh a.frames a.out.items a.free a.max_chunks c.self.invariant c.len-place.result (c.len-place.ensures ∙ a.out.ok.0) (λ e. ok_is_no_fault _ _ (c.in-Ok.ensures.full.1 e)))
+
+pub returns-clause-taken : goal.returns-clause-taken
+returns-clause-taken c =
+    let a = c.self.inside in
+    extended_is a.frames a.out.items a.free a.max_chunks c.self.invariant c.make_room.new.frames c.in-Ok.ensures.ok.0 c.len-place.result (c.len-place.ensures ∙ a.out.ok.0)
+    (λ e. ok_is_no_fault _ _ (c.in-Ok.ensures.full.1 e)) c.in-Ok.ensures.ok.1 c.push.new.self.items c.in-Ok-push.ensures.items c.clear-2.new.frame
+    ∙ (λ j. with_frame (c.self.view_is j) c.len-place.result (c.clear-2.ensures.value j))
+
+pub returns-clause-out : goal.returns-clause-out
+returns-clause-out c =
+    let a = c.self.inside in
+    now_out _ _ c.len-place.result _
+    (extended_is a.frames a.out.items a.free a.max_chunks c.self.invariant c.make_room.new.frames c.in-Ok.ensures.ok.0 c.len-place.result (c.len-place.ensures ∙ a.out.ok.0)
+    (λ e. ok_is_no_fault _ _ (c.in-Ok.ensures.full.1 e)) c.in-Ok.ensures.ok.1 c.push.new.self.items c.in-Ok-push.ensures.items c.clear-2.new.frame)
+
+pub returns-clause-full : goal.returns-clause-full
+returns-clause-full c =
+    let a = c.self.inside in
+    let place : c.len-place.result ≡ length a.out.items = c.len-place.ensures ∙ a.out.ok.0 in
+    let below : c.len-place.result ≡ 64 * a.max_chunks → ⊥ = λ e. ok_is_no_fault _ _ (c.in-Ok.ensures.full.1 e) in (
+      (λ e. absurd (ok_is_no_fault _ _ e)),
+      (λ f. absurd (place_not_full a.frames a.out.items a.free a.max_chunks c.self.invariant c.len-place.result place below (subst IsFull (sym c.self.view_is) f))),
+    )
