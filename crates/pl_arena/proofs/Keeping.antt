@@ -1,12 +1,12 @@
 -- What an arena keeps and what it is seen as, through each call.
-use Rattle.std.proofs.Common.{◌≡◌, ◌≢◌, ℕ, zero, suc, ◌+◌, ◌-◌, ◌*◌, ◌<◌, ◌≤◌, ◌++◌, ◌↔◌, Bool, true, false, cond, List, [], ◌∷◌, length, get_or, set, Option, Some, None, is_some, IsSome, IfSome, IsErrOf, Ok, Err, refl, sym, ap, subst, ◌∙◌, inl, inr, arith, length-set, length-append, get_or-set_other, get_or-set_same, true≢false}
+use Rattle.std.proofs.Common.{◌≡◌, ◌≢◌, ℕ, ◌+◌, ◌-◌, ◌*◌, ◌<◌, ◌≤◌, ◌++◌, Bool, true, false, cond, List, [], ◌∷◌, length, get_or, set, Option, Some, None, is_some, IsSome, IfSome, IsErrOf, Ok, Err, refl, sym, ap, subst, ◌∙◌, inl, inr, arith, length-set, length-append, get_or-set_other, get_or-set_same, true≢false}
 use Rattle.std.proofs.lemmas.Bool.{cases_eq, cases_lt}
 use Rattle.std.proofs.lemmas.List.{get_or_past, get_or_append_left, get_or-append-add}
 use Rattle.pl_arena.specs.Arena.{Arena, frame, IsOut, IsFull, with_frame, without_frame}
 use Rattle.pl_arena.specs.Frames.{IsLonger}
 use Rattle.pl_arena.specs.declared.arena.TakeFault.{TakeFault}
 use Rattle.pl_arena.specs.declared.arena.TakeFault.TheVariants.{Full, NoMemory}
-use Rattle.pl_arena.specs.Free.{link, links, held, arena_of, Among, IsGiven, IsFreeList, IsKept}
+use Rattle.pl_arena.specs.Free.{link, links, held, arena_of, IsGiven, IsFreeList, IsKept}
 use Rattle.pl_arena.proofs.Rows.{Row}
 use Rattle.pl_arena.proofs.Chains.{same_list, pushed_list, given_list, taken_list, first_of, none_given}
 use Rattle.pl_arena.proofs.Gathered.{frame_is, put_frame, remove_frame, same_arena, insert_here}
@@ -69,8 +69,11 @@ module _ (frames : Row) (outs : List Bool) (head max : ℕ) (kept : IsKept frame
       limit = kept.limit;
       some = kept.some;
       few = kept.few;
-      list = (kept.list.0, same_list (links frames) (links written) outs head kept.list.0
-          (λ id is. ap link (get_or-set_other frames k id w [] (λ e. true≢false (sym out ∙ ap (λ j. get_or outs j false) (sym e) ∙ is.1)))) kept.list.1);
+      list = (
+        kept.list.0,
+        same_list (links frames) (links written) outs head kept.list.0
+            (λ id is. ap link (get_or-set_other frames k id w [] (λ e. true≢false (sym out ∙ ap (λ j. get_or outs j false) (sym e) ∙ is.1)))) kept.list.1,
+      );
     }
 
     pub written_is : arena_of written outs max ≡ with_frame (arena_of frames outs max) k w
@@ -83,14 +86,17 @@ module _ (frames : Row) (outs : List Bool) (head max : ℕ) (kept : IsKept frame
     pub given_kept : IsKept (set frames k w) (set outs k false) (k + 1) max
     given_kept =
         let within = within_outs frames outs k out in record {
-      memory = omega (arith, length-set frames k w, length-set outs k false, kept.memory);
-      limit = omega (arith, length-set outs k false, kept.limit);
-      some = kept.some;
-      few = kept.few;
-      list = (k ∷ kept.list.0, given_list (links frames) outs (links (set frames k w)) head k kept.list.0 within out
-          (ap link (get_or-set_same frames k w [] (omega (arith, within, kept.memory))) ∙ here)
-          (λ id n. ap link (get_or-set_other frames k id w [] n)) kept.list.1);
-    }
+          memory = omega (arith, length-set frames k w, length-set outs k false, kept.memory);
+          limit = omega (arith, length-set outs k false, kept.limit);
+          some = kept.some;
+          few = kept.few;
+          list = (
+            k ∷ kept.list.0,
+            given_list (links frames) outs (links (set frames k w)) head k kept.list.0 within out
+                (ap link (get_or-set_same frames k w [] (omega (arith, within, kept.memory))) ∙ here)
+                (λ id n. ap link (get_or-set_other frames k id w [] n)) kept.list.1,
+          );
+        }
 
     pub given_is : arena_of (set frames k w) (set outs k false) max ≡ without_frame (arena_of frames outs max) k
     given_is = remove_frame frames (set frames k w) outs (set outs k false) max k
@@ -186,8 +192,11 @@ module _ (frames : Row) (outs : List Bool) (head max : ℕ) (kept : IsKept frame
       limit = omega (arith, long, below);
       some = kept.some;
       few = kept.few;
-      list = (kept.list.0, same_list (links frames) (links (set frames next w)) outs' head kept.list.0
-          (λ id is. ap link (get_or-set_other frames next id w [] (λ e. true≢false (sym next_out ∙ ap (λ j. get_or outs' j false) (sym e) ∙ is.1)))) (pushed_list (links frames) outs head kept.list.0 kept.list.1));
+      list = (
+        kept.list.0,
+        same_list (links frames) (links (set frames next w)) outs' head kept.list.0
+            (λ id is. ap link (get_or-set_other frames next id w [] (λ e. true≢false (sym next_out ∙ ap (λ j. get_or outs' j false) (sym e) ∙ is.1)))) (pushed_list (links frames) outs head kept.list.0 kept.list.1),
+      );
     }
 
     pub new_is : arena_of (set frames next w) outs' max ≡ with_frame (arena_of frames outs max) next w

@@ -7,6 +7,8 @@
 #[cfg(test)]
 mod answer;
 #[cfg(test)]
+mod arenas;
+#[cfg(test)]
 mod asking;
 #[cfg(test)]
 mod audits;

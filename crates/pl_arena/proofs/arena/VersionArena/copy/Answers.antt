@@ -30,9 +30,9 @@ returns c =
     let was = subst (IsOut c.args.self.now) (sym c.from.view_is) c.requires.from in
     let bytes = c.get-bytes.result.now in
     let had =
-        ap (frame c.args.self.now) (sym c.from.view_is)
-        ∙ out_bytes a.frames a.out.items a.max_chunks c.args.self.now c.self.view_is c.from.inside.number was
-        ∙ ap Some (sym c.get-bytes.ensures.value) in
+    ap (frame c.args.self.now) (sym c.from.view_is)
+    ∙ out_bytes a.frames a.out.items a.max_chunks c.args.self.now c.self.view_is c.from.inside.number was
+    ∙ ap Some (sym c.get-bytes.ensures.value) in
     record {
       value = if_some _ _ bytes had
           (written_is a.frames a.out.items a.free a.max_chunks c.self.invariant to (out_flag a.frames a.out.items a.max_chunks c.args.self.now c.self.view_is to is) bytes

@@ -1,8 +1,7 @@
-use Rattle.std.proofs.Common.{◌≡◌, ℕ, ◌-◌, ◌<◌, ◌*◌, Bool, List, length, set, true, Ok, Err, None, IsErrOf, refl, subst, sym, ap, ◌∙◌, arith}
-use Rattle.pl_arena.specs.Arena.{Arena, IsFull, IsOut, frame, with_frame, zeros, capacity}
-use Rattle.pl_arena.specs.Free.{links, link, IsKept, arena_of}
-use Rattle.pl_arena.specs.declared.arena.TakeFault.TheVariants.{Full, NoMemory}
-use Rattle.pl_arena.proofs.Keeping.{first_given, first_within, first_fresh, not_full, taken_kept, taken_is, longer_kept, longer_is, place_below, place_fresh, place_not_full, extended_kept, extended_is, now_out, ok_is_no_fault, of_fault, no_memory_is_not_full, full_only, full}
+use Rattle.std.proofs.Common.{◌≡◌, ℕ, ◌-◌, ◌<◌, ◌*◌, Bool, List, length, set, true, None, subst, sym, ap, ◌∙◌, arith}
+use Rattle.pl_arena.specs.Arena.{Arena, IsFull, frame, with_frame, zeros, capacity}
+use Rattle.pl_arena.specs.Free.{links, link, IsKept}
+use Rattle.pl_arena.proofs.Keeping.{first_given, first_within, first_fresh, not_full, taken_kept, taken_is, longer_kept, place_fresh, place_not_full, extended_kept, extended_is, now_out, ok_is_no_fault, of_fault, no_memory_is_not_full, full_only, full}
 use Rattle.pl_arena.proofs.arena.VersionArena.take.Goals as goal
 
 -- the frame that was given back last
