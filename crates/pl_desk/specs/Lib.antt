@@ -1,0 +1,11 @@
+pub mod Growth
+pub mod Rule
+pub mod Steps
+pub mod Passes
+pub mod Laws
+pub use Rattle.pl_core.specs.History
+pub use Rattle.pl_core.specs.Epoch
+pub use Rattle.pl_core.specs.Verdict
+pub use Rattle.pl_core.specs.Answer
+pub use Rattle.pl_core.specs.Legal
+pub use Rattle.pl_core.specs.Reply

@@ -1,0 +1,160 @@
+-- The atomic steps of a desk: what each tells the pass that makes it, and the view that it leaves.
+use Rattle.std.specs.Prelude.{◌≡◌, ◌≢◌, ℕ, ◌+◌, ◌<◌, ◌≤◌, Bool, true, false, nat_lt, List, [], ◌∷◌, length, Option, Some, if◌then◌else◌}
+use Rattle.atomic_table.specs.Table.{Step, Me, rest}
+use Rattle.pl_table.specs.Request.{Query}
+use Rattle.pl_core.specs.declared.reply.Reply.{Reply}
+use Rattle.pl_core.specs.Answer.{MayReply, history_after}
+use Rattle.pl_core.specs.History.{Entry, History, Start, grown}
+use Rattle.pl_core.specs.Legal.{IsLegal}
+use Rattle.pl_desk.specs.declared.rule.Terms.{Terms}
+use Rattle.pl_desk.specs.declared.rule.Stage.{Stage}
+use Rattle.pl_desk.specs.declared.rule.Stage.TheVariants.{Idle, Asking, Waiting, InTurn, Met, Gone}
+use Rattle.pl_desk.specs.declared.rule.View.{View}
+use Rattle.pl_desk.specs.Rule.{IsSound, IsAhead, HasBoth}
+
+-- a pass of the table: its view, and the slot that it holds, if any
+abbrev pub Held : Type 0
+Held = Me (Option History) View
+
+-- the view at another stage
+abbrev pub at_stage : Stage → View → View
+at_stage stage v = record v { stage = stage }
+
+-- ---- 2: load the ticket word
+
+-- the view that has read it: it goes on where turns are left
+abbrev pub asked : ℕ → View → View
+asked found v =
+    record v { drawn = found; stage = if nat_lt found v.terms.turns then Asking else Idle }
+
+abbrev pub asks_then : Step (Option History) → Held → ℕ → Held → Type 0
+asks_then st me found after = (after ≡ (asked found me.0, me.1))
+    × (me.0.drawn ≤ found) × IsSound me.0.terms me.0.seen
+
+-- ---- 3: add 1 to the ticket word
+
+abbrev pub draws_then : Step (Option History) → Held → ℕ → Held → Type 0
+draws_then st me ticket after = after ≡ (at_stage (Waiting ticket) me.0, me.1)
+
+-- ---- 4: load the serving word
+
+-- the ticket of a stage
+abbrev pub ticket_of : Stage → ℕ
+ticket_of Idle = 0
+ticket_of Asking = 0
+ticket_of (Waiting t) = t
+ticket_of (InTurn t found) = t
+ticket_of (Met first second other) = 0
+ticket_of Gone = 0
+
+-- where the pass's own ticket is served it has the turn, and the slot with a history that goes on
+-- from what it has seen; else nothing has changed
+abbrev pub looks_then : Step (Option History) → Held → ℕ → Held → Type 0
+looks_then st me served after =
+    (served ≢ ticket_of me.0.stage → after ≡ me)
+    × (served ≡ ticket_of me.0.stage → (found : History)
+    × (after ≡ (at_stage (InTurn (ticket_of me.0.stage) found) me.0, (0, Some found) ∷ me.1))
+    × IsAhead me.0.terms me.0.number me.0.seen found)
+
+-- ---- 6: add 1 to the count of entries
+
+-- the later history is the earlier one with one entry more, of the pass with this number
+pub record AddsOne (number : ℕ) (earlier later : History) : Type 0 where
+  pub entry : Entry
+  pub own : entry.line.pass ≡ number
+  pub grown : later ≡ grown earlier entry
+  pub legal : IsLegal later
+  pub fits : length later.entries < 18446744073709551616
+
+-- the view that has seen this history, in its turn
+abbrev pub counted : History → View → View
+counted now v = record v { seen = now; stage = InTurn (ticket_of v.stage) now }
+
+abbrev pub counts_then : History → Step (Option History) → Held → ℕ → Held → Type 0
+counts_then now st me found after = after ≡ (counted now me.0, me.1)
+
+-- ---- 8: add 1 to the serving word
+
+-- the history that the turn has found, or else what was seen
+abbrev pub found_or : History → Stage → History
+found_or seen Idle = seen
+found_or seen Asking = seen
+found_or seen (Waiting t) = seen
+found_or seen (InTurn t found) = found
+found_or seen (Met first second other) = seen
+found_or seen Gone = seen
+
+-- the view that has given its turn on
+abbrev pub served : View → View
+served v = record v { seen = found_or v.seen v.stage; stage = Idle }
+
+-- the slot is home again
+abbrev pub serves_then : Step (Option History) → Held → ℕ → Held → Type 0
+serves_then st me found after = after ≡ (served me.0, rest me.1)
+
+-- ---- 9: deal out one more pass
+
+-- the view of pass 1, which has dealt one more
+abbrev pub dealing : View → View
+dealing v = record v { dealt = v.dealt + 1 }
+
+-- the view of the new pass
+abbrev pub dealt : View → View
+dealt v = record v { number = v.dealt + 1; dealt = 0 }
+
+-- ---- 10: take in another pass
+
+-- the history with more entries
+abbrev pub longer : History → History → History
+longer first second =
+    if nat_lt (length first.entries) (length second.entries) then second else first
+
+-- the view that has taken in another
+abbrev pub meeting : View → View → View
+meeting v w = record v { seen = longer v.seen w.seen; stage = Met v.seen w.seen w.number }
+
+-- a history of nothing, for the view of no pass
+abbrev pub no_history : History
+no_history = record {
+  start = record {
+    table = record { principals = []; rows = [] };
+    primary = 0;
+    limits = record { audit = 0; chunks = 0 };
+  };
+  entries = [];
+}
+
+-- the view of no pass, which the pass that was taken in leaves
+abbrev pub gone : View
+gone = record {
+  terms = record { seats = 0; turns = 0; opening = no_history };
+  number = 0;
+  seen = no_history;
+  drawn = 0;
+  dealt = 0;
+  stage = Gone;
+}
+
+-- ---- 11: load the count of entries for the meeting
+
+abbrev pub meets_then : Step (Option History) → Held → ℕ → Held → Type 0
+meets_then st me found after = (after ≡ (at_stage Idle me.0, me.1))
+    × IsSound me.0.terms me.0.seen
+    × ((first second : History) (other : ℕ) → me.0.stage ≡ Met first second other
+    → HasBoth me.0.terms me.0.number other first second me.0.seen)
+
+-- ---- a turn
+
+-- what a step of the database says of the reply, and of the history before and after it
+pub record IsStep (request : Query) (number : ℕ) (found : History) (reply : Reply) (now : History) : Type 0 where
+  pub answer : MayReply request found reply
+  pub grows : now ≡ history_after request number found reply
+
+-- one entry more, or the same history
+abbrev pub Grows : Bool → ℕ → History → History → Type 0
+Grows true number earlier later = AddsOne number earlier later
+Grows false number earlier later = later ≡ earlier
+
+-- the view after its turn
+abbrev pub settled : History → View → View
+settled now v = record v { seen = now; stage = Idle }

@@ -1,0 +1,16 @@
+//! One database for many threads. Each thread has a pass, with which it takes a ticket, waits for its
+//! turn, makes one step of the database, and gives the turn on.
+//!
+//! A contract sees a [`Desk`] as a name and what it was made with, and a [`Pass`] as its number and
+//! the history that it has seen. That history is legal, only grows, and has of the pass's own entries
+//! those that it made. Two passes that meet then know what both had seen.
+#![tactic(auto)]
+
+mod bells;
+mod pass;
+mod plays;
+mod rule;
+mod steps;
+mod turn;
+
+pub use pass::Pass;

@@ -1,0 +1,98 @@
+//! The atomic steps of a desk, one function each.
+
+ghost use Rattle.std.specs.Prelude.{◌≡◌, ◌≢◌, ◌<◌, ◌≤◌, ℕ, [], ◌∷◌, Some};
+ghost use Rattle.pl_core.specs.History.{History};
+ghost use Rattle.pl_desk.specs.declared.rule.Stage.TheVariants.{Idle, Asking, Waiting, InTurn, Met};
+ghost use Rattle.pl_desk.specs.Rule.{IsSound, IsAhead, HasBoth};
+ghost use Rattle.pl_desk.specs.Steps.{at_stage, asked, AddsOne, counted, served, dealing, dealt, meeting};
+
+use crate::plays::{Asks, Counts, Deals, Draws, Joins, Looks, Meets, Serves, Told};
+use crate::rule::{Opening, Turns, View};
+use atomic_table::{Seat, Shared};
+use pl_core::Db;
+use std::marker::Brand;
+
+/// The words and the slot of a desk.
+pub(crate) type Board = Shared<Option<Db>, View, Opening, Turns>;
+
+/// The seat of a pass at the board.
+pub(crate) type Chair = Seat<Option<Db>, View>;
+
+/// The word that counts the entries of the audit list.
+const COUNT: usize = 0;
+
+/// The word that is the next ticket.
+pub(crate) const NEXT: usize = 1;
+
+/// The word that is the ticket being served.
+pub(crate) const SERVING: usize = 2;
+
+/// Loads the next ticket.
+pub(crate) fn ask(board: &Board, chair: &mut Chair) -> u64
+    requires board { (chair.old.table_id ≡ board.now.table_id) × (board.now.table_id.words ≡ 3) }
+    requires rests { (chair.old.me.1 ≡ []) × (chair.old.me.0.stage ≡ Idle) }
+    ensures same { (chair.new.table_id ≡ chair.old.table_id) × (chair.new.id ≡ chair.old.id) }
+    ensures asked { chair.new.me ≡ (asked result chair.old.me.0, []) }
+    ensures sound { (chair.old.me.0.drawn ≤ result) ×
+        IsSound chair.old.me.0.terms chair.old.me.0.seen }
+{
+    board.load::<Asks>(chair, NEXT)
+}
+
+/// Takes a ticket.
+pub(crate) fn draw(board: &Board, chair: &mut Chair) -> u64
+    requires board { (chair.old.table_id ≡ board.now.table_id) × (board.now.table_id.words ≡ 3) }
+    requires asks { (chair.old.me.1 ≡ []) × (chair.old.me.0.stage ≡ Asking) }
+    ensures same { (chair.new.table_id ≡ chair.old.table_id) × (chair.new.id ≡ chair.old.id) }
+    ensures waits { chair.new.me ≡ (at_stage (Waiting result) chair.old.me.0, []) }
+{
+    board.fetch_add::<Draws>(chair, NEXT, 1)
+}
+
+/// Loads the ticket being served. Where it is the pass's own, the pass has the turn.
+pub(crate) fn look(board: &Board, chair: &mut Chair, ticket: u64) -> u64
+    requires board { (chair.old.table_id ≡ board.now.table_id) × (board.now.table_id.words ≡ 3) }
+    requires waits { (chair.old.me.1 ≡ []) × (chair.old.me.0.stage ≡ Waiting ticket) }
+    ensures same { (chair.new.table_id ≡ chair.old.table_id) × (chair.new.id ≡ chair.old.id) }
+    ensures not_yet { result ≢ ticket → chair.new.me ≡ chair.old.me }
+    ensures turn { result ≡ ticket → (h : History) ×
+        (chair.new.me ≡ (at_stage (InTurn ticket h) chair.old.me.0, (0, Some h) ∷ [])) ×
+        IsAhead chair.old.me.0.terms chair.old.me.0.number chair.old.me.0.seen h }
+{
+    board.load::<Looks>(chair, SERVING)
+}
+
+// The one step that makes an entry. The database is out, and has the history that the step announces.
+fn count_as<J: Told>(board: &Board, chair: &mut Chair, db: &Db)
+    requires board { (chair.old.table_id ≡ board.now.table_id) × (board.now.table_id.words ≡ 3) }
+    requires told { db.now ≡ J.told }
+    requires turn { (t : ℕ) × (h : History) × (chair.old.me.0.stage ≡ InTurn t h) ×
+        AddsOne chair.old.me.0.number h db.now }
+    ensures same { (chair.new.table_id ≡ chair.old.table_id) × (chair.new.id ≡ chair.old.id) }
+    ensures counted { chair.new.me ≡ (counted db.now chair.old.me.0, chair.old.me.1) }
+{
+    let _ = db;
+    board.fetch_add::<Counts<J>>(chair, COUNT, 1);
+}
+
+/// Counts an entry: the history is that of the database from here on.
+pub(crate) fn count(board: &Board, chair: &mut Chair, db: &Db)
+    requires board { (chair.old.table_id ≡ board.now.table_id) × (board.now.table_id.words ≡ 3) }
+    requires turn { (t : ℕ) × (h : History) × (chair.old.me.0.stage ≡ InTurn t h) ×
+        AddsOne chair.old.me.0.number h db.now }
+    ensures same { (chair.new.table_id ≡ chair.old.table_id) × (chair.new.id ≡ chair.old.id) }
+    ensures counted { chair.new.me ≡ (counted db.now chair.old.me.0, chair.old.me.1) }
+{
+    count_as::<Brand>(board, chair, db);
+}
+
+/// Gives the turn on: the next ticket is served. The database is home by then.
+pub(crate) fn serve(board: &Board, chair: &mut Chair)
+    requires board { (chair.old.table_id ≡ board.now.table_id) × (board.now.table_id.words ≡ 3) }
+    requires turn { (t : ℕ) × (h : History) × (chair.old.me.0.stage ≡ InTurn t h) ×
+        (chair.old.me.1 ≡ (0, Some h) ∷ []) }
+    ensures same { (chair.new.table_id ≡ chair.old.table_id) × (chair.new.id ≡ chair.old.id) }
+    ensures served { chair.new.me ≡ (served chair.old.me.0, []) }
+{
+    board.fetch_add::<Serves>(chair, SERVING, 1);
+}
