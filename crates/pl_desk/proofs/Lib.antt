@@ -2,3 +2,5 @@ pub mod Histories
 pub mod Views
 pub mod Updates
 pub mod Drawing
+pub mod Turning
+pub mod Calling

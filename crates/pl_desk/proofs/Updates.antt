@@ -1,9 +1,11 @@
 -- The rule after the change of one view.
-use Rattle.std.proofs.Common.{◌≡◌, ◌≢◌, ℕ, ◌+◌, ◌<◌, ◌≤◌, List, length, get_or, set, Option, Some, refl, sym, ap, subst, ◌∙◌, arith}
+use Rattle.std.proofs.Common.{◌≡◌, ◌≢◌, ℕ, ◌+◌, ◌<◌, ◌≤◌, List, length, get_or, set, Option, Some, refl, sym, ap, subst, ◌∙◌, inl, inr, arith}
 use Rattle.std.proofs.lemmas.List.{length-set}
+use Rattle.std.proofs.lemmas.Bool.{cases_eq}
 use mathlib.Core.Option as maybe
 use lib.ListN.{get_elem?}
 use Rattle.atomic_table.specs.Table.{State}
+use Rattle.atomic_table.proofs.Lists.{set_else}
 use Rattle.pl_core.specs.History.{History}
 use Rattle.pl_core.specs.Legal.{IsLegal}
 use Rattle.pl_desk.specs.declared.rule.Terms.{Terms}
@@ -11,7 +13,7 @@ use Rattle.pl_desk.specs.declared.rule.Stage.{Stage}
 use Rattle.pl_desk.specs.declared.rule.Stage.TheVariants.{Idle, Asking, Waiting, InTurn, Met, Gone}
 use Rattle.pl_desk.specs.declared.rule.View.{View}
 use Rattle.pl_desk.specs.Growth.{GoesOn}
-use Rattle.pl_desk.specs.Rule.{total, asks_at, holds_at, IsView, AreApart, IsKept}
+use Rattle.pl_desk.specs.Rule.{total, asks_at, holds_at, HasTicket, Stands, IsAhead, IsView, AreApart, IsKept}
 use Rattle.pl_desk.proofs.Views.{total-set, Each, Pairs, each-set, pairs-set, apart-turned}
 
 abbrev pub Table : Type 0
@@ -69,3 +71,50 @@ update terms s r id v w ws hs now at live k =
       apart = pairs-set AreApart apart-turned s.views id w (λ living j u away there other. k.apart living u (beside j u away there other) (r.views j u there other)) r.apart;
       home = k.home;
     }
+
+-- where a view that had no turn is changed and nobody has the turn then, nobody had it before
+pub nobody-before : (vs : List View) (id : ℕ) (v w : View) → get_elem? vs id ≡ maybe.some v → ((t : ℕ) (h : History) → v.stage ≢ InTurn t h)
+    → NobodyInTurn (set vs id w) → NobodyInTurn vs
+nobody-before vs id v w at none nobody j u t h there =
+    elim (cases_eq j id) [
+      | inl here ↦ λ turn. none t h (ap (λ (x : View). x.stage) (maybe.some-injective v u (sym at ∙ ap (get_elem? vs) (sym here) ∙ there)) ∙ turn)
+      | inr away ↦ nobody j u t h (set_else vs id j w away ∙ there)
+    ]
+
+-- a ticket that is held was drawn and is not served yet, or is being served
+pub ticket-held : (next serving : ℕ) (now : History) (v : View) (st : Stage) (t : ℕ) → Stands next serving now v st → HasTicket st t → (serving ≤ t) × (t < next)
+ticket-held next serving now v Idle t is has = absurd has
+ticket-held next serving now v Asking t is has = absurd has
+ticket-held next serving now v (Waiting x) t is has = (omega (arith, is.0, has), omega (arith, is.1, has))
+ticket-held next serving now v (InTurn x h) t is has = (omega (arith, is.0, has), omega (arith, is.1, has))
+ticket-held next serving now v (Met first second other) t is has = absurd has
+ticket-held next serving now v Gone t is has = absurd has
+
+-- what a stage says of the words and of the history still holds where tickets are drawn, those that
+-- are held are not passed over, and nothing changes for who has the turn
+pub stands-on : (next serving next' serving' : ℕ) (now now' : History) (v : View) (st : Stage) → next ≤ next'
+    → ((t : ℕ) → HasTicket st t → serving ≤ t → serving' ≤ t) → ((t : ℕ) (h : History) → st ≡ InTurn t h → (serving ≡ serving') × (now ≡ now'))
+    → Stands next serving now v st → Stands next' serving' now' v st
+stands-on next serving next' serving' now now' v Idle le keeps turn is = tt
+stands-on next serving next' serving' now now' v Asking le keeps turn is = tt
+stands-on next serving next' serving' now now' v (Waiting t) le keeps turn is = (keeps t refl is.0, omega (arith, is.1, le))
+stands-on next serving next' serving' now now' v (InTurn t h) le keeps turn is =
+    let same = turn t h refl in
+    (is.0 ∙ same.0, omega (arith, is.1, le), is.2 ∙ same.1)
+stands-on next serving next' serving' now now' v (Met first second other) le keeps turn is = is
+stands-on next serving next' serving' now now' v Gone le keeps turn is = tt
+
+-- what is so of a view is still so, where its stage still stands and the history has gone on without it
+pub view-on : (terms : Terms) (n next serving next' serving' : ℕ) (now now' : History) (v : View) → next ≤ next'
+    → ((t : ℕ) → HasTicket v.stage t → serving ≤ t → serving' ≤ t) → ((t : ℕ) (h : History) → v.stage ≡ InTurn t h → (serving ≡ serving') × (now ≡ now'))
+    → (IsAhead v.terms v.number v.seen now → IsAhead v.terms v.number v.seen now') → IsView terms n next serving now v → IsView terms n next' serving' now' v
+view-on terms n next serving next' serving' now now' v le keeps turn ahead is = record {
+  of = is.of;
+  sound = is.sound;
+  ahead = ahead is.ahead;
+  some = is.some;
+  number = is.number;
+  drawn = omega (arith, is.drawn, le);
+  dealt = is.dealt;
+  stage = stands-on next serving next' serving' now now' v v.stage le keeps turn is.stage;
+}

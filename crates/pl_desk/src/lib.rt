@@ -7,10 +7,12 @@
 #![tactic(auto)]
 
 mod bells;
+mod desk;
 mod pass;
 mod plays;
 mod rule;
 mod steps;
 mod turn;
 
+pub use desk::Desk;
 pub use pass::Pass;

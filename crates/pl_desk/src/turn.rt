@@ -1,7 +1,8 @@
 //! A turn: waiting for it, one step of the database, and giving it on.
 
-ghost use Rattle.std.specs.Prelude.{◌≡◌, ◌<◌, ℕ, [], ◌∷◌, Some, Option};
+ghost use Rattle.std.specs.Prelude.{◌≡◌, ◌≢◌, ℕ, [], ◌∷◌, Some, Option};
 ghost use Rattle.pl_core.specs.History.{History};
+ghost use Rattle.pl_core.specs.Legal.{IsLegal};
 ghost use Rattle.pl_core.specs.Reply.{FitsReply};
 ghost use Rattle.pl_desk.specs.declared.rule.Stage.TheVariants.{Waiting, InTurn};
 ghost use Rattle.pl_desk.specs.Rule.{IsAhead};
@@ -10,6 +11,7 @@ ghost use Rattle.pl_desk.specs.Steps.{at_stage, counted, Grows, IsStep, settled}
 use crate::bells::Bells;
 use crate::steps::{Board, Chair, count, look, serve};
 use crossbeam_utils::Backoff;
+use pl_core::laws::replies_tell_their_cause;
 use pl_core::{Db, Reply};
 use pl_table::Request;
 use std::sync::Wait;
@@ -58,8 +60,11 @@ fn step(
     ensures out { (o : Option History) × (chair.new.me ≡ (chair.old.me.0, (0, o) ∷ [])) }
     ensures stepped { (h : History) → chair.old.me.1 ≡ (0, Some h) ∷ [] →
         IsStep request number h result.0 result.2 × Grows result.1 number h result.2 }
+    ensures legal { IsLegal result.2 }
+    ensures decided { result.0 ≢ Reply.Spent }
     ensures fits { FitsReply result.0 }
 {
+    replies_tell_their_cause();
     let Some(mut db) = board.exchange(chair, DB, None) else {
         unreachable!();
     };
@@ -69,18 +74,54 @@ fn step(
     (reply, made, db)
 }
 
-// Counts the entry, if one was made, puts the database back and gives the turn on.
-fn settle(board: &Board, chair: &mut Chair, db: Db, made: bool)
+// Counts the entry, if one was made. From then on the history is that of the database.
+fn count_made(board: &Board, chair: &mut Chair, db: &Db, made: bool)
     requires board { (chair.old.table_id ≡ board.now.table_id) × (board.now.table_id.words ≡ 3) }
-    requires turn { (t : ℕ) × (h : History) × (o : Option History) ×
-        (chair.old.me.0.stage ≡ InTurn t h) × (chair.old.me.1 ≡ (0, o) ∷ []) ×
-        Grows made chair.old.me.0.number h db }
+    requires turn { (t : ℕ) × (h : History) × (chair.old.me.0.stage ≡ InTurn t h) ×
+        Grows made chair.old.me.0.number h db.now }
+    ensures same { (chair.new.table_id ≡ chair.old.table_id) × (chair.new.id ≡ chair.old.id) }
+    ensures turn { (t : ℕ) × (chair.new.me.0.stage ≡ InTurn t db.now) }
+    ensures settled { settled db.now chair.new.me.0 ≡ settled db.now chair.old.me.0 }
+    ensures held { chair.new.me.1 ≡ chair.old.me.1 }
+{
+    if made {
+        count(board, chair, db);
+    }
+}
+
+// Puts the database back and gives the turn on.
+fn give_back(board: &Board, chair: &mut Chair, db: Db)
+    requires board { (chair.old.table_id ≡ board.now.table_id) × (board.now.table_id.words ≡ 3) }
+    requires turn { (t : ℕ) × (chair.old.me.0.stage ≡ InTurn t db) }
+    requires out { (o : Option History) × (chair.old.me.1 ≡ (0, o) ∷ []) }
     ensures same { (chair.new.table_id ≡ chair.old.table_id) × (chair.new.id ≡ chair.old.id) }
     ensures settled { chair.new.me ≡ (settled db chair.old.me.0, []) }
 {
-    if made {
-        count(board, chair, &db);
-    }
     board.exchange(chair, DB, Some(db));
     serve(board, chair);
+}
+
+/// One turn of the pass with this number: a step of the database at the history that the turn has
+/// found. Then the turn is given on, and who waits for the next one is woken.
+pub(crate) fn take_turn(
+    board: &Board,
+    chair: &mut Chair,
+    number: u64,
+    request: Request,
+) -> Reply
+    requires board { (chair.old.table_id ≡ board.now.table_id) × (board.now.table_id.words ≡ 3) }
+    requires turn { (t : ℕ) × (h : History) × (chair.old.me.0.stage ≡ InTurn t h) ×
+        (chair.old.me.1 ≡ (0, Some h) ∷ []) }
+    requires number { number ≡ chair.old.me.0.number }
+    ensures same { (chair.new.table_id ≡ chair.old.table_id) × (chair.new.id ≡ chair.old.id) }
+    ensures stepped { (h : History) → chair.old.me.1 ≡ (0, Some h) ∷ [] → (g : History) ×
+        (chair.new.me ≡ (settled g chair.old.me.0, [])) × IsStep request number h result g ×
+        IsLegal g }
+    ensures decided { result ≢ Reply.Spent }
+    ensures fits { FitsReply result }
+{
+    let (reply, made, db) = step(board, chair, number, request);
+    count_made(board, chair, &db, made);
+    give_back(board, chair, db);
+    reply
 }
