@@ -1,4 +1,4 @@
--- What a call says, from what its turn says.
+-- What a call says, from what its turn says, and what a meeting says.
 use Rattle.std.proofs.Common.{◌≡◌, ◌≢◌, ℕ, ◌+◌, ◌<◌, ◌≤◌, Bool, true, false, List, ◌∷◌, ◌++◌, length, refl, sym, ap, subst, ◌∙◌, inl, inr}
 use Rattle.std.proofs.lemmas.Bool.{cases_Bool}
 use Rattle.pl_table.specs.Request.{Query}
@@ -9,9 +9,12 @@ use Rattle.pl_core.specs.Verdict.{verdict_of}
 use Rattle.pl_core.specs.Answer.{makes_entry, history_after}
 use Rattle.pl_core.specs.Legal.{IsLegal}
 use Rattle.pl_desk.specs.Growth.{GoesOn, own_entries}
-use Rattle.pl_desk.specs.Rule.{IsSound, IsAhead}
-use Rattle.pl_desk.specs.Steps.{IsStep}
-use Rattle.pl_desk.specs.Passes.{Knowledge, entries_made, HadTurn, WasSpent, WasCalled}
+use Rattle.atomic_table.specs.Seated.{TableId}
+use Rattle.pl_desk.specs.declared.rule.Stage.TheVariants.{Idle}
+use Rattle.pl_desk.specs.declared.rule.View.{View}
+use Rattle.pl_desk.specs.Rule.{IsSound, IsAhead, HasBoth}
+use Rattle.pl_desk.specs.Steps.{IsStep, at_stage, longer, meeting}
+use Rattle.pl_desk.specs.Passes.{Knowledge, knowledge_of, entries_made, HadTurn, WasCalled, HasMet}
 use Rattle.pl_desk.proofs.Histories.{goes_on-refl, goes_on-trans, goes_on-grown, own-with}
 
 -- the history after a request goes on from the one before it
@@ -58,3 +61,10 @@ called p request reply found now drawn some few more sound ahead step legal deci
   spent = λ is. absurd (decided is);
   turn = λ _. had_turn p request reply found now drawn some few ahead step legal less;
 }
+
+-- ---- a meeting
+
+pub met : (desk desk' : TableId) (v w : View) → IsSound v.terms (longer v.seen w.seen) → HasBoth v.terms v.number w.number v.seen w.seen (longer v.seen w.seen)
+    → HasMet (knowledge_of desk v) (knowledge_of desk' w) (knowledge_of desk (at_stage Idle (meeting v w)))
+met desk desk' v w sound both =
+    record { sound = sound; left = both.left; right = both.right; left_own = both.left_own; right_own = both.right_own; drawn = refl }

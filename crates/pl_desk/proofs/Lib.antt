@@ -4,3 +4,5 @@ pub mod Updates
 pub mod Drawing
 pub mod Turning
 pub mod Calling
+pub mod Meeting
+pub mod Dealing

@@ -8,10 +8,11 @@ use Rattle.pl_core.specs.declared.reply.Reply.TheVariants as replies
 use Rattle.pl_core.specs.History.{Entry, History, entry_of}
 use Rattle.pl_core.specs.Verdict.{verdict_of}
 use Rattle.pl_core.specs.Answer.{makes_entry}
+use Rattle.pl_desk.specs.declared.rule.Opening.{Opening}
 use Rattle.pl_desk.specs.declared.rule.Terms.{Terms}
 use Rattle.pl_desk.specs.declared.rule.View.{View}
 use Rattle.pl_desk.specs.Growth.{GoesOn, own_entries}
-use Rattle.pl_desk.specs.Rule.{IsSound, IsAhead}
+use Rattle.pl_desk.specs.Rule.{terms_of, IsSound, IsAhead}
 use Rattle.pl_desk.specs.Steps.{IsStep}
 
 -- what a pass knows: its desk, what that was made with, its number, the history that it has seen,
@@ -27,6 +28,10 @@ pub record Knowledge : Type 0 where
 pub record Place : Type 0 where
   pub desk : TableId
   pub terms : Terms
+
+-- what a desk with this key is to a caller
+abbrev pub place_of : TableId → Opening → Place
+place_of desk key = record { desk = desk; terms = terms_of key }
 
 -- what the view of a pass says to a caller
 abbrev pub knowledge_of : TableId → View → Knowledge

@@ -6,11 +6,10 @@ ghost use Rattle.pl_desk.specs.Rule.{IsAhead};
 ghost use Rattle.pl_desk.specs.Passes.{IsOf, IsSamePass, WasCalled, HasMet, fresh_passes};
 
 use crate::bells::Bells;
+use crate::opening::{DeskTable, deal_all, open_table};
 use crate::pass::Pass;
-use crate::rule::{Opening, Turns, View};
-use crate::steps::{ask, draw};
+use crate::steps::{DB, NEXT, SERVING, ask, compare, draw, join};
 use crate::turn::{take_turn, wait};
-use atomic_table::Table;
 use pl_core::{Db, Reply};
 use pl_table::Request;
 use std::alloc::Global;
@@ -22,7 +21,7 @@ use std::sync::Wait;
 /// A contract sees which desk it is, and what it was made with.
 #[derive(Drop)]
 pub struct Desk {
-    pub(crate) table: Table<Option<Db>, View, Opening, Turns, Global>,
+    pub(crate) table: DeskTable,
     pub(crate) bells: Bells,
     /// How many tickets may be given, some more at the same moment aside.
     pub(crate) turns: u64,
@@ -34,18 +33,43 @@ impl Model for Desk {
 
     ghost Value = { Place };
 
-    ghost use Rattle.pl_desk.specs.Rule.{terms_of};
+    ghost use Rattle.pl_desk.specs.Passes.{place_of};
 
-    ghost view = { λ d. record {
-      desk = d.table.shared.table_id;
-      terms = terms_of d.table.shared.key;
-    } };
+    ghost view = { λ d. place_of d.table.shared.table_id d.table.shared.key };
 
     ghost invariant = { λ d. (d.table.shared.table_id.words ≡ 3) ×
         (d.table.shared.table_id.slots ≡ 1) × (d.turns ≡ d.table.shared.key.turns) };
 }
 
 impl Desk {
+    /// A desk of the database, and its passes in the order of their numbers, from 1. All memory that
+    /// the desk and its calls need is allocated here, but for what the database takes; where that
+    /// fails, the database is given back.
+    pub fn new(alloc: Global, db: Db, seats: u32, turns: u64) -> Result<(Desk, Vec<Pass>), Db>
+        requires seats { 1 ≤ seats }
+        requires some { 1 ≤ turns }
+        requires few { turns ≤ 2 ^ 62 }
+        ensures terms { IfOk result (λ r. r.0.terms ≡
+            record { seats = seats; turns = turns; opening = db }) }
+        ensures passes { IfOk result (λ r. r.1.items ≡ fresh_passes r.0 seats) }
+        ensures err { IfErr result (λ back. back ≡ db) }
+    {
+        let (Ok(passes), Ok(bells)) = (
+            Vec::with_capacity(alloc, seats as usize),
+            Bells::new(alloc),
+        ) else {
+            return Err(db);
+        };
+        let (table, first) = open_table(alloc, db, seats, turns)?;
+        let passes = deal_all(&table.shared, first, seats, passes);
+        let desk = Desk {
+            table,
+            bells,
+            turns,
+        };
+        Ok((desk, passes))
+    }
+
     /// Waits for the turn of the pass, and makes one step of the database under its number. The reply
     /// is Spent where `turns` tickets had been given before.
     ///
@@ -66,6 +90,39 @@ impl Desk {
         let reply = take_turn(board, &mut pass.chair, pass.number, request);
         self.bells.ring(ticket.wrapping_add(1));
         reply
+    }
+
+    /// Takes in another pass of this desk: the first pass has then seen what both had. It neither
+    /// waits nor takes a turn.
+    pub fn meet(&self, pass: &mut Pass, other: Pass)
+        requires of { IsOf self.now pass.old }
+        requires other { IsOf self.now other }
+        ensures same { IsSamePass pass.old pass.new }
+        ensures met { HasMet pass.old other pass.new }
+    {
+        let board = &self.table.shared;
+        let Pass { chair, number: _ } = other;
+        join(board, &mut pass.chair, chair);
+        compare(board, &mut pass.chair);
+    }
+
+    /// Takes the database out, once all calls have returned. There is none where a call was left in
+    /// the middle, as in a thread that was never joined.
+    pub fn close(self, pass: Pass) -> Option<Db>
+        requires of { IsOf self pass }
+        ensures value { IfSome result (λ h. IsAhead pass.terms pass.number pass.seen h) }
+    {
+        let Desk {
+            table,
+            bells: _,
+            turns: _,
+        } = self;
+        let Pass { chair, number: _ } = pass;
+        let mut closed = table.close_with(chair);
+        let is_idle = closed.word(NEXT) == closed.word(SERVING);
+        let db = closed.take(DB);
+        closed.free();
+        if is_idle { db } else { None }
     }
 
     /// The number of a pass, from 1.

@@ -8,6 +8,7 @@
 
 mod bells;
 mod desk;
+mod opening;
 mod pass;
 mod plays;
 mod rule;

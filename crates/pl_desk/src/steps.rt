@@ -27,6 +27,9 @@ pub(crate) const NEXT: usize = 1;
 /// The word that is the ticket being served.
 pub(crate) const SERVING: usize = 2;
 
+/// The slot of the database.
+pub(crate) const DB: usize = 0;
+
 /// Loads the next ticket.
 pub(crate) fn ask(board: &Board, chair: &mut Chair) -> u64
     requires board { (chair.old.table_id ≡ board.now.table_id) × (board.now.table_id.words ≡ 3) }
@@ -95,4 +98,45 @@ pub(crate) fn serve(board: &Board, chair: &mut Chair)
     ensures served { chair.new.me ≡ (served chair.old.me.0, []) }
 {
     board.fetch_add::<Serves>(chair, SERVING, 1);
+}
+
+/// Deals out one more pass. The first pass alone does so.
+pub(crate) fn deal(board: &Board, chair: &mut Chair) -> Chair
+    requires board { (chair.old.table_id ≡ board.now.table_id) × (board.now.table_id.words ≡ 3) }
+    requires rests { (chair.old.me.1 ≡ []) × (chair.old.me.0.stage ≡ Idle) }
+    requires deals { (0 < chair.old.me.0.dealt) ×
+        (chair.old.me.0.dealt < chair.old.me.0.terms.seats) }
+    ensures same { (chair.new.table_id ≡ chair.old.table_id) × (chair.new.id ≡ chair.old.id) }
+    ensures dealing { chair.new.me ≡ (dealing chair.old.me.0, []) }
+    ensures dealt { (result.table_id ≡ chair.old.table_id) ×
+        (result.me ≡ (dealt chair.old.me.0, [])) }
+{
+    board.split_seat::<Deals>(chair)
+}
+
+/// Takes in another pass.
+pub(crate) fn join(board: &Board, chair: &mut Chair, other: Chair)
+    requires board { (chair.old.table_id ≡ board.now.table_id) × (board.now.table_id.words ≡ 3) }
+    requires other { other.table_id ≡ board.now.table_id }
+    requires rests { (chair.old.me.1 ≡ []) × (chair.old.me.0.stage ≡ Idle) ×
+        (other.me.1 ≡ []) × (other.me.0.stage ≡ Idle) }
+    ensures same { (chair.new.table_id ≡ chair.old.table_id) × (chair.new.id ≡ chair.old.id) }
+    ensures met { chair.new.me ≡ (meeting chair.old.me.0 other.me.0, []) }
+{
+    board.join_seat::<Joins>(chair, other);
+}
+
+/// Loads the count of entries: it tells that what both passes had seen has been seen now.
+pub(crate) fn compare(board: &Board, chair: &mut Chair)
+    requires board { (chair.old.table_id ≡ board.now.table_id) × (board.now.table_id.words ≡ 3) }
+    requires met { (chair.old.me.1 ≡ []) × ((first second : History) × (other : ℕ) ×
+        (chair.old.me.0.stage ≡ Met first second other)) }
+    ensures same { (chair.new.table_id ≡ chair.old.table_id) × (chair.new.id ≡ chair.old.id) }
+    ensures idle { chair.new.me ≡ (at_stage Idle chair.old.me.0, []) }
+    ensures sound { IsSound chair.old.me.0.terms chair.old.me.0.seen }
+    ensures both { (first second : History) (other : ℕ) →
+        chair.old.me.0.stage ≡ Met first second other →
+        HasBoth chair.old.me.0.terms chair.old.me.0.number other first second chair.old.me.0.seen }
+{
+    board.load::<Meets>(chair, COUNT);
 }

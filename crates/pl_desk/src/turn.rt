@@ -9,15 +9,12 @@ ghost use Rattle.pl_desk.specs.Rule.{IsAhead};
 ghost use Rattle.pl_desk.specs.Steps.{at_stage, counted, Grows, IsStep, settled};
 
 use crate::bells::Bells;
-use crate::steps::{Board, Chair, count, look, serve};
+use crate::steps::{Board, Chair, DB, count, look, serve};
 use crossbeam_utils::Backoff;
 use pl_core::laws::replies_tell_their_cause;
 use pl_core::{Db, Reply};
 use pl_table::Request;
 use std::sync::Wait;
-
-/// The slot of the database.
-const DB: usize = 0;
 
 /// Waits until the ticket is served. It looks at the serving word, backs off, and then sleeps until
 /// the ticket's bell rings.

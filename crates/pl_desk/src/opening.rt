@@ -1,0 +1,94 @@
+//! Opening a desk: its table with the first pass, and the other passes, dealt out by the first.
+
+ghost use Rattle.std.specs.Prelude.{◌≡◌, ◌≤◌, ◌+◌, ◌-◌, ◌<◌, ◌^◌, [], ◌∷◌, map, vec_len, vec_capacity, IfOk, IfErr, Some};
+ghost use Rattle.std.specs.List.{range_with_len};
+ghost use Rattle.pl_desk.specs.declared.rule.Stage.TheVariants.{Idle};
+ghost use Rattle.pl_desk.specs.Rule.{first_view, terms_of};
+ghost use Rattle.pl_desk.specs.Passes.{fresh, fresh_passes, place_of};
+
+use crate::pass::Pass;
+use crate::rule::{Opening, Turns, View};
+use crate::steps::{Board, Chair, deal};
+use atomic_table::{Refused, Table};
+use pl_core::Db;
+use std::alloc::Global;
+use std::snapshot::Snapshot;
+
+/// The table of a desk: three words and one slot.
+pub(crate) type DeskTable = Table<Option<Db>, View, Opening, Turns, Global>;
+
+/// The table, with the database in its slot, and the seat of the first pass.
+pub(crate) fn open_table(
+    alloc: Global,
+    db: Db,
+    seats: u32,
+    turns: u64,
+) -> Result<(DeskTable, Chair), Db>
+    requires seats { 1 ≤ seats }
+    requires some { 1 ≤ turns }
+    requires few { turns ≤ 2 ^ 62 }
+    ensures terms { IfOk result (λ r. terms_of r.0.shared.key ≡
+        record { seats = seats; turns = turns; opening = db }) }
+    ensures counts { IfOk result (λ r. (r.0.shared.table_id.words ≡ 3) ×
+        (r.0.shared.table_id.slots ≡ 1)) }
+    ensures first { IfOk result (λ r. (r.1.table_id ≡ r.0.shared.table_id) ×
+        (r.1.me ≡ (first_view (terms_of r.0.shared.key), []))) }
+    ensures err { IfErr result (λ back. back ≡ db) }
+{
+    let opening = Opening {
+        seats,
+        turns,
+        db: Snapshot::of(&db),
+    };
+    let words = [db.audit_len(), 0, 0];
+    let mut slots = Vec::new(alloc);
+    if let Err(failed) = slots.push(Some(db)) {
+        let Some(db) = failed.value else {
+            unreachable!();
+        };
+        return Err(db);
+    }
+    match Table::new(alloc, &words, slots, &opening) {
+        Ok(opened) => Ok(opened),
+        Err(Refused { mut slots }) => {
+            let Some(Some(db)) = slots.pop() else {
+                unreachable!();
+            };
+            Err(db)
+        }
+    }
+}
+
+/// All passes, in the order of their numbers: the first, and those that it deals out.
+pub(crate) fn deal_all(
+    board: &Board,
+    mut first: Chair,
+    seats: u32,
+    mut passes: Vec<Pass>,
+) -> Vec<Pass>
+    requires board { (first.table_id ≡ board.now.table_id) × (board.now.table_id.words ≡ 3) }
+    requires first { first.me ≡ (first_view (terms_of board.now.key), []) }
+    requires some { 1 ≤ seats }
+    requires seats { (terms_of board.now.key).seats ≡ seats }
+    requires empty { vec_len passes ≡ 0 }
+    requires room { seats ≤ vec_capacity passes }
+    ensures passes { result.items ≡
+        fresh_passes (place_of board.now.table_id board.now.key) seats }
+{
+    let mut number: u64 = 1;
+    while number < u64::from(seats) {
+        let chair = deal(board, &mut first);
+        number += 1;
+        passes.push(Pass { chair, number }).unwrap();
+    }
+    let Ok(()) = passes.insert(
+        0,
+        Pass {
+            chair: first,
+            number: 1,
+        },
+    ) else {
+        unreachable!();
+    };
+    passes
+}
