@@ -1,6 +1,7 @@
 -- Dealing out one more pass, opening a desk and closing it.
-use Rattle.std.proofs.Common.{◌≡◌, ◌≢◌, ℕ, zero, suc, ◌+◌, ◌<◌, ◌≤◌, List, [], ◌∷◌, ◌++◌, length, get_or, set, Option, Some, refl, sym, ap, subst, ◌∙◌, inl, inr, arith}
-use Rattle.std.proofs.lemmas.List.{length-set, length-append}
+use Rattle.std.proofs.Common.{◌≡◌, ◌≢◌, ℕ, zero, suc, ◌+◌, ◌-◌, ◌<◌, ◌≤◌, List, [], ◌∷◌, ◌++◌, map, length, get_or, set, Option, Some, refl, sym, ap, subst, ◌∙◌, inl, inr, arith}
+use Rattle.std.proofs.lemmas.List.{length-set, length-append, map-append}
+use Rattle.std.specs.List.{range_with_len}
 use mathlib.Core.Option as maybe
 use lib.ListN.{get_elem?}
 use Rattle.atomic_table.specs.Table.{State, opening, Splits, Seen, Final}
@@ -14,6 +15,7 @@ use Rattle.pl_desk.specs.declared.rule.View.{View}
 use Rattle.pl_desk.specs.Growth.{GoesOn, own_entries}
 use Rattle.pl_desk.specs.Rule.{total, asks_at, holds_at, HasTicket, Stands, IsSound, IsAhead, IsView, AreApart, IsKept, first_view}
 use Rattle.pl_desk.specs.Steps.{dealing, dealt}
+use Rattle.pl_desk.specs.Passes.{Place, fresh}
 use Rattle.pl_desk.proofs.Histories.{goes_on-refl, goes_on-more, own-new, own-between}
 use Rattle.pl_desk.proofs.Views.{total-set, total-end, total-part, Each, Pairs, each-set, each-end, pairs-set, pairs-end, apart-turned}
 use Rattle.pl_desk.proofs.Updates.{Table, NobodyInTurn, IsViewBy, nobody-before}
@@ -104,6 +106,24 @@ deals terms id v idle some few s r at =
       apart = pairs-end AreApart apart-turned before right beside pairs;
       home = λ none. r.home (nobody-before s.views id v left at (λ t h turn. let clash = sym idle ∙ turn in cc) (λ j u t h there. none j u t h (at_longer before (right ∷ []) j u there)));
     }
+
+-- the view of the first pass, which has dealt passes up to this number
+abbrev pub dealer : Terms → ℕ → View
+dealer terms number = record (first_view terms) { dealt = number }
+
+range-end : (a n j : ℕ) → a + n ≡ j → range_with_len a (suc n) ≡ range_with_len a n ++ j ∷ []
+range-end a zero j e = let same : a ≡ j = omega arith in ap (λ (k : ℕ). k ∷ []) same
+range-end a (suc n) j e = ap (λ (ks : List ℕ). a ∷ ks) (range-end (a + 1) n j (omega arith))
+
+-- the passes that the first one has dealt, with one more
+pub dealt-end : (desk : Place) (number : ℕ) → 1 ≤ number
+    → map (fresh desk) (range_with_len 2 (number + 1 - 1)) ≡ map (fresh desk) (range_with_len 2 (number - 1)) ++ fresh desk (number + 1) ∷ []
+dealt-end desk zero le = absurd (omega arith)
+dealt-end desk (suc n) le =
+    let size : suc n + 1 - 1 ≡ suc n = omega arith in
+    let before : suc n - 1 ≡ n = omega arith in
+    ap (λ (k : ℕ). map (fresh desk) (range_with_len 2 k)) size ∙ ap (map (fresh desk)) (range-end 2 n (suc n + 1) (omega arith))
+    ∙ map-append (fresh desk) (range_with_len 2 n) ((suc n + 1) ∷ []) ∙ ap (λ (k : ℕ). map (fresh desk) (range_with_len 2 k) ++ fresh desk (suc n + 1) ∷ []) (sym before)
 
 -- ---- opening
 
