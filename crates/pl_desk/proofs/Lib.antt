@@ -6,3 +6,4 @@ pub mod Turning
 pub mod Calling
 pub mod Meeting
 pub mod Dealing
+pub mod Binding

@@ -8,6 +8,7 @@
 
 mod bells;
 mod desk;
+pub mod laws;
 mod opening;
 mod pass;
 mod plays;

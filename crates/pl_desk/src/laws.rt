@@ -1,0 +1,19 @@
+//! What follows from the definitions, for the crates above. The function is a law: its clauses hold
+//! of all passes and histories, and its body does nothing but call a law of the crate below.
+
+ghost use Rattle.pl_desk.specs.Laws.{CallsForgetNothing, MeetingsForgetNothing, OlderEpochsStayFenced, TablesOnlyGetNewer};
+
+use pl_core::laws::older_epochs_are_fenced;
+
+/// What a pass has seen binds all its later calls. What it has seen stays seen in calls and meetings,
+/// and a meeting adds what the other pass had seen. So after it has met a pass that saw a failover, no
+/// later request of an older epoch is served; and after it has met a pass that saw a set_table, each
+/// later request is decided by that table or a later one.
+pub fn meetings_bind_later_calls()
+    ensures calls { CallsForgetNothing }
+    ensures meetings { MeetingsForgetNothing }
+    ensures epochs { OlderEpochsStayFenced }
+    ensures tables { TablesOnlyGetNewer }
+{
+    older_epochs_are_fenced();
+}
