@@ -75,17 +75,17 @@ step-fenced older request found reply epoch may less le =
     elim (cases_lt (length found.entries) found.start.limits.audit) [
       | inr full ↦ inr (inr (inr (inl (may.audit_full full))))
       | inl room ↦ elim (either-way _ (reply ≡ replies.Denied sections.A 1 0)
-            ((reply ≡ replies.NoMemory) ⊎ ((verdict_of request found ≡ verdicts.Denied sections.A 2 (epoch_of found)) × AnswersBy (verdict_of request found) request found reply))
-            (may.unknown room) (λ known. elim (unless-cases reply (AnswersBy (verdict_of request found) request found reply) (may.answer room known)) [
-              | inl none ↦ inl none
-              | inr answer ↦ inr (older found request known (omega (arith, less, le)), answer)
-            ])) [
-        | inl unknown ↦ inr (inl unknown)
-        | inr known ↦ elim known [
-          | inl none ↦ inr (inr (inr (inr none)))
-          | inr denied ↦ inl (epoch_of found, le, subst (λ (v : Verdict). AnswersBy v request found reply) denied.0 denied.1)
-        ]
-      ]
+          ((reply ≡ replies.NoMemory) ⊎ ((verdict_of request found ≡ verdicts.Denied sections.A 2 (epoch_of found)) × AnswersBy (verdict_of request found) request found reply))
+          (may.unknown room) (λ known. elim (unless-cases reply (AnswersBy (verdict_of request found) request found reply) (may.answer room known)) [
+            | inl none ↦ inl none
+            | inr answer ↦ inr (older found request known (omega (arith, less, le)), answer)
+          ])) [
+            | inl unknown ↦ inr (inl unknown)
+            | inr known ↦ elim known [
+              | inl none ↦ inr (inr (inr (inr none)))
+              | inr denied ↦ inl (epoch_of found, le, subst (λ (v : Verdict). AnswersBy v request found reply) denied.0 denied.1)
+            ]
+          ]
     ]
 
 pub older_epochs_stay_fenced : OlderEpochsAreFenced → OlderEpochsStayFenced

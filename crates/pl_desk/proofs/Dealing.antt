@@ -64,33 +64,33 @@ deals terms id v idle some few s r at =
       stage = subst (Stands (get_or s.words 1 0) (get_or s.words 2 0) r.now right) (sym idle) tt;
     } in
     let others : (j : ℕ) (u : View) → j ≢ id → get_elem? s.views j ≡ maybe.some u → u.stage ≢ Gone → IsViewBy terms s.words (n + 1) r.now u =
-        λ j u away there living.
-            let is = r.views j u there living in
-            let apart = r.apart id j v u (λ e. away (sym e)) at there live living in
-            record {
-              of = is.of;
-              sound = is.sound;
-              ahead = is.ahead;
-              some = is.some;
-              number = omega (arith, is.number);
-              drawn = is.drawn;
-              dealt = λ more. absurd (apart.numbers (first.1 ∙ sym (is.dealt more).1));
-              stage = is.stage;
-            } in
+    λ j u away there living.
+    let is = r.views j u there living in
+    let apart = r.apart id j v u (λ e. away (sym e)) at there live living in
+    record {
+      of = is.of;
+      sound = is.sound;
+      ahead = is.ahead;
+      some = is.some;
+      number = omega (arith, is.number);
+      drawn = is.drawn;
+      dealt = λ more. absurd (apart.numbers (first.1 ∙ sym (is.dealt more).1));
+      stage = is.stage;
+    } in
     let each : Each (IsViewBy terms s.words (n + 1) r.now) vs =
-        each-end (IsViewBy terms s.words (n + 1) r.now) before right new (each-set (IsViewBy terms s.words (n + 1) r.now) s.views id left (λ _. own) others) in
+    each-end (IsViewBy terms s.words (n + 1) r.now) before right new (each-set (IsViewBy terms s.words (n + 1) r.now) s.views id left (λ _. own) others) in
     let beside : Each (AreApart right) before =
-        each-set (AreApart right) s.views id left
-            (λ _. record { numbers = λ e. (let number = mine.number in omega (arith, e, number, first.0)); tickets = λ t has. absurd (idle-none v.stage t idle has) })
-            (λ j u away there living. let is = r.views j u there living in
-                record { numbers = λ e. (let number = is.number in omega (arith, e, number, first.0)); tickets = λ t has. absurd (idle-none v.stage t idle has) }) in
+    each-set (AreApart right) s.views id left
+    (λ _. record { numbers = λ e. (let number = mine.number in omega (arith, e, number, first.0)); tickets = λ t has. absurd (idle-none v.stage t idle has) })
+    (λ j u away there living. let is = r.views j u there living in
+    record { numbers = λ e. (let number = is.number in omega (arith, e, number, first.0)); tickets = λ t has. absurd (idle-none v.stage t idle has) }) in
     let pairs : Pairs AreApart before =
-        pairs-set AreApart apart-turned s.views id left (λ _ j u away there living. let apart = r.apart id j v u (λ e. away (sym e)) at there live living in
-            record { numbers = apart.numbers; tickets = apart.tickets }) r.apart in
+    pairs-set AreApart apart-turned s.views id left (λ _ j u away there living. let apart = r.apart id j v u (λ e. away (sym e)) at there live living in
+    record { numbers = apart.numbers; tickets = apart.tickets }) r.apart in
     let asks : total asks_at vs ≡ total asks_at s.views =
-        let sum = total-set asks_at s.views id v left at in let end = total-end asks_at before right in let none = ap asks_at idle in omega (arith, sum, end, none) in
+    let sum = total-set asks_at s.views id v left at in let end = total-end asks_at before right in let none = ap asks_at idle in omega (arith, sum, end, none) in
     let holds : total holds_at vs ≡ total holds_at s.views =
-        let sum = total-set holds_at s.views id v left at in let end = total-end holds_at before right in let none = ap holds_at idle in omega (arith, sum, end, none) in
+    let sum = total-set holds_at s.views id v left at in let end = total-end holds_at before right in let none = ap holds_at idle in omega (arith, sum, end, none) in
     record {
       now = r.now;
       words = r.words;
@@ -148,6 +148,7 @@ opens terms count seats turns bound legal counted = record {
   where
     sound : IsSound terms terms.opening
     sound = record { legal = legal; onward = goes_on-refl terms.seats terms.opening }
+
     first : IsView terms 1 0 0 terms.opening (first_view terms)
     first = record {
       of = refl;
@@ -159,9 +160,11 @@ opens terms count seats turns bound legal counted = record {
       dealt = λ _. (refl, refl);
       stage = tt;
     }
+
     one : (j : ℕ) (v : View) → get_elem? (first_view terms ∷ []) j ≡ maybe.some v → IsView terms 1 0 0 terms.opening v
     one zero v at = subst (IsView terms 1 0 0 terms.opening) (maybe.some-injective (first_view terms) v at) first
     one (suc j) v at = absurd (maybe.some-ne-none v (sym at))
+
     only : (j : ℕ) (v : View) → get_elem? (first_view terms ∷ []) j ≡ maybe.some v → j ≡ 0
     only zero v at = refl
     only (suc j) v at = absurd (maybe.some-ne-none v (sym at))

@@ -96,11 +96,11 @@ asks terms slots id me idle s r size at small =
       keeps,
       tt,
       loaded terms s 1 s.homes (set s.views id w) (asks-at terms s r id me.0 w.stage at idle (
-        elim (asked-stage found me.0.terms.turns) [
-          | inl stays ↦ inl stays
-          | inr goes ↦ let same = ap (λ (t : Terms). t.turns) mine.of in inr (goes.0, omega (arith, goes.1, same))
-        ]
-      )),
+          elim (asked-stage found me.0.terms.turns) [
+            | inl stays ↦ inl stays
+            | inr goes ↦ let same = ap (λ (t : Terms). t.turns) mine.of in inr (goes.0, omega (arith, goes.1, same))
+          ]
+          )),
       (refl, mine.drawn, mine.sound),
     )
 

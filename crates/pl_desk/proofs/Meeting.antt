@@ -47,6 +47,7 @@ both-in-longer terms k l a b now first second from =
   where
     shorter : length a.entries < length b.entries → GoesOn terms.seats a b
     shorter less = goes_on-shorter terms.seats a b now first.onward second.onward (omega (arith, less))
+
     back : length b.entries ≤ length a.entries → GoesOn terms.seats b a
     back more = goes_on-shorter terms.seats b a now second.onward first.onward more
 

@@ -39,7 +39,7 @@ nobody-in-turn : (terms : Terms) (s : Table) (r : IsKept terms s) (id : ℕ) (v 
 nobody-in-turn terms s r id v at waits j u t h there turn =
     let t' = get_or s.words 2 0 in
     let theirs : HasTicket u.stage t' = subst (λ (st : Stage). HasTicket st t') (sym turn)
-        (let stands = subst (Stands (get_or s.words 1 0) t' r.now u) turn (r.views j u there (in_turn-live u.stage t h turn)).stage in stands.0) in
+    (let stands = subst (Stands (get_or s.words 1 0) t' r.now u) turn (r.views j u there (in_turn-live u.stage t h turn)).stage in stands.0) in
     let mine : HasTicket v.stage t' = subst (λ (st : Stage). HasTicket st t') (sym waits) refl in
     elim (cases_eq id j) [
       | inl same ↦
@@ -222,7 +222,7 @@ serves-at terms s r id v ws t h at turn size zeroth first second =
     let stands = subst (Stands (get_or s.words 1 0) (get_or s.words 2 0) r.now v) turn mine.stage in
     let seen : w.seen ≡ r.now = ap (found_or v.seen) turn ∙ stands.2 in
     let ahead : IsAhead v.terms v.number w.seen r.now = subst (λ (x : History). IsAhead v.terms v.number x r.now) (sym seen)
-        (record { sound = mine.ahead.sound; onward = goes_on-refl v.terms.seats r.now; own = refl }) in
+    (record { sound = mine.ahead.sound; onward = goes_on-refl v.terms.seats r.now; own = refl }) in
     update terms s r id v w ws (set s.homes 0 (maybe.some (Some h))) r.now at live (record {
       words = size;
       slots = length-set s.homes 0 (maybe.some (Some h)) ∙ r.slots;
@@ -272,9 +272,9 @@ serves terms slots id me t h turn has s r size at small =
       tt,
       subst (λ (c : List (ℕ × Option History)). IsKept terms record { words = ws; homes = put_back s.homes c; views = set s.views id after }) (sym has)
           (serves-at terms s r id me.0 ws t h at turn
-              (length-set s.words 2 new ∙ r.words)
-              (get_or-set_other s.words 2 0 new 0 (λ c. omega arith))
-              (get_or-set_other s.words 2 1 new 0 (λ c. omega arith))
-              (get_or-set_same s.words 2 new 0 (omega (arith, r.words)) ∙ whole)),
+          (length-set s.words 2 new ∙ r.words)
+          (get_or-set_other s.words 2 0 new 0 (λ c. omega arith))
+          (get_or-set_other s.words 2 1 new 0 (λ c. omega arith))
+          (get_or-set_same s.words 2 new 0 (omega (arith, r.words)) ∙ whole)),
       refl,
     )

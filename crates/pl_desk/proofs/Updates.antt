@@ -53,9 +53,9 @@ update terms s r id v w ws hs now at live k =
     let size : length s.views ≡ length vs = sym (length-set s.views id w) in
     let n = length s.views in
     let beside : (j : ℕ) (u : View) → (j ≢ id) → get_elem? s.views j ≡ maybe.some u → u.stage ≢ Gone → AreApart v u =
-        λ j u away there living. r.apart id j v u (λ e. away (sym e)) at there live living in
+    λ j u away there living. r.apart id j v u (λ e. away (sym e)) at there live living in
     let each : Each (IsViewBy terms ws n now) vs =
-        each-set (IsViewBy terms ws n now) s.views id w k.mine (λ j u away there living. k.others u (beside j u away there living) (r.views j u there living)) in
+    each-set (IsViewBy terms ws n now) s.views id w k.mine (λ j u away there living. k.others u (beside j u away there living) (r.views j u there living)) in
     record {
       now = now;
       words = k.words;

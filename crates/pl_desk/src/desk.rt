@@ -54,10 +54,8 @@ impl Desk {
         ensures passes { IfOk result (λ r. r.1.items ≡ fresh_passes r.0 seats) }
         ensures err { IfErr result (λ back. back ≡ db) }
     {
-        let (Ok(passes), Ok(bells)) = (
-            Vec::with_capacity(alloc, seats as usize),
-            Bells::new(alloc),
-        ) else {
+        let (Ok(passes), Ok(bells)) = (Vec::with_capacity(alloc, seats as usize), Bells::new(alloc))
+        else {
             return Err(db);
         };
         let (table, first) = open_table(alloc, db, seats, turns)?;

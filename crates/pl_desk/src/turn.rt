@@ -45,12 +45,7 @@ pub(crate) fn wait(rt: &impl Wait, board: &Board, bells: &Bells, chair: &mut Cha
 }
 
 // Takes the database out and makes one step of it. It says whether an entry was made.
-fn step(
-    board: &Board,
-    chair: &mut Chair,
-    number: u64,
-    request: Request,
-) -> (Reply, bool, Db)
+fn step(board: &Board, chair: &mut Chair, number: u64, request: Request) -> (Reply, bool, Db)
     requires board { chair.old.table_id ≡ board.now.table_id }
     requires turn { (h : History) × (chair.old.me.1 ≡ (0, Some h) ∷ []) }
     ensures same { (chair.new.table_id ≡ chair.old.table_id) × (chair.new.id ≡ chair.old.id) }
@@ -100,12 +95,7 @@ fn give_back(board: &Board, chair: &mut Chair, db: Db)
 
 /// One turn of the pass with this number: a step of the database at the history that the turn has
 /// found. Then the turn is given on, and who waits for the next one is woken.
-pub(crate) fn take_turn(
-    board: &Board,
-    chair: &mut Chair,
-    number: u64,
-    request: Request,
-) -> Reply
+pub(crate) fn take_turn(board: &Board, chair: &mut Chair, number: u64, request: Request) -> Reply
     requires board { (chair.old.table_id ≡ board.now.table_id) × (board.now.table_id.words ≡ 3) }
     requires turn { (t : ℕ) × (h : History) × (chair.old.me.0.stage ≡ InTurn t h) ×
         (chair.old.me.1 ≡ (0, Some h) ∷ []) }

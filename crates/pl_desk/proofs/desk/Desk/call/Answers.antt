@@ -20,21 +20,21 @@ returns-clause-called g c =
     let stepped = c.take_turn-reply.ensures.stepped found (ap (λ (m : Held). m.1) turn.1) in
     let now : History = stepped.0 in
     let waits : c.draw-ticket.new.chair.me.0 ≡ at_stage (Waiting ticket) (asked read v) =
-        ap (λ (m : Held). m.0) c.draw-ticket.ensures.waits ∙ ap (λ (m : Held). at_stage (Waiting ticket) m.0) c.ask.ensures.asked in
+    ap (λ (m : Held). m.0) c.draw-ticket.ensures.waits ∙ ap (λ (m : Held). at_stage (Waiting ticket) m.0) c.ask.ensures.asked in
     let after : c.take_turn-reply.new.chair.me.0 ≡ settled now (asked read v) =
-        ap (λ (m : Held). m.0) stepped.1 ∙ (ap (λ (m : Held). settled now m.0) turn.1 ∙ ap (λ (u : View). settled now (at_stage (InTurn ticket found) u)) waits) in
+    ap (λ (m : Held). m.0) stepped.1 ∙ (ap (λ (m : Held). settled now m.0) turn.1 ∙ ap (λ (u : View). settled now (at_stage (InTurn ticket found) u)) waits) in
     let ahead : IsAhead v.terms v.number v.seen found = subst (λ (u : View). IsAhead u.terms u.number u.seen found) waits turn.2 in
     let number : c.pass.inside.number ≡ v.number = c.pass.invariant.2 in
     let step : IsStep c.args.request v.number found c.take_turn-reply.result now = subst (λ (k : ℕ). IsStep c.args.request k found c.take_turn-reply.result now) number stepped.2 in
     let of : v.terms ≡ terms_of c.self.inside.table.shared.key =
-        ap (λ (p : Knowledge). p.terms) c.pass.view_is ∙ (c.requires.of.1 ∙ sym (ap (λ (d : Place). d.terms) c.self.view_is)) in
+    ap (λ (p : Knowledge). p.terms) c.pass.view_is ∙ (c.requires.of.1 ∙ sym (ap (λ (d : Place). d.terms) c.self.view_is)) in
     let turns : v.terms.turns ≡ c.self.inside.table.shared.key.turns = ap (λ (t : Terms). t.turns) of in
     let bound : c.self.inside.turns ≡ c.self.inside.table.shared.key.turns = c.self.invariant.2 in
     let less : read < c.self.inside.turns = c.if-ask-self.false in
     let sound = c.ask.ensures.sound in
     let done = called (knowledge_of desk v) c.args.request c.take_turn-reply.result found now read c.pass.invariant.3 c.pass.invariant.4 sound.0 sound.1 ahead step stepped.3
-        c.take_turn-reply.ensures.decided (omega (arith, turns, bound, less)) in
+    c.take_turn-reply.ensures.decided (omega (arith, turns, bound, less)) in
     let table : c.take_turn-reply.new.chair.table_id ≡ desk =
-        c.take_turn-reply.ensures.same.0 ∙ (c.wait.ensures.same.0 ∙ (c.draw-ticket.ensures.same.0 ∙ c.ask.ensures.same.0)) in
+    c.take_turn-reply.ensures.same.0 ∙ (c.wait.ensures.same.0 ∙ (c.draw-ticket.ensures.same.0 ∙ c.ask.ensures.same.0)) in
     subst (λ (p : Knowledge). WasCalled p c.args.request c.take_turn-reply.result (knowledge_of c.take_turn-reply.new.chair.table_id c.take_turn-reply.new.chair.me.0)) c.pass.view_is
-        (subst (λ (q : Knowledge). WasCalled (knowledge_of desk v) c.args.request c.take_turn-reply.result q) (λ i. knowledge_of (sym table i) (sym after i)) done)
+    (subst (λ (q : Knowledge). WasCalled (knowledge_of desk v) c.args.request c.take_turn-reply.result q) (λ i. knowledge_of (sym table i) (sym after i)) done)

@@ -22,11 +22,11 @@ returns-clause-met c =
     let joined : c.join.new.chair.me.0 ≡ meeting v w = ap (λ (m : Held). m.0) c.join.ensures.met in
     let sound : IsSound v.terms (longer v.seen w.seen) = subst (λ (u : View). IsSound u.terms u.seen) joined c.compare.ensures.sound in
     let both : HasBoth v.terms v.number w.number v.seen w.seen (longer v.seen w.seen) =
-        subst (λ (u : View). HasBoth u.terms u.number w.number v.seen w.seen u.seen) joined (c.compare.ensures.both v.seen w.seen w.number (ap (λ (u : View). u.stage) joined)) in
+    subst (λ (u : View). HasBoth u.terms u.number w.number v.seen w.seen u.seen) joined (c.compare.ensures.both v.seen w.seen w.number (ap (λ (u : View). u.stage) joined)) in
     let after : c.compare.new.chair.me.0 ≡ at_stage Idle (meeting v w) = ap (λ (m : Held). m.0) c.compare.ensures.idle ∙ ap (at_stage Idle) joined in
     let table : c.compare.new.chair.table_id ≡ c.pass.inside.chair.table_id = c.compare.ensures.same.0 ∙ c.join.ensures.same.0 in
     let done = met c.pass.inside.chair.table_id c.other.inside.chair.table_id v w sound both in
     let q = knowledge_of c.compare.new.chair.table_id c.compare.new.chair.me.0 in
     let done' : HasMet (knowledge_of c.pass.inside.chair.table_id v) (knowledge_of c.other.inside.chair.table_id w) q =
-        subst (HasMet (knowledge_of c.pass.inside.chair.table_id v) (knowledge_of c.other.inside.chair.table_id w)) (λ i. knowledge_of (sym table i) (sym after i)) done in
+    subst (HasMet (knowledge_of c.pass.inside.chair.table_id v) (knowledge_of c.other.inside.chair.table_id w)) (λ i. knowledge_of (sym table i) (sym after i)) done in
     subst (λ (o : Knowledge). HasMet c.args.pass.now o q) c.other.view_is (subst (λ (p : Knowledge). HasMet p (knowledge_of c.other.inside.chair.table_id w) q) c.pass.view_is done')
