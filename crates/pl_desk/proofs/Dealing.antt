@@ -1,7 +1,8 @@
 -- Dealing out one more pass, opening a desk and closing it.
 use Rattle.std.proofs.Common.{◌≡◌, ◌≢◌, ℕ, zero, suc, ◌+◌, ◌-◌, ◌<◌, ◌≤◌, List, [], ◌∷◌, ◌++◌, map, length, get_or, set, Option, Some, refl, sym, ap, subst, ◌∙◌, inl, inr, arith}
 use Rattle.std.proofs.lemmas.List.{length-set, length-append, map-append}
-use Rattle.std.specs.List.{range_with_len}
+use Rattle.std.proofs.lemmas.List.Elements.{All-from_recursion}
+use Rattle.std.specs.List.{All, AllByRecursion, range_with_len}
 use mathlib.Core.Option as maybe
 use lib.ListN.{get_elem?}
 use Rattle.atomic_table.specs.Table.{State, opening, Splits, Seen, Final}
@@ -15,7 +16,7 @@ use Rattle.pl_desk.specs.declared.rule.View.{View}
 use Rattle.pl_desk.specs.Growth.{GoesOn, own_entries}
 use Rattle.pl_desk.specs.Rule.{total, asks_at, holds_at, HasTicket, Stands, IsSound, IsAhead, IsView, AreApart, IsKept, first_view}
 use Rattle.pl_desk.specs.Steps.{dealing, dealt}
-use Rattle.pl_desk.specs.Passes.{Place, fresh}
+use Rattle.pl_desk.specs.Passes.{Knowledge, Place, IsOf, fresh, fresh_passes}
 use Rattle.pl_desk.proofs.Histories.{goes_on-refl, goes_on-more, own-new, own-between}
 use Rattle.pl_desk.proofs.Views.{total-set, total-end, total-part, Each, Pairs, each-set, each-end, pairs-set, pairs-end, apart-turned}
 use Rattle.pl_desk.proofs.Updates.{Table, NobodyInTurn, IsViewBy, nobody-before}
@@ -124,6 +125,14 @@ dealt-end desk (suc n) le =
     let before : suc n - 1 ≡ n = omega arith in
     ap (λ (k : ℕ). map (fresh desk) (range_with_len 2 k)) size ∙ ap (map (fresh desk)) (range-end 2 n (suc n + 1) (omega arith))
     ∙ map-append (fresh desk) (range_with_len 2 n) ((suc n + 1) ∷ []) ∙ ap (λ (k : ℕ). map (fresh desk) (range_with_len 2 k) ++ fresh desk (suc n + 1) ∷ []) (sym before)
+
+-- passes that are made by a desk are of it
+of_desk : (desk : Place) (a n : ℕ) → AllByRecursion (IsOf desk) (map (fresh desk) (range_with_len a n))
+of_desk desk a zero = tt
+of_desk desk a (suc n) = ((refl, refl), of_desk desk (a + 1) n)
+
+pub fresh_of : (desk : Place) (n : ℕ) (ps : List Knowledge) → ps ≡ fresh_passes desk n → All (IsOf desk) ps
+fresh_of desk n ps are = subst (All (IsOf desk)) (sym are) (All-from_recursion (IsOf desk) (fresh_passes desk n) (of_desk desk 1 n))
 
 -- ---- opening
 

@@ -1,6 +1,7 @@
 //! The desk, and what its passes do with it.
 
 ghost use Rattle.std.specs.Prelude.{◌≡◌, ◌≤◌, ◌^◌, IfOk, IfErr, IfSome};
+ghost use Rattle.std.specs.List.{All};
 ghost use Rattle.pl_core.specs.Reply.{FitsReply};
 ghost use Rattle.pl_desk.specs.Rule.{IsAhead};
 ghost use Rattle.pl_desk.specs.Passes.{IsOf, IsSamePass, WasCalled, HasMet, fresh_passes};
@@ -45,6 +46,7 @@ impl Desk {
     /// A desk of the database, and its passes in the order of their numbers, from 1. All memory that
     /// the desk and its calls need is allocated here, but for what the database takes; where that
     /// fails, the database is given back.
+    #[tactic(auto, using(crate::proofs::Dealing::fresh_of))]
     pub fn new(alloc: Global, db: Db, seats: u32, turns: u64) -> Result<(Desk, Vec<Pass>), Db>
         requires seats { 1 ≤ seats }
         requires some { 1 ≤ turns }
@@ -52,6 +54,7 @@ impl Desk {
         ensures terms { IfOk result (λ r. r.0.terms ≡
             record { seats = seats; turns = turns; opening = db }) }
         ensures passes { IfOk result (λ r. r.1.items ≡ fresh_passes r.0 seats) }
+        ensures of { IfOk result (λ r. All (IsOf r.0) r.1.items) }
         ensures err { IfErr result (λ back. back ≡ db) }
     {
         let (Ok(passes), Ok(bells)) = (Vec::with_capacity(alloc, seats as usize), Bells::new(alloc))
@@ -68,11 +71,11 @@ impl Desk {
         Ok((desk, passes))
     }
 
-    /// Waits for the turn of the pass, and makes one step of the database under its number. The reply
-    /// is Spent where `turns` tickets had been given before.
+    /// Takes a ticket, waits until it is served, and makes one step of the database under the pass's
+    /// number. The reply is Spent where `turns` tickets had been given before; calls at the same moment
+    /// may be given fewer than `seats` tickets more.
     ///
-    /// It may wait for ever: where another pass never gives its turn on, and where memory is
-    /// overcommitted no turn may come at all.
+    /// Nothing is promised of how long it waits, or that a turn comes at all.
     pub fn call(&self, rt: &impl Wait, pass: &mut Pass, request: Request) -> Reply
         requires of { IsOf self.now pass.old }
         ensures same { IsSamePass pass.old pass.new }
