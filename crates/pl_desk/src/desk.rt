@@ -83,6 +83,7 @@ impl Desk {
         ensures fits { FitsReply result }
     {
         let board = &self.table.shared;
+        self.bells.enter(rt, board);
         if ask(board, &mut pass.chair) >= self.turns {
             return Reply::Spent;
         }
