@@ -132,6 +132,7 @@ impl Desk {
         ensures value { result ≡ pass.now.number }
         ensures fits { (1 ≤ result) × (result ≤ pass.now.terms.seats) }
     {
-        pass.number
+        let Pass { number, chair: _ } = pass;
+        *number
     }
 }

@@ -81,16 +81,17 @@ fn count_made(board: &Board, chair: &mut Chair, db: &Db, made: bool)
     }
 }
 
-// Puts the database back and gives the turn on.
-fn give_back(board: &Board, chair: &mut Chair, db: Db)
-    requires board { (chair.old.table_id ≡ board.now.table_id) × (board.now.table_id.words ≡ 3) }
+// Puts the database back, so that the turn may be given on.
+fn put_back(board: &Board, chair: &mut Chair, db: Db)
+    requires board { chair.old.table_id ≡ board.now.table_id }
     requires turn { (t : ℕ) × (chair.old.me.0.stage ≡ InTurn t db) }
     requires out { (o : Option History) × (chair.old.me.1 ≡ (0, o) ∷ []) }
     ensures same { (chair.new.table_id ≡ chair.old.table_id) × (chair.new.id ≡ chair.old.id) }
-    ensures settled { chair.new.me ≡ (settled db chair.old.me.0, []) }
+    ensures view { chair.new.me.0 ≡ chair.old.me.0 }
+    ensures home { (t : ℕ) × (h : History) × (chair.new.me.0.stage ≡ InTurn t h) ×
+        (chair.new.me.1 ≡ (0, Some h) ∷ []) }
 {
     board.exchange(chair, DB, Some(db));
-    serve(board, chair);
 }
 
 /// One turn of the pass with this number: a step of the database at the history that the turn has
@@ -109,6 +110,7 @@ pub(crate) fn take_turn(board: &Board, chair: &mut Chair, number: u64, request: 
 {
     let (reply, made, db) = step(board, chair, number, request);
     count_made(board, chair, &db, made);
-    give_back(board, chair, db);
+    put_back(board, chair, db);
+    serve(board, chair);
     reply
 }

@@ -2,13 +2,14 @@ use Rattle.std.proofs.Common.{◌≡◌, ℕ, List, [], ◌∷◌, Option, Some,
 use Rattle.atomic_table.specs.Table.{rest}
 use Rattle.pl_core.specs.History.{History}
 use Rattle.pl_desk.specs.Steps.{Held}
-use Rattle.pl_desk.proofs.turn.give_back.Goals as goal
+use Rattle.pl_desk.proofs.turn.put_back.Goals as goal
 
-pub serve-requires-clause-turn : goal.serve-requires-clause-turn
-serve-requires-clause-turn c =
+pub returns-clause-home : goal.returns-clause-home
+returns-clause-home c =
     let db : History = c.args.db in
     let is = c.exchange.ensures.3 in
-    let empty : rest c.args.chair.now.me.1 ≡ [] = ap rest c.requires.out.1 in (
+    let empty : rest c.args.chair.now.me.1 ≡ [] = ap rest c.requires.out.1 in
+    (
       c.requires.turn.0,
       db,
       ap (λ (m : Held). m.0.stage) is ∙ c.requires.turn.1,
