@@ -16,13 +16,20 @@ const BELLS: u64 = 64;
 /// A bell that nobody sleeps at.
 const QUIET: u64 = 0;
 
-/// A bell at which a thread sleeps, or is about to.
-const ASLEEP: u32 = 1;
+/// The mark of those who sleep at the door.
+const AT_THE_DOOR: u32 = 1;
+
+// The mark under which the thread with this ticket sleeps. It is never that of a quiet bell, and no
+// two tickets that are out at the same moment and share a bell have the same.
+fn mark_of(ticket: u64) -> u32 {
+    (ticket / BELLS % u64::from(u32::MAX)) as u32 + 1
+}
 
 /// A word to sleep on.
 ///
-/// A thread first announces that it will sleep, then looks once more whether it has to, and then
-/// sleeps. Who rings changes the words of the table first. So no ring is missed.
+/// A thread first announces its mark, then looks once more whether it has to sleep, and then sleeps
+/// as long as the word is its mark. Who rings changes the words of the table first, and who announces
+/// another mark keeps the first one awake. So no ring is missed.
 #[derive(Drop)]
 struct Bell {
     word: AtomicU64,
@@ -35,13 +42,13 @@ impl Bell {
         }
     }
 
-    fn announce(&self) {
-        self.word.store(u64::from(ASLEEP), SeqCst);
+    fn announce(&self, mark: u32) {
+        self.word.store(u64::from(mark), SeqCst);
     }
 
     // Sleeps until a ring, unless there was one since the announcement.
-    fn sleep(&self, rt: &impl Wait) {
-        self.word.park(rt, ASLEEP);
+    fn sleep(&self, rt: &impl Wait, mark: u32) {
+        self.word.park(rt, mark);
     }
 
     // Whether somebody sleeps here, or is about to. Then the bell is quiet again.
@@ -88,13 +95,13 @@ impl Bells {
             let is_tired = backoff.is_completed();
             // One thread is woken at a time, and by this announcement wakes the next one.
             if is_tired || has_slept {
-                self.door.announce();
+                self.door.announce(AT_THE_DOOR);
             }
             if board.peek(NEXT) == board.peek(SERVING) {
                 return;
             }
             if is_tired {
-                self.door.sleep(rt);
+                self.door.sleep(rt, AT_THE_DOOR);
                 has_slept = true;
                 backoff.reset();
             } else {
@@ -105,12 +112,12 @@ impl Bells {
 
     /// Says that a thread with this ticket will sleep.
     pub(crate) fn announce(&self, ticket: u64) {
-        self.of(ticket).announce();
+        self.of(ticket).announce(mark_of(ticket));
     }
 
     /// Sleeps until the ticket's bell rings.
     pub(crate) fn sleep(&self, rt: &impl Wait, ticket: u64) {
-        self.of(ticket).sleep(rt);
+        self.of(ticket).sleep(rt, mark_of(ticket));
     }
 
     /// Wakes who has the ticket, and one of those who have none.
@@ -119,6 +126,11 @@ impl Bells {
         if bell.take() {
             bell.word.wake_all();
         }
+        self.ring_at_the_door();
+    }
+
+    /// Wakes one of those who have no ticket. Each of them that leaves without one does the same.
+    pub(crate) fn ring_at_the_door(&self) {
         if self.door.take() {
             self.door.word.wake_one();
         }

@@ -85,6 +85,7 @@ impl Desk {
         let board = &self.table.shared;
         self.bells.enter(rt, board);
         if ask(board, &mut pass.chair) >= self.turns {
+            self.bells.ring_at_the_door();
             return Reply::Spent;
         }
         let ticket = draw(board, &mut pass.chair);

@@ -8,8 +8,7 @@ pub returns-clause-home : goal.returns-clause-home
 returns-clause-home c =
     let db : History = c.args.db in
     let is = c.exchange.ensures.3 in
-    let empty : rest c.args.chair.now.me.1 ≡ [] = ap rest c.requires.out.1 in
-    (
+    let empty : rest c.args.chair.now.me.1 ≡ [] = ap rest c.requires.out.1 in (
       c.requires.turn.0,
       db,
       ap (λ (m : Held). m.0.stage) is ∙ c.requires.turn.1,
