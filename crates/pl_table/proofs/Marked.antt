@@ -205,8 +205,8 @@ cleared-lt word place low set =
     ]
 
 -- a word that marks a row: its lowest mark
-pub lowest_mark : (word : ℕ) → (word ≡ 0 → ⊥) → word < 2 ^ 64 → (trailing_zeros w64 word < 64) × (bit_at word (trailing_zeros w64 word) ≡ 1) × ((i : ℕ) → i < trailing_zeros w64 word → bit_at word i ≡ 0)
-lowest_mark word some fits = bit_at-trailing_zeros w64 word (omega (arith, some)) fits
+pub lowest_is : (word : ℕ) → (word ≡ 0 → ⊥) → word < 2 ^ 64 → (trailing_zeros w64 word < 64) × (bit_at word (trailing_zeros w64 word) ≡ 1) × ((i : ℕ) → i < trailing_zeros w64 word → bit_at word i ≡ 0)
+lowest_is word some fits = bit_at-trailing_zeros w64 word (omega (arith, some)) fits
 
 -- ---- blocks
 

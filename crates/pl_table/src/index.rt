@@ -1,6 +1,7 @@
 //! The index of a table: which rows can match, by the principal that asks and by the operation.
 
-ghost use Rattle.std.specs.Prelude.{◌≡◌, ◌≤◌, ◌<◌, ◌+◌, IfOk, IfSome, Some, [], length, map, slice_get, slice_index_or, bit_and, ◌-◌, ◌^◌, All};
+ghost use Rattle.std.specs.Int.{bit_at};
+ghost use Rattle.std.specs.Prelude.{◌≡◌, ◌≢◌, ℕ, ◌≤◌, ◌<◌, ◌+◌, IfOk, IfSome, Some, [], length, map, slice_get, slice_index_or, bit_and, ◌-◌, ◌^◌, All};
 ghost use Rattle.pl_table.specs.Ops.{all_ops, op_number};
 ghost use Rattle.pl_table.specs.Index.{askers, asker_of, can_be_for, can_be_of, marks, AreBlocksOf, AreMarked, IsBlockOf, IsIndexOf};
 ghost use Rattle.std.specs.List.{Contains, filter_map};
@@ -176,6 +177,17 @@ fn place_of(names: &[u32], id: u32) -> usize
     }
 }
 
+// The place of the first row that the word marks.
+#[tactic(auto, using(crate::proofs::Marked::lowest_is))]
+fn lowest_mark(word: u64) -> u32
+    requires some { word ≢ 0 }
+    ensures within { result < 64 }
+    ensures marked { bit_at word result ≡ 1 }
+    ensures lowest { (i : ℕ) → i < result → bit_at word i ≡ 0 }
+{
+    word.trailing_zeros()
+}
+
 // The first of these rows that matches, of those that are marked: its number, where the first of
 // them has this one, and whether it allows.
 fn first_marked(number: u16, rows: &[Row], word: u64, request: &Request) -> Option<(u16, bool)>
@@ -185,7 +197,7 @@ fn first_marked(number: u16, rows: &[Row], word: u64, request: &Request) -> Opti
 {
     let mut word = word;
     while word != 0 {
-        let place = word.trailing_zeros();
+        let place = lowest_mark(word);
         let row = &rows[place as usize];
         if row.matches(request) {
             return Some((number + place as u16, row.allows));
