@@ -55,7 +55,7 @@ pub fn pages_are_replays()
     order_laws();
 }
 
-/// Two gets of a page that are answered at the same LSN are answered the same bytes, whatever was
+/// Two gets of a page that are answered at the same LSN give the same bytes, whatever was
 /// written, reported or failed over in between.
 pub fn gets_are_repeatable()
     ensures same { GetsAreRepeatable }
