@@ -1,5 +1,5 @@
 -- What a pass has seen binds its later calls.
-use Rattle.std.proofs.Common.{◌≡◌, ◌≢◌, ℕ, zero, suc, ◌+◌, ◌<◌, ◌≤◌, Bool, true, false, List, [], ◌∷◌, ◌++◌, length, get_or, ◌⊎◌, refl, sym, ap, subst, ◌∙◌, inl, inr, arith, Contains}
+use Rattle.std.proofs.Common.{◌≡◌, ◌≢◌, ℕ, suc, ◌<◌, ◌≤◌, Bool, true, false, List, [], ◌∷◌, ◌++◌, length, ◌⊎◌, refl, sym, ap, subst, ◌∙◌, inl, inr, arith, Contains}
 use Rattle.std.proofs.lemmas.Bool.{cases_Bool, cases_lt}
 use Rattle.pl_table.specs.declared.verdict.Section.TheVariants as sections
 use Rattle.pl_table.specs.declared.verdict.Verdict.{Verdict}
@@ -8,15 +8,15 @@ use Rattle.pl_table.specs.Request.{Query}
 use Rattle.pl_table.specs.Table.{WrittenTable}
 use Rattle.pl_core.specs.declared.reply.Reply.{Reply}
 use Rattle.pl_core.specs.declared.reply.Reply.TheVariants as replies
-use Rattle.pl_core.specs.History.{Effect, wrote, hardened, failed_over, set, nothing, Entry, Start, History}
+use Rattle.pl_core.specs.History.{Effect, set, Entry, Start, History}
 use Rattle.pl_core.specs.Epoch.{begins_epoch, epoch_after, epoch_of, table_by, table_after, table_of}
 use Rattle.pl_core.specs.Verdict.{verdict_of}
 use Rattle.pl_core.specs.Answer.{AnswersBy, UnlessNoMemory, MayReply}
 use Rattle.pl_core.specs.Laws.{OlderEpochsAreFenced}
 use Rattle.pl_desk.specs.declared.rule.Terms.{Terms}
 use Rattle.pl_desk.specs.Growth.{GoesOn}
-use Rattle.pl_desk.specs.Passes.{Knowledge, IsSamePass, HadTurn, WasCalled, HasMet}
-use Rattle.pl_desk.specs.Laws.{HasSeen, CallsForgetNothing, MeetingsForgetNothing, IsFenced, OlderEpochsStayFenced, IsTableSince, TablesOnlyGetNewer}
+use Rattle.pl_desk.specs.Passes.{Knowledge, WasCalled}
+use Rattle.pl_desk.specs.Laws.{CallsForgetNothing, MeetingsForgetNothing, IsFenced, OlderEpochsStayFenced, IsTableSince, TablesOnlyGetNewer}
 use Rattle.pl_desk.proofs.Histories.{goes_on-refl, goes_on-trans}
 
 -- ---- what was seen stays seen

@@ -1,25 +1,25 @@
 -- Dealing out one more pass, opening a desk and closing it.
-use Rattle.std.proofs.Common.{◌≡◌, ◌≢◌, ℕ, zero, suc, ◌+◌, ◌-◌, ◌<◌, ◌≤◌, List, [], ◌∷◌, ◌++◌, map, length, get_or, set, Option, Some, refl, sym, ap, subst, ◌∙◌, inl, inr, arith}
+use Rattle.std.proofs.Common.{◌≡◌, ◌≢◌, ℕ, zero, suc, ◌+◌, ◌-◌, ◌<◌, ◌≤◌, List, [], ◌∷◌, ◌++◌, map, length, get_or, set, Option, Some, refl, sym, ap, subst, ◌∙◌, arith}
 use Rattle.std.proofs.lemmas.List.{length-set, length-append, map-append}
 use Rattle.std.proofs.lemmas.List.Elements.{All-from_recursion}
 use Rattle.std.specs.List.{All, AllByRecursion, range_with_len}
 use mathlib.Core.Option as maybe
 use lib.ListN.{get_elem?}
-use Rattle.atomic_table.specs.Table.{State, opening, Splits, Seen, Final}
+use Rattle.atomic_table.specs.Table.{opening, Splits, Seen, Final}
 use Rattle.atomic_table.proofs.Lists.{at_longer}
 use Rattle.pl_core.specs.History.{History}
 use Rattle.pl_core.specs.Legal.{IsLegal}
 use Rattle.pl_desk.specs.declared.rule.Terms.{Terms}
 use Rattle.pl_desk.specs.declared.rule.Stage.{Stage}
-use Rattle.pl_desk.specs.declared.rule.Stage.TheVariants.{Idle, Asking, Waiting, InTurn, Met, Gone}
+use Rattle.pl_desk.specs.declared.rule.Stage.TheVariants.{Idle, Gone}
 use Rattle.pl_desk.specs.declared.rule.View.{View}
-use Rattle.pl_desk.specs.Growth.{GoesOn, own_entries}
+use Rattle.pl_desk.specs.Growth.{GoesOn}
 use Rattle.pl_desk.specs.Rule.{total, asks_at, holds_at, HasTicket, Stands, IsSound, IsAhead, IsView, AreApart, IsKept, first_view}
 use Rattle.pl_desk.specs.Steps.{dealing, dealt}
 use Rattle.pl_desk.specs.Passes.{Knowledge, Place, IsOf, fresh, fresh_passes}
 use Rattle.pl_desk.proofs.Histories.{goes_on-refl, goes_on-more, own-new, own-between}
 use Rattle.pl_desk.proofs.Views.{total-set, total-end, total-part, Each, Pairs, each-set, each-end, pairs-set, pairs-end, apart-turned}
-use Rattle.pl_desk.proofs.Updates.{Table, NobodyInTurn, IsViewBy, nobody-before}
+use Rattle.pl_desk.proofs.Updates.{NobodyInTurn, IsViewBy, nobody-before}
 use Rattle.pl_desk.proofs.Drawing.{idle-live}
 
 idle-none : (st : Stage) (t : ℕ) → st ≡ Idle → HasTicket st t → ⊥

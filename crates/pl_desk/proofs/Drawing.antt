@@ -1,19 +1,19 @@
 -- Reading the ticket word, and taking a ticket.
-use Rattle.std.proofs.Common.{◌≡◌, ◌≢◌, ℕ, ◌+◌, ◌%◌, ◌<◌, ◌≤◌, true, false, ltb, cond, List, length, get_or, set, Option, Some, refl, sym, ap, subst, ◌∙◌, inl, inr, arith, ◌⊎◌}
+use Rattle.std.proofs.Common.{◌≡◌, ◌≢◌, ℕ, ◌+◌, ◌%◌, ◌<◌, ltb, cond, List, length, get_or, set, Option, refl, sym, ap, subst, ◌∙◌, inl, inr, arith, ◌⊎◌}
 use Rattle.std.proofs.lemmas.Bool.{cases_lt, lt-ltb, le-ltb}
 use Rattle.std.proofs.lemmas.List.{length-set, set-get_or, get_or-set_same, get_or-set_other}
 use mathlib.Core.Option as maybe
 use lib.ListN.{get_elem?}
-use Rattle.atomic_table.specs.Table.{State, Step, keeps, stepped, Allows}
+use Rattle.atomic_table.specs.Table.{Step, keeps, Allows}
 use Rattle.pl_core.specs.History.{History}
 use Rattle.pl_desk.specs.declared.rule.Terms.{Terms}
 use Rattle.pl_desk.specs.declared.rule.Stage.{Stage}
-use Rattle.pl_desk.specs.declared.rule.Stage.TheVariants.{Idle, Asking, Waiting, InTurn, Met, Gone}
+use Rattle.pl_desk.specs.declared.rule.Stage.TheVariants.{Idle, Asking, Waiting, Gone}
 use Rattle.pl_desk.specs.declared.rule.View.{View}
-use Rattle.pl_desk.specs.Rule.{total, asks_at, holds_at, HasTicket, IsView, AreApart, IsKept}
+use Rattle.pl_desk.specs.Rule.{asks_at, holds_at, HasTicket, IsKept}
 use Rattle.pl_desk.specs.Steps.{Held, asked, asks_then, draws_then, at_stage}
 use Rattle.pl_desk.proofs.Views.{asks-few, total-spare}
-use Rattle.pl_desk.proofs.Updates.{Table, Homes, Keeps, IsViewBy, update, nobody-before, view-on, ticket-held}
+use Rattle.pl_desk.proofs.Updates.{Table, Homes, update, nobody-before, view-on, ticket-held}
 
 pub idle-live : (st : Stage) → st ≡ Idle → st ≢ Gone
 idle-live st is gone = let clash = sym is ∙ gone in cc

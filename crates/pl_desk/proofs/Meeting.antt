@@ -1,22 +1,20 @@
 -- Dealing out a pass, taking one in, and what is known after that.
-use Rattle.std.proofs.Common.{◌≡◌, ◌≢◌, ℕ, zero, suc, ◌+◌, ◌<◌, ◌≤◌, true, false, ltb, cond, List, [], ◌∷◌, ◌++◌, length, get_or, set, Option, Some, refl, sym, ap, subst, ◌∙◌, inl, inr, arith, ◌⊎◌}
-use Rattle.std.proofs.lemmas.Bool.{cases_eq, cases_lt, lt-ltb, le-ltb}
-use Rattle.std.proofs.lemmas.List.{length-set, length-append}
+use Rattle.std.proofs.Common.{◌≡◌, ◌≢◌, ℕ, ◌<◌, ◌≤◌, length, get_or, set, refl, sym, ap, subst, ◌∙◌, inl, inr, arith, ◌⊎◌}
+use Rattle.std.proofs.lemmas.Bool.{cases_lt, lt-ltb, le-ltb}
 use mathlib.Core.Option as maybe
 use lib.ListN.{get_elem?}
-use Rattle.atomic_table.specs.Table.{State, keeps, Allows, Splits, Joins}
-use Rattle.atomic_table.proofs.Lists.{set_here, set_else, set_again, at_longer, at_set}
+use Rattle.atomic_table.specs.Table.{keeps, Allows, Joins}
+use Rattle.atomic_table.proofs.Lists.{set_else}
 use Rattle.pl_core.specs.History.{History}
 use Rattle.pl_desk.specs.declared.rule.Terms.{Terms}
 use Rattle.pl_desk.specs.declared.rule.Stage.{Stage}
-use Rattle.pl_desk.specs.declared.rule.Stage.TheVariants.{Idle, Asking, Waiting, InTurn, Met, Gone}
+use Rattle.pl_desk.specs.declared.rule.Stage.TheVariants.{Idle, Met, Gone}
 use Rattle.pl_desk.specs.declared.rule.View.{View}
-use Rattle.pl_desk.specs.Growth.{GoesOn, own_entries}
-use Rattle.pl_desk.specs.Rule.{total, asks_at, holds_at, HasTicket, Stands, HasBoth, IsSound, IsAhead, IsView, AreApart, IsKept}
-use Rattle.pl_desk.specs.Steps.{Held, at_stage, dealing, dealt, longer, meeting, gone, meets_then}
-use Rattle.pl_desk.proofs.Histories.{goes_on-refl, goes_on-trans, goes_on-more, goes_on-shorter, own-new, own-between}
-use Rattle.pl_desk.proofs.Views.{total-set, total-end, Each, Pairs, each-set, each-end, pairs-set, pairs-end, apart-turned}
-use Rattle.pl_desk.proofs.Updates.{Table, Homes, Keeps, NobodyInTurn, IsViewBy, update, nobody-before}
+use Rattle.pl_desk.specs.Growth.{GoesOn}
+use Rattle.pl_desk.specs.Rule.{asks_at, holds_at, Stands, HasBoth, IsSound, IsAhead, IsKept}
+use Rattle.pl_desk.specs.Steps.{Held, at_stage, longer, meeting, gone, meets_then}
+use Rattle.pl_desk.proofs.Histories.{goes_on-refl, goes_on-shorter, own-between}
+use Rattle.pl_desk.proofs.Updates.{Table, update, nobody-before}
 use Rattle.pl_desk.proofs.Drawing.{no_step, loaded, idle-live}
 
 -- ---- what both had seen

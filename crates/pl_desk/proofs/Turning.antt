@@ -4,20 +4,20 @@ use Rattle.std.proofs.lemmas.Bool.{cases_eq}
 use Rattle.std.proofs.lemmas.List.{length-set, get_or-set_same, get_or-set_other}
 use mathlib.Core.Option as maybe
 use lib.ListN.{get_elem?}
-use Rattle.atomic_table.specs.Table.{State, keeps, takes, gives, put_back, Allows}
+use Rattle.atomic_table.specs.Table.{keeps, takes, gives, put_back, Allows}
 use Rattle.atomic_table.proofs.Lists.{set_here, set_again}
 use Rattle.pl_core.specs.History.{Entry, History, grown}
 use Rattle.pl_core.specs.Legal.{IsLegal}
 use Rattle.pl_desk.specs.declared.rule.Terms.{Terms}
 use Rattle.pl_desk.specs.declared.rule.Stage.{Stage}
-use Rattle.pl_desk.specs.declared.rule.Stage.TheVariants.{Idle, Asking, Waiting, InTurn, Met, Gone}
+use Rattle.pl_desk.specs.declared.rule.Stage.TheVariants.{Waiting, InTurn, Gone}
 use Rattle.pl_desk.specs.declared.rule.View.{View}
 use Rattle.pl_desk.specs.Growth.{GoesOn, own_entries}
-use Rattle.pl_desk.specs.Rule.{total, asks_at, holds_at, HasTicket, Stands, IsSound, IsAhead, IsView, AreApart, IsKept}
+use Rattle.pl_desk.specs.Rule.{asks_at, holds_at, HasTicket, Stands, IsSound, IsAhead, AreApart, IsKept}
 use Rattle.pl_desk.specs.Steps.{Held, at_stage, ticket_of, looks_then, counted, counts_then, found_or, served, serves_then}
 use Rattle.pl_desk.proofs.Histories.{goes_on-refl, goes_on-trans, goes_on-more, goes_on-grown, own-without}
 use Rattle.pl_desk.proofs.Views.{total-part}
-use Rattle.pl_desk.proofs.Updates.{Table, Homes, Keeps, NobodyInTurn, IsViewBy, update, nobody-before, view-on, ticket-held}
+use Rattle.pl_desk.proofs.Updates.{Table, NobodyInTurn, update, view-on}
 use Rattle.pl_desk.proofs.Drawing.{no_step, loaded}
 
 waiting-live : (st : Stage) (t : ℕ) → st ≡ Waiting t → st ≢ Gone

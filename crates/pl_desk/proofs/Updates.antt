@@ -14,7 +14,7 @@ use Rattle.pl_desk.specs.declared.rule.Stage.TheVariants.{Idle, Asking, Waiting,
 use Rattle.pl_desk.specs.declared.rule.View.{View}
 use Rattle.pl_desk.specs.Growth.{GoesOn}
 use Rattle.pl_desk.specs.Rule.{total, asks_at, holds_at, HasTicket, Stands, IsAhead, IsView, AreApart, IsKept}
-use Rattle.pl_desk.proofs.Views.{total-set, Each, Pairs, each-set, pairs-set, apart-turned}
+use Rattle.pl_desk.proofs.Views.{total-set, Each, each-set, pairs-set, apart-turned}
 
 abbrev pub Table : Type 0
 Table = State (Option History) View

@@ -1,6 +1,6 @@
 -- How a history goes on, and the entries of one pass.
 use Rattle.std.specs.Prelude.{◌≡◌, ℕ, ◌≤◌, ◌==◌, List, [], ◌∷◌, ◌++◌, filter}
-use Rattle.pl_core.specs.History.{Entry, Start, History}
+use Rattle.pl_core.specs.History.{Entry, History}
 
 -- each of the entries is of a pass numbered 1 to seats
 abbrev pub AreOfPasses : ℕ → List Entry → Type 0

@@ -1,12 +1,11 @@
 -- The atomic steps of a desk: what each tells the pass that makes it, and the view that it leaves.
-use Rattle.std.specs.Prelude.{◌≡◌, ◌≢◌, ℕ, ◌+◌, ◌<◌, ◌≤◌, Bool, true, false, nat_lt, List, [], ◌∷◌, length, Option, Some, if◌then◌else◌}
+use Rattle.std.specs.Prelude.{◌≡◌, ◌≢◌, ℕ, ◌+◌, ◌<◌, ◌≤◌, Bool, true, false, nat_lt, [], ◌∷◌, length, Option, Some, if◌then◌else◌}
 use Rattle.atomic_table.specs.Table.{Step, Me, rest}
 use Rattle.pl_table.specs.Request.{Query}
 use Rattle.pl_core.specs.declared.reply.Reply.{Reply}
 use Rattle.pl_core.specs.Answer.{MayReply, history_after}
-use Rattle.pl_core.specs.History.{Entry, History, Start, grown}
+use Rattle.pl_core.specs.History.{Entry, History, grown}
 use Rattle.pl_core.specs.Legal.{IsLegal}
-use Rattle.pl_desk.specs.declared.rule.Terms.{Terms}
 use Rattle.pl_desk.specs.declared.rule.Stage.{Stage}
 use Rattle.pl_desk.specs.declared.rule.Stage.TheVariants.{Idle, Asking, Waiting, InTurn, Met, Gone}
 use Rattle.pl_desk.specs.declared.rule.View.{View}

@@ -1,10 +1,7 @@
-use Rattle.std.proofs.Common.{◌≡◌, ◌+◌, ◌-◌, ℕ, List, [], ◌∷◌, ◌++◌, map, sym, ap, ◌∙◌, arith}
-use Rattle.std.specs.List.{range_with_len}
-use Rattle.atomic_table.specs.Seated.{TableId}
-use Rattle.pl_desk.specs.declared.rule.View.{View}
+use Rattle.std.proofs.Common.{◌≡◌, ◌+◌, ℕ, [], ◌∷◌, ◌++◌, sym, ap, ◌∙◌, arith}
 use Rattle.pl_desk.specs.Rule.{terms_of}
 use Rattle.pl_desk.specs.Steps.{Held, dealing, dealt}
-use Rattle.pl_desk.specs.Passes.{Knowledge, Place, knowledge_of, place_of, fresh}
+use Rattle.pl_desk.specs.Passes.{Place, knowledge_of, place_of, fresh}
 use Rattle.pl_desk.proofs.Dealing.{dealer, dealt-end}
 use Rattle.pl_desk.proofs.opening.deal_all.Goals as goal
 

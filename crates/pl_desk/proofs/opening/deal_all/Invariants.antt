@@ -1,6 +1,6 @@
-use Rattle.std.proofs.Common.{◌≡◌, ◌+◌, ◌-◌, ◌≤◌, [], map, vec_len, vec_capacity}
+use Rattle.std.proofs.Common.{◌≡◌, ◌-◌, ◌≤◌, [], map, vec_len, vec_capacity}
 use Rattle.std.specs.List.{range_with_len}
-use Rattle.pl_desk.specs.Rule.{first_view, terms_of}
+use Rattle.pl_desk.specs.Rule.{terms_of}
 use Rattle.pl_desk.specs.Passes.{fresh, place_of}
 use Rattle.pl_desk.proofs.Dealing.{dealer}
 use Rattle.pl_desk.proofs.opening.deal_all.Given as goal

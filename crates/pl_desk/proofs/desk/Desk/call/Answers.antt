@@ -3,7 +3,7 @@ use Rattle.pl_core.specs.History.{History}
 use Rattle.pl_desk.specs.declared.rule.Stage.TheVariants.{Waiting, InTurn}
 use Rattle.pl_desk.specs.declared.rule.Terms.{Terms}
 use Rattle.pl_desk.specs.declared.rule.View.{View}
-use Rattle.pl_desk.specs.Rule.{IsAhead, IsSound, terms_of}
+use Rattle.pl_desk.specs.Rule.{IsAhead, terms_of}
 use Rattle.pl_desk.specs.Steps.{Held, at_stage, asked, settled, IsStep}
 use Rattle.pl_desk.specs.Passes.{Knowledge, Place, knowledge_of, WasCalled}
 use Rattle.pl_desk.proofs.Calling.{called}

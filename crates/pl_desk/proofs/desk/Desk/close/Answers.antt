@@ -1,8 +1,7 @@
-use Rattle.std.proofs.Common.{◌≡◌, ◌∙◌, List, Option, Some, sym, ap, subst}
+use Rattle.std.proofs.Common.{◌≡◌, ◌∙◌, Option, Some, sym, ap, subst}
 use Rattle.std.specs.Prelude.{IfSome}
 use Rattle.std.specs.Slots.{slots_items}
 use mathlib.Core.Option as maybe
-use lib.ListN.{get_elem?}
 use Rattle.pl_core.specs.History.{History}
 use Rattle.pl_desk.specs.Rule.{IsAhead}
 use Rattle.pl_desk.specs.Passes.{Knowledge}

@@ -1,6 +1,5 @@
-use Rattle.std.proofs.Common.{◌≡◌, ℕ, sym, ap, subst, ◌∙◌}
-use Rattle.pl_core.specs.History.{History}
-use Rattle.pl_desk.specs.declared.rule.Stage.TheVariants.{Idle, Met}
+use Rattle.std.proofs.Common.{◌≡◌, sym, ap, subst, ◌∙◌}
+use Rattle.pl_desk.specs.declared.rule.Stage.TheVariants.{Idle}
 use Rattle.pl_desk.specs.declared.rule.View.{View}
 use Rattle.pl_desk.specs.Rule.{IsSound, HasBoth}
 use Rattle.pl_desk.specs.Steps.{Held, at_stage, longer, meeting}
