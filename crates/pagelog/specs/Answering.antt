@@ -6,7 +6,7 @@ use Rattle.pl_table.specs.declared.op.Op.TheVariants as ops
 use Rattle.pl_core.specs.declared.reply.Reply.{Reply}
 use Rattle.pl_core.specs.declared.reply.Reply.TheVariants.{Malformed}
 use Rattle.pl_core.specs.History.{History}
-use Rattle.pl_core.specs.Answer.{MayReply, history_after}
+use Rattle.pl_core.specs.Answer.{MayReply, IsChosen, history_after}
 use Rattle.pl_wire.specs.declared.fault.WireFault.{WireFault}
 use Rattle.pl_wire.specs.Codes.{code_of}
 use Rattle.pl_wire.specs.Reading.{request_reading}
@@ -16,11 +16,13 @@ use Rattle.pl_wire.specs.Replies.{reply_spelling}
 abbrev pub own_pass : ℕ
 own_pass = 1
 
--- the request takes its step under this pass, and the bytes spell its reply
+-- the request takes its step under this pass, and the bytes spell its reply; a page is given at the
+-- LSN that is chosen
 pub record TakesStep (pass : ℕ) (q : Query) (before : History) (bytes : List ℕ) (after : History)
     : Type 0 where
   pub reply : Reply
   pub may : MayReply q before reply
+  pub chosen : IsChosen q before reply
   pub grows : after ≡ history_after q pass before reply
   pub spelled : bytes ≡ reply_spelling reply
 
@@ -40,8 +42,9 @@ abbrev pub AnswersBody : ℕ → History → List ℕ → List ℕ → History �
 AnswersBody pass before body bytes after =
     AnswersReading pass (request_reading body) before bytes after
 
--- the body's operation is a write or a set_table, whose block or text is copied to be read
+-- the body's operation is a write, an offer or a set_table: what its block or text is made of is
+-- copied
 abbrev pub IsCopied : List ℕ → Type 0
 IsCopied body =
     let op = op_of_number (slice_index body 29) in
-    (op ≡ Some ops.Write) ⊎ (op ≡ Some ops.SetTable)
+    (op ≡ Some ops.Write) ⊎ ((op ≡ Some ops.Offer) ⊎ (op ≡ Some ops.SetTable))
