@@ -25,6 +25,8 @@ mod database;
 #[cfg(test)]
 mod decisions;
 #[cfg(test)]
+mod desks;
+#[cfg(test)]
 mod entries;
 #[cfg(test)]
 mod failovers;
