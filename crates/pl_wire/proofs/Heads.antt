@@ -1,14 +1,12 @@
 -- A head that is read is the head of its spelling, and the head of a spelling is read again.
-use Rattle.std.proofs.Common.{◌≡◌, ℕ, ◌+◌, ◌^◌, ◌≤◌, List, ◌∷◌, ◌++◌, length, take, drop, get_or, Some, refl, sym, ap, subst, ◌∙◌, append_assoc, arith}
+use Rattle.std.proofs.Common.{◌≡◌, ℕ, ◌+◌, ◌^◌, ◌≤◌, List, ◌∷◌, ◌++◌, length, take, drop, get_or, Some, sym, ap, subst, ◌∙◌, append_assoc, arith}
 use Rattle.std.specs.Int.{w32, from_be_bytes, to_be_bytes}
 use Rattle.std.proofs.Math.Seq.{drop-append-add}
-use Rattle.std.proofs.lemmas.Bool.Decides.{nat_tests}
 use Rattle.std.proofs.lemmas.List.{take_at, length-take, length-drop, get_or-drop}
 use Rattle.std.proofs.lemmas.Nat.{from_be_bytes-to_be_bytes_4}
 use Rattle.pl_block.specs.Laws.{AreBytes}
 use Rattle.pl_table.specs.declared.head.Head.{Head}
 use Rattle.pl_table.specs.declared.op.Role.{Role}
-use Rattle.pl_table.specs.declared.op.Role.TheVariants.{Primary, Secondary, PageServer, Operator}
 use Rattle.pl_table.specs.Ops.{role_number, role_of_number}
 use Rattle.pl_table.specs.Request.{IsHead}
 use Rattle.pl_wire.specs.Spelling.{head_spelling}
