@@ -24,7 +24,7 @@ use std::sync::Wait;
 pub struct Desk {
     pub(crate) table: DeskTable,
     pub(crate) bells: Bells,
-    /// How many tickets may be given, some more at the same moment aside.
+    /// Where the next ticket is this or more, a call is answered Spent.
     pub(crate) turns: u64,
 }
 

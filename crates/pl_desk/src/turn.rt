@@ -95,7 +95,7 @@ fn put_back(board: &Board, chair: &mut Chair, db: Db)
 }
 
 /// One turn of the pass with this number: a step of the database at the history that the turn has
-/// found. Then the turn is given on, and who waits for the next one is woken.
+/// found. Then the turn is given on.
 pub(crate) fn take_turn(board: &Board, chair: &mut Chair, number: u64, request: Request) -> Reply
     requires board { (chair.old.table_id ≡ board.now.table_id) × (board.now.table_id.words ≡ 3) }
     requires turn { (t : ℕ) × (h : History) × (chair.old.me.0.stage ≡ InTurn t h) ×
