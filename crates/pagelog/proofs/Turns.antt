@@ -230,6 +230,8 @@ first_is a b xs ys same = ap (λ (l : List ℕ). slice_index l 0) same
 pub other_spelling : (r : Reply) → r ≢ replies.NoMemory → reply_spelling r ≢ no_memory
 other_spelling replies.Done other same = omega (arith, first_is 0 6 _ _ same)
 other_spelling (replies.Blocks next blocks) other same = omega (arith, first_is 1 6 _ _ same)
+other_spelling (replies.Page at bytes) other same = omega (arith, first_is 2 6 _ _ same)
+other_spelling (replies.Entries lines) other same = omega (arith, first_is 3 6 _ _ same)
 other_spelling (replies.Denied section row value) other same = omega (arith, first_is 5 6 _ _ same)
 other_spelling replies.NoMemory other same = other refl
 other_spelling (replies.Status epoch primary hard pending landing) other same = omega (arith, first_is 4 6 _ _ same)

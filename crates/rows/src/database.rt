@@ -164,7 +164,8 @@ impl Database {
 
     fn queue(&mut self, words: &[&str]) -> Result<usize, Stop> {
         let request = self.request(Asked::Words(words))?;
-        self.queue.push((self.pass(), request))?;
+        let pass = self.pass();
+        self.queue.push((pass, request))?;
         self.asked = self.asked.wrapping_add(1);
         Ok(self.queue.len())
     }

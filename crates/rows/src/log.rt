@@ -1,7 +1,8 @@
 //! A log on its own, asked line by line.
 
-ghost use Rattle.std.specs.Prelude.{◌≤◌};
+ghost use Rattle.std.specs.Prelude.{◌≤◌, IfOk, IsTrue};
 ghost use Rattle.pl_log.specs.Change.{ArePast};
+ghost use Rattle.pl_log.specs.Window.{in_window, window_open_to};
 
 use crate::answer::{push_numbers, push_truth, push_word};
 use crate::block_text::{block_of, push_block, push_blocks};
@@ -52,7 +53,10 @@ impl Driven {
     }
 
     // The block of the word, where it may be offered.
-    fn offered(&self, alloc: Global, word: &str) -> Result<Block, Stop> {
+    fn offered(&self, alloc: Global, word: &str) -> Result<Block, Stop>
+        ensures window { IfOk result (λ block. IsTrue (in_window self.now.log block.lsn)) }
+        ensures agrees { IfOk result (λ block. IsTrue (window_open_to self.now.log block)) }
+    {
         let block = block_of(alloc, word)?;
         if !self.log.in_window(block.lsn()) || !self.log.agrees(&block) {
             return Err(Stop::Unread);
