@@ -1,7 +1,20 @@
--- The frames in which served blocks stand.
+-- Frames: a length, and so many bytes.
 use Rattle.std.specs.Prelude.{ℕ, List, ◌++◌, length}
+use Rattle.std.specs.List.{flat_map}
 use Rattle.std.specs.Int.{w32, to_be_bytes}
 
--- a length, and so many bytes
+-- the most bytes of a request
+abbrev pub longest_request : ℕ
+longest_request = 65536
+
+-- the most bytes of a reply
+abbrev pub longest_reply : ℕ
+longest_reply = 1048576
+
+-- a length in four bytes, the high one first, and so many bytes
 abbrev pub frame : List ℕ → List ℕ
 frame body = to_be_bytes w32 (length body) ++ body
+
+-- the frames of the bodies, one after the other
+abbrev pub frames_of : List (List ℕ) → List ℕ
+frames_of bodies = flat_map frame bodies

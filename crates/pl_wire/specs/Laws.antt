@@ -1,9 +1,9 @@
 -- What ties requests, replies and frames to bytes.
-use Rattle.std.specs.Prelude.{◌≡◌, ℕ, ◌^◌, ◌<◌, List, ◌++◌, length, Ok}
+use Rattle.std.specs.Prelude.{◌≡◌, ℕ, ◌^◌, ◌<◌, List, ◌++◌, length, Ok, All}
 use Rattle.pl_block.specs.Laws.{AreBytes}
 use Rattle.pl_table.specs.Request.{Query, IsRequest}
 use Rattle.pl_core.specs.declared.reply.Reply.{Reply}
-use Rattle.pl_wire.specs.Frames.{frame}
+use Rattle.pl_wire.specs.Frames.{frame, frames_of}
 use Rattle.pl_wire.specs.Spelling.{request_spelling}
 use Rattle.pl_wire.specs.Reading.{request_reading}
 use Rattle.pl_wire.specs.Replies.{IsReply, reply_spelling}
@@ -30,3 +30,7 @@ pub record OneReplySpelling : Type 0 where
 -- no frame is the beginning of another: where bytes begin with a frame, they begin with no other
 abbrev pub FramesEndThemselves : Type 0
 FramesEndThemselves = (a b x y : List ℕ) → length a < 2 ^ 32 → length b < 2 ^ 32 → frame a ++ x ≡ frame b ++ y → (a ≡ b) × (x ≡ y)
+
+-- frames in a row are told apart: where bytes begin with the frames of so many bodies, they begin with those of no others
+abbrev pub FramesOfOneInput : Type 0
+FramesOfOneInput = (a b : List (List ℕ)) (x y : List ℕ) → All (λ body. length body < 2 ^ 32) a → All (λ body. length body < 2 ^ 32) b → length a ≡ length b → frames_of a ++ x ≡ frames_of b ++ y → (a ≡ b) × (x ≡ y)

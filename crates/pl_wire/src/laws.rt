@@ -1,13 +1,19 @@
 //! What the definitions say of one another, for the crates above. Each function is a law: its
 //! clause holds of all requests, replies and bytes. It does nothing when run.
 
-ghost use Rattle.pl_wire.specs.Laws.{FramesEndThemselves, OneReplySpelling, OneRequestSpelling, RepliesAreReadBack, RequestsAreReadBack};
+ghost use Rattle.pl_wire.specs.Laws.{FramesEndThemselves, FramesOfOneInput, OneReplySpelling, OneRequestSpelling, RepliesAreReadBack, RequestsAreReadBack};
 
 use pl_block::laws::one_spelling;
 
 /// No frame is the beginning of another, so that frames in a row can be told apart.
 pub fn frames_end_themselves()
     ensures law { FramesEndThemselves }
+{}
+
+/// Where bytes begin with the frames of so many bodies, they begin with those of no others: the
+/// bodies that are read from an input, and what follows them, do not depend on how it is read.
+pub fn frames_of_one_input()
+    ensures law { FramesOfOneInput }
 {}
 
 /// A request is read back from its spelling: what is encoded decodes to the same.

@@ -7,6 +7,8 @@
 
 mod fault;
 mod fields;
+mod frame_reading;
+mod frame_writing;
 mod kind;
 pub mod laws;
 mod reply_reading;
@@ -16,6 +18,11 @@ mod request_writing;
 mod seen;
 
 pub use fault::{BodyFault, WireFault};
+pub use frame_reading::{
+    FrameFault, LONGEST_REPLY, LONGEST_REQUEST, ReplyFault, read_body, read_frame, read_head,
+    read_reply,
+};
+pub use frame_writing::{WriteFault, put_reply, write_bytes, write_reply, write_request};
 pub use kind::ReplyKind;
 pub use reply_reading::decode_reply;
 pub use reply_writing::encode_reply;

@@ -97,6 +97,23 @@ fn put_arguments(out: &mut Vec<u8>, act: &Act) -> Result<(), AllocError>
     }
 }
 
+/// How many bytes the request takes.
+pub(crate) fn request_len(request: &Request) -> usize
+    ensures value { result ≡ length (request_spelling request.now) }
+    ensures fits { result ≤ 65536 }
+{
+    OPENING_BYTES + arguments_len(request.act())
+}
+
+/// Appends the spelling of the request.
+pub(crate) fn put_request(out: &mut Vec<u8>, request: &Request) -> Result<(), AllocError>
+    ensures ok { OnOk result (out.new.items ≡ out.old.items ++ request_spelling request.now) }
+{
+    let act = request.act();
+    put_opening(out, request.head(), act.op())?;
+    put_arguments(out, act)
+}
+
 /// The one spelling of the request: its head, the number of its operation and the arguments, at most
 /// 65,536 bytes.
 ///
@@ -106,9 +123,7 @@ pub fn encode_request(alloc: Global, request: &Request) -> Result<Vec<u8>, Alloc
     ensures ok { IfOk result (λ bytes. bytes.items ≡ request_spelling request.now) }
     ensures fits { IfOk result (λ bytes. length bytes.items ≤ 65536) }
 {
-    let act = request.act();
-    let mut out = Vec::with_capacity(alloc, OPENING_BYTES + arguments_len(act))?;
-    put_opening(&mut out, request.head(), act.op())?;
-    put_arguments(&mut out, act)?;
+    let mut out = Vec::with_capacity(alloc, request_len(request))?;
+    put_request(&mut out, request)?;
     Ok(out)
 }

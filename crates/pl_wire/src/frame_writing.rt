@@ -1,0 +1,126 @@
+//! Frames, written: a length in four bytes, the high one first, and a body of so many bytes.
+
+ghost use Rattle.std.specs.Prelude.{◌≡◌, ◌+◌, ◌<◌, ◌++◌, IfErr, IfOk, OnErr, OnOk, length, take};
+ghost use Rattle.std.specs.Io.KnownBytes.{Appends};
+ghost use Rattle.pl_block.specs.Spare.{UsesSpare};
+ghost use Rattle.pl_core.specs.Reply.{FitsReply};
+ghost use Rattle.pl_wire.specs.FrameWriting.{WritesText, reply_frame, request_frame};
+ghost use Rattle.pl_wire.specs.Replies.{reply_spelling};
+
+use crate::reply_writing::{put_body, reply_len};
+use crate::request_writing::{put_request, request_len};
+use bytes::BufMut;
+use pl_core::Reply;
+use pl_table::Request;
+use std::alloc::{AllocError, Global};
+use std::io::{ErrorKind, Write};
+
+/// Why a frame was not written.
+#[derive(Clone, Copy, Debug, PartialEq, Eq)]
+pub enum WriteFault {
+    /// A write failed, or took no byte: a part of the frame is written, and not the whole.
+    Io,
+    /// There is no memory for the frame: nothing is written.
+    NoMemory,
+}
+
+/// The bytes of a length.
+const LENGTH_BYTES: usize = 4;
+
+/// Writes all of the bytes, in one write where the writer takes them at once.
+///
+/// `Err` says how many were written, fewer than there are, before a write failed or took none. A
+/// write that a signal interrupted is tried again.
+pub fn write_bytes<W: Write>(writer: &mut W, bytes: &[u8]) -> Result<(), usize>
+    ensures ok { OnOk result (Appends (W.contents writer.old) (W.contents writer.new) bytes.now) }
+    ensures err { IfErr result (λ count. (count < length bytes.now)
+        × Appends (W.contents writer.old) (W.contents writer.new) (take count bytes.now)) }
+{
+    let mut count = 0;
+    for _ in 0..u64::MAX {
+        if count >= bytes.len() {
+            return Ok(());
+        }
+        match writer.write(&bytes[count..]) {
+            Ok(0) => return Err(count),
+            Ok(more) => count += more,
+            Err(error) if error.kind() == ErrorKind::Interrupted => {}
+            Err(_) => return Err(count),
+        }
+    }
+    if count < bytes.len() {
+        Err(count)
+    } else {
+        Ok(())
+    }
+}
+
+// A length, and the body of the reply, in the room that `out` has for them.
+fn put_frame(out: &mut Vec<u8>, len: usize, reply: &Reply) -> Result<(), AllocError>
+    requires fits { FitsReply reply.now }
+    requires len { len ≡ length (reply_spelling reply.now) }
+    ensures ok { OnOk result (out.new.items ≡ out.old.items ++ reply_frame reply.now) }
+    ensures spare { UsesSpare result out.old out.new (4 + len) }
+{
+    out.put_u32(len as u32)?;
+    put_body(out, reply)
+}
+
+/// Appends the frame of the reply to `out`. Room is made once, for the whole of it, and each byte of
+/// a block or of a page is copied once.
+///
+/// [`Reply::fits`] tests the condition. The only error is a failed allocation: then `out` has what it
+/// had.
+pub fn put_reply(out: &mut Vec<u8>, reply: &Reply) -> Result<(), AllocError>
+    requires { FitsReply reply.now }
+    ensures ok { OnOk result (out.new.items ≡ out.old.items ++ reply_frame reply.now) }
+    ensures err { OnErr result (out.new.items ≡ out.old.items) }
+{
+    let len = reply_len(reply);
+    out.reserve(LENGTH_BYTES + len)?;
+    put_frame(out, len, reply)
+}
+
+/// Writes the frame of the reply, in one write where the writer takes it at once.
+///
+/// [`Reply::fits`] tests the condition. Out of memory, nothing is written; where a write fails, a
+/// beginning of the frame may be.
+pub fn write_reply<W: Write>(alloc: Global, writer: &mut W, reply: &Reply) -> Result<(), WriteFault>
+    requires { FitsReply reply.now }
+    ensures value { WritesText (W.contents writer.old) (W.contents writer.new)
+        (reply_frame reply.now) result }
+{
+    let mut out = Vec::new(alloc);
+    if put_reply(&mut out, reply).is_err() {
+        return Err(WriteFault::NoMemory);
+    }
+    write_bytes(writer, out.as_slice()).map_err(|_| WriteFault::Io)
+}
+
+// The frame of the request, in memory of its own.
+fn framed(alloc: Global, request: &Request) -> Result<Vec<u8>, AllocError>
+    ensures ok { IfOk result (λ bytes. bytes.items ≡ request_frame request.now) }
+{
+    let len = request_len(request);
+    let mut out = Vec::with_capacity(alloc, LENGTH_BYTES + len)?;
+    out.put_u32(len as u32)?;
+    put_request(&mut out, request)?;
+    Ok(out)
+}
+
+/// Writes the frame of the request, in one write where the writer takes it at once.
+///
+/// Out of memory, nothing is written; where a write fails, a beginning of the frame may be.
+pub fn write_request<W: Write>(
+    alloc: Global,
+    writer: &mut W,
+    request: &Request,
+) -> Result<(), WriteFault>
+    ensures value { WritesText (W.contents writer.old) (W.contents writer.new)
+        (request_frame request.now) result }
+{
+    let Ok(out) = framed(alloc, request) else {
+        return Err(WriteFault::NoMemory);
+    };
+    write_bytes(writer, out.as_slice()).map_err(|_| WriteFault::Io)
+}
