@@ -10,3 +10,5 @@ pub mod Fronts
 pub mod Lengths
 pub mod Listed
 pub mod ReplyLemmas
+pub mod Filling
+pub mod Stops

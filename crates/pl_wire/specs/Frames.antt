@@ -1,5 +1,5 @@
 -- Frames: a length, and so many bytes.
-use Rattle.std.specs.Prelude.{ℕ, List, ◌++◌, length}
+use Rattle.std.specs.Prelude.{ℕ, ◌^◌, ◌<◌, List, ◌++◌, length}
 use Rattle.std.specs.List.{flat_map}
 use Rattle.std.specs.Int.{w32, to_be_bytes}
 
@@ -14,6 +14,10 @@ longest_reply = 1048576
 -- a length in four bytes, the high one first, and so many bytes
 abbrev pub frame : List ℕ → List ℕ
 frame body = to_be_bytes w32 (length body) ++ body
+
+-- a body whose length fits in the four bytes
+abbrev pub IsShort : List ℕ → Type 0
+IsShort body = length body < 2 ^ 32
 
 -- the frames of the bodies, one after the other
 abbrev pub frames_of : List (List ℕ) → List ℕ

@@ -3,7 +3,7 @@ use Rattle.std.specs.Prelude.{◌≡◌, ℕ, ◌^◌, ◌<◌, List, ◌++◌, 
 use Rattle.pl_block.specs.Laws.{AreBytes}
 use Rattle.pl_table.specs.Request.{Query, IsRequest}
 use Rattle.pl_core.specs.declared.reply.Reply.{Reply}
-use Rattle.pl_wire.specs.Frames.{frame, frames_of}
+use Rattle.pl_wire.specs.Frames.{IsShort, frame, frames_of}
 use Rattle.pl_wire.specs.Spelling.{request_spelling}
 use Rattle.pl_wire.specs.Reading.{request_reading}
 use Rattle.pl_wire.specs.Replies.{IsReply, reply_spelling}
@@ -33,4 +33,4 @@ FramesEndThemselves = (a b x y : List ℕ) → length a < 2 ^ 32 → length b < 
 
 -- frames in a row are told apart: where bytes begin with the frames of so many bodies, they begin with those of no others
 abbrev pub FramesOfOneInput : Type 0
-FramesOfOneInput = (a b : List (List ℕ)) (x y : List ℕ) → All (λ body. length body < 2 ^ 32) a → All (λ body. length body < 2 ^ 32) b → length a ≡ length b → frames_of a ++ x ≡ frames_of b ++ y → (a ≡ b) × (x ≡ y)
+FramesOfOneInput = (a b : List (List ℕ)) (x y : List ℕ) → All IsShort a → All IsShort b → length a ≡ length b → frames_of a ++ x ≡ frames_of b ++ y → (a ≡ b) × (x ≡ y)

@@ -13,6 +13,7 @@ ghost use Rattle.pl_wire.specs.Replies.{IsReply};
 
 use crate::fault::BodyFault;
 use crate::reply_reading::decode_reply;
+use pl_block::seen::each_is_byte;
 use pl_core::Reply;
 use std::alloc::Global;
 use std::io::{ErrorKind, Read};
@@ -102,6 +103,7 @@ pub fn read_head<R: Read>(reader: &mut R, limit: u32) -> Result<Option<u32>, Fra
         Ok(0) => Ok(None),
         Ok(count) if count < LENGTH_BYTES => Err(FrameFault::Short),
         Ok(_) => {
+            each_is_byte(&head);
             let len = u32::from_be_bytes(head);
             if len > limit {
                 return Err(FrameFault::TooLong);

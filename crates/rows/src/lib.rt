@@ -31,6 +31,8 @@ mod entries;
 #[cfg(test)]
 mod failovers;
 #[cfg(test)]
+mod frames;
+#[cfg(test)]
 mod line_text;
 #[cfg(test)]
 mod log;

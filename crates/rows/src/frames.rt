@@ -1,0 +1,467 @@
+//! Frames, asked line by line: readers that give few bytes at once, writers that take few, and their
+//! faults.
+
+use crate::answer::{push_bytes, push_fault, push_numbers, push_word};
+use crate::asking::request_of;
+use crate::codec::bytes_of;
+use crate::reply_text::{push_reply, reply_of};
+use crate::transcript::{Stop, Subject, plays};
+use pl_core::Reply;
+use pl_wire::{
+    BodyFault, FrameFault, ReplyFault, WriteFault, put_reply, read_body, read_frame, read_head,
+    read_reply, write_reply, write_request,
+};
+use std::alloc::Global;
+use std::io::{self, ErrorKind, Read, Write};
+use std::test::Fail;
+
+/// How many bytes a reader gives at once, or a writer takes, and whether a signal interrupts each
+/// second call.
+const PIECES: [(usize, bool); 4] = [(1, false), (2, true), (3, false), (5, true)];
+
+/// How many frames of an input are read at most.
+const MOST_FRAMES: u32 = 100;
+
+/// The most bytes that a row writes.
+const ROOM: usize = 10_000;
+
+/// What stands in front of the bytes that a reader gives.
+#[derive(Clone, Copy)]
+enum Behind {
+    /// The end of input.
+    End,
+    /// A read that fails.
+    Failure,
+}
+
+/// Gives its bytes, at most so many at once.
+#[derive(Drop)]
+struct Feed<'a> {
+    left: &'a [u8],
+    at_once: usize,
+    interrupts: bool,
+    interrupted: bool,
+    behind: Behind,
+}
+
+impl<'a> Feed<'a> {
+    fn new(left: &'a [u8], piece: (usize, bool), behind: Behind) -> Feed<'a> {
+        let (at_once, interrupts) = piece;
+        Feed {
+            left,
+            at_once,
+            interrupts,
+            interrupted: false,
+            behind,
+        }
+    }
+}
+
+impl Read for Feed<'_> {
+    fn read(&mut self, buf: &mut [u8]) -> io::Result<usize> {
+        self.interrupted = self.interrupts && !self.interrupted;
+        if self.interrupted {
+            return Err(io::Error::from(ErrorKind::Interrupted));
+        }
+        if self.left.is_empty() && matches!(self.behind, Behind::Failure) {
+            return Err(io::Error::from(ErrorKind::InvalidData));
+        }
+        let count = self.left.len().min(self.at_once).min(buf.len());
+        let (given, left) = self.left.split_at(count);
+        buf[..count].copy_from_slice(given);
+        self.left = left;
+        Ok(count)
+    }
+}
+
+/// Takes so many bytes in all, and at most so many at once. Behind them a write fails, or takes none.
+#[derive(Drop)]
+struct Sink {
+    held: Vec<u8>,
+    at_once: usize,
+    interrupts: bool,
+    interrupted: bool,
+    room: usize,
+    fails: bool,
+}
+
+impl Write for Sink {
+    fn write(&mut self, buf: &[u8]) -> io::Result<usize> {
+        self.interrupted = self.interrupts && !self.interrupted;
+        if self.interrupted {
+            return Err(io::Error::from(ErrorKind::Interrupted));
+        }
+        if self.room == 0 && self.fails {
+            return Err(io::Error::from(ErrorKind::BrokenPipe));
+        }
+        let count = buf.len().min(self.at_once).min(self.room);
+        self.held.extend_from_slice(&buf[..count])?;
+        self.room -= count;
+        Ok(count)
+    }
+
+    fn flush(&mut self) -> io::Result<()> {
+        Ok(())
+    }
+}
+
+fn push_frame_fault(out: &mut String, fault: FrameFault) -> Result<(), Stop> {
+    match fault {
+        FrameFault::Short => push_word(out, "Short"),
+        FrameFault::TooLong => push_word(out, "TooLong"),
+        FrameFault::Io => push_word(out, "Io"),
+        FrameFault::NoMemory => Err(Stop::NoMemory),
+    }
+}
+
+fn push_reply_fault(out: &mut String, fault: ReplyFault) -> Result<(), Stop> {
+    match fault {
+        ReplyFault::Ended => push_word(out, "Ended"),
+        ReplyFault::Frame(fault) => push_frame_fault(out, fault),
+        ReplyFault::Body(BodyFault::Malformed(fault)) => push_fault(out, fault.code()),
+        ReplyFault::Body(BodyFault::NoMemory) => Err(Stop::NoMemory),
+    }
+}
+
+fn push_body(out: &mut String, body: &[u8]) -> Result<(), Stop> {
+    if body.is_empty() {
+        return push_word(out, "empty");
+    }
+    push_bytes(out, body)
+}
+
+/// What is read of an input.
+#[derive(Clone, Copy)]
+enum Asked {
+    Head(u32),
+    Body(u32),
+    Frames(u32),
+    Replies,
+}
+
+/// Reads and writes, each on its own, and the bytes that `send` has put one behind the other.
+#[derive(Drop)]
+struct Frames {
+    alloc: Global,
+    sent: Vec<u8>,
+}
+
+impl Frames {
+    fn push_head(&self, limit: u32, feed: &mut Feed, out: &mut String) -> Result<(), Stop> {
+        match read_head(feed, limit) {
+            Ok(Some(len)) => push_numbers(out, &[u64::from(len)]),
+            Ok(None) => push_word(out, "end"),
+            Err(fault) => push_frame_fault(out, fault),
+        }
+    }
+
+    fn push_body_of(&self, len: u32, feed: &mut Feed, out: &mut String) -> Result<(), Stop> {
+        match read_body(self.alloc, feed, len) {
+            Ok(body) => push_body(out, &body),
+            Err(fault) => push_frame_fault(out, fault),
+        }
+    }
+
+    // Pushes the bodies of the frames, and why there are no more.
+    fn push_frames(&self, limit: u32, feed: &mut Feed, out: &mut String) -> Result<(), Stop> {
+        for _ in 0..MOST_FRAMES {
+            match read_frame(self.alloc, feed, limit) {
+                Ok(Some(body)) => push_body(out, &body)?,
+                Ok(None) => return push_word(out, "end"),
+                Err(fault) => return push_frame_fault(out, fault),
+            }
+        }
+        Err(Stop::Unread)
+    }
+
+    // Pushes the replies, and why there are no more.
+    fn push_replies(&self, feed: &mut Feed, out: &mut String) -> Result<(), Stop> {
+        for _ in 0..MOST_FRAMES {
+            match read_reply(self.alloc, feed) {
+                Ok(reply) => push_reply(out, &reply)?,
+                Err(fault) => return push_reply_fault(out, fault),
+            }
+        }
+        Err(Stop::Unread)
+    }
+
+    // What is read, and how many bytes are left unread.
+    fn read(&self, asked: Asked, mut feed: Feed) -> Result<String, Stop> {
+        let mut out = String::new(self.alloc);
+        match asked {
+            Asked::Head(limit) => self.push_head(limit, &mut feed, &mut out)?,
+            Asked::Body(len) => self.push_body_of(len, &mut feed, &mut out)?,
+            Asked::Frames(limit) => self.push_frames(limit, &mut feed, &mut out)?,
+            Asked::Replies => self.push_replies(&mut feed, &mut out)?,
+        }
+        push_numbers(&mut out, &[feed.left.len() as u64])?;
+        Ok(out)
+    }
+
+    // Pushes what is read, which is the same in any pieces.
+    fn push_read(
+        &self,
+        asked: Asked,
+        bytes: &[u8],
+        behind: Behind,
+        out: &mut String,
+    ) -> Result<(), Stop> {
+        let whole = self.read(asked, Feed::new(bytes, (usize::MAX, false), behind))?;
+        for piece in PIECES {
+            let text = self.read(asked, Feed::new(bytes, piece, behind))?;
+            if text.as_str() != whole.as_str() {
+                return Err(Stop::Changed);
+            }
+        }
+        Ok(out.push_str(&whole)?)
+    }
+
+    // What a writer holds in the end, and whether the whole frame was written.
+    fn written(&self, what: &[&str], mut sink: Sink) -> Result<(Vec<u8>, bool), Stop> {
+        let result = match what {
+            ["request", words @ ..] => {
+                let request = request_of(self.alloc, 7, words)?.ok_or(Stop::Unread)?;
+                write_request(self.alloc, &mut sink, &request)
+            }
+            ["reply", words @ ..] => {
+                let reply = reply_of(self.alloc, words)?;
+                if !reply.fits() {
+                    return Err(Stop::Unread);
+                }
+                write_reply(self.alloc, &mut sink, &reply)
+            }
+            _ => return Err(Stop::Unread),
+        };
+        match result {
+            Ok(()) => Ok((sink.held, true)),
+            Err(WriteFault::Io) => Ok((sink.held, false)),
+            Err(WriteFault::NoMemory) => Err(Stop::NoMemory),
+        }
+    }
+
+    // A writer of so much room, which takes its bytes in such pieces.
+    fn sink(&self, room: usize, piece: (usize, bool), fails: bool) -> Result<Sink, Stop> {
+        let (at_once, interrupts) = piece;
+        Ok(Sink {
+            held: Vec::with_capacity(self.alloc, ROOM)?,
+            at_once,
+            interrupts,
+            interrupted: false,
+            room,
+            fails,
+        })
+    }
+
+    // What a writer of so much room holds in the end, in any pieces, and however it stops.
+    fn held(&self, what: &[&str], room: usize) -> Result<(Vec<u8>, bool), Stop> {
+        let (held, whole) = self.written(what, self.sink(room, (usize::MAX, false), true)?)?;
+        for piece in PIECES {
+            let (again, as_whole) = self.written(what, self.sink(room, piece, piece.1)?)?;
+            if again.as_slice() != held.as_slice() || as_whole != whole {
+                return Err(Stop::Changed);
+            }
+        }
+        Ok((held, whole))
+    }
+
+    // Puts the frame of the reply behind what was sent, as it was written elsewhere.
+    fn send_reply(&mut self, reply: &Reply, frame: &[u8]) -> Result<(), Stop> {
+        if !reply.fits() {
+            return Err(Stop::Unread);
+        }
+        let mut sent = Vec::from_slice(self.alloc, &self.sent)?;
+        put_reply(&mut sent, reply)?;
+        self.sent.extend_from_slice(frame)?;
+        let same = sent.as_slice() == self.sent.as_slice();
+        if same { Ok(()) } else { Err(Stop::Changed) }
+    }
+
+    // Sends a frame, and pushes how many bytes it has.
+    fn send(&mut self, what: &[&str], out: &mut String) -> Result<(), Stop> {
+        let (frame, whole) = self.held(what, ROOM)?;
+        if !whole {
+            return Err(Stop::Changed);
+        }
+        match what {
+            ["reply", words @ ..] => {
+                let reply = reply_of(self.alloc, words)?;
+                self.send_reply(&reply, &frame)?;
+            }
+            _ => self.sent.extend_from_slice(&frame)?,
+        }
+        push_numbers(out, &[frame.len() as u64])
+    }
+
+    // Pushes what a writer of so much room holds, and whether it is the whole.
+    fn push_stopped(&self, room: usize, what: &[&str], out: &mut String) -> Result<(), Stop> {
+        let (held, whole) = self.held(what, room)?;
+        push_body(out, &held)?;
+        push_word(out, if whole { "whole" } else { "Io" })
+    }
+}
+
+impl Subject for Frames {
+    fn new(alloc: Global) -> Frames {
+        Frames {
+            alloc,
+            sent: Vec::new(alloc),
+        }
+    }
+
+    fn answer(
+        &mut self,
+        words: &[&str],
+        out: &mut String,
+        _refused: &mut bool,
+    ) -> Result<(), Stop> {
+        let (behind, words) = match words {
+            ["failing", words @ ..] => (Behind::Failure, words),
+            _ => (Behind::End, words),
+        };
+        let (asked, bytes) = match words {
+            ["send", what @ ..] => return self.send(what, out),
+            ["room", room, what @ ..] => return self.push_stopped(room.parse()?, what, out),
+            ["sent", "frames", limit] => {
+                return self.push_read(Asked::Frames(limit.parse()?), &self.sent, behind, out);
+            }
+            ["sent", "replies"] => {
+                return self.push_read(Asked::Replies, &self.sent, behind, out);
+            }
+            ["head", limit, bytes @ ..] => (Asked::Head(limit.parse()?), bytes),
+            ["body", len, bytes @ ..] => (Asked::Body(len.parse()?), bytes),
+            ["frames", limit, bytes @ ..] => (Asked::Frames(limit.parse()?), bytes),
+            ["replies", bytes @ ..] => (Asked::Replies, bytes),
+            _ => return Err(Stop::Unread),
+        };
+        let bytes = bytes_of(self.alloc, bytes)?;
+        self.push_read(asked, &bytes, behind, out)
+    }
+}
+
+// The bodies, why there are no more frames, and how many bytes are left unread.
+const FRAMES_IN_ANY_PIECES: &str = "\
+frames 65536                            = end 0
+frames 65536 00000000                   = empty end 0
+frames 65536 00000002aabb               = aabb end 0
+frames 65536 00000001aa 00000000        = aa empty end 0
+frames 65536 00000001aa 0000000401020304 00000001bb = aa 01020304 bb end 0
+head 65536 0000000701                   = 7 1
+head 65536                              = end 0
+body 3 010203 04                        = 010203 1
+body 0 01                               = empty 1
+";
+
+#[test]
+fn frames_in_any_pieces(rt: HostRuntime) -> Result<(), Fail> {
+    plays::<Frames>(&rt, rt.alloc(), FRAMES_IN_ANY_PIECES)
+}
+
+const FAULTS_OF_FRAMES: &str = "\
+# The input ends inside a length, behind one, and inside a body.
+frames 65536 00                         = Short 0
+frames 65536 000000                     = Short 0
+frames 65536 00000001                   = Short 0
+frames 65536 00000001aa 0000            = aa Short 0
+frames 65536 0000000301 02              = Short 0
+head 65536 000000                       = Short 0
+body 3 0102                             = Short 0
+# The length is above the limit, and what follows it is left.
+frames 2 00000002aabb 00000003aabbcc    = aabb TooLong 3
+frames 65536 00010001 00                = TooLong 1
+frames 65536 01000000 00                = TooLong 1
+frames 65536 ffffffff                   = TooLong 0
+frames 0 00000000 00000001aa            = empty TooLong 1
+head 65536 00010001                     = TooLong 0
+# A read fails.
+failing frames 65536                    = Io 0
+failing frames 65536 000000             = Io 0
+failing frames 65536 00000001aa         = aa Io 0
+failing frames 65536 00000003 0102      = Io 0
+failing head 65536 00                   = Io 0
+failing body 1                          = Io 0
+failing body 0                          = empty 0
+";
+
+#[test]
+fn faults_of_frames(rt: HostRuntime) -> Result<(), Fail> {
+    plays::<Frames>(&rt, rt.alloc(), FAULTS_OF_FRAMES)
+}
+
+const LONGEST_FRAMES: &str = "\
+frames 65536 00010000 65536*ab 01       = 65536*ab  Short 0
+frames 65536 00010000 65535*ab          = Short 0
+body 65536 65536*ab                     = 65536*ab  0
+";
+
+#[test]
+fn longest_frames(rt: HostRuntime) -> Result<(), Fail> {
+    plays::<Frames>(&rt, rt.alloc(), LONGEST_FRAMES)
+}
+
+const WRITTEN_FRAMES_ARE_READ_AGAIN: &str = "\
+send reply Done                         = 5
+send reply Malformed 15                 = 6
+send reply Denied C1 0                  = 16
+send reply Blocks 2 1:aa                = 43
+send reply Page 5 0a+1 ee+8191          = 8205
+send reply Status 1 2 3 4 5             = 37
+sent replies                            = \
+ Done Malformed 15 Denied C1 0 Blocks 2 1:aa Page 5 0a+1 ee+8191 Status 1 2 3 4 5 Ended 0
+failing sent replies                    = \
+ Done Malformed 15 Denied C1 0 Blocks 2 1:aa Page 5 0a+1 ee+8191 Status 1 2 3 4 5 Io 0
+";
+
+#[test]
+fn written_frames_are_read_again(rt: HostRuntime) -> Result<(), Fail> {
+    plays::<Frames>(&rt, rt.alloc(), WRITTEN_FRAMES_ARE_READ_AGAIN)
+}
+
+const REQUESTS_IN_FRAMES: &str = "\
+send request 2 22 primary 1 status      = 34
+send request 3 33 secondary 1 report 9  = 42
+sent frames 65536                       = \
+ 000000022222222222222222222222222222222201000000070000000107 \
+ 0000000333333333333333333333333333333333020000000700000001030000000000000009 end 0
+";
+
+#[test]
+fn requests_in_frames(rt: HostRuntime) -> Result<(), Fail> {
+    plays::<Frames>(&rt, rt.alloc(), REQUESTS_IN_FRAMES)
+}
+
+const REPLIES_FROM_FRAMES: &str = "\
+replies                                 = Ended 0
+replies 0000000100                      = Done Ended 0
+replies 0000000106 00                   = NoMemory Short 0
+replies 00000001                        = Short 0
+replies 00100001 00                     = TooLong 1
+failing replies 000000                  = Io 0
+# A body that is no reply: its frame is read, and what follows it is left.
+replies 00000000 01                     = fault 1 1
+replies 000000010b 01                   = fault 3 1
+replies 000000020000 01                 = fault 5 1
+replies 000000020a10 01                 = fault 6 1
+";
+
+#[test]
+fn replies_from_frames(rt: HostRuntime) -> Result<(), Fail> {
+    plays::<Frames>(&rt, rt.alloc(), REPLIES_FROM_FRAMES)
+}
+
+const WRITERS_THAT_STOP: &str = "\
+room 0 reply Malformed 7                = empty Io
+room 1 reply Malformed 7                = 00 Io
+room 2 reply Malformed 7                = 0000 Io
+room 3 reply Malformed 7                = 000000 Io
+room 4 reply Malformed 7                = 00000002 Io
+room 5 reply Malformed 7                = 000000020a Io
+room 6 reply Malformed 7                = 000000020a07 whole
+room 7 reply Malformed 7                = 000000020a07 whole
+room 6 request 2 22 primary 1 status    = 0000001e0000 Io
+room 33 request 2 22 primary 1 status   = 0000001e0000000222222222222222222222222222222222010000000700000001 Io
+";
+
+#[test]
+fn writers_that_stop(rt: HostRuntime) -> Result<(), Fail> {
+    plays::<Frames>(&rt, rt.alloc(), WRITERS_THAT_STOP)
+}
