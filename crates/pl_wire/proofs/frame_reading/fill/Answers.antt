@@ -5,7 +5,7 @@ use Rattle.pl_wire.proofs.frame_reading.fill.Goals.{in-Ok, in-Err}
 
 pub loop-preserved : goal.loop-preserved
 loop-preserved g c = elim c.match-read.branch [
-  in-Ok w ↦ record {
+  | in-Ok w ↦ record {
     len = search rules;
     count = search rules;
     bytes = rw w.count-is (filled_more _ _ _ c.loop.count _ w.in-Ok.more c.loop.buffer c.read.new.buf c.loop.invariant.count w.in-Ok.ensures.bound.0 c.loop.invariant.bytes w.in-Ok.ensures.bytes.0);
@@ -14,4 +14,5 @@ loop-preserved g c = elim c.match-read.branch [
     len = search rules;
     count = search rules;
     bytes = rw w.count-is (filled_kept _ _ _ c.loop.count _ c.loop.buffer c.read.new.buf c.loop.invariant.count c.loop.invariant.bytes w.in-Err.ensures.bytes);
-    }]
+  }
+]
