@@ -91,11 +91,11 @@ pub fn write_reply<W: Write>(alloc: Global, writer: &mut W, reply: &Reply) -> Re
     ensures value { WritesText (W.contents writer.old) (W.contents writer.new)
         (reply_frame reply.now) result }
 {
-    let mut out = Vec::new(alloc);
-    if put_reply(&mut out, reply).is_err() {
+    let mut frame = Vec::new(alloc);
+    if put_reply(&mut frame, reply).is_err() {
         return Err(WriteFault::NoMemory);
     }
-    write_bytes(writer, out.as_slice()).map_err(|_| WriteFault::Io)
+    write_bytes(writer, frame.as_slice()).map_err(|_| WriteFault::Io)
 }
 
 // The frame of the request, in memory of its own.
@@ -103,10 +103,10 @@ fn framed(alloc: Global, request: &Request) -> Result<Vec<u8>, AllocError>
     ensures ok { IfOk result (λ bytes. bytes.items ≡ request_frame request.now) }
 {
     let len = request_len(request);
-    let mut out = Vec::with_capacity(alloc, LENGTH_BYTES + len)?;
-    out.put_u32(len as u32)?;
-    put_request(&mut out, request)?;
-    Ok(out)
+    let mut bytes = Vec::with_capacity(alloc, LENGTH_BYTES + len)?;
+    bytes.put_u32(len as u32)?;
+    put_request(&mut bytes, request)?;
+    Ok(bytes)
 }
 
 /// Writes the frame of the request, in one write where the writer takes it at once.
