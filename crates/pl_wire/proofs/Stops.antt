@@ -1,5 +1,5 @@
 -- A frame whose length was read stops where its body does.
-use Rattle.std.proofs.Common.{◌≡◌, ℕ, ◌<◌, ◌≤◌, List, [], ◌++◌, length, inr, refl, rules, append-nil, subst}
+use Rattle.std.proofs.Common.{ℕ, ◌≤◌, List, [], ◌++◌, inr, refl, rules, append-nil, subst}
 use Rattle.std.specs.Int.{w32, to_be_bytes}
 use Rattle.std.specs.declared.option.Option.{Option}
 use Rattle.std.specs.Io.KnownBytes.{Consumes}

@@ -25,7 +25,7 @@ const MOST_FRAMES: u32 = 100;
 /// The most bytes that a row writes.
 const ROOM: usize = 10_000;
 
-/// What stands in front of the bytes that a reader gives.
+/// What stands behind the bytes that a reader gives.
 #[derive(Clone, Copy)]
 enum Behind {
     /// The end of input.

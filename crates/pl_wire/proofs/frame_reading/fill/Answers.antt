@@ -1,4 +1,4 @@
-use Rattle.std.proofs.Common.{rules, ◌≡◌, ◌+◌, ◌-◌, length, subst, sym}
+use Rattle.std.proofs.Common.{rules}
 use Rattle.pl_wire.proofs.Filling.{filled_more, filled_kept}
 use Rattle.pl_wire.proofs.frame_reading.fill.Goals as goal
 use Rattle.pl_wire.proofs.frame_reading.fill.Goals.{in-Ok, in-Err}

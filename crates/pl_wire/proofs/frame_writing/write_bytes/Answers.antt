@@ -1,4 +1,4 @@
-use Rattle.std.proofs.Common.{rules, ◌≡◌, ◌+◌, ◌-◌, length, subst, sym}
+use Rattle.std.proofs.Common.{rules}
 use Rattle.std.proofs.KnownBytes.{Appends-kept}
 use Rattle.pl_wire.proofs.Filling.{written_more}
 use Rattle.pl_wire.proofs.frame_writing.write_bytes.Goals as goal
