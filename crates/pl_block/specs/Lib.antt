@@ -7,3 +7,5 @@ pub mod Faults
 pub mod Reading
 pub mod Making
 pub mod Laws
+pub mod Numbered
+pub mod Touching

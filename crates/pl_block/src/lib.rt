@@ -14,6 +14,7 @@ mod making;
 mod reading;
 mod record;
 pub mod seen;
+mod touching;
 mod writing;
 
 pub use block::Block;
@@ -22,4 +23,5 @@ pub use fault::{BlockFault, Failed, Fault};
 pub use reading::decode;
 pub use record::{PAGES_PER_PARTITION, Record};
 pub use std::alloc::AllocError as NoMemory;
+pub use touching::spelling_touches;
 pub use writing::{encode, encode_onto, encoded_len};

@@ -4,7 +4,7 @@ ghost use Rattle.std.specs.Prelude.{◌≡◌, ◌+◌, ◌*◌, ◌<◌, ◌≤
 ghost use Rattle.std.specs.List.{flat_map};
 ghost use Rattle.std.specs.Int.{w16, to_be_bytes};
 ghost use Rattle.pl_block.specs.Bounds.{longest_block};
-ghost use Rattle.pl_block.specs.Spelling.{annotations, record_spelling, block_spelling};
+ghost use Rattle.pl_block.specs.Spelling.{IsBlock, annotations, record_spelling, block_spelling};
 ghost use Rattle.pl_block.specs.Spare.{UsesSpare};
 
 use crate::block::Block;
@@ -67,7 +67,9 @@ fn put_records(out: &mut Vec<u8>, records: &[Record]) -> Result<(), AllocError>
 pub fn encoded_len(block: &Block) -> usize
     ensures value { result ≡ length (block_spelling block.now) }
     ensures fits { result ≤ longest_block }
+    ensures valid { IsBlock block.now }
 {
+    let _lsn = block.lsn();
     block.spelled_len()
 }
 
