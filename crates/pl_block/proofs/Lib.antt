@@ -7,3 +7,4 @@ pub mod Spare
 pub mod Records
 pub mod Spellings
 pub mod RecordFaults
+pub mod Annotated

@@ -38,7 +38,8 @@ pub fn spelling_touches(spelling: &[u8], lo: u16, hi: u16) -> bool
     if spelling.len() < LSN_LEN + 2 {
         return false;
     }
-    let mut rest = &spelling[LSN_LEN..];
+    let mut rest = spelling;
+    rest.advance(LSN_LEN);
     let count = rest.get_u16();
     any_at(rest, count, lo, hi)
 }
