@@ -1,4 +1,4 @@
-//! Desks: several passes of one database, in one thread and in two.
+//! Desks: several passes of one database, in one thread.
 
 ghost use Rattle.std.specs.Prelude.{◌≡◌, ◌≤◌, ◌^◌};
 ghost use Rattle.pl_desk.specs.Passes.{IsOf, IsSamePass};
@@ -12,14 +12,12 @@ use pl_desk::{Desk, Pass};
 use std::alloc::Global;
 use std::process::Abort;
 use std::sync::Wait;
-use std::test::Fail;
-use std::thread;
-use std::thread::Threads;
 
-const TURNS: u64 = 1 << 62;
+/// As many turns as a desk may have.
+pub(crate) const TURNS: u64 = 1 << 62;
 
-// A database with the start table, primary 2 and this limit.
-fn open(alloc: Global, audit: u64) -> Result<Db, Stop> {
+/// A database with the start table, primary 2 and this limit.
+pub(crate) fn open(alloc: Global, audit: u64) -> Result<Db, Stop> {
     let limits = Limits { audit, chunks: 16 };
     if !limits.are_valid() {
         return Err(Stop::Unread);
@@ -28,28 +26,31 @@ fn open(alloc: Global, audit: u64) -> Result<Db, Stop> {
     Db::new(alloc, table, 2, limits).map_err(|_| Stop::NoMemory)
 }
 
-// The reply to the request of the words. It is asked again where memory was refused.
-fn ask(
+/// The reply to the request of the line, as words. An error is that memory was refused, to the test
+/// or to the desk.
+pub(crate) fn ask(
     rt: &impl Wait,
     alloc: Global,
     desk: &Desk,
     pass: &mut Pass,
-    words: &[&str],
-) -> Result<Reply, Stop>
+    line: &str,
+) -> Result<String, Stop>
     requires of { IsOf desk.now pass.old }
     ensures same { IsSamePass pass.old pass.new }
 {
-    let request = request_of(alloc, 0, words)?.ok_or(Stop::Unread)?;
+    let words: Vec<&str> = line.split_whitespace().collect(alloc)?;
+    let request = request_of(alloc, 0, &words)?.ok_or(Stop::Unread)?;
     let reply = desk.call(rt, pass, request);
-    if !matches!(reply, Reply::NoMemory) {
-        return Ok(reply);
+    if matches!(reply, Reply::NoMemory) {
+        return Err(Stop::NoMemory);
     }
-    let request = request_of(alloc, 0, words)?.ok_or(Stop::Unread)?;
-    Ok(desk.call(rt, pass, request))
+    let mut text = String::new(alloc);
+    push_reply(&mut text, &reply)?;
+    Ok(text)
 }
 
-// Each line is answered as it says.
-fn play<R: Wait + Abort>(
+/// Each line is answered as it says.
+pub(crate) fn play<R: Wait + Abort>(
     rt: &R,
     alloc: Global,
     desk: &Desk,
@@ -61,35 +62,10 @@ fn play<R: Wait + Abort>(
 {
     for line in row.lines() {
         let (asked, wanted) = line.split_once('=').ok_or(Stop::Unread)?;
-        let words: Vec<&str> = asked.split_whitespace().collect(alloc)?;
-        let mut text = String::new(alloc);
-        push_reply(&mut text, &ask(rt, alloc, desk, pass, &words)?)?;
+        let text = ask(rt, alloc, desk, pass, asked)?;
         assert!(rt; text.trim() == wanted.trim(), "{line}, not {text}");
     }
     Ok(())
-}
-
-// How many of so many blocks, each with its LSN as its byte, are written to the copy.
-fn write_all(
-    rt: &impl Wait,
-    alloc: Global,
-    desk: &Desk,
-    pass: &mut Pass,
-    count: u64,
-    copy: &str,
-) -> Result<u64, Stop>
-    requires of { IsOf desk.now pass.old }
-    ensures same { IsSamePass pass.old pass.new }
-{
-    let mut done: u64 = 0;
-    for lsn in 1..=count {
-        let block = format!(in alloc; "{lsn}:{lsn:02x}")?;
-        let words = ["2", "22", "primary", "1", "write", block.as_str(), copy];
-        if matches!(ask(rt, alloc, desk, pass, &words)?, Reply::Done) {
-            done = done.saturating_add(1);
-        }
-    }
-    Ok(done)
 }
 
 // Plays a row of one pass, and returns its number and how many entries there are in the end.
@@ -122,7 +98,7 @@ const DESK_OF_ONE_SEAT: &str = "\
 #[test]
 fn desk_of_one_seat(rt: HostRuntime) {
     let mut ends = play_alone(&rt, rt.alloc(), TURNS, DESK_OF_ONE_SEAT);
-    if ends.is_err() {
+    if matches!(ends, Err(Stop::NoMemory)) {
         ends = play_alone(&rt, rt.alloc(), TURNS, DESK_OF_ONE_SEAT);
     }
     assert!(&rt; matches!(ends, Ok((1, 4))));
@@ -137,13 +113,14 @@ const TURNS_RUN_OUT: &str = "\
 #[test]
 fn turns_run_out(rt: HostRuntime) {
     let mut ends = play_alone(&rt, rt.alloc(), 2, TURNS_RUN_OUT);
-    if ends.is_err() {
+    if matches!(ends, Err(Stop::NoMemory)) {
         ends = play_alone(&rt, rt.alloc(), 2, TURNS_RUN_OUT);
     }
     assert!(&rt; matches!(ends, Ok((1, 2))));
 }
 
-const HARDENS: &str = "\
+/// A block is hardened.
+pub(crate) const HARDENS: &str = "\
 2 22 primary 1 write 1:aa 0 = Done
 2 22 primary 1 write 1:aa 1 = Done
 2 22 primary 1 report 1     = Done
@@ -172,44 +149,42 @@ fn play_three<R: Wait + Abort>(rt: &R, alloc: Global) -> Result<u64, Stop> {
 #[test]
 fn passes_that_meet(rt: HostRuntime) {
     let mut entries = play_three(&rt, rt.alloc());
-    if entries.is_err() {
+    if matches!(entries, Err(Stop::NoMemory)) {
         entries = play_three(&rt, rt.alloc());
     }
     assert!(&rt; matches!(entries, Ok(6)));
 }
 
-const REPORTS: &str = "\
-2 22 primary 1 report 32 = Done
-2 22 primary 1 status    = Status 1 2 32 0 32
-";
-
-// Two threads write the same blocks to two copies. It returns how many writes were done in each, and
-// how many entries there are in the end.
-fn write_two_copies<R: Threads + Wait + Abort + Sync>(
-    rt: &R,
-    alloc: Global,
-) -> Result<(u64, u64, u64), Stop> {
-    let Ok((desk, mut passes)) = Desk::new(alloc, open(alloc, 65_536)?, 2, TURNS) else {
-        return Err(Stop::NoMemory);
+// Opens a desk of the database and closes it, and returns how many entries there are in the end. Where
+// memory is refused, the database comes back.
+fn open_and_close(alloc: Global, db: Db) -> Result<u64, Db> {
+    let (desk, mut passes) = Desk::new(alloc, db, 2, TURNS)?;
+    let closed = match passes.pop() {
+        Some(pass) => desk.close(pass),
+        None => None,
     };
-    let mut q = passes.pop().ok_or(Stop::Unread)?;
-    let mut p = passes.pop().ok_or(Stop::Unread)?;
-    let (first, second) = thread::join_mut(
-        rt,
-        &mut || write_all(rt, alloc, &desk, &mut p, 32, "0"),
-        &mut || write_all(rt, alloc, &desk, &mut q, 32, "1"),
-    );
-    desk.meet(&mut p, q);
-    play(rt, alloc, &desk, &mut p, REPORTS)?;
-    let entries = desk.close(p).ok_or(Stop::Unread)?.audit_len();
-    Ok((first?, second?, entries))
+    Ok(closed.map_or(0, |db| db.audit_len()))
+}
+
+// The same of a database with one entry, and once more where it came back.
+fn reopen(alloc: Global) -> Result<u64, Stop> {
+    let mut db = open(alloc, 65_536)?;
+    let words = ["2", "22", "primary", "1", "status"];
+    let request = request_of(alloc, 0, &words)?.ok_or(Stop::Unread)?;
+    if matches!(db.step(1, request), Reply::NoMemory) {
+        return Err(Stop::NoMemory);
+    }
+    match open_and_close(alloc, db) {
+        Ok(entries) => Ok(entries),
+        Err(back) => open_and_close(alloc, back).map_err(|_| Stop::NoMemory),
+    }
 }
 
 #[test]
-fn two_threads_two_copies(rt: HostRuntime) {
-    let mut counts = write_two_copies(&rt, rt.alloc());
-    if counts.is_err() {
-        counts = write_two_copies(&rt, rt.alloc());
+fn database_comes_back(rt: HostRuntime) {
+    let mut entries = reopen(rt.alloc());
+    if matches!(entries, Err(Stop::NoMemory)) {
+        entries = reopen(rt.alloc());
     }
-    assert!(&rt; matches!(counts, Ok((32, 32, 66))));
+    assert!(&rt; matches!(entries, Ok(1)));
 }

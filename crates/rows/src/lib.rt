@@ -25,6 +25,8 @@ mod database;
 #[cfg(test)]
 mod decisions;
 #[cfg(test)]
+mod desk_changes;
+#[cfg(test)]
 mod desks;
 #[cfg(test)]
 mod entries;
