@@ -92,13 +92,13 @@ fn play_two<R: Threads + Wait + Abort + Sync>(
     Ok((first, second, desk.close(p).ok_or(Stop::Unread)?))
 }
 
-// How many answers of each thread are those up to the change, and how many entries there are in the
+// How many answers of both threads are those up to the change, and how many entries there are in the
 // end. Where memory is refused the row is played once more.
 fn ends_of<R: Threads + Wait + Abort + Sync>(
     rt: &R,
     alloc: Global,
     row: Row,
-) -> Result<(u64, u64, u64), Stop>
+) -> Result<(u64, u64), Stop>
     requires some { 1 ≤ row.turns }
     requires few { row.turns ≤ 2 ^ 62 }
 {
@@ -107,7 +107,7 @@ fn ends_of<R: Threads + Wait + Abort + Sync>(
         ends = play_two(rt, alloc, row);
     }
     let (first, second, db) = ends?;
-    Ok((first, second, db.audit_len()))
+    Ok((first.saturating_add(second), db.audit_len()))
 }
 
 const TWO_THREADS_TWO_COPIES: Row = Row {
@@ -133,7 +133,7 @@ const TWO_THREADS_TWO_COPIES: Row = Row {
 #[test]
 fn two_threads_two_copies(rt: HostRuntime) {
     let ends = ends_of(&rt, rt.alloc(), TWO_THREADS_TWO_COPIES);
-    assert!(&rt; matches!(ends, Ok((32, 32, 66))));
+    assert!(&rt; matches!(ends, Ok((64, 66))));
 }
 
 const FAILOVER_BENEATH_WRITES: Row = Row {
@@ -153,16 +153,19 @@ const FAILOVER_BENEATH_WRITES: Row = Row {
     after: "2 22 primary 1 status = Denied A2 2",
 };
 
+fn push_write(out: &mut String, number: u64, lsn: u64, verdict: &str) -> Result<(), Stop> {
+    Ok(write!(out, " {number}/1/2/primary/1/write/{lsn}/0/{verdict}")?)
+}
+
 // The first 65 lines of the audit list, where so many writes were allowed.
 fn push_writes(out: &mut String, allowed: u64) -> Result<(), Stop> {
     for number in 1..=65 {
-        let lsn = number - 1;
-        if lsn < allowed {
-            write!(out, " {number}/1/2/primary/1/write/{number}/0/allowed")?;
-        } else if lsn == allowed {
+        if number <= allowed {
+            push_write(out, number, number, "allowed")?;
+        } else if number - 1 == allowed {
             write!(out, " {number}/2/1/operator/1/failover/5/0/allowed")?;
         } else {
-            write!(out, " {number}/1/2/primary/1/write/{lsn}/0/A2:2")?;
+            push_write(out, number, number - 1, "A2:2")?;
         }
     }
     Ok(())
@@ -215,7 +218,7 @@ const TABLE_BENEATH_PULLS: Row = Row {
 #[test]
 fn table_beneath_pulls(rt: HostRuntime) {
     let ends = ends_of(&rt, rt.alloc(), TABLE_BENEATH_PULLS);
-    assert!(&rt; matches!(ends, Ok((_, 1, 69))));
+    assert!(&rt; matches!(ends, Ok((_, 69))));
 }
 
 const STATUSES: Asked = Asked {
@@ -236,7 +239,7 @@ const AUDIT_LIMIT_BENEATH_THREADS: Row = Row {
 #[test]
 fn audit_limit_beneath_threads(rt: HostRuntime) {
     let ends = ends_of(&rt, rt.alloc(), AUDIT_LIMIT_BENEATH_THREADS);
-    assert!(&rt; matches!(ends, Ok((first, second, 10)) if first.wrapping_add(second) == 10));
+    assert!(&rt; matches!(ends, Ok((10, 10))));
 }
 
 const STATUSES_UP_TO_SPENT: Asked = Asked {
@@ -257,10 +260,5 @@ const TURNS_BENEATH_THREADS: Row = Row {
 #[test]
 fn turns_beneath_threads(rt: HostRuntime) {
     let ends = ends_of(&rt, rt.alloc(), TURNS_BENEATH_THREADS);
-    assert!(&rt;
-        matches!(
-        ends,
-        Ok((first, second, entries @ (10 | 11))) if first.wrapping_add(second) == entries
-    )
-    );
+    assert!(&rt; matches!(ends, Ok((10, 10) | (11, 11))));
 }

@@ -23,7 +23,10 @@ pub(crate) fn open(alloc: Global, audit: u64) -> Result<Db, Stop> {
         return Err(Stop::Unread);
     }
     let table = table_named(alloc, "start")?;
-    Db::new(alloc, table, 2, limits).map_err(|_| Stop::NoMemory)
+    match Db::new(alloc, table, 2, limits) {
+        Ok(db) => Ok(db),
+        Err(_) => Err(Stop::NoMemory),
+    }
 }
 
 /// The reply to the request of the line, as words. An error is that memory was refused, to the test
@@ -155,36 +158,38 @@ fn passes_that_meet(rt: HostRuntime) {
     assert!(&rt; matches!(entries, Ok(6)));
 }
 
-// Opens a desk of the database and closes it, and returns how many entries there are in the end. Where
-// memory is refused, the database comes back.
-fn open_and_close(alloc: Global, db: Db) -> Result<u64, Db> {
+// Opens a desk of the database, and closes it again. Where memory is refused, it comes back.
+fn through_a_desk(alloc: Global, db: Db) -> Result<Option<Db>, Db> {
     let (desk, mut passes) = Desk::new(alloc, db, 2, TURNS)?;
-    let closed = match passes.pop() {
-        Some(pass) => desk.close(pass),
-        None => None,
-    };
-    Ok(closed.map_or(0, |db| db.audit_len()))
+    match passes.pop() {
+        Some(pass) => Ok(desk.close(pass)),
+        None => Ok(None),
+    }
 }
 
-// The same of a database with one entry, and once more where it came back.
-fn reopen(alloc: Global) -> Result<u64, Stop> {
+// How many entries a database of one entry has behind a desk. It goes through another where it came
+// back from the first.
+fn entries_behind_a_desk(alloc: Global) -> Result<u64, Stop> {
     let mut db = open(alloc, 65_536)?;
-    let words = ["2", "22", "primary", "1", "status"];
-    let request = request_of(alloc, 0, &words)?.ok_or(Stop::Unread)?;
-    if matches!(db.step(1, request), Reply::NoMemory) {
+    let request = request_of(alloc, 0, &["2", "22", "primary", "1", "status"])?;
+    if matches!(db.step(1, request.ok_or(Stop::Unread)?), Reply::NoMemory) {
         return Err(Stop::NoMemory);
     }
-    match open_and_close(alloc, db) {
-        Ok(entries) => Ok(entries),
-        Err(back) => open_and_close(alloc, back).map_err(|_| Stop::NoMemory),
-    }
+    let closed = match through_a_desk(alloc, db) {
+        Ok(closed) => closed,
+        Err(back) => match through_a_desk(alloc, back) {
+            Ok(closed) => closed,
+            Err(_) => return Err(Stop::NoMemory),
+        },
+    };
+    Ok(closed.ok_or(Stop::Unread)?.audit_len())
 }
 
 #[test]
 fn database_comes_back(rt: HostRuntime) {
-    let mut entries = reopen(rt.alloc());
+    let mut entries = entries_behind_a_desk(rt.alloc());
     if matches!(entries, Err(Stop::NoMemory)) {
-        entries = reopen(rt.alloc());
+        entries = entries_behind_a_desk(rt.alloc());
     }
     assert!(&rt; matches!(entries, Ok(1)));
 }
