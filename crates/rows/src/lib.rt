@@ -51,11 +51,15 @@ mod one_database;
 #[cfg(test)]
 mod pages;
 #[cfg(test)]
+mod principal_faults;
+#[cfg(test)]
 mod reply_bodies;
 #[cfg(test)]
 mod reply_faults;
 #[cfg(test)]
 mod reply_text;
+#[cfg(test)]
+mod row_faults;
 #[cfg(test)]
 mod rules;
 #[cfg(test)]

@@ -12,10 +12,10 @@ use std::process::Abort;
 use std::test::Fail;
 
 /// What a case is, the pieces of its text, and the code of the fault.
-type Case = (&'static str, &'static [&'static str], u8);
+pub(crate) type Case = (&'static str, &'static [&'static str], u8);
 
 /// What stands in front of the cases' pieces, the cases, and what stands behind.
-type Group = (
+pub(crate) type Group = (
     &'static [&'static str],
     &'static [Case],
     &'static [&'static str],
@@ -111,8 +111,8 @@ fn walk_once(rt: &impl Abort, alloc: Global, groups: &[Group]) -> Result<(), Sto
     Ok(())
 }
 
-// Walks over the cases; and once more, where an allocation failed.
-fn walk(rt: &impl Abort, alloc: Global, groups: &[Group]) -> Result<(), Fail> {
+/// Walks over the cases; and once more, where an allocation failed.
+pub(crate) fn walk(rt: &impl Abort, alloc: Global, groups: &[Group]) -> Result<(), Fail> {
     match walk_once(rt, alloc, groups) {
         Err(Stop::NoMemory) => walk_once(rt, alloc, groups)?,
         walked => walked?,
@@ -146,16 +146,22 @@ fn numbers_of_faults(rt: HostRuntime) {
     have_codes(&rt, &FAULTS);
 }
 
-// Two principals, their token, and the beginnings of two rows.
-const ONE: &str = "[[principal]]\nid = 1\ntoken = \"11111111111111111111111111111111\"\n";
+/// A principal.
+pub(crate) const ONE: &str =
+    "[[principal]]\nid = 1\ntoken = \"11111111111111111111111111111111\"\n";
 
-const TWO: &str = "[[principal]]\nid = 2\ntoken = \"22222222222222222222222222222222\"\n";
+/// Another principal.
+pub(crate) const TWO: &str =
+    "[[principal]]\nid = 2\ntoken = \"22222222222222222222222222222222\"\n";
 
-const TOKEN: &str = "token = \"11111111111111111111111111111111\"\n";
+/// The token of the first.
+pub(crate) const TOKEN: &str = "token = \"11111111111111111111111111111111\"\n";
 
-const ALLOW: &str = "[[row]]\nverdict = \"allow\"\n";
+/// The beginning of a row that allows.
+pub(crate) const ALLOW: &str = "[[row]]\nverdict = \"allow\"\n";
 
-const DENY: &str = "[[row]]\nverdict = \"deny\"\n";
+/// The beginning of a row that denies.
+pub(crate) const DENY: &str = "[[row]]\nverdict = \"deny\"\n";
 
 const DOCUMENTS: [Case; 20] = [
     ("a word", &["x"], 1),
@@ -203,202 +209,6 @@ const DOCUMENTS: [Case; 20] = [
 #[test]
 fn faults_of_documents(rt: HostRuntime) -> Result<(), Fail> {
     walk(&rt, rt.alloc(), &[(&[], &DOCUMENTS, &[])])
-}
-
-const KEYS: [Case; 4] = [
-    ("no key", &[], 5),
-    ("no token", &["id = 1\n"], 5),
-    (
-        "no id",
-        &["token = \"11111111111111111111111111111111\"\n"],
-        5,
-    ),
-    ("another key", &["id = 1\nname = \"a\"\n"], 5),
-];
-
-const IDS: [Case; 12] = [
-    ("a negative id", &["id = -1\n"], 6),
-    ("the id 4,294,967,296", &["id = 4294967296\n"], 6),
-    ("the id 2^63 - 1", &["id = 9223372036854775807\n"], 6),
-    ("a float", &["id = 1.0\n"], 6),
-    ("a string", &["id = \"1\"\n"], 6),
-    ("a boolean", &["id = true\n"], 6),
-    ("a date", &["id = 1979-05-27\n"], 6),
-    ("an array", &["id = [1]\n"], 6),
-    ("a dotted id", &["id.x = 1\n"], 6),
-    ("the id 4,294,967,295", &["id = 4294967295\n"], 0),
-    ("the id 0", &["id = 0\n"], 0),
-    ("an id in hexadecimal", &["id = 0x10\n"], 0),
-];
-
-const PRINCIPALS: [Group; 2] = [
-    (&["[[principal]]\n"], &KEYS, &[ALLOW]),
-    (&["[[principal]]\n"], &IDS, &[TOKEN, ALLOW]),
-];
-
-#[test]
-fn faults_of_principals(rt: HostRuntime) -> Result<(), Fail> {
-    walk(&rt, rt.alloc(), &PRINCIPALS)
-}
-
-const TOKENS: [Case; 9] = [
-    ("an integer", &["11111111"], 7),
-    ("an empty string", &["\"\""], 7),
-    ("30 digits", &["\"111111111111111111111111111111\""], 7),
-    ("31 digits", &["\"1111111111111111111111111111111\""], 7),
-    ("33 digits", &["\"111111111111111111111111111111111\""], 7),
-    ("34 digits", &["\"1111111111111111111111111111111111\""], 7),
-    (
-        "a letter past f",
-        &["\"1111111111111111111111111111111g\""],
-        7,
-    ),
-    ("an array", &["[\"11111111111111111111111111111111\"]"], 7),
-    (
-        "digits of either case",
-        &["\"aAbBcCdDeEfF00112233445566778899\""],
-        0,
-    ),
-];
-
-const OF_TOKENS: [Group; 1] = [(
-    &["[[principal]]\nid = 7\ntoken = "],
-    &TOKENS,
-    &["\n", ALLOW],
-)];
-
-#[test]
-fn faults_of_tokens(rt: HostRuntime) -> Result<(), Fail> {
-    walk(&rt, rt.alloc(), &OF_TOKENS)
-}
-
-const ROW_KEYS: [Case; 5] = [
-    ("no verdict", &["[[row]]\n", "who = 1\n"], 9),
-    ("no key", &["[[row]]\n"], 9),
-    ("another key", &[ALLOW, "quorum = 2\n"], 9),
-    ("only from", &[ALLOW, "from = 1\n"], 9),
-    ("only to", &[ALLOW, "to = 1\n"], 9),
-];
-
-const ROW_WORDS: [Case; 9] = [
-    ("another verdict", &["[[row]]\nverdict = \"maybe\"\n"], 10),
-    (
-        "a verdict in upper case",
-        &["[[row]]\nverdict = \"Allow\"\n"],
-        10,
-    ),
-    (
-        "a boolean for a verdict",
-        &["[[row]]\nverdict = true\n"],
-        10,
-    ),
-    ("another role", &[ALLOW, "role = \"writer\"\n"], 10),
-    ("a number for a role", &[ALLOW, "role = 1\n"], 10),
-    ("no operation", &[ALLOW, "op = []\n"], 10),
-    (
-        "an operation outside of an array",
-        &[ALLOW, "op = \"get\"\n"],
-        10,
-    ),
-    (
-        "another operation",
-        &[ALLOW, "op = [\"get\", \"read\"]\n"],
-        10,
-    ),
-    ("a number for an operation", &[ALLOW, "op = [4]\n"], 10),
-];
-
-const ROW_NUMBERS: [Case; 12] = [
-    ("who is not listed", &["who = 2\n"], 11),
-    ("who is negative", &["who = -1\n"], 11),
-    ("who is 1 above 2^32", &["who = 4294967297\n"], 11),
-    ("who is a string", &["who = \"1\"\n"], 11),
-    ("from above to", &["from = 5\nto = 4\n"], 11),
-    ("from is negative", &["from = -1\nto = 4\n"], 11),
-    ("to is 65,536", &["from = 0\nto = 65536\n"], 11),
-    ("from is a float", &["from = 0.0\nto = 1\n"], 11),
-    ("to is a date", &["from = 0\nto = 1979-05-27\n"], 11),
-    ("all partitions", &["from = 0\nto = 65535\n"], 0),
-    ("one partition", &["from = 9\nto = 9\n"], 0),
-    (
-        "an operation twice",
-        &["op = [\"tidy\", \"set_table\", \"tidy\"]\n"],
-        0,
-    ),
-];
-
-const ROWS: [Group; 3] = [
-    (&[ONE], &ROW_KEYS, &[]),
-    (&[ONE], &ROW_WORDS, &[]),
-    (&[ONE, ALLOW], &ROW_NUMBERS, &[]),
-];
-
-#[test]
-fn faults_of_rows(rt: HostRuntime) -> Result<(), Fail> {
-    walk(&rt, rt.alloc(), &ROWS)
-}
-
-const SETTING: [Case; 13] = [
-    ("no row", &[], 12),
-    ("a row that denies all", &[DENY, ALLOW], 12),
-    ("only the secondary", &[ALLOW, "role = \"secondary\"\n"], 12),
-    ("only failovers", &[ALLOW, "op = [\"failover\"]\n"], 12),
-    ("as operator", &[ALLOW, "role = \"operator\"\n"], 0),
-    (
-        "set_table alone",
-        &[ALLOW, "op = [\"get\", \"set_table\"]\n"],
-        0,
-    ),
-    (
-        "the second principal",
-        &[ALLOW, "who = 2\nrole = \"operator\"\n"],
-        0,
-    ),
-    (
-        "in a range of partitions",
-        &[ALLOW, "from = 3\nto = 4\n"],
-        0,
-    ),
-    (
-        "each denied before",
-        &[
-            DENY,
-            "role = \"operator\"\n",
-            ALLOW,
-            "role = \"operator\"\n",
-        ],
-        12,
-    ),
-    (
-        "denied in a range",
-        &[
-            DENY,
-            "op = [\"set_table\"]\nfrom = 0\nto = 0\n",
-            ALLOW,
-            "role = \"operator\"\n",
-        ],
-        12,
-    ),
-    (
-        "the one of two denied",
-        &[DENY, "who = 1\n", ALLOW, "role = \"operator\"\n"],
-        0,
-    ),
-    (
-        "denied as primary",
-        &[DENY, "role = \"primary\"\n", ALLOW, "role = \"operator\"\n"],
-        0,
-    ),
-    (
-        "denied to get",
-        &[DENY, "op = [\"get\"]\n", ALLOW, "role = \"operator\"\n"],
-        0,
-    ),
-];
-
-#[test]
-fn who_may_set_the_table(rt: HostRuntime) -> Result<(), Fail> {
-    walk(&rt, rt.alloc(), &[(&[ONE, TWO], &SETTING, &[])])
 }
 
 const BAD_ID: &str = "[[principal]]\nid = -1\ntoken = \"11111111111111111111111111111111\"\n";
