@@ -3,7 +3,7 @@
 use crate::block_text::block_of;
 use crate::table_text::text_named;
 use crate::transcript::Stop;
-use pl_table::{Act, Head, Request, Role, TableText};
+use pl_table::{Act, Head, Op, Request, Role, TableText};
 use std::alloc::Global;
 
 // The 16 bytes of 32 hexadecimal digits, or of one byte that is repeated.
@@ -28,70 +28,125 @@ pub(crate) fn head_of(database: u32, words: [&str; 4]) -> Result<Head, Stop> {
     })
 }
 
-/// A table's text, of a name or of so many spaces.
-fn text_of(alloc: Global, words: &[&str]) -> Result<TableText, Stop> {
-    let text = match words {
-        ["spaces", count] => vec![in alloc; b' '; count.parse()?]?,
-        [name] => text_named(alloc, name)?,
-        _ => return Err(Stop::Unread),
-    };
-    Ok(TableText::new(alloc, text)?)
-}
-
 /// The act of the words.
 pub(crate) fn act_of(alloc: Global, words: &[&str]) -> Result<Act, Stop> {
-    let act = match words {
-        ["write", block, copy] => Act::Write {
-            copy: copy.parse()?,
-            block: block_of(alloc, block)?,
-        },
-        ["offer", block] => Act::Offer {
-            block: block_of(alloc, block)?,
-        },
-        ["get", page, lsn] => get_of(page, lsn, false)?,
-        ["get", page, lsn, "exact"] => get_of(page, lsn, true)?,
-        ["pull", lo, hi, lsn, max] => Act::Pull {
-            lo: lo.parse()?,
-            hi: hi.parse()?,
-            lsn: lsn.parse()?,
-            max: max.parse()?,
-        },
-        ["set_table", text @ ..] => Act::SetTable {
-            text: text_of(alloc, text)?,
-        },
-        _ => return short_act_of(words),
+    let [name, arguments @ ..] = words else {
+        return Err(Stop::Unread);
     };
-    Ok(act)
+    match Op::of_name(name).ok_or(Stop::Unread)? {
+        Op::Write => write_of(alloc, arguments),
+        Op::Offer => offer_of(alloc, arguments),
+        Op::Report => report_of(arguments),
+        Op::Get => get_of(arguments),
+        Op::Pull => pull_of(arguments),
+        Op::Advance => advance_of(arguments),
+        Op::Status => plain_act_of(Act::Status, arguments),
+        Op::Failover => failover_of(arguments),
+        Op::SetTable => set_table_of(alloc, arguments),
+        Op::Audit => audit_of(arguments),
+        Op::Tidy => plain_act_of(Act::Tidy, arguments),
+    }
 }
 
-fn get_of(page: &str, lsn: &str, exact: bool) -> Result<Act, Stop> {
+fn write_of(alloc: Global, words: &[&str]) -> Result<Act, Stop> {
+    let [block, copy] = words else {
+        return Err(Stop::Unread);
+    };
+    let copy = copy.parse()?;
+    let block = block_of(alloc, block)?;
+    Ok(Act::Write { copy, block })
+}
+
+fn offer_of(alloc: Global, words: &[&str]) -> Result<Act, Stop> {
+    let [block] = words else {
+        return Err(Stop::Unread);
+    };
+    let block = block_of(alloc, block)?;
+    Ok(Act::Offer { block })
+}
+
+fn report_of(words: &[&str]) -> Result<Act, Stop> {
+    let [lsn] = words else {
+        return Err(Stop::Unread);
+    };
+    Ok(Act::Report { lsn: lsn.parse()? })
+}
+
+fn get_of(words: &[&str]) -> Result<Act, Stop> {
+    let [page, lsn, exact @ ..] = words else {
+        return Err(Stop::Unread);
+    };
+    let is_exact = match exact {
+        [] => false,
+        ["exact"] => true,
+        _ => return Err(Stop::Unread),
+    };
     Ok(Act::Get {
         page: page.parse()?,
         lsn: lsn.parse()?,
-        exact,
+        exact: is_exact,
     })
 }
 
-// An act of one or two numbers, or of none.
-fn short_act_of(words: &[&str]) -> Result<Act, Stop> {
-    let act = match words {
-        ["report", lsn] => Act::Report { lsn: lsn.parse()? },
-        ["advance", partition, steps] => Act::Advance {
-            partition: partition.parse()?,
-            steps: steps.parse()?,
-        },
-        ["status"] => Act::Status,
-        ["failover", primary] => Act::Failover {
-            primary: primary.parse()?,
-        },
-        ["audit", first, max] => Act::Audit {
-            first: first.parse()?,
-            max: max.parse()?,
-        },
-        ["tidy"] => Act::Tidy,
+fn pull_of(words: &[&str]) -> Result<Act, Stop> {
+    let [lo, hi, lsn, max] = words else {
+        return Err(Stop::Unread);
+    };
+    Ok(Act::Pull {
+        lo: lo.parse()?,
+        hi: hi.parse()?,
+        lsn: lsn.parse()?,
+        max: max.parse()?,
+    })
+}
+
+fn advance_of(words: &[&str]) -> Result<Act, Stop> {
+    let [partition, steps] = words else {
+        return Err(Stop::Unread);
+    };
+    Ok(Act::Advance {
+        partition: partition.parse()?,
+        steps: steps.parse()?,
+    })
+}
+
+fn failover_of(words: &[&str]) -> Result<Act, Stop> {
+    let [primary] = words else {
+        return Err(Stop::Unread);
+    };
+    Ok(Act::Failover {
+        primary: primary.parse()?,
+    })
+}
+
+// The text is of a name, or of so many spaces.
+fn set_table_of(alloc: Global, words: &[&str]) -> Result<Act, Stop> {
+    let bytes = match words {
+        [name] => text_named(alloc, name)?,
+        [_spaces, count] => vec![in alloc; b' '; count.parse()?]?,
         _ => return Err(Stop::Unread),
     };
-    Ok(act)
+    let text = TableText::new(alloc, bytes)?;
+    Ok(Act::SetTable { text })
+}
+
+fn audit_of(words: &[&str]) -> Result<Act, Stop> {
+    let [first, max] = words else {
+        return Err(Stop::Unread);
+    };
+    Ok(Act::Audit {
+        first: first.parse()?,
+        max: max.parse()?,
+    })
+}
+
+// The act, of which no number is told.
+fn plain_act_of(act: Act, words: &[&str]) -> Result<Act, Stop> {
+    if words.is_empty() {
+        Ok(act)
+    } else {
+        Err(Stop::Unread)
+    }
 }
 
 /// The request of the words, or `None` where a number of the act is out of its range.

@@ -38,13 +38,14 @@ fn record_of(alloc: Global, text: &str) -> Result<Record, Stop> {
 /// The number and the records of the word.
 pub(crate) fn parts_of(alloc: Global, word: &str) -> Result<(u64, Vec<Record>), Stop> {
     let (lsn, entries) = word.split_once(':').ok_or(Stop::Unread)?;
+    let lsn = lsn.parse()?;
     let mut records = Vec::new(alloc);
     for entry in entries.split(',') {
         if !entry.is_empty() {
             records.push(record_of(alloc, entry)?)?;
         }
     }
-    Ok((lsn.parse()?, records))
+    Ok((lsn, records))
 }
 
 /// The block of the word.

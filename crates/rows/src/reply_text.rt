@@ -122,7 +122,10 @@ fn lines_of(alloc: Global, times: usize, words: &[&str]) -> Result<Lines, Stop> 
     Ok(Lines::new(lines))
 }
 
-fn denied_of(place: &str, value: &str) -> Result<Reply, Stop> {
+fn denied_of(words: &[&str]) -> Result<Reply, Stop> {
+    let [place, value] = words else {
+        return Err(Stop::Unread);
+    };
     let (section, row) = section_of(place).ok_or(Stop::Unread)?;
     Ok(Reply::Denied {
         section,
@@ -131,49 +134,71 @@ fn denied_of(place: &str, value: &str) -> Result<Reply, Stop> {
     })
 }
 
-// The reply that has a list.
-fn long_reply_of(alloc: Global, words: &[&str]) -> Result<Reply, Stop> {
-    let reply = match words {
-        ["Blocks", next, blocks @ ..] => Reply::Blocks {
-            next: next.parse()?,
-            blocks: blocks_of(alloc, blocks)?,
-        },
-        ["Page", at, "of", len] => Reply::Page {
-            at: at.parse()?,
-            bytes: page_of(alloc, len.parse()?, &[])?,
-        },
-        ["Page", at, bytes @ ..] => Reply::Page {
-            at: at.parse()?,
-            bytes: page_of(alloc, 8_192, bytes)?,
-        },
-        ["Entries", "times", times, lines @ ..] => Reply::Entries {
-            lines: lines_of(alloc, times.parse()?, lines)?,
-        },
-        ["Entries", lines @ ..] => Reply::Entries {
-            lines: lines_of(alloc, 1, lines)?,
-        },
-        _ => return Err(Stop::Unread),
+fn status_of(words: &[&str]) -> Result<Reply, Stop> {
+    let [epoch, primary, hard, pending, landing] = words else {
+        return Err(Stop::Unread);
     };
-    Ok(reply)
+    Ok(Reply::Status {
+        epoch: epoch.parse()?,
+        primary: primary.parse()?,
+        hard: hard.parse()?,
+        pending: pending.parse()?,
+        landing: landing.parse()?,
+    })
+}
+
+fn served_of(alloc: Global, words: &[&str]) -> Result<Reply, Stop> {
+    let [next, blocks @ ..] = words else {
+        return Err(Stop::Unread);
+    };
+    let next = next.parse()?;
+    let blocks = blocks_of(alloc, blocks)?;
+    Ok(Reply::Blocks { next, blocks })
+}
+
+fn page_reply_of(alloc: Global, words: &[&str]) -> Result<Reply, Stop> {
+    let [at, bytes @ ..] = words else {
+        return Err(Stop::Unread);
+    };
+    let at = at.parse()?;
+    let bytes = match bytes {
+        ["of", len] => page_of(alloc, len.parse()?, &[])?,
+        _ => page_of(alloc, 8_192, bytes)?,
+    };
+    Ok(Reply::Page { at, bytes })
+}
+
+fn entries_of(alloc: Global, words: &[&str]) -> Result<Reply, Stop> {
+    let lines = match words {
+        ["times", times, lines @ ..] => lines_of(alloc, times.parse()?, lines)?,
+        _ => lines_of(alloc, 1, words)?,
+    };
+    Ok(Reply::Entries { lines })
+}
+
+// The reply that is one word, or has one number.
+fn short_reply_of(name: &str, words: &[&str]) -> Result<Reply, Stop> {
+    match words {
+        [] => plain_reply(name).ok_or(Stop::Unread),
+        [code] if name == "Malformed" => Ok(Reply::Malformed {
+            code: code.parse()?,
+        }),
+        _ => Err(Stop::Unread),
+    }
 }
 
 /// The reply of the words.
 pub(crate) fn reply_of(alloc: Global, words: &[&str]) -> Result<Reply, Stop> {
-    match words {
-        ["Blocks" | "Page" | "Entries", ..] => long_reply_of(alloc, words),
-        ["Status", epoch, primary, hard, pending, landing] => Ok(Reply::Status {
-            epoch: epoch.parse()?,
-            primary: primary.parse()?,
-            hard: hard.parse()?,
-            pending: pending.parse()?,
-            landing: landing.parse()?,
-        }),
-        ["Denied", place, value] => denied_of(place, value),
-        ["Malformed", code] => Ok(Reply::Malformed {
-            code: code.parse()?,
-        }),
-        [word] => plain_reply(word).ok_or(Stop::Unread),
-        _ => Err(Stop::Unread),
+    let [name, words @ ..] = words else {
+        return Err(Stop::Unread);
+    };
+    match *name {
+        "Blocks" => served_of(alloc, words),
+        "Page" => page_reply_of(alloc, words),
+        "Entries" => entries_of(alloc, words),
+        "Status" => status_of(words),
+        "Denied" => denied_of(words),
+        name => short_reply_of(name, words),
     }
 }
 

@@ -73,22 +73,30 @@ fn push_head(out: &mut String, head: &Head) -> Result<(), Stop> {
     push_numbers(out, &[u64::from(head.database), u64::from(head.epoch)])
 }
 
+// The bytes of an act's arguments.
+fn arguments_of(alloc: Global, words: &[&str]) -> Result<Vec<u8>, Stop> {
+    match words {
+        ["fill", byte, count] => {
+            let byte = u8::from_str_radix(byte, 16)?;
+            Ok(vec![in alloc; byte; count.parse()?]?)
+        }
+        ["text", name] => text_named(alloc, name),
+        _ => bytes_of(alloc, words),
+    }
+}
+
 impl Wire {
-    // The body of 2, of database 0 and epoch 1, with this role, operation and arguments.
-    fn body_of(&self, role: &str, op: &str, arguments: &[&str]) -> Result<Vec<u8>, Stop> {
+    // The body of 2, of database 0 and epoch 1, with the role, the operation and the arguments.
+    fn body_of(&self, words: &[&str]) -> Result<Vec<u8>, Stop> {
+        let [role, op, arguments @ ..] = words else {
+            return Err(Stop::Unread);
+        };
+        let fixed = [role.parse()?, 0, 0, 0, 0, 0, 0, 0, 1, op.parse()?];
+        let arguments = arguments_of(self.alloc, arguments)?;
         let token = "22222222222222222222222222222222";
         let mut body = bytes_of(self.alloc, &["00000002", token])?;
-        body.push(role.parse()?)?;
-        body.extend_from_slice(&[0, 0, 0, 0, 0, 0, 0, 1])?;
-        body.push(op.parse()?)?;
-        match arguments {
-            ["fill", byte, count] => {
-                let byte = u8::from_str_radix(byte, 16)?;
-                body.extend_from_slice(&vec![in self.alloc; byte; count.parse()?]?)?;
-            }
-            ["text", name] => body.extend_from_slice(&text_named(self.alloc, name)?)?,
-            words => body.extend_from_slice(&bytes_of(self.alloc, words)?)?,
-        }
+        body.extend_from_slice(&fixed)?;
+        body.extend_from_slice(&arguments)?;
         Ok(body)
     }
 
@@ -191,15 +199,16 @@ impl Subject for Wire {
         out: &mut String,
         _refused: &mut bool,
     ) -> Result<(), Stop> {
-        match words {
-            ["act", role, op, arguments @ ..] => {
-                self.push_act_in(&self.body_of(role, op, arguments)?, out)
-            }
-            ["body", bytes @ ..] => self.push_request_in(&bytes_of(self.alloc, bytes)?, out),
-            ["request", request @ ..] => self.push_body_of(request, out),
-            ["reply", reply @ ..] => self.push_reply_of(reply, out, true),
-            ["size", reply @ ..] => self.push_reply_of(reply, out, false),
-            ["answer", bytes @ ..] => self.push_reply_in(&bytes_of(self.alloc, bytes)?, out),
+        let [name, words @ ..] = words else {
+            return Err(Stop::Unread);
+        };
+        match *name {
+            "act" => self.push_act_in(&self.body_of(words)?, out),
+            "body" => self.push_request_in(&bytes_of(self.alloc, words)?, out),
+            "request" => self.push_body_of(words, out),
+            "reply" => self.push_reply_of(words, out, true),
+            "size" => self.push_reply_of(words, out, false),
+            "answer" => self.push_reply_in(&bytes_of(self.alloc, words)?, out),
             _ => Err(Stop::Unread),
         }
     }
