@@ -17,8 +17,23 @@ use Rattle.pl_decide.specs.declared.view.Epochs.{Epochs}
 use Rattle.pl_decide.specs.declared.view.View.{View}
 use Rattle.pl_table.specs.Acts.{block_of, asked_at}
 use Rattle.pl_decide.specs.Asked.{is_known, reads_the_log, last_epoch}
+use Rattle.pl_table.specs.declared.row.Row.{Row}
+use Rattle.pl_table.specs.Row.{row_matches}
+use Rattle.pl_table.specs.FirstMatch.{first_match_from}
+use Rattle.pl_decide.specs.declared.key.VerdictKey.{VerdictKey}
+use Rattle.pl_decide.specs.Keys.{IsKeyOf}
 use Rattle.pl_decide.specs.Rules.{stands_against}
 use Rattle.pl_decide.specs.WrittenOrder.{first_denial, decision, NoneStands, IsFirstDenial}
+
+-- requests of one key are matched by the same rows
+abbrev pub OneKeyIsMatchedAlike : Type 0
+OneKeyIsMatchedAlike = (key : VerdictKey) (q r : Query) → IsKeyOf key q → IsKeyOf key r
+    → (row : Row) → row_matches row q ≡ row_matches row r
+
+-- so the first row that matches is the same
+abbrev pub OneKeyOneVerdict : Type 0
+OneKeyOneVerdict = (key : VerdictKey) (q r : Query) → IsKeyOf key q → IsKeyOf key r
+    → (rows : List Row) → first_match_from 1 rows q ≡ first_match_from 1 rows r
 
 -- a request is allowed exactly where no rule of the order stands against it, whatever the order
 abbrev pub AllowedExactly : Type 0

@@ -1,6 +1,7 @@
 pub mod Asked
 pub mod Rules
 pub mod WrittenOrder
+pub mod Keys
 pub mod Agreement
 pub mod Laws
 pub use Rattle.pl_block.specs.Block

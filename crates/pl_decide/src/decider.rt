@@ -1,17 +1,25 @@
 //! The decision: the first rule of the written order that stands against a request.
 
-ghost use Rattle.std.specs.Prelude.{◌≡◌, ◌≢◌, ◌==◌, ◌&&◌, ◌↔◌, ◌++◌, not, true, length, ℕ, Some, None};
+ghost use Rattle.std.specs.Prelude.{◌≡◌, ◌≢◌, ◌==◌, ◌≤◌, ◌&&◌, ◌↔◌, ◌++◌, not, true, [], length, ℕ, Some, None, IfOk, IfSome, IsTrue, Contains};
 ghost use Rattle.pl_block.specs.Block.{Content};
 ghost use Rattle.pl_table.specs.Ops.{same_role};
 ghost use Rattle.pl_table.specs.Table.{WrittenTable};
+ghost use Rattle.pl_table.specs.FirstMatch.{first_match_from};
 ghost use Rattle.pl_decide.specs.Asked.{is_known};
 ghost use Rattle.pl_decide.specs.WrittenOrder.{decision, section_b, section_c, order_of, first_denial, NoneStands, IsFirstDenial};
-ghost use Rattle.pl_decide.specs.Agreement.{AgreesWith};
+ghost use Rattle.pl_decide.specs.Keys.{IsKeyOf};
+ghost use Rattle.pl_decide.specs.Agreement.{AgreesWith, most_cached};
 
+use crate::cache::{Found, are_of_rows, find, keep};
+use crate::key::VerdictKey;
 use crate::rule::Rule;
 use crate::view::{Epochs, View};
+use lru::LruCache;
 use pl_block::WINDOW;
 use pl_table::{Act, Head, Request, Role, Table, Verdict};
+use std::alloc::{AllocError, Global};
+use std::marker::Model;
+use std::num::NonZeroUsize;
 
 /// Whether the table lists the principal with this token, which is what the first rule asks. The
 /// principals, at most 64, are looked at one by one, without memory.
@@ -24,30 +32,77 @@ pub fn known(table: &Table, head: &Head) -> bool
     }
 }
 
+/// The most verdicts that a decider keeps.
+const MOST_CACHED: usize = 1024;
+
+// A verdict of one of so many rows at the head of the table is found as fast as it is looked up.
+const NEAR_ROWS: u16 = 64;
+
 /// Decides on requests, one after the other. What was asked before makes no difference.
-// It keeps nothing yet. Its calls have the form that a cache of verdicts by table needs.
+///
+/// It keeps what the rows of the table said of up to 1,024 keys, those used last, where the walk over
+/// the rows was long.
 #[derive(Debug, Drop)]
-pub struct Decider;
+pub struct Decider {
+    verdicts: LruCache<VerdictKey, Found>,
+}
+
+impl Model for Decider {
+    ghost use Rattle.std.specs.Prelude.{List};
+    ghost use Rattle.pl_decide.specs.Keys.{CachedVerdict};
+    ghost use Rattle.pl_decide.specs.Keys.{IsKeyOf};
+    ghost use Rattle.pl_decide.specs.Agreement.{IsCache};
+
+    ghost Value = { List CachedVerdict };
+
+    ghost view = { λ d. d.verdicts.entries };
+
+    ghost invariant = { λ d. IsCache d.verdicts };
+}
 
 impl Decider {
-    /// A decider that was asked nothing, for any table.
-    #[tactic(auto, unfolding(crate::specs::Agreement::AgreesWith))]
-    pub fn new() -> Decider
-        ensures agrees { (table : WrittenTable) → AgreesWith result table }
+    /// A decider that was asked nothing, for any table. `Err` where an allocation failed.
+    ///
+    /// It allocates two entries of its cache; the others are allocated as verdicts are cached.
+    pub fn new(alloc: Global) -> Result<Decider, AllocError>
+        ensures empty { IfOk result (λ d. d ≡ []) }
+        ensures agrees { IfOk result (λ d. (table : WrittenTable) → AgreesWith d table) }
     {
-        Decider
+        let most = NonZeroUsize::new(MOST_CACHED).unwrap();
+        Ok(Decider {
+            verdicts: LruCache::sparse(alloc, most)?,
+        })
     }
 
     /// To be called when another table comes into force. Nothing of an older one is kept.
-    #[tactic(auto, unfolding(crate::specs::Agreement::AgreesWith))]
     pub fn new_table(&mut self)
+        ensures empty { self.new ≡ [] }
         ensures agrees { (table : WrittenTable) → AgreesWith self.new table }
-    {}
+    {
+        self.verdicts.clear();
+    }
+
+    /// How many verdicts are cached, at most 1,024. Nothing is allocated.
+    pub fn cached(&self) -> usize
+        ensures value { result ≡ length self.now }
+        ensures most { result ≤ most_cached }
+    {
+        self.verdicts.len()
+    }
+
+    /// Whether each cached verdict is that of the table's rows, for all requests of its key. Each row
+    /// is looked at for each of them, up to the first that matches. Nothing is allocated.
+    pub fn agrees_with(&self, table: &Table) -> bool
+        ensures exact { IsTrue result ↔ AgreesWith self.now table.now }
+    {
+        are_of_rows(&self.verdicts, table.rows())
+    }
 
     /// The verdict on any request: the denial of the first rule of the written order that stands
     /// against it, or that none does.
     ///
-    /// Each row of the table is looked at once, up to the first that matches. No memory is taken.
+    /// The rows of the table that can match are looked at, up to the first that does, or what they said
+    /// of the same key is looked up. Where it is to be cached and an allocation fails, it is not.
     pub fn decide(
         &mut self,
         table: &Table,
@@ -88,29 +143,83 @@ impl Decider {
             (order_of table.now) request.now table.now epochs.now view.now }
         ensures agrees { AgreesWith self.new table.now }
     {
-        decide_by_head(table, *epochs, *view, request)
+        self.decide_by_head(table, *epochs, *view, request)
+    }
+
+    // The verdict on a known principal's request.
+    fn decide_by_head(
+        &mut self,
+        table: &Table,
+        epochs: Epochs,
+        view: View,
+        request: &Request,
+    ) -> Verdict
+        requires agrees { AgreesWith self.old table.now }
+        requires known { is_known table.now request.now.head ≡ true }
+        ensures value { result ≡ decision request.now table.now epochs view }
+        ensures agrees { AgreesWith self.new table.now }
+    {
+        let head = request.head();
+        if head.epoch < epochs.epoch {
+            return Rule::OlderEpoch.denial(u64::from(epochs.epoch));
+        }
+        if epochs.epoch < head.epoch {
+            return Rule::NewerEpoch.denial(u64::from(epochs.epoch));
+        }
+        if is_other_primary(head, epochs.primary) {
+            return Rule::OtherPrimary.denial(0);
+        }
+        if !head.role.has(request.act().op()) {
+            return Rule::RoleLacksOperation.denial(0);
+        }
+        let found = self.first_match(table, request);
+        decide_by_table(found, table, epochs, view, request)
+    }
+
+    // The first row of the table that matches, as `Table::first_match` finds it.
+    fn first_match(&mut self, table: &Table, request: &Request) -> Found
+        requires agrees { AgreesWith self.old table.now }
+        ensures value { result ≡ first_match_from 1 table.now.rows request.now }
+        ensures agrees { AgreesWith self.new table.now }
+    {
+        let Some(key) = VerdictKey::of(request) else {
+            return table.first_match(request);
+        };
+        if let Some(found) = self.look_up(key) {
+            return found;
+        }
+        let found = table.first_match(request);
+        if is_far(found) {
+            self.cache(table, request, key, found);
+        }
+        found
+    }
+
+    // What is cached under the key.
+    fn look_up(&mut self, key: VerdictKey) -> Option<Found>
+        ensures found { IfSome result (λ found. Contains self.old (key, found)) }
+        ensures agrees { (table : WrittenTable) → AgreesWith self.old table → AgreesWith self.new table }
+    {
+        find(&mut self.verdicts, key)
+    }
+
+    // Caches what was found for the request, which has this key.
+    fn cache(&mut self, table: &Table, request: &Request, key: VerdictKey, found: Found)
+        requires agrees { AgreesWith self.old table.now }
+        requires key { IsKeyOf key request.now }
+        requires found { found ≡ first_match_from 1 table.now.rows request.now }
+        ensures agrees { AgreesWith self.new table.now }
+    {
+        keep(&mut self.verdicts, key, found);
     }
 }
 
-// The verdict on a known principal's request.
-fn decide_by_head(table: &Table, epochs: Epochs, view: View, request: &Request) -> Verdict
-    requires known { is_known table.now request.now.head ≡ true }
-    ensures value { result ≡ decision request.now table.now epochs view }
-{
-    let head = request.head();
-    if head.epoch < epochs.epoch {
-        return Rule::OlderEpoch.denial(u64::from(epochs.epoch));
+// Whether it took a long walk over the rows to find.
+fn is_far(found: Found) -> bool {
+    match found {
+        Some((row, _)) => row > NEAR_ROWS,
+        None => true,
     }
-    if epochs.epoch < head.epoch {
-        return Rule::NewerEpoch.denial(u64::from(epochs.epoch));
-    }
-    if is_other_primary(head, epochs.primary) {
-        return Rule::OtherPrimary.denial(0);
-    }
-    if !head.role.has(request.act().op()) {
-        return Rule::RoleLacksOperation.denial(0);
-    }
-    decide_by_table(table, epochs, view, request)
 }
 
 // Whether it asks as primary, and another one is the primary.
@@ -121,12 +230,19 @@ fn is_other_primary(head: &Head, primary: u32) -> bool
     head.role.number() == Role::Primary.number() && head.principal != primary
 }
 
-// The verdict of sections B and C.
-fn decide_by_table(table: &Table, epochs: Epochs, view: View, request: &Request) -> Verdict
+// The verdict of sections B and C, where this is the first row of the table that matches.
+fn decide_by_table(
+    found: Found,
+    table: &Table,
+    epochs: Epochs,
+    view: View,
+    request: &Request,
+) -> Verdict
+    requires found { found ≡ first_match_from 1 table.now.rows request.now }
     ensures value { result ≡ first_denial (section_b (length table.now.rows) ++ section_c)
         request.now table.now epochs view }
 {
-    match table.first_match(request) {
+    match found {
         None => Rule::NoRowMatches.denial(0),
         Some((row, allows)) => {
             if allows {

@@ -1,7 +1,7 @@
 //! What follows from the written order. Each function is a law: its clauses hold of all requests,
 //! tables, epochs and views, and its body does nothing.
 
-ghost use Rattle.pl_decide.specs.Laws.{AllowedExactly, DeniedByTheFirst, AllowedMeetsNoRule, AllowedMayBeServed, UnknownIsDenied, KnownIsNotUnknown, OlderEpochIsDenied, ViewsDecideAlike, ReadsReachTheEnd};
+ghost use Rattle.pl_decide.specs.Laws.{AllowedExactly, DeniedByTheFirst, AllowedMeetsNoRule, AllowedMayBeServed, UnknownIsDenied, KnownIsNotUnknown, OlderEpochIsDenied, ViewsDecideAlike, ReadsReachTheEnd, OneKeyIsMatchedAlike, OneKeyOneVerdict};
 
 /// In any order of rules, a request is allowed exactly where no rule stands against it. Elsewhere
 /// the verdict is the denial of the first rule that does.
@@ -42,4 +42,11 @@ pub fn views_decide_alike()
 /// it, it is denied as C1.
 pub fn reads_reach_the_end()
     ensures reach { ReadsReachTheEnd }
+{}
+
+/// Requests with one key, which have the principal, the role, the operation and the partition in
+/// common, are matched by the same rows. So the verdict of one is that of all.
+pub fn one_key_has_one_verdict()
+    ensures rows { OneKeyIsMatchedAlike }
+    ensures first { OneKeyOneVerdict }
 {}

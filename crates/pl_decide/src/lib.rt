@@ -6,11 +6,14 @@
 //! the order.
 #![tactic(auto)]
 
+mod cache;
 mod decider;
+mod key;
 pub mod laws;
 mod rule;
 mod view;
 
 pub use decider::{Decider, known};
+pub use key::VerdictKey;
 pub use rule::Rule;
 pub use view::{Epochs, View};

@@ -1,0 +1,82 @@
+-- Cached verdicts: what a look-up and a put leave of them.
+use Rattle.std.proofs.Common.{◌≡◌, ℕ, ◌+◌, ◌⊎◌, Bool, true, List, [], ◌∷◌, Option, Some, None, Contains, All, sym, ap, subst, ◌∙◌, inl, inr}
+use Rattle.std.specs.Prelude.{cond}
+use Rattle.std.proofs.lemmas.List.Elements.{All-contains, All-contains_itself, All-nil}
+use Rattle.lru.specs.LruCache.{LruCache}
+use Rattle.pl_table.specs.declared.row.Row.{Row}
+use Rattle.pl_table.specs.Request.{Query}
+use Rattle.pl_table.specs.Row.{row_matches}
+use Rattle.pl_table.specs.Table.{WrittenTable}
+use Rattle.pl_table.specs.FirstMatch.{first_match_from}
+use Rattle.pl_decide.specs.declared.key.VerdictKey.{VerdictKey}
+use Rattle.pl_decide.specs.Keys.{CachedVerdict, IsKeyOf}
+use Rattle.pl_decide.specs.Agreement.{most_cached, IsOfRows, IsOfRequest, AgreesWith, IsCache}
+
+abbrev pub Cache : Type 0
+Cache = LruCache VerdictKey (Option (ℕ × Bool))
+
+-- what holds of each member
+all_of : {X : Type 0} (P : X → Type 0) (xs : List X) → ((x : X) → Contains xs x → P x) → All P xs
+all_of P xs each k d lt = each _ (All-contains_itself xs k d lt)
+
+-- ---- the first row, of rows that match alike
+
+pub first-alike : (q r : Query) → ((row : Row) → row_matches row q ≡ row_matches row r) → (k : ℕ) (rows : List Row) → first_match_from k rows q ≡ first_match_from k rows r
+first-alike q r alike k [] = λ i. None
+first-alike q r alike k (row ∷ rows) =
+    ap (λ (b : Bool). cond b (Some (k, row.allows)) (first_match_from (k + 1) rows q)) (alike row)
+    ∙ ap (λ (o : Option (ℕ × Bool)). cond (row_matches row r) (Some (k, row.allows)) o) (first-alike q r alike (k + 1) rows)
+
+-- ---- no verdict is cached
+
+pub agrees-none : (t : WrittenTable) → AgreesWith [] t
+unfolding AgreesWith
+agrees-none t = All-nil (IsOfRows t.rows)
+
+pub cache-none : (c : Cache) → c.cap ≡ most_cached → c.entries ≡ [] → IsCache c
+cache-none c most none = record { most = most; each = subst (All IsOfRequest) (sym none) (All-nil IsOfRequest) }
+
+-- ---- a look-up: each verdict was there
+
+abbrev pub Stays : List CachedVerdict → List CachedVerdict → Type 0
+Stays was now = (e : CachedVerdict) → Contains now e → Contains was e
+
+pub agrees-stays : (was now : List CachedVerdict) (t : WrittenTable) → Stays was now → AgreesWith was t → AgreesWith now t
+unfolding AgreesWith
+agrees-stays was now t stays agrees = all_of (IsOfRows t.rows) now (λ e there. All-contains (IsOfRows t.rows) was e agrees (stays e there))
+
+pub cache-stays : (was now : Cache) → Stays was.entries now.entries → now.cap ≡ was.cap → IsCache was → IsCache now
+cache-stays was now stays cap cache = record {
+  most = cap ∙ cache.most;
+  each = all_of IsOfRequest now.entries (λ e there. All-contains IsOfRequest was.entries e cache.each (stays e there));
+}
+
+-- what is found is the verdict of the rows
+pub found-is : (verdicts : List CachedVerdict) (t : WrittenTable) (q : Query) (key : VerdictKey) (found : Option (ℕ × Bool)) → AgreesWith verdicts t → IsKeyOf key q → Contains verdicts (key, found) → found ≡ first_match_from 1 t.rows q
+unfolding AgreesWith IsOfRows
+found-is verdicts t q key found agrees is there = sym (All-contains (IsOfRows t.rows) verdicts (key, found) agrees there q is)
+
+-- ---- a put: each verdict was there, or is the new one
+
+abbrev pub Keeps : List CachedVerdict → List CachedVerdict → CachedVerdict → Type 0
+Keeps was now new = (e : CachedVerdict) → Contains now e → Contains was e ⊎ (e ≡ new)
+
+either : {X : Type 0} (P : X → Type 0) (was : List X) (e new : X) → All P was → P new → Contains was e ⊎ (e ≡ new) → P e
+either P was e new all p (inl there) = All-contains P was e all there
+either P was e new all p (inr same) = subst P (sym same) p
+
+-- a verdict of the rows for one request is theirs for each request of its key
+pub of-rows : ((key : VerdictKey) (q r : Query) → IsKeyOf key q → IsKeyOf key r → (rows : List Row) → first_match_from 1 rows q ≡ first_match_from 1 rows r) → (rows : List Row) (q : Query) (key : VerdictKey) (found : Option (ℕ × Bool)) → IsKeyOf key q → found ≡ first_match_from 1 rows q → IsOfRows rows (key, found)
+unfolding IsOfRows
+of-rows law rows q key found is value r of_r = law key r q of_r is rows ∙ sym value
+
+pub agrees-keeps : (was now : List CachedVerdict) (new : CachedVerdict) (t : WrittenTable) → Keeps was now new → AgreesWith was t → IsOfRows t.rows new → AgreesWith now t
+unfolding AgreesWith
+agrees-keeps was now new t keeps agrees of = all_of (IsOfRows t.rows) now (λ e there. either (IsOfRows t.rows) was e new agrees of (keeps e there))
+
+pub cache-keeps : (was now : Cache) (new : CachedVerdict) (q : Query) → IsKeyOf new.0 q → Keeps was.entries now.entries new → now.cap ≡ was.cap → IsCache was → IsCache now
+unfolding IsOfRequest
+cache-keeps was now new q is keeps cap cache = record {
+  most = cap ∙ cache.most;
+  each = all_of IsOfRequest now.entries (λ e there. either IsOfRequest was.entries e new cache.each (q, is) (keeps e there));
+}

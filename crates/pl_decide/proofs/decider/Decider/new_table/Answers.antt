@@ -1,0 +1,5 @@
+use Rattle.pl_decide.proofs.Cached.{agrees-none}
+use Rattle.pl_decide.proofs.decider.Decider.new_table.Goals as goal
+
+pub returns-clause-agrees : goal.returns-clause-agrees
+returns-clause-agrees c t = rw c.clear.ensures (agrees-none t)
