@@ -1,7 +1,7 @@
 -- Cached verdicts: what a look-up and a put leave of them.
 use Rattle.std.proofs.Common.{◌≡◌, ℕ, ◌+◌, ◌⊎◌, Bool, true, List, [], ◌∷◌, Option, Some, None, Contains, All, sym, ap, subst, ◌∙◌, inl, inr}
 use Rattle.std.specs.Prelude.{cond}
-use Rattle.std.proofs.lemmas.List.Elements.{All-contains, All-contains_itself, All-nil}
+use Rattle.std.proofs.lemmas.List.Elements.{All-contains, All-contains_itself, All-nil, All-cons, Contains-append_right}
 use Rattle.lru.specs.LruCache.{LruCache}
 use Rattle.pl_table.specs.declared.row.Row.{Row}
 use Rattle.pl_table.specs.Request.{Query}
@@ -80,3 +80,11 @@ cache-keeps was now new q is keeps cap cache = record {
   most = cap ∙ cache.most;
   each = all_of IsOfRequest now.entries (λ e there. either IsOfRequest was.entries e new cache.each (q, is) (keeps e there));
 }
+
+-- ---- a loop over the verdicts
+
+-- the next of them agrees, and it goes on with the others
+pub passed-on : (rows : List Row) (verdicts was now : List CachedVerdict) (e : CachedVerdict) → was ≡ e ∷ now → IsOfRows rows e → Stays verdicts was × (All (IsOfRows rows) was → All (IsOfRows rows) verdicts) → Stays verdicts now × (All (IsOfRows rows) now → All (IsOfRows rows) verdicts)
+passed-on rows verdicts was now e turn of before =
+    (λ d there. before.0 d (subst (λ (es : List CachedVerdict). Contains es d) (sym turn) (Contains-append_right (e ∷ []) now d there)),
+     λ all. before.1 (subst (All (IsOfRows rows)) (sym turn) (All-cons (IsOfRows rows) e now of all)))

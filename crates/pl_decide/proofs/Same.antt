@@ -1,13 +1,18 @@
 -- Keys that compare as equal are one.
 use Rattle.std.proofs.Common.{◌≡◌, ℕ, Bool, true, false, ◌&&◌, ◌==◌, List, Option, Some, None, Contains, refl, sym, ap, subst, ◌∙◌, inl, inr}
-use Rattle.std.specs.Prelude.{IfSome, ◌⊎◌, Result, Ok, Err, OnOk, OnErr}
+use Rattle.std.specs.Prelude.{IfSome, ◌⊎◌, Result, Ok, Err, OnOk, OnErr, ◌↔◌, IsTrue}
+use Rattle.std.specs.Bool.{beq}
+use Rattle.pl_table.specs.declared.row.Row.{Row}
+use Rattle.pl_table.specs.Request.{Query}
+use Rattle.pl_table.specs.FirstMatch.{first_match_from}
+use Rattle.pl_decide.specs.Agreement.{IsOfRows, IsOfRequest}
 use Rattle.lru.specs.LruCache.{LruCache, lru_cache, put_entries}
 use Rattle.std.specs.Option.{option_eq}
 use Rattle.std.specs.Map.{lookup}
-use Rattle.std.specs.Cmp.{unsigned_Decides}
+use Rattle.std.specs.Cmp.{unsigned_Decides, booleans_Decides}
 use Rattle.lru.proofs.CallerLemmas.{Contains-lookup, Contains-put_entries}
 use Rattle.pl_decide.specs.declared.key.VerdictKey.{VerdictKey}
-use Rattle.pl_decide.specs.Keys.{CachedVerdict}
+use Rattle.pl_decide.specs.Keys.{CachedVerdict, IsKeyOf}
 
 -- the test of keys
 abbrev pub same_key : VerdictKey → VerdictKey → Bool
@@ -58,3 +63,27 @@ put-entries was key found e there = elim (Contains-put_entries same_key was key 
 pub put-keeps : {A B : Type 0} (was now : LruCache VerdictKey (Option (ℕ × Bool))) (key : VerdictKey) (found : Option (ℕ × Bool)) (r : Result A B) → OnOk r (now ≡ lru_cache (put_entries same_key was key found) was.cap) → OnErr r (now ≡ was) → (e : CachedVerdict) → Contains now.entries e → Contains was.entries e ⊎ (e ≡ (key, found))
 put-keeps was now key found (Ok a) ok err e there = put-entries was key found e (subst (λ (k : LruCache VerdictKey (Option (ℕ × Bool))). Contains k.entries e) ok there)
 put-keeps was now key found (Err b) ok err e there = inl (subst (λ (k : LruCache VerdictKey (Option (ℕ × Bool))). Contains k.entries e) err there)
+
+-- ---- what was found, compared
+
+abbrev pub same_found : Option (ℕ × Bool) → Option (ℕ × Bool) → Bool
+same_found = option_eq (λ x y. (x.0 == y.0) && beq x.1 y.1)
+
+found-same : (a b : Option (ℕ × Bool)) → same_found a b ≡ true → a ≡ b
+found-same None None h = refl
+found-same None (Some y) h = absurd cc
+found-same (Some x) None h = absurd cc
+found-same (Some x) (Some y) h =
+    let parts = both (x.0 == y.0) _ h in
+    ap (λ (n : ℕ). Some (n, x.1)) ((unsigned_Decides x.0 y.0).0 parts.0) ∙ ap (λ (b : Bool). Some (y.0, b)) ((booleans_Decides x.1 y.1).0 parts.1)
+
+same-itself : (a : Option (ℕ × Bool)) → same_found a a ≡ true
+same-itself None = refl
+same-itself (Some x) = rw ((unsigned_Decides x.0 x.0).1 refl, (booleans_Decides x.1 x.1).1 refl) refl
+
+-- the comparison tells whether the verdict is that of the rows
+pub tells-of-rows : (rows : List Row) (key : VerdictKey) (found first : Option (ℕ × Bool)) (r : Bool) → r ≡ same_found first found → ((q : Query) → IsKeyOf key q → first ≡ first_match_from 1 rows q) → IsOfRequest (key, found) → IsTrue r ↔ IsOfRows rows (key, found)
+unfolding IsOfRows IsOfRequest
+tells-of-rows rows key found first r is value request =
+    (λ yes q of_q. sym (value q of_q) ∙ found-same first found (sym is ∙ yes),
+     λ of. is ∙ ap (λ (v : Option (ℕ × Bool)). same_found first v) (sym (of request.0 request.1) ∙ sym (value request.0 request.1)) ∙ same-itself first)

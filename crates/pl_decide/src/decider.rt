@@ -36,7 +36,7 @@ pub fn known(table: &Table, head: &Head) -> bool
 const MOST_CACHED: usize = 1024;
 
 // A verdict of one of so many rows at the head of the table is found as fast as it is looked up.
-const NEAR_ROWS: u16 = 64;
+const NEAR_ROWS: u16 = 8;
 
 /// Decides on requests, one after the other. What was asked before makes no difference.
 ///
