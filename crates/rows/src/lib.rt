@@ -79,6 +79,8 @@ mod tables_in_force;
 #[cfg(test)]
 mod transcript;
 #[cfg(test)]
+mod verdicts;
+#[cfg(test)]
 mod wire;
 #[cfg(test)]
 mod written_tables;

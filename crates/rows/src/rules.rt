@@ -94,7 +94,7 @@ impl Rules {
     // where the principal is not looked up again.
     fn decide(&self, request: &Request) -> Result<Verdict, Stop> {
         let table = self.table()?;
-        let mut decider = Decider::new();
+        let mut decider = Decider::new(self.alloc)?;
         if let Some(older) = &self.older {
             let _before = decider.decide(older, &self.epochs, &self.view, request);
         }
