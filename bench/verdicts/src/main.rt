@@ -59,7 +59,9 @@ fn text_of(alloc: Global, rows: u32, named: bool) -> Result<String, AllocError> 
     for row in 0..rows {
         let who = row % 64 + 1;
         let line = if named {
-            format!(in alloc; "[[row]]\nverdict = \"allow\"\nwho = {who}\nfrom = {row}\nto = {row}\n")?
+            format!(in alloc;
+                "[[row]]\nverdict = \"allow\"\nwho = {who}\nfrom = {row}\nto = {row}\n"
+            )?
         } else {
             format!(in alloc; "[[row]]\nverdict = \"allow\"\nfrom = {row}\nto = {row}\n")?
         };
@@ -150,11 +152,7 @@ fn line(
     )
 }
 
-fn lines(
-    rt: &(impl CpuClock + Print + AllocGlobal),
-    rows: u32,
-    named: bool,
-) -> io::Result<()> {
+fn lines(rt: &(impl CpuClock + Print + AllocGlobal), rows: u32, named: bool) -> io::Result<()> {
     let text = text_of(rt.alloc(), rows, named)?;
     let Ok(table) = read_table(rt.alloc(), text.as_bytes()) else {
         return Ok(());

@@ -37,6 +37,7 @@ const EPOCHS: Epochs = Epochs {
     epoch: 1,
     primary: 2,
 };
+
 const VIEW: View = View {
     hard: 0,
     agrees: true,
@@ -210,7 +211,13 @@ fn asked_again_by_another_table(rt: HostRuntime) -> Result<(), Fail> {
     assert_eq!(rt; decider.cached(), 2);
     assert_eq!(rt; decided(&mut decider, &other, &five), None);
     decider.new_table();
-    assert_eq!(rt; decided(&mut decider, &other, &five), Some(denied(Section::B, 1)));
-    assert_eq!(rt; decided(&mut decider, &other, &six), Some(denied(Section::C, 1)));
+    assert_eq!(rt;
+        decided(&mut decider, &other, &five),
+        Some(denied(Section::B, 1))
+    );
+    assert_eq!(rt;
+        decided(&mut decider, &other, &six),
+        Some(denied(Section::C, 1))
+    );
     Ok(())
 }
