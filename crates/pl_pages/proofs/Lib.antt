@@ -1,2 +1,3 @@
 mod Replays
+mod Frames
 mod Sizes

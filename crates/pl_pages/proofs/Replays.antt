@@ -1,5 +1,5 @@
 -- Replays of a log that grows, and of one block more.
-use Rattle.std.proofs.Common.{◌≡◌, ℕ, zero, suc, ◌+◌, ◌-◌, ◌≤◌, Bool, true, false, ◌&&◌, not, cond, leb, List, [], ◌∷◌, ◌++◌, length, take, replicate, Some, Result, Ok, Err, OnOk, is_ok, if◌then◌else◌, slice_get, refl, sym, ap, ◌∙◌, arith, length-append}
+use Rattle.std.proofs.Common.{◌≡◌, ℕ, suc, ◌+◌, ◌≤◌, Bool, true, false, ◌&&◌, not, cond, leb, List, [], ◌∷◌, ◌++◌, length, take, Some, slice_get, refl, sym, ap, ◌∙◌, arith, length-append}
 use Rattle.std.proofs.lemmas.Bool.{leb-true}
 use Rattle.std.proofs.lemmas.Option.{slice_get_within, get_or_from_slice_get}
 use Rattle.std.proofs.Math.Seq.{take-suc}
@@ -7,7 +7,7 @@ use Rattle.std.proofs.lemmas.List.Sums.{fold-append}
 use Rattle.std.specs.FinMap as maps
 use Rattle.std.proofs.lemmas.List.{take-append-le}
 use Rattle.pl_block.specs.Block.{Content}
-use Rattle.pl_pages.specs.Page.{after_blocks, page_of, after_block}
+use Rattle.pl_pages.specs.Page.{after_blocks, page_of, after_block, zeros}
 use Rattle.pl_pages.specs.State.{Version, PagesState, IsVersion, FitsLog, lsns_of}
 use Rattle.pl_pages.specs.Laws.{AnswersReach}
 
@@ -30,12 +30,12 @@ fits_longer pages log more fits = record {
 }
 
 -- pages of which none was applied, indexed or kept fit every log
-pub nothing_fits : (applied : List ℕ) (chunks : ℕ) (log : List Content) → applied ≡ [] → FitsLog (record { applied = applied; indexed = 0; index = maps.empty; versions = []; chunks = chunks }) log
-nothing_fits applied chunks log none = record {
+pub nothing_fits : (applied : List ℕ) (versions : List Version) (chunks : ℕ) (log : List Content) → applied ≡ [] → versions ≡ [] → FitsLog (record { applied = applied; indexed = 0; index = maps.empty; versions = versions; chunks = chunks }) log
+nothing_fits applied versions chunks log none no_versions = record {
   applied = λ partition. rw none (omega arith);
   indexed = omega arith;
   index = λ page. rw maps.get-empty refl;
-  versions = λ k d within. absurd (omega (arith, within));
+  versions = λ k d within. absurd (omega (arith, within, ap length no_versions));
 }
 
 -- an answer is not below what was asked for
@@ -64,26 +64,12 @@ block_more page old log k block is =
     let here : take (k + 1) log ≡ take k log ++ block ∷ [] = ap (λ n. take n log) more ∙ take-suc log k block within ∙ ap (λ b. take k log ++ b ∷ []) (get_or_from_slice_get log k block block is) in
     sym (ap (after_blocks page old) here ∙ fold-append (after_block page) old (take k log) (block ∷ []))
 
-no_bytes : List ℕ
-no_bytes = []
-
-take_none : (m : ℕ) (xs : List ℕ) → take m no_bytes ++ xs ≡ xs
-unfolding no_bytes
-take_none zero xs = refl
-take_none (suc m) xs = refl
-
-from_none : (m : ℕ) → take m no_bytes ++ replicate (m - 0) 0 ≡ replicate m 0
-from_none m =
-    let all : m - 0 ≡ m = omega arith in
-    ap (λ k. take m no_bytes ++ replicate k 0) all ∙ take_none m (replicate m 0)
-
--- a list that is cleared and filled up again has zeros alone
-pub blanked : {U E : Type 0} (r : Result U E) (n len : ℕ) (old new : List ℕ) → old ≡ [] → len ≡ 0 → new ≡ (if is_ok r then take n old ++ replicate (n - len) 0 else old) → OnOk r (new ≡ replicate n 0)
-unfolding no_bytes
-blanked (Ok u) n len old new none at_start is = is ∙ ap (λ xs. take n xs ++ replicate (n - len) 0) none ∙ ap (λ k. take n no_bytes ++ replicate (n - k) 0) at_start ∙ from_none n
-blanked (Err e) n len old new none at_start is = tt
-
--- what holds anyway holds where a call succeeded
-pub anyway : {U E : Type 0} (r : Result U E) (P : Type 0) → P → OnOk r P
-anyway (Ok u) P p = p
-anyway (Err e) P p = tt
+-- a version with the changes of the block behind it
+pub block_true : (log : List Content) (v : Version) (k : ℕ) (block : Content) → IsVersion log v → v.lsn ≡ k → slice_get log k ≡ Some block → block.lsn ≡ k + 1 → IsVersion log (record { page = v.page; lsn = block.lsn; bytes = after_block v.page v.bytes block })
+block_true log v k block is at here numbered = record {
+  within = omega (arith, numbered, slice_get_within log k block here);
+  bytes =
+      ap (λ bytes. after_block v.page bytes block) (is.bytes ∙ ap (λ n. page_of v.page (take n log)) at)
+      ∙ block_more v.page zeros log k block here
+      ∙ ap (λ n. page_of v.page (take n log)) (sym numbered);
+}

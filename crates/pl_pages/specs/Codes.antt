@@ -4,6 +4,7 @@ use Rattle.std.specs.Coded.{Coded, code_by, coded×, coded_ℕ, coded_list}
 use Rattle.std.specs.Ordering.{nat_cmp}
 use Rattle.std.specs.FinMap as maps
 use Rattle.pl_pages.specs.State.{Version, PagesState}
+use Rattle.pl_pages.specs.Kept.{VersionsState}
 
 -- of a version
 abbrev pub version_code : Coded Version
@@ -19,3 +20,9 @@ pages_code =
     (λ s. (s.applied, (s.indexed, (s.index, (s.versions, s.chunks)))))
     (λ p. record { applied = p.0; indexed = p.1.0; index = p.1.1.0; versions = p.1.1.1.0; chunks = p.1.1.1.1 })
     (λ _. refl)
+
+-- of the versions that are kept
+abbrev pub versions_code : Coded VersionsState
+versions_code =
+    code_by (List Version × ℕ) (coded× (coded_list version_code) coded_ℕ)
+    (λ s. (s.versions, s.chunks)) (λ p. record { versions = p.0; chunks = p.1 }) (λ _. refl)

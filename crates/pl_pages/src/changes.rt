@@ -1,6 +1,6 @@
 //! What records and blocks do to a page.
 
-ghost use Rattle.std.specs.Prelude.{◌≡◌, length};
+ghost use Rattle.std.specs.Prelude.{◌≡◌, length, replicate};
 ghost use Rattle.pl_block.specs.Bounds.{page_size};
 ghost use Rattle.pl_pages.specs.Page.{EndsWithin, after_block, changed};
 
@@ -35,4 +35,11 @@ pub(crate) fn redo_block(block: &Block, page: u32, bytes: &mut [u8])
             redo(change, bytes);
         }
     }
+}
+
+/// Makes each byte 0.
+pub(crate) fn clear(page: &mut [u8])
+    ensures value { page.new ≡ replicate (length page.old) 0 }
+{
+    page.fill(0);
 }

@@ -7,6 +7,7 @@
 mod changes;
 pub mod laws;
 mod pages;
+mod versions;
 
 pub use changes::redo;
 pub use pages::Pages;

@@ -1,15 +1,16 @@
 //! The pages of one database.
 
-ghost use Rattle.std.specs.Prelude.{◌≡◌, ◌≢◌, ◌+◌, ◌≤◌, ℕ, List, length, min, IfOk, OnOk, OnErr, slice_index_or, take, vec_len, ◌==◌, if◌then◌else◌};
+ghost use Rattle.std.specs.Prelude.{◌≡◌, ◌≢◌, ◌+◌, ◌≤◌, ℕ, List, length, min, IfOk, OnOk, OnErr, slice_index_or, take, ◌==◌, if◌then◌else◌};
 ghost use Rattle.std.specs.Borrow.{sem};
 ghost use Rattle.pl_block.specs.Block.{Content};
 ghost use Rattle.pl_block.specs.Bounds.{page_size};
-ghost use Rattle.pl_pages.specs.Page.{after_blocks, page_of, zeros};
+ghost use Rattle.pl_pages.specs.Kept.{IsAt};
+ghost use Rattle.pl_pages.specs.Page.{page_of};
 ghost use Rattle.pl_pages.specs.Ends.{EndsFitting};
-ghost use Rattle.pl_pages.specs.State.{FitsLog, SameApplied, applied_at, choice_of, chosen};
+ghost use Rattle.pl_pages.specs.State.{AreVersions, FitsLog, SameApplied, applied_at, choice_of, chosen};
 
-use crate::changes::redo_block;
-use pl_block::{PAGE_SIZE, PAGES_PER_PARTITION};
+use crate::versions::Versions;
+use pl_block::PAGES_PER_PARTITION;
 use pl_log::DbLog;
 use std::alloc::{AllocError, Global};
 use std::marker::Model;
@@ -21,17 +22,12 @@ use std::marker::Model;
 /// of the call before, so that the log may grow in between.
 #[derive(Debug, Drop)]
 pub struct Pages {
-    alloc: Global,
     /// The applied LSN of each partition, up to the last that was advanced.
     applied: Vec<u64>,
-    /// Where a page is replayed.
-    page: Vec<u8>,
-    /// How many chunks of 64 versions there may be. No version is kept yet.
-    chunks: usize,
+    versions: Versions,
 }
 
 impl Model for Pages {
-    ghost use Rattle.std.specs.Prelude.{[]};
     ghost use Rattle.std.specs.FinMap as maps;
     ghost use Rattle.pl_pages.specs.State.{PagesState};
     ghost use Rattle.pl_pages.specs.Codes.{pages_code};
@@ -44,8 +40,8 @@ impl Model for Pages {
       applied = p.applied.items;
       indexed = 0;
       index = maps.empty;
-      versions = [];
-      chunks = p.chunks;
+      versions = p.versions.versions;
+      chunks = p.versions.chunks;
     } };
 }
 
@@ -60,10 +56,8 @@ impl Pages {
         ensures chunks { result.chunks ≡ chunks }
     {
         Pages {
-            alloc,
             applied: Vec::new(alloc),
-            page: Vec::new(alloc),
-            chunks,
+            versions: Versions::new(alloc, chunks as u32),
         }
     }
 
@@ -119,8 +113,8 @@ impl Pages {
     {
         let partition = (page / PAGES_PER_PARTITION) as u16;
         let at = choose(self.applied(partition), lsn, exact);
-        replay(log, page, at, &mut self.page)?;
-        Ok((at, self.page.as_slice()))
+        let place = show(log, &mut self.versions, page, at)?;
+        Ok((at, self.versions.bytes(place)))
     }
 }
 
@@ -160,38 +154,51 @@ fn choose(applied: u64, lsn: u64, exact: bool) -> u64
     }
 }
 
-// A page that nothing changed.
-#[tactic(auto, unfolding(crate::specs::Page::zeros))]
-fn blank(bytes: &mut Vec<u8>) -> Result<(), AllocError>
-    ensures ok { OnOk result (bytes.new.items ≡ zeros) }
-    ensures len { OnOk result (vec_len bytes.new ≡ page_size) }
-{
-    bytes.clear();
-    bytes.resize(PAGE_SIZE, 0)
-}
-
-// Makes the changes of the blocks up to an LSN.
-fn redo_blocks(log: &mut DbLog, page: u32, lsn: u64, bytes: &mut [u8]) -> Result<(), AllocError>
-    requires to { lsn ≤ length log.old.hardened }
-    requires len { length bytes.old ≡ page_size }
+// Makes the changes of the blocks above an LSN, up to another, in the version at a place.
+fn bring_up(
+    log: &mut DbLog,
+    versions: &mut Versions,
+    place: usize,
+    page: u32,
+    from: u64,
+    to: u64,
+) -> Result<(), AllocError>
+    requires truth { AreVersions versions.old.versions log.old.hardened }
+    requires at { IsAt versions.old.versions place page from }
+    requires rising { from ≤ to }
+    requires hard { to ≤ length log.old.hardened }
     ensures log { log.new ≡ log.old }
-    ensures ok { OnOk result
-        (bytes.new ≡ after_blocks page bytes.old (take lsn log.old.hardened)) }
+    ensures truth { AreVersions versions.new.versions log.old.hardened }
+    ensures chunks { versions.new.chunks ≡ versions.old.chunks }
+    ensures at { OnOk result (IsAt versions.new.versions place page to) }
 {
-    for before in 0..lsn {
+    for before in from..to {
         let block = log.read(before + 1)?;
-        redo_block(&block, page, bytes);
+        versions.redo(place, &block);
     }
     Ok(())
 }
 
-// Replays a page up to an LSN.
-fn replay(log: &mut DbLog, page: u32, lsn: u64, bytes: &mut Vec<u8>) -> Result<(), AllocError>
-    requires to { lsn ≤ length log.old.hardened }
+// The place of the version of a page at an LSN, which is made where there is none: from the newest
+// below it, or else from the beginning of the log.
+fn show(log: &mut DbLog, versions: &mut Versions, page: u32, lsn: u64) -> Result<usize, AllocError>
+    requires truth { AreVersions versions.old.versions log.old.hardened }
+    requires hard { lsn ≤ length log.old.hardened }
     ensures log { log.new ≡ log.old }
-    ensures ok { OnOk result (bytes.new.items ≡ page_of page (take lsn log.old.hardened)) }
-    ensures len { OnOk result (vec_len bytes.new ≡ page_size) }
+    ensures truth { AreVersions versions.new.versions log.old.hardened }
+    ensures chunks { versions.new.chunks ≡ versions.old.chunks }
+    ensures at { IfOk result (λ place. IsAt versions.new.versions place page lsn) }
 {
-    blank(bytes)?;
-    redo_blocks(log, page, lsn, bytes)
+    let (place, from) = match versions.find(page, lsn) {
+        Some(found) => {
+            if found.lsn == lsn {
+                return Ok(found.place);
+            }
+            (versions.begin_from(found.place)?, found.lsn)
+        }
+        None => (versions.begin(page)?, 0),
+    };
+    bring_up(log, versions, place, page, from, lsn)?;
+    versions.enter(place)?;
+    Ok(place)
 }
