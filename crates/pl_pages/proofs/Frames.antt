@@ -24,7 +24,7 @@ equal_by q k Less e is = absurd (false≢true is)
 equal_by q k Equal e is = maps.nat_cmp-IsAntisymmetric q k e
 equal_by q k Greater e is = absurd (false≢true is)
 
-other_number : (q k : ℕ) → q ≢ k → eq_by_cmp nat_cmp q k ≡ false
+pub other_number : (q k : ℕ) → q ≢ k → eq_by_cmp nat_cmp q k ≡ false
 other_number q k differs = by_case (eq_by_cmp nat_cmp q k) refl
   where
     by_case : (b : Bool) → eq_by_cmp nat_cmp q k ≡ b → b ≡ false
@@ -344,6 +344,10 @@ none_kept a ks chunks max none no_versions some =
       turn = λ some. absurd (omega (arith, some));
     }
 
+-- a version with the changes of a block
+abbrev pub block_made : Version → Content → Version
+block_made v block = record { page = v.page; lsn = block.lsn; bytes = after_block v.page v.bytes block }
+
 -- ---- a version that was changed by a block, and one that was copied
 
 pub redone : (vs : List Version) (i : ℕ) (block : Content) (a : Arena) (k : Kept) (old new : List ℕ) (lsn : ℕ) → version_at vs i ≡ version_in a k → frame a k.frame ≡ Some old → new ≡ after_block k.page old block → lsn ≡ block.lsn → set vs i (record { page = k.page; lsn = lsn; bytes = new }) ≡ with_block vs i block
@@ -367,23 +371,5 @@ some_is (Some x) d is = refl
 
 -- ---- the version at a place, with one block more
 
-module _ (vs : List Version) (place page k : ℕ) (block : Content) (at : IsAt vs place page k) (numbered : block.lsn ≡ k + 1) where
-  pub with_block_true : (log : List Content) → slice_get log k ≡ Some block → AreVersions vs log → AreVersions (with_block vs place block) log
-  with_block_true log here all = replaced_true log vs _ (block_true log (version_at vs place) k block (all place _ at.within) at.lsn here numbered) all place
-
-  made : Version
-  made =
-      let v = version_at vs place in
-      record { page = v.page; lsn = block.lsn; bytes = after_block v.page v.bytes block }
-
-  stands : version_at (with_block vs place block) place ≡ made
-  unfolding made
-  stands = at_set_place vs place place _ _ refl at.within
-
-  pub with_block_at : IsAt (with_block vs place block) place page (k + 1)
-  unfolding made
-  with_block_at = record {
-    within = omega (arith, at.within, length-set vs place made);
-    page = ap (λ v. v.page) stands ∙ at.page;
-    lsn = ap (λ v. v.lsn) stands ∙ numbered;
-  }
+pub with_block_stands : (vs : List Version) (place : ℕ) (block : Content) → place < length vs → version_at (with_block vs place block) place ≡ block_made (version_at vs place) block
+with_block_stands vs place block within = at_set_place vs place place _ _ refl within

@@ -1,3 +1,5 @@
 mod Replays
 mod Frames
+mod Listing
+mod Touching
 mod Sizes

@@ -8,7 +8,7 @@ use Rattle.std.specs.FinMap as maps
 use Rattle.std.proofs.lemmas.List.{take-append-le}
 use Rattle.pl_block.specs.Block.{Content}
 use Rattle.pl_pages.specs.Page.{after_blocks, page_of, after_block, zeros}
-use Rattle.pl_pages.specs.State.{Version, PagesState, IsVersion, FitsLog, lsns_of}
+use Rattle.pl_pages.specs.State.{Version, PagesState, IsVersion, FitsLog, indexed_at, lsns_of}
 use Rattle.pl_pages.specs.Laws.{AnswersReach}
 
 -- a page at an LSN of a log is that of each longer log
@@ -30,11 +30,11 @@ fits_longer pages log more fits = record {
 }
 
 -- pages of which none was applied, indexed or kept fit every log
-pub nothing_fits : (applied : List ℕ) (versions : List Version) (chunks : ℕ) (log : List Content) → applied ≡ [] → versions ≡ [] → FitsLog (record { applied = applied; indexed = 0; index = maps.empty; versions = versions; chunks = chunks }) log
-nothing_fits applied versions chunks log none no_versions = record {
+pub nothing_fits : (s : PagesState) (log : List Content) → s.applied ≡ [] → s.indexed ≡ 0 → ((page : ℕ) → indexed_at s page ≡ []) → s.versions ≡ [] → FitsLog s log
+nothing_fits s log none no_blocks no_lsns no_versions = record {
   applied = λ partition. rw none (omega arith);
-  indexed = omega arith;
-  index = λ page. rw maps.get-empty refl;
+  indexed = omega (arith, no_blocks);
+  index = λ page. no_lsns page ∙ ap (λ n. lsns_of page (take n log)) (sym no_blocks);
   versions = λ k d within. absurd (omega (arith, within, ap length no_versions));
 }
 
@@ -56,13 +56,16 @@ answers_reach = record {
   within = λ applied lsn hard exact. answered_within applied lsn hard (not exact && leb lsn applied);
 }
 
--- the replay of one block more
-pub block_more : (page : ℕ) (old : List ℕ) (log : List Content) (k : ℕ) (block : Content) → slice_get log k ≡ Some block → after_block page (after_blocks page old (take k log)) block ≡ after_blocks page old (take (k + 1) log)
-block_more page old log k block is =
+-- the blocks up to one, with that one
+pub take_block : (log : List Content) (k : ℕ) (block : Content) → slice_get log k ≡ Some block → take (k + 1) log ≡ take k log ++ block ∷ []
+take_block log k block is =
     let within = slice_get_within log k block is in
     let more : k + 1 ≡ suc k = omega arith in
-    let here : take (k + 1) log ≡ take k log ++ block ∷ [] = ap (λ n. take n log) more ∙ take-suc log k block within ∙ ap (λ b. take k log ++ b ∷ []) (get_or_from_slice_get log k block block is) in
-    sym (ap (after_blocks page old) here ∙ fold-append (after_block page) old (take k log) (block ∷ []))
+    ap (λ n. take n log) more ∙ take-suc log k block within ∙ ap (λ b. take k log ++ b ∷ []) (get_or_from_slice_get log k block block is)
+
+-- the replay of one block more
+pub block_more : (page : ℕ) (old : List ℕ) (log : List Content) (k : ℕ) (block : Content) → slice_get log k ≡ Some block → after_block page (after_blocks page old (take k log)) block ≡ after_blocks page old (take (k + 1) log)
+block_more page old log k block is = sym (ap (after_blocks page old) (take_block log k block is) ∙ fold-append (after_block page) old (take k log) (block ∷ []))
 
 -- a version with the changes of the block behind it
 pub block_true : (log : List Content) (v : Version) (k : ℕ) (block : Content) → IsVersion log v → v.lsn ≡ k → slice_get log k ≡ Some block → block.lsn ≡ k + 1 → IsVersion log (record { page = v.page; lsn = block.lsn; bytes = after_block v.page v.bytes block })

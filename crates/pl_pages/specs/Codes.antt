@@ -5,6 +5,7 @@ use Rattle.std.specs.Ordering.{nat_cmp}
 use Rattle.std.specs.FinMap as maps
 use Rattle.pl_pages.specs.State.{Version, PagesState}
 use Rattle.pl_pages.specs.Kept.{VersionsState}
+use Rattle.pl_pages.specs.Index.{IndexState}
 
 -- of a version
 abbrev pub version_code : Coded Version
@@ -26,3 +27,9 @@ abbrev pub versions_code : Coded VersionsState
 versions_code =
     code_by (List Version × ℕ) (coded× (coded_list version_code) coded_ℕ)
     (λ s. (s.versions, s.chunks)) (λ p. record { versions = p.0; chunks = p.1 }) (λ _. refl)
+
+-- of the index
+abbrev pub index_code : Coded IndexState
+index_code =
+    code_by (ℕ × maps.FinMap nat_cmp (List ℕ)) (coded× coded_ℕ (maps.code coded_ℕ (coded_list coded_ℕ)))
+    (λ s. (s.entered, s.lsns)) (λ p. record { entered = p.0; lsns = p.1 }) (λ _. refl)

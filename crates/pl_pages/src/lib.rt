@@ -5,6 +5,7 @@
 #![tactic(auto)]
 
 mod changes;
+mod index;
 pub mod laws;
 mod pages;
 mod versions;

@@ -1,14 +1,17 @@
 //! The pages of one database.
 
-ghost use Rattle.std.specs.Prelude.{◌≡◌, ◌≢◌, ◌+◌, ◌≤◌, ℕ, List, length, min, IfOk, OnOk, OnErr, slice_index_or, take, ◌==◌, if◌then◌else◌};
+ghost use Rattle.std.specs.Prelude.{◌≡◌, ◌≢◌, ◌+◌, ◌-◌, ◌<◌, ◌≤◌, ℕ, List, length, min, IfOk, OnOk, OnErr, slice_index_or, take, ◌==◌, if◌then◌else◌};
 ghost use Rattle.std.specs.Borrow.{sem};
 ghost use Rattle.pl_block.specs.Block.{Content};
 ghost use Rattle.pl_block.specs.Bounds.{page_size};
-ghost use Rattle.pl_pages.specs.Kept.{IsAt};
+ghost use Rattle.pl_log.specs.State.{AreNumbered};
+ghost use Rattle.pl_pages.specs.Index.{IsBehind, IsIndex, count_before};
+ghost use Rattle.pl_pages.specs.Kept.{version_at};
 ghost use Rattle.pl_pages.specs.Page.{page_of};
 ghost use Rattle.pl_pages.specs.Ends.{EndsFitting};
-ghost use Rattle.pl_pages.specs.State.{AreVersions, FitsLog, SameApplied, applied_at, choice_of, chosen};
+ghost use Rattle.pl_pages.specs.State.{AreVersions, FitsLog, SameApplied, applied_at, choice_of, chosen, lsns_of};
 
+use crate::index::Index;
 use crate::versions::Versions;
 use pl_block::PAGES_PER_PARTITION;
 use pl_log::DbLog;
@@ -16,7 +19,7 @@ use std::alloc::{AllocError, Global};
 use std::marker::Model;
 
 /// The pages of a database whose log stands beside it: how far each partition is applied, and the
-/// page that was given last.
+/// versions that are kept, and an index of the blocks that change each page.
 ///
 /// Every call takes the log that the pages are of. The pages fit each log that begins with the one
 /// of the call before, so that the log may grow in between.
@@ -24,11 +27,11 @@ use std::marker::Model;
 pub struct Pages {
     /// The applied LSN of each partition, up to the last that was advanced.
     applied: Vec<u64>,
+    index: Index,
     versions: Versions,
 }
 
 impl Model for Pages {
-    ghost use Rattle.std.specs.FinMap as maps;
     ghost use Rattle.pl_pages.specs.State.{PagesState};
     ghost use Rattle.pl_pages.specs.Codes.{pages_code};
 
@@ -38,8 +41,8 @@ impl Model for Pages {
 
     ghost view = { λ p. record {
       applied = p.applied.items;
-      indexed = 0;
-      index = maps.empty;
+      indexed = p.index.entered;
+      index = p.index.lsns;
       versions = p.versions.versions;
       chunks = p.versions.chunks;
     } };
@@ -57,6 +60,7 @@ impl Pages {
     {
         Pages {
             applied: Vec::new(alloc),
+            index: Index::new(alloc),
             versions: Versions::new(alloc, chunks as u32),
         }
     }
@@ -113,7 +117,7 @@ impl Pages {
     {
         let partition = (page / PAGES_PER_PARTITION) as u16;
         let at = choose(self.applied(partition), lsn, exact);
-        let place = show(log, &mut self.versions, page, at)?;
+        let place = find_or_make(log, &mut self.index, &mut self.versions, page, at)?;
         Ok((at, self.versions.bytes(place)))
     }
 }
@@ -154,51 +158,117 @@ fn choose(applied: u64, lsn: u64, exact: bool) -> u64
     }
 }
 
-// Makes the changes of the blocks above an LSN, up to another, in the version at a place.
+// The place of a version that is the page at an LSN. The index is kept up with the log.
+fn find_or_make(
+    log: &mut DbLog,
+    index: &mut Index,
+    versions: &mut Versions,
+    page: u32,
+    lsn: u64,
+) -> Result<usize, AllocError>
+    requires index { IsIndex index.old log.old.hardened }
+    requires truth { AreVersions versions.old.versions log.old.hardened }
+    requires hard { lsn ≤ length log.old.hardened }
+    ensures log { log.new ≡ log.old }
+    ensures index { IsIndex index.new log.old.hardened }
+    ensures truth { AreVersions versions.new.versions log.old.hardened }
+    ensures chunks { versions.new.chunks ≡ versions.old.chunks }
+    ensures within { IfOk result (λ place. place < length versions.new.versions) }
+    ensures page { IfOk result (λ place. (version_at versions.new.versions place).bytes ≡
+        page_of page (take lsn log.old.hardened)) }
+{
+    catch_up(log, index)?;
+    let place = show(log, versions, page, index.lsns(page), lsn)?;
+    Ok(place)
+}
+
+// Enters the hardened blocks that the index was not made of yet.
+fn catch_up(log: &mut DbLog, index: &mut Index) -> Result<(), AllocError>
+    requires index { IsIndex index.old log.old.hardened }
+    ensures log { log.new ≡ log.old }
+    ensures index { IsIndex index.new log.old.hardened }
+    ensures numbered { AreNumbered 1 log.old.hardened }
+    ensures all { OnOk result (index.new.entered ≡ length log.old.hardened) }
+{
+    let hard = log.hard();
+    for before in index.entered()..hard {
+        let block = log.read(before + 1)?;
+        index.enter(&block)?;
+    }
+    Ok(())
+}
+
+// How many of the LSNs are not above one. They rise.
+fn count_up_to(lsns: &[u64], lsn: u64) -> usize
+    requires rising { (i j : ℕ) → i ≤ j → j < length lsns.now →
+        slice_index_or lsns.now i 0 ≤ slice_index_or lsns.now j 0 }
+    ensures within { result ≤ length lsns.now }
+    ensures below { 0 < result → slice_index_or lsns.now (result - 1) 0 ≤ lsn }
+    ensures above { result < length lsns.now → lsn < slice_index_or lsns.now result 0 }
+{
+    lsns.partition_point(|other| *other <= lsn)
+}
+
+// Makes the changes of some of the blocks that change a page, of which the LSNs are these, in the
+// version at a place.
 fn bring_up(
     log: &mut DbLog,
     versions: &mut Versions,
     place: usize,
     page: u32,
-    from: u64,
-    to: u64,
+    lsns: &[u64],
+    from: usize,
+    to: usize,
 ) -> Result<(), AllocError>
+    requires numbered { AreNumbered 1 log.old.hardened }
+    requires lsns { lsns.now ≡ lsns_of page log.old.hardened }
     requires truth { AreVersions versions.old.versions log.old.hardened }
-    requires at { IsAt versions.old.versions place page from }
+    requires behind { IsBehind versions.old.versions place page log.old.hardened from }
     requires rising { from ≤ to }
-    requires hard { to ≤ length log.old.hardened }
+    requires within { to ≤ length lsns.now }
     ensures log { log.new ≡ log.old }
     ensures truth { AreVersions versions.new.versions log.old.hardened }
     ensures chunks { versions.new.chunks ≡ versions.old.chunks }
-    ensures at { OnOk result (IsAt versions.new.versions place page to) }
+    ensures behind { OnOk result (IsBehind versions.new.versions place page log.old.hardened to) }
 {
-    for before in from..to {
-        let block = log.read(before + 1)?;
+    for i in from..to {
+        let block = log.read(lsns[i])?;
         versions.redo(place, &block);
     }
     Ok(())
 }
 
-// The place of the version of a page at an LSN, which is made where there is none: from the newest
-// below it, or else from the beginning of the log.
-fn show(log: &mut DbLog, versions: &mut Versions, page: u32, lsn: u64) -> Result<usize, AllocError>
+// The place of a version that is the page at an LSN. Where the newest at or below it lacks blocks
+// that change the page, a copy of it is brought up; where there is none, a new one from LSN 0 on.
+fn show(
+    log: &mut DbLog,
+    versions: &mut Versions,
+    page: u32,
+    lsns: &[u64],
+    lsn: u64,
+) -> Result<usize, AllocError>
+    requires numbered { AreNumbered 1 log.old.hardened }
+    requires lsns { lsns.now ≡ lsns_of page log.old.hardened }
     requires truth { AreVersions versions.old.versions log.old.hardened }
     requires hard { lsn ≤ length log.old.hardened }
     ensures log { log.new ≡ log.old }
     ensures truth { AreVersions versions.new.versions log.old.hardened }
     ensures chunks { versions.new.chunks ≡ versions.old.chunks }
-    ensures at { IfOk result (λ place. IsAt versions.new.versions place page lsn) }
+    ensures behind { IfOk result (λ place. IsBehind versions.new.versions place page
+        log.old.hardened (count_before page log.old.hardened lsn)) }
 {
+    let to = count_up_to(lsns, lsn);
     let (place, from) = match versions.find(page, lsn) {
         Some(found) => {
-            if found.lsn == lsn {
+            let from = count_up_to(lsns, found.lsn);
+            if from == to {
                 return Ok(found.place);
             }
-            (versions.begin_from(found.place)?, found.lsn)
+            (versions.begin_from(found.place)?, from)
         }
         None => (versions.begin(page)?, 0),
     };
-    bring_up(log, versions, place, page, from, lsn)?;
+    bring_up(log, versions, place, page, lsns, from, to)?;
     versions.enter(place)?;
     Ok(place)
 }

@@ -1,23 +1,35 @@
-use Rattle.std.proofs.Common.{◌≡◌, ◌+◌, ◌-◌, Some, slice_get, sym, ap, subst, ◌∙◌, arith}
-use Rattle.pl_pages.specs.Kept.{IsAt}
+use Rattle.std.proofs.Common.{◌≡◌, ◌+◌, ◌-◌, Some, get_or, length, slice_get, sym, ap, subst, ◌∙◌, arith}
+use Rattle.pl_pages.specs.Index.{IsBehind}
 use Rattle.pl_pages.specs.State.{AreVersions}
-use Rattle.pl_pages.proofs.Frames.{with_block_true, with_block_at}
+use Rattle.pl_pages.proofs.Touching.{next_listed, block_redone, behind_block}
 use Rattle.pl_pages.proofs.pages.bring_up.Goals as goal
 
+pub read-requires-clause-first : goal.read-requires-clause-first
+read-requires-clause-first c = (next_listed c.args.page c.args.log.now.hardened c.requires.numbered c.args.lsns.now c.requires.lsns c.loop-i.i (omega arith)).some
+
+pub read-requires-clause-last : goal.read-requires-clause-last
+read-requires-clause-last c =
+    let listed = next_listed c.args.page c.args.log.now.hardened c.requires.numbered c.args.lsns.now c.requires.lsns c.loop-i.i (omega arith) in
+    omega (arith, listed.last, ap (λ l. length l.hardened) c.loop-i.invariant.log)
+
 -- the next block makes its changes
-pub loop-before-preserved : goal.loop-before-preserved
-loop-before-preserved c =
-    let before = c.loop-before.before in
-    let block = c.in_ok-block.block in
+pub loop-i-preserved : goal.loop-i-preserved
+loop-i-preserved c =
+    let i = c.loop-i.i in
+    let page = c.args.page in
+    let place = c.args.place in
     let log = c.args.log.now.hardened in
-    let vs = c.loop-before.versions.versions in
-    let at = c.loop-before.invariant.at in
-    let here : slice_get log before ≡ Some block =
-    let same : before + 1 - 1 ≡ before = omega arith in
-    ap (slice_get log) (sym same) ∙ ap (λ state. slice_get state.hardened (before + 1 - 1)) (sym c.loop-before.invariant.log) ∙ c.in_ok-block.ensures.block in
+    let b = get_or c.args.lsns.now i 0 in
+    let vs = c.loop-i.versions.versions in
+    let inv = c.loop-i.invariant in
+    let block = c.in_ok-block.block in
+    let listed = next_listed page log c.requires.numbered c.args.lsns.now c.requires.lsns i (omega arith) in
+    let here : slice_get log (b - 1) ≡ Some block = ap (λ state. slice_get state.hardened (b - 1)) (sym inv.log) ∙ c.in_ok-block.ensures.block in
     record {
-      log = c.read.ensures.same ∙ c.loop-before.invariant.log;
-      chunks = c.redo.ensures.chunks ∙ c.loop-before.invariant.chunks;
-      truth = subst (λ new. AreVersions new log) (sym c.redo.ensures.versions) (with_block_true vs c.args.place c.args.page before block at c.in_ok-block.ensures.number log here c.loop-before.invariant.truth);
-      at = subst (λ new. IsAt new c.args.place c.args.page (before + 1)) (sym c.redo.ensures.versions) (with_block_at vs c.args.place c.args.page before block at c.in_ok-block.ensures.number);
+      log = c.read.ensures.same ∙ inv.log;
+      chunks = c.redo.ensures.chunks ∙ inv.chunks;
+      truth = subst (λ new. AreVersions new log) (sym c.redo.ensures.versions)
+          (block_redone vs place page log i inv.truth inv.behind b block here c.in_ok-block.ensures.number listed.some listed.below listed.here);
+      behind = subst (λ new. IsBehind new place page log (i + 1)) (sym c.redo.ensures.versions)
+          (behind_block vs place page log i inv.truth inv.behind b block here c.in_ok-block.ensures.number listed.some listed.below listed.here);
     }

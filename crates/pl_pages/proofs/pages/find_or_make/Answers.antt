@@ -1,0 +1,23 @@
+use Rattle.std.proofs.Common.{◌≤◌, length, take, sym, ap, ◌∙◌, arith}
+use Rattle.std.proofs.lemmas.List.{take_all}
+use Rattle.pl_pages.specs.Page.{page_of}
+use Rattle.pl_pages.specs.State.{lsns_of}
+use Rattle.pl_pages.proofs.Touching.{given_at}
+use Rattle.pl_pages.proofs.pages.find_or_make.Goals as goal
+
+pub show-requires-clause-lsns : goal.show-requires-clause-lsns
+show-requires-clause-lsns c =
+    let page = c.args.page in
+    let log = c.args.log.now.hardened in
+    let index = c.catch_up.new.index in
+    let whole : length log ≤ index.entered = omega (arith, c.in_ok-catch_up.ensures.all) in
+    c.lsns.ensures.value ∙ c.in_ok-catch_up.ensures.index.lsns page
+    ∙ ap (lsns_of page) (take_all index.entered log whole)
+    ∙ ap (λ l. lsns_of page l.hardened) (sym c.in_ok-catch_up.ensures.log)
+
+pub returns-clause-page : goal.returns-clause-page
+returns-clause-page c =
+    let same = c.in_ok-catch_up.ensures.log in
+    let hard : c.args.lsn ≤ length c.catch_up.new.log.hardened = omega (arith, c.requires.hard, ap (λ l. length l.hardened) same) in
+    given_at c.show.new.versions.versions c.in_ok-place.place c.args.page c.args.lsn c.catch_up.new.log.hardened c.in_ok-place.ensures.truth hard c.in_ok-place.ensures.behind
+    ∙ ap (λ l. page_of c.args.page (take c.args.lsn l.hardened)) same
