@@ -71,6 +71,8 @@ mod served_pages;
 #[cfg(test)]
 mod sizes;
 #[cfg(test)]
+mod stores;
+#[cfg(test)]
 mod table_faults;
 #[cfg(test)]
 mod table_text;
@@ -80,6 +82,8 @@ mod tables_in_force;
 mod transcript;
 #[cfg(test)]
 mod verdicts;
+#[cfg(test)]
+mod versions;
 #[cfg(test)]
 mod wire;
 #[cfg(test)]

@@ -49,7 +49,11 @@ impl Stop {
 }
 
 fn wants(holds: bool, what: &'static str) -> Result<(), Stop> {
-    if holds { Ok(()) } else { Err(Stop::Wrong(what)) }
+    if holds {
+        Ok(())
+    } else {
+        Err(Stop::Wrong(what))
+    }
 }
 
 // A row may meet one refused allocation.
@@ -199,15 +203,14 @@ fn get(destage: &mut Destage, lsn: u64, refused: &mut bool) -> Result<Block, Sto
     Ok(destage.get(lsn)?)
 }
 
-fn destaged(
-    alloc: Global,
-    count: u64,
-    size: Size,
-    refused: &mut bool,
-) -> Result<Destage, Stop> {
+fn destaged(alloc: Global, count: u64, size: Size, refused: &mut bool) -> Result<Destage, Stop> {
     let mut destage = new_destage(alloc, refused)?;
     for before in 0..count {
-        append(&mut destage, &block(alloc, before.saturating_add(1), size)?, refused)?;
+        append(
+            &mut destage,
+            &block(alloc, before.saturating_add(1), size)?,
+            refused,
+        )?;
     }
     wants(destage.len() == count, "the number of blocks")?;
     Ok(destage)
@@ -222,7 +225,10 @@ fn reads(
     refused: &mut bool,
 ) -> Result<(), Stop> {
     let wanted = block(alloc, lsn, size)?;
-    wants(get(destage, lsn, refused)?.same(&wanted), "the block of the LSN")
+    wants(
+        get(destage, lsn, refused)?.same(&wanted),
+        "the block of the LSN",
+    )
 }
 
 // Some are got twice in turn, so that the second time they are cached; the first ones are got again
@@ -265,7 +271,10 @@ const TOUCHED: [(u64, u16, u16, bool); 12] = [
 fn touch_three_hundred(alloc: Global, refused: &mut bool) -> Result<(), Stop> {
     let destage = destaged(alloc, 300, Size::Short, refused)?;
     for (lsn, lo, hi, wanted) in TOUCHED {
-        wants(touches(&destage, lsn, lo, hi)? == wanted, "whether it touches")?;
+        wants(
+            touches(&destage, lsn, lo, hi)? == wanted,
+            "whether it touches",
+        )?;
     }
     Ok(())
 }
