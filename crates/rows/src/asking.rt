@@ -40,11 +40,12 @@ pub(crate) fn act_of(alloc: Global, words: &[&str]) -> Result<Act, Stop> {
         Op::Get => get_of(arguments),
         Op::Pull => pull_of(arguments),
         Op::Advance => advance_of(arguments),
-        Op::Status => plain_act_of(Act::Status, arguments),
         Op::Failover => failover_of(arguments),
         Op::SetTable => set_table_of(alloc, arguments),
         Op::Audit => audit_of(arguments),
-        Op::Tidy => plain_act_of(Act::Tidy, arguments),
+        Op::Status if arguments.is_empty() => Ok(Act::Status),
+        Op::Tidy if arguments.is_empty() => Ok(Act::Tidy),
+        Op::Status | Op::Tidy => Err(Stop::Unread),
     }
 }
 
@@ -119,14 +120,17 @@ fn failover_of(words: &[&str]) -> Result<Act, Stop> {
     })
 }
 
-// The text is of a name, or of so many spaces.
+// The text of a name, or of so many spaces.
+fn text_of(alloc: Global, words: &[&str]) -> Result<Vec<u8>, Stop> {
+    match words {
+        [name] => text_named(alloc, name),
+        ["spaces", count] => Ok(vec![in alloc; b' '; count.parse()?]?),
+        _ => Err(Stop::Unread),
+    }
+}
+
 fn set_table_of(alloc: Global, words: &[&str]) -> Result<Act, Stop> {
-    let bytes = match words {
-        [name] => text_named(alloc, name)?,
-        [_spaces, count] => vec![in alloc; b' '; count.parse()?]?,
-        _ => return Err(Stop::Unread),
-    };
-    let text = TableText::new(alloc, bytes)?;
+    let text = TableText::new(alloc, text_of(alloc, words)?)?;
     Ok(Act::SetTable { text })
 }
 
@@ -138,15 +142,6 @@ fn audit_of(words: &[&str]) -> Result<Act, Stop> {
         first: first.parse()?,
         max: max.parse()?,
     })
-}
-
-// The act, of which no number is told.
-fn plain_act_of(act: Act, words: &[&str]) -> Result<Act, Stop> {
-    if words.is_empty() {
-        Ok(act)
-    } else {
-        Err(Stop::Unread)
-    }
 }
 
 /// The request of the words, or `None` where a number of the act is out of its range.

@@ -7,7 +7,7 @@ use crate::asking::request_of;
 use crate::desks::{HARDENS, TURNS, ask, open, play};
 use crate::line_text::push_lines;
 use crate::transcript::Stop;
-use pl_core::{Db, Reply};
+use pl_core::{Db, Line, Reply};
 use pl_desk::{Desk, Pass};
 use std::alloc::Global;
 use std::process::Abort;
@@ -171,6 +171,24 @@ fn push_writes(out: &mut String, allowed: u64) -> Result<(), Stop> {
     Ok(())
 }
 
+// Whether the lines are those.
+fn are_writes(alloc: Global, lines: &[Line], allowed: u64) -> Result<bool, Stop> {
+    let (mut listed, mut wanted) = (String::new(alloc), String::new(alloc));
+    push_lines(&mut listed, lines)?;
+    push_writes(&mut wanted, allowed)?;
+    Ok(listed == wanted)
+}
+
+// Whether the first 65 lines of the audit list are those.
+fn has_writes(alloc: Global, db: &mut Db, allowed: u64) -> Result<bool, Stop> {
+    let words = ["1", "11", "operator", "2", "audit", "1", "65"];
+    let request = request_of(alloc, 0, &words)?.ok_or(Stop::Unread)?;
+    match db.step(1, request) {
+        Reply::Entries { lines } => are_writes(alloc, lines.as_slice(), allowed),
+        _ => Err(Stop::NoMemory),
+    }
+}
+
 // Whether the audit list is as it has to be, and how many entries it has.
 fn fail_over_beneath_writes<R: Threads + Wait + Abort + Sync>(
     rt: &R,
@@ -178,15 +196,7 @@ fn fail_over_beneath_writes<R: Threads + Wait + Abort + Sync>(
 ) -> Result<(bool, u64), Stop> {
     let (allowed, _, mut db) = play_two(rt, alloc, FAILOVER_BENEATH_WRITES)?;
     let entries = db.audit_len();
-    let words = ["1", "11", "operator", "2", "audit", "1", "65"];
-    let request = request_of(alloc, 0, &words)?.ok_or(Stop::Unread)?;
-    let Reply::Entries { lines } = db.step(1, request) else {
-        return Err(Stop::NoMemory);
-    };
-    let (mut listed, mut wanted) = (String::new(alloc), String::new(alloc));
-    push_lines(&mut listed, lines.as_slice())?;
-    push_writes(&mut wanted, allowed)?;
-    Ok((listed == wanted, entries))
+    Ok((has_writes(alloc, &mut db, allowed)?, entries))
 }
 
 #[test]

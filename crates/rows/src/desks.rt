@@ -23,10 +23,7 @@ pub(crate) fn open(alloc: Global, audit: u64) -> Result<Db, Stop> {
         return Err(Stop::Unread);
     }
     let table = table_named(alloc, "start")?;
-    match Db::new(alloc, table, 2, limits) {
-        Ok(db) => Ok(db),
-        Err(_) => Err(Stop::NoMemory),
-    }
+    Db::new(alloc, table, 2, limits).map_err(|_| Stop::NoMemory)
 }
 
 /// The reply to the request of the line, as words. An error is that memory was refused, to the test
@@ -167,22 +164,27 @@ fn through_a_desk(alloc: Global, db: Db) -> Result<Option<Db>, Db> {
     }
 }
 
+fn enter_status(alloc: Global, db: &mut Db) -> Result<(), Stop> {
+    let request = request_of(alloc, 0, &["2", "22", "primary", "1", "status"])?;
+    match db.step(1, request.ok_or(Stop::Unread)?) {
+        Reply::Status { .. } => Ok(()),
+        _ => Err(Stop::NoMemory),
+    }
+}
+
 // How many entries a database of one entry has behind a desk. It goes through another where it came
 // back from the first.
 fn entries_behind_a_desk(alloc: Global) -> Result<u64, Stop> {
     let mut db = open(alloc, 65_536)?;
-    let request = request_of(alloc, 0, &["2", "22", "primary", "1", "status"])?;
-    if matches!(db.step(1, request.ok_or(Stop::Unread)?), Reply::NoMemory) {
-        return Err(Stop::NoMemory);
-    }
+    enter_status(alloc, &mut db)?;
     let closed = match through_a_desk(alloc, db) {
         Ok(closed) => closed,
-        Err(back) => match through_a_desk(alloc, back) {
-            Ok(closed) => closed,
-            Err(_) => return Err(Stop::NoMemory),
-        },
+        Err(back) => through_a_desk(alloc, back).map_err(|_| Stop::NoMemory)?,
     };
-    Ok(closed.ok_or(Stop::Unread)?.audit_len())
+    match closed {
+        Some(db) => Ok(db.audit_len()),
+        None => Err(Stop::Unread),
+    }
 }
 
 #[test]

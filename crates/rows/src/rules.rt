@@ -150,35 +150,46 @@ impl Rules {
         }
     }
 
-    // Sets what the words name.
-    fn set(&mut self, words: &[&str]) -> Result<(), Stop> {
-        match words {
-            ["table", name] => {
-                let table = table_named(self.alloc, name)?;
-                self.put(table);
-            }
-            ["copy"] => {
+    // Sets what the name and the words tell.
+    fn set(&mut self, name: &str, words: &[&str]) -> Result<(), Stop> {
+        match name {
+            "epochs" => self.epochs = epochs_of(words)?,
+            "view" => self.view = view_of(words)?,
+            "copy" => {
                 let copy = self.table()?.clone_table()?;
                 self.put(copy);
             }
-            ["epochs", epoch, primary] => {
-                self.epochs = Epochs {
-                    epoch: epoch.parse()?,
-                    primary: primary.parse()?,
+            _ => {
+                let [name] = words else {
+                    return Err(Stop::Unread);
                 };
+                let table = table_named(self.alloc, name)?;
+                self.put(table);
             }
-            ["view", hard, agrees, copies, can_harden] => {
-                self.view = View {
-                    hard: hard.parse()?,
-                    agrees: *agrees == "true",
-                    copies: copies.parse()?,
-                    can_harden: *can_harden == "true",
-                };
-            }
-            _ => return Err(Stop::Unread),
         }
         Ok(())
     }
+}
+
+fn epochs_of(words: &[&str]) -> Result<Epochs, Stop> {
+    let [epoch, primary] = words else {
+        return Err(Stop::Unread);
+    };
+    let (epoch, primary) = (epoch.parse()?, primary.parse()?);
+    Ok(Epochs { epoch, primary })
+}
+
+fn view_of(words: &[&str]) -> Result<View, Stop> {
+    let [hard, agrees, copies, can_harden] = words else {
+        return Err(Stop::Unread);
+    };
+    let (hard, copies) = (hard.parse()?, copies.parse()?);
+    Ok(View {
+        hard,
+        agrees: *agrees == "true",
+        copies,
+        can_harden: *can_harden == "true",
+    })
 }
 
 // The fault that the text keeps, if it is no table.
@@ -215,8 +226,8 @@ impl Subject for Rules {
         _refused: &mut bool,
     ) -> Result<(), Stop> {
         match words {
-            ["table" | "copy" | "epochs" | "view", ..] => {
-                self.set(words)?;
+            [name @ ("table" | "copy" | "epochs" | "view"), words @ ..] => {
+                self.set(name, words)?;
                 push_word(out, "Ok")
             }
             ["principals" | "token" | "rows" | "row", ..] => push_part(out, self.table()?, words),
