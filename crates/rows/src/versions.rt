@@ -64,7 +64,7 @@ fn block_of(alloc: Global, lsn: u64, page: u32, byte: u8) -> Result<Block, Alloc
             bytes: Bytes::from_vec(vec![in alloc; value; 2]?)?,
         })?;
     }
-    Block::new(alloc, lsn, records)
+    Block::new(alloc, lsn, records).map_err(|_| AllocError)
 }
 
 impl Served {
