@@ -35,7 +35,7 @@ pub fn known(table: &Table, head: &Head) -> bool
 /// The most verdicts that a decider keeps.
 const MOST_CACHED: usize = 1024;
 
-// A verdict of one of so many rows at the head of the table is found as fast as it is looked up.
+// What one of so many rows at the head of the table decides is not cached.
 const NEAR_ROWS: u16 = 8;
 
 /// Decides on requests, one after the other. What was asked before makes no difference.
