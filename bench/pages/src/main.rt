@@ -65,7 +65,7 @@ fn block_of(alloc: Global, lsn: u64, page: u32) -> Result<Block, AllocError> {
         offset: (lsn % 512) as u16 * 16,
         bytes: Bytes::from_vec(vec![in alloc; lsn as u8; 16]?)?,
     })?;
-    Block::new(alloc, lsn, records)
+    Block::new(alloc, lsn, records).map_err(|_| AllocError)
 }
 
 impl Served {

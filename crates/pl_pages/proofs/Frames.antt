@@ -9,7 +9,7 @@ use Rattle.std.specs.declared.cmp.Ordering.TheVariants.{Less, Equal, Greater}
 use Rattle.std.proofs.lemmas.Cmp.{nat_cmp_total, eq_by_cmp_equiv}
 use Rattle.std.specs.FinMap as maps
 use Rattle.pl_arena.specs.Arena as frames
-use Rattle.pl_arena.specs.Arena.{Arena, IsOut, IsFull, frame, with_frame}
+use Rattle.pl_arena.specs.Arena.{Arena, IsOut, frame, with_frame}
 use Rattle.pl_block.specs.Block.{Content}
 use Rattle.pl_pages.specs.Page.{zeros, after_block}
 use Rattle.pl_pages.specs.State.{Version, IsVersion, AreVersions}
@@ -238,25 +238,6 @@ module _ (a : Arena) (ks : List Kept) (oldest : ℕ) (kept : AreKept a (frames_o
       each = each_then;
       turn = λ some. omega (arith, longer, kept.turn some);
     })
-
-  -- where each frame is out there is a version, and the oldest is one of them
-  pub oldest_within : IsFull a → oldest < length ks
-  oldest_within full =
-      let first = kept.each 0 (full 0 (omega (arith, kept.some))) in
-      elim (cases_lt 0 oldest) [
-        | inl some ↦ omega (arith, frames_len, kept.turn some)
-        | inr none ↦ omega (arith, frames_len, first.1.0, none)
-      ]
-
-  -- the next oldest is one of them too
-  pub next_kept : (next : ℕ) → next < length ks → AreKept a (frames_of ks) next
-  next_kept next within = record {
-    some = kept.some;
-    out = kept.out;
-    apart = kept.apart;
-    each = kept.each;
-    turn = λ _. omega (arith, frames_len, within);
-  }
 
 -- ---- the same of what is seen of versions
 

@@ -18,8 +18,8 @@ use pl_log::DbLog;
 use std::alloc::{AllocError, Global};
 use std::marker::Model;
 
-/// The pages of a database whose log stands beside it: how far each partition is applied, and the
-/// versions that are kept, and an index of the blocks that change each page.
+/// The pages of a database whose log stands beside it: how far each partition is applied, which
+/// blocks change each page, and versions of pages.
 ///
 /// Every call takes the log that the pages are of. The pages fit each log that begins with the one
 /// of the call before, so that the log may grow in between.
@@ -96,9 +96,13 @@ impl Pages {
     /// The bytes of the page at an LSN of the log, and that LSN: the one asked for where `exact` is
     /// set or the partition is applied no further, else the one that the partition is applied to.
     ///
-    /// The LSN is at most `hard`. The 8,192 bytes are lent until the next call. Each block up to the
-    /// LSN that is answered is read once, and none is copied. An error means that an allocation failed:
-    /// no applied LSN has changed.
+    /// The LSN is at most `hard`. The 8,192 bytes are lent until the next call.
+    ///
+    /// The first get behind a hardened block reads that block once and enters its LSN under each page
+    /// that it changes. Besides, a get costs a search, and where no version of the page stands at the
+    /// LSN a copy of the newest below it and the blocks that change the page since, or all that change
+    /// it where there is no version below. A new version takes a frame; once all have versions, it takes
+    /// that of the oldest. An error means that an allocation failed: no applied LSN has changed.
     pub fn get(
         &mut self,
         log: &mut DbLog,
