@@ -43,10 +43,16 @@ fn short_of(db: &Db) -> (u64, (u64, u64), Epochs) {
 }
 
 impl Database {
-    fn open(&mut self, table: &str, primary: &str, audit: &str) -> Result<&'static str, Stop> {
+    fn open(
+        &mut self,
+        table: &str,
+        primary: &str,
+        audit: &str,
+        chunks: &str,
+    ) -> Result<&'static str, Stop> {
         let limits = Limits {
             audit: audit.parse()?,
-            chunks: 16,
+            chunks: chunks.parse()?,
         };
         if !limits.are_valid() {
             return Err(Stop::Unread);
@@ -266,7 +272,12 @@ impl Subject for Database {
 
     fn answer(&mut self, words: &[&str], out: &mut String, refused: &mut bool) -> Result<(), Stop> {
         match words {
-            ["open", table, primary, audit] => push_word(out, self.open(table, primary, audit)?),
+            ["open", table, primary, audit] => {
+                push_word(out, self.open(table, primary, audit, "16")?)
+            }
+            ["open", table, primary, audit, chunks] => {
+                push_word(out, self.open(table, primary, audit, chunks)?)
+            }
             [
                 "audit" | "hard" | "epochs" | "log" | "applied" | "annulled",
                 ..
