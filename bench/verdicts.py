@@ -2,8 +2,7 @@
 
 Usage: python3 bench/verdicts.py [RUNS]     (3 runs, of which the least of each time counts)
 
-Builds bench/verdicts, a program of its own over pl_block, pl_table and pl_decide, under bench/work, with what earlier
-checks of those crates kept; `rt run` proves what is left. It times tables of 1, 16 and 256 rows for 64 principals,
+Builds bench/verdicts, a program over pl_table and pl_decide. It times tables of 1, 16 and 256 rows for 64 principals,
 where each row names a principal and where none does, for a request that the first row, the last or no row matches:
 
 - walk: each row is looked at, up to the first that matches;
@@ -14,27 +13,12 @@ where each row names a principal and where none does, for a request that the fir
 Prints nanoseconds of the processor and ratios within this one run.
 """
 
-import pathlib
-import shutil
 import subprocess
 import sys
 
-ROOT = pathlib.Path(__file__).resolve().parent.parent
-WORK = ROOT / "bench" / "work" / "verdicts"
-CRATES = ("pl_block", "pl_table", "pl_decide")
+import programs
+
 TIMES = ("walk", "index", "miss", "again")
-
-
-def build():
-    shutil.rmtree(WORK, ignore_errors=True)
-    listed = (ROOT / "crates.txt").read_text().splitlines()
-    lines = [line for line in listed if line.split(":")[0] in CRATES]
-    for crate in CRATES:
-        shutil.copytree(ROOT / "crates" / crate, WORK / "crates" / crate, symlinks=True)
-    shutil.copytree(ROOT / "bench" / "verdicts", WORK / "crates" / "verdicts")
-    (WORK / "crates.txt").write_text("\n".join([*lines, "verdicts: pl_table pl_decide", ""]))
-    subprocess.run(["rt", "run"], cwd=WORK / "crates" / "verdicts", stdout=subprocess.DEVNULL, check=True)
-    return WORK / "crates" / "verdicts" / "out" / "verdicts"
 
 
 def run(program):
@@ -51,7 +35,7 @@ def run(program):
 
 def main():
     runs = int(sys.argv[1]) if len(sys.argv) > 1 else 3
-    program = build()
+    program = programs.program("verdicts", "pl_table pl_decide")
     least = run(program)
     for _ in range(runs - 1):
         for key, line in run(program).items():

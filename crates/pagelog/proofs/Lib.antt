@@ -1,7 +1,8 @@
 mod Feeds
 mod Pieces
 mod Turns
-pub mod Matching
 pub mod Passes
-pub mod TakesPlay
 mod Words
+mod Matching
+mod Rows
+mod Taken

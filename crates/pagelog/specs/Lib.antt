@@ -3,7 +3,9 @@ pub mod Text
 pub mod Admin
 pub mod AnswerText
 pub mod Answering
+pub mod Asking
 pub mod Start
 pub mod Played
 pub mod Endings
 pub mod CommandLine
+pub mod Serving

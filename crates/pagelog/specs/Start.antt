@@ -27,28 +27,44 @@ abbrev pub IsTooLong : Option (List ℕ) → Type 0
 IsTooLong None = ⊤
 IsTooLong (Some bytes) = longest_text < length bytes
 
--- a table and its first primary, and an audit list of at most 65,536 entries
-abbrev pub start_with : WrittenTable → ℕ → Start
-start_with table primary = record { table = table; primary = primary; limits = record { audit = 65536; chunks = 16 } }
+-- a table and its first primary, and an audit list of at most so many entries
+abbrev pub start_with : WrittenTable → ℕ → ℕ → Start
+start_with table primary audit =
+    record { table = table; primary = primary; limits = record { audit = audit; chunks = 16 } }
 
 -- nothing was asked yet
-abbrev pub new_history : WrittenTable → ℕ → History
-new_history table primary = record { start = start_with table primary; entries = [] }
+abbrev pub new_history : WrittenTable → ℕ → ℕ → History
+new_history table primary audit = record { start = start_with table primary audit; entries = [] }
 
 -- by the token that the table lists for the primary, if it lists one
-abbrev pub listed_start : WrittenTable → ℕ → Option (List ℕ) → Result History StartFault
-listed_start table primary None = Err faults.NotListed
-listed_start table primary (Some token) = Ok (new_history table primary)
+abbrev pub listed_start : WrittenTable → ℕ → ℕ → Option (List ℕ) → Result History StartFault
+listed_start table primary audit None = Err faults.NotListed
+listed_start table primary audit (Some token) = Ok (new_history table primary audit)
 
 -- by what the text reads as
-abbrev pub read_start : Result WrittenTable TableFault → ℕ → Result History StartFault
-read_start (Err fault) primary = Err (faults.Table fault)
-read_start (Ok table) primary = listed_start table primary (token_of primary table.principals)
+abbrev pub read_start : Result WrittenTable TableFault → ℕ → ℕ → Result History StartFault
+read_start (Err fault) primary audit = Err (faults.Table fault)
+read_start (Ok table) primary audit =
+    listed_start table primary audit (token_of primary table.principals)
 
--- the history that a database begins with, of the text of its table and its primary, or its first
--- fault
-abbrev pub start_of : List ℕ → ℕ → Result History StartFault
-start_of text primary = read_start (table_reading text) primary
+-- the history that a database begins with, of the text of its table, its primary and the limit of its
+-- audit list, or its first fault
+abbrev pub start_of : List ℕ → ℕ → ℕ → Result History StartFault
+start_of text primary audit = read_start (table_reading text) primary audit
+
+-- the token that a table lists for a principal, or that it lists none
+abbrev pub listed_token : Option (List ℕ) → Result (List ℕ) StartFault
+listed_token None = Err faults.NotListed
+listed_token (Some token) = Ok token
+
+-- by what the text reads as
+abbrev pub read_token : Result WrittenTable TableFault → ℕ → Result (List ℕ) StartFault
+read_token (Err fault) principal = Err (faults.Table fault)
+read_token (Ok table) principal = listed_token (token_of principal table.principals)
+
+-- the token of a principal, of the text of a table, or the first fault
+abbrev pub token_in : List ℕ → ℕ → Result (List ℕ) StartFault
+token_in text principal = read_token (table_reading text) principal
 
 -- the fault of the start where a file gave no text
 abbrev pub start_fault_of_file : FileFault → StartFault

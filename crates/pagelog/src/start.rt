@@ -15,9 +15,6 @@ use thiserror::Error;
 /// How many bytes the text of a table may have.
 const LONGEST_TEXT: usize = 65_506;
 
-/// The most entries of the audit list.
-const AUDIT_LIMIT: u64 = 65_536;
-
 /// The chunks of page versions.
 const CHUNKS: usize = 16;
 
@@ -137,14 +134,16 @@ pub fn read_text<R: Read + Drop>(alloc: Global, reader: R) -> Result<Vec<u8>, Fi
     text_of(read, text)
 }
 
-/// A database of which nothing was asked, with the table that the text writes down and this primary.
-/// Of several faults the text's comes first, then that the primary is not listed.
-pub fn start_db(alloc: Global, text: &[u8], primary: u32) -> Result<Db, StartFault>
-    ensures value { (result ≡ Err StartFault.NoMemory) ⊎ (result ≡ start_of text.now primary) }
+/// A database of which nothing was asked, with the table that the text writes down, this primary, and
+/// an audit list of at most so many entries. Of several faults the text's comes first, then that the
+/// primary is not listed.
+pub fn start_db(alloc: Global, text: &[u8], primary: u32, audit: u64) -> Result<Db, StartFault>
+    requires { 1 ≤ audit }
+    ensures value { (result ≡ Err StartFault.NoMemory) ⊎ (result ≡ start_of text.now primary audit) }
 {
     let table = read_table(alloc, text)?;
     let limits = Limits {
-        audit: AUDIT_LIMIT,
+        audit,
         chunks: CHUNKS,
     };
     Ok(Db::new(alloc, table, primary, limits)?)

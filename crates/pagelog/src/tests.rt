@@ -23,7 +23,7 @@ verdict = \"allow\"
 
 // A database of which nothing was asked, with primary 2.
 fn fresh(alloc: Global) -> Result<Db, StartFault> {
-    start_db(alloc, TABLE.as_bytes(), 2)
+    start_db(alloc, TABLE.as_bytes(), 2, 65_536)
 }
 
 /// How `play` ended, and what it wrote.

@@ -21,6 +21,8 @@ mod bodies;
 #[cfg(test)]
 mod codec;
 #[cfg(test)]
+mod connections;
+#[cfg(test)]
 mod database;
 #[cfg(test)]
 mod decisions;
@@ -34,6 +36,8 @@ mod entries;
 mod failovers;
 #[cfg(test)]
 mod frames;
+#[cfg(test)]
+mod gates;
 #[cfg(test)]
 mod line_text;
 #[cfg(test)]

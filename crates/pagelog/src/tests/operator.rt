@@ -34,7 +34,7 @@ const WRITE_AND_REPORT: &[u8] = b"\
 ";
 
 fn fresh(alloc: Global) -> Option<Db> {
-    start_db(alloc, TABLE.as_bytes(), 2).ok()
+    start_db(alloc, TABLE.as_bytes(), 2, 65_536).ok()
 }
 
 fn words_of(alloc: Global, words: &str) -> Result<Vec<String>, AllocError> {

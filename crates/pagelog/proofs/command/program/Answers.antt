@@ -1,17 +1,17 @@
-use Rattle.std.proofs.Common.{◌≡◌, ◌∙◌, ap, ap₂, rules, codes, true}
+use Rattle.std.proofs.Common.{◌≡◌, ◌∙◌, ap, ap₂, refl, codes, true}
 use Rattle.std.proofs.lemmas.Result.{IfOk-weaker}
-use Rattle.clap.specs.Simple.{App, app_of, app_of_fields, new_app, on_top, with_rule, with_subcommand}
-use Rattle.pagelog.specs.CommandLine.{play_app, top_app}
+use Rattle.clap.specs.Simple.{App, app_of, app_of_fields, new_app, on_top, with_subcommand}
+use Rattle.pagelog.specs.CommandLine.{ask_app, play_app, serve_app, top_app}
+use Rattle.pagelog.proofs.Matching.{no_globals}
 use Rattle.pagelog.proofs.command.program.Goals as goal
 
 pub returns : goal.returns
 returns c =
-    let about_is : app_of c.about.result ≡ new_app (codes "play") = ap app_of_fields c.about.ensures ∙ c.new.ensures.app in
-    let play_is : app_of c.in_ok-play.play ≡ play_app = c.in_ok-play.ensures.shape c.primary_option.ensures.local
-    ∙ ap₂ with_rule (c.in_ok-arg.ensures.shape c.table_option.ensures.local ∙ ap₂ with_rule about_is c.table_option.ensures.rule) c.primary_option.ensures.rule in
-    let pagelog_is : app_of c.about-2.result ≡ new_app (codes "pagelog") = ap app_of_fields c.about-2.ensures ∙ c.new-2.ensures.app in
-    let required_is : app_of c.subcommand_required.result ≡ on_top (λ s. record s { subcommand_required = true }) (app_of c.about-2.result) = ap app_of_fields c.subcommand_required.ensures in
+    let pagelog_is : app_of c.about.result ≡ new_app (codes "pagelog") = ap app_of_fields c.about.ensures ∙ c.new.ensures.app in
+    let required_is : app_of c.subcommand_required.result ≡ on_top (λ s. record s { subcommand_required = true }) (app_of c.about.result) = ap app_of_fields c.subcommand_required.ensures in
     let help_is : app_of c.arg_required_else_help.result ≡ on_top (λ s. record s { arg_required_else_help = true }) (app_of c.subcommand_required.result) = ap app_of_fields c.arg_required_else_help.ensures in
     let top_is : app_of c.arg_required_else_help.result ≡ top_app = help_is
     ∙ ap (on_top (λ s. record s { arg_required_else_help = true })) (required_is ∙ ap (on_top (λ s. record s { subcommand_required = true })) pagelog_is) in
-    record { ok = IfOk-weaker c.subcommand.result _ _ (λ whole adds. adds.shape (search rules) ∙ ap₂ with_subcommand top_is (ap (λ (a : App). a.top) play_is)) c.subcommand.ensures }
+    let play_is = c.in_ok-subcommand.ensures.shape (no_globals _ play_app c.in_ok-play_command.ensures.ok refl) ∙ ap₂ with_subcommand top_is (ap (λ (a : App). a.top) c.in_ok-play_command.ensures.ok) in
+    let serve_is = c.in_ok-subcommand-2.ensures.shape (no_globals _ serve_app c.in_ok-serve_command.ensures.ok refl) ∙ ap₂ with_subcommand play_is (ap (λ (a : App). a.top) c.in_ok-serve_command.ensures.ok) in
+    record { ok = IfOk-weaker c.subcommand-3.result _ _ (λ whole adds. adds.shape (no_globals _ ask_app c.in_ok-ask_command.ensures.ok refl) ∙ ap₂ with_subcommand serve_is (ap (λ (a : App). a.top) c.in_ok-ask_command.ensures.ok)) c.subcommand-3.ensures }

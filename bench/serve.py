@@ -1,0 +1,186 @@
+"""Times `pagelog serve` over the loopback, beside a bare echo of the same frames and, where it is installed, redis-server.
+
+Usage: python3 bench/serve.py [SHARE]     (1; a tenth of the requests with 0.1)
+
+For each of a 100-byte write (the same block again and again), a report, a pull of one block and a get of a page, round
+trips a second at 1, 8 and 64 connections with one request each at a time, and with 64 requests in flight on one
+connection. All are asked by the same client, bench/frames.c, and so is the echo, which answers each frame by one as
+long as the service's. Redis is asked for XADD of 100 bytes, XRANGE of one entry and GET of 8,192 bytes. Each number is
+the best of three runs. Beside them stand the processor time that the service took for a request, and the most memory
+that it held until then, which grows with its audit list.
+"""
+
+import os
+import pathlib
+import shutil
+import socket
+import subprocess
+import sys
+import tempfile
+import time
+
+ROOT = pathlib.Path(__file__).resolve().parent.parent
+sys.path.insert(0, str(ROOT / "scripts"))
+
+import wire  # noqa: E402
+
+CRATE = ROOT / "crates" / "pagelog"
+SHARE = float(sys.argv[1]) if len(sys.argv) > 1 else 1.0
+RUNS = 3
+# Connections, requests in flight on each, and requests of each connection.
+SHAPES = ((1, 1, 20000), (8, 1, 10000), (64, 1, 2000), (1, 64, 100000))
+TICKS = os.sysconf("SC_CLK_TCK")
+
+
+def frame(body):
+    return wire.number(len(body), 4) + body
+
+
+def hundred_bytes(lsn):
+    return wire.block(lsn, [(0, 0, bytes(100))])
+
+
+def primary(op, rest):
+    return frame(wire.head(2, wire.PRIMARY, op) + rest)
+
+
+def reader(op, rest):
+    return frame(wire.head(3, wire.SECONDARY, op) + rest)
+
+
+# What is asked before the timed requests: one hardened block, and a table of one row for each role.
+SETUP = [primary(wire.WRITE, wire.write(copy, hundred_bytes(1))) for copy in (0, 1)] + [primary(wire.REPORT, wire.report(1))]
+
+# The name, the request, the bytes of its reply, and what redis is asked beside it.
+CASES = (
+    ("100-byte write", primary(wire.WRITE, wire.write(0, hundred_bytes(2))), 5,
+     ["XADD", "s", "MAXLEN", "~", "10000", "*", "f", "v" * 100]),
+    ("report", primary(wire.REPORT, wire.report(1)), 5, None),
+    ("pull of one block", reader(wire.PULL, wire.pull(0, 65535, 1, 1)), 4 + 1 + 8 + 2 + 4 + len(hundred_bytes(1)),
+     ["XRANGE", "s", "-", "+", "COUNT", "1"]),
+    ("get of a page", reader(wire.GET, wire.get(0, 1, 1)), 4 + 1 + 8 + 8192, ["GET", "page"]),
+)
+
+
+class Running:
+    """A server that is ended with this program's leave alone."""
+
+    def __init__(self, words, port=None):
+        self.process = subprocess.Popen([str(word) for word in words], stdout=subprocess.PIPE, text=True)
+        self.port = port
+
+    def seconds(self):
+        """The processor time that it took."""
+        parts = open(f"/proc/{self.process.pid}/stat").read().rsplit(")", 1)[1].split()
+        return (int(parts[11]) + int(parts[12])) / TICKS
+
+    def peak(self):
+        """The most memory that it held, in MiB."""
+        for line in open(f"/proc/{self.process.pid}/status"):
+            if line.startswith("VmHWM:"):
+                return int(line.split()[1]) / 1024
+
+    def end(self):
+        self.process.terminate()
+        self.process.wait()
+
+
+def service():
+    running = Running([CRATE / "out" / "pagelog", "serve", "--listen", "127.0.0.1:0", "--table", CRATE / "data" / "t0.toml",
+                       "--primary", 2, "--dbs", 1, "--workers", 64, "--connections", 4294967295, "--audit", 16777216])
+    running.port = int(running.process.stdout.readline().split()[1].rsplit(":", 1)[1])
+    for request in SETUP:
+        assert first_bytes(running.port, request) == b"\0\0\0\1\0"
+    return running
+
+
+def echo(reply):
+    running = Running([FRAMES, "echo", reply - 4])
+    running.port = int(running.process.stdout.readline())
+    return running
+
+
+def redis():
+    with socket.socket() as free:
+        free.bind(("127.0.0.1", 0))
+        port = free.getsockname()[1]
+    running = Running(["redis-server", "--port", port, "--bind", "127.0.0.1", "--save", "", "--appendonly", "no"], port)
+    for _ in range(100):
+        try:
+            first_bytes(port, spelled(["SET", "page", "p" * 8192]))
+            first_bytes(port, spelled(["XADD", "s", "*", "f", "v" * 100]))
+            return running
+        except ConnectionRefusedError:
+            time.sleep(0.05)
+    raise SystemExit("redis-server does not answer")
+
+
+def spelled(words):
+    """A command as redis reads it."""
+    return f"*{len(words)}\r\n".encode() + b"".join(f"${len(word)}\r\n{word}\r\n".encode() for word in words)
+
+
+def first_bytes(port, request):
+    """What is replied within a fifth of a second."""
+    with socket.create_connection(("127.0.0.1", port)) as client:
+        client.sendall(request)
+        client.settimeout(0.2)
+        data = b""
+        try:
+            while part := client.recv(1 << 16):
+                data += part
+        except TimeoutError:
+            pass
+        return data
+
+
+def rate(port, shape, request, reply):
+    """Round trips a second, the best of the runs."""
+    connections, flight, count = shape
+    count = max(1, int(count * SHARE))
+    with tempfile.NamedTemporaryFile() as file:
+        file.write(request)
+        file.flush()
+        words = [FRAMES, "ask", port, connections, flight, count, reply, file.name]
+        took = [float(subprocess.run([str(word) for word in words], stdout=subprocess.PIPE, text=True,
+                                     check=True).stdout.split()[0]) for _ in range(RUNS)]
+    return connections * count / min(took)
+
+
+def times(case, ours, bare, other):
+    name, request, reply, command = case
+    length = len(first_bytes(ours.port, request))
+    assert length == reply, f"{name}: a reply of {length} bytes"
+    for shape in SHAPES:
+        connections, flight, count = shape
+        before = ours.seconds()
+        own = rate(ours.port, shape, request, reply)
+        spent = (ours.seconds() - before) / (RUNS * connections * max(1, int(count * SHARE)))
+        plain = rate(bare.port, shape, request, reply)
+        beside = f"{'':>9} {'':>6}"
+        if other and command:
+            wanted = "+2" if command[0] == "XADD" else len(first_bytes(other.port, spelled(command)))
+            theirs = rate(other.port, shape, spelled(command), wanted)
+            beside = f"{theirs:9,.0f} {own / theirs:6.2f}"
+        print(f"{name:18} {connections:4} x {flight:2} {own:9,.0f} {plain:9,.0f} {own / plain:6.2f} {beside}"
+              f" {spent * 1e6:8.2f} {ours.peak():8.1f}", flush=True)
+
+
+def main():
+    print(f"{'':18} {'':9} {'pagelog':>9} {'echo':>9} {'ratio':>6} {'redis':>9} {'ratio':>6} {'us each':>8} {'MiB':>8}")
+    other = redis() if shutil.which("redis-server") else None
+    for case in CASES:
+        ours, bare = service(), echo(case[2])
+        try:
+            times(case, ours, bare, other)
+        finally:
+            ours.end()
+            bare.end()
+    if other:
+        other.end()
+
+
+with tempfile.TemporaryDirectory() as work:
+    FRAMES = pathlib.Path(work) / "frames"
+    subprocess.run(["gcc", "-O2", "-pthread", "-o", FRAMES, ROOT / "bench" / "frames.c"], check=True)
+    main()

@@ -1,0 +1,10 @@
+pub mod Talking
+pub mod Standing
+pub mod Reaching
+pub mod Working
+pub mod Finishing
+pub mod Places
+pub mod Dealing
+pub mod Meeting
+pub mod Calling
+pub mod Rounds

@@ -1,0 +1,100 @@
+-- Lists of bodies and replies: one more of each, and a text that is cut.
+use Rattle.std.proofs.Common.{◌≡◌, ℕ, suc, ◌+◌, ◌-◌, ◌<◌, ◌≤◌, Bool, true, false, ltb, List, [], ◌∷◌, ◌++◌, length, map, take, drop, slice_index, if◌then◌else◌, add-one, refl, sym, ap, subst, ◌∙◌, append_assoc, append-nil, arith}
+use lib.Seq.{take-append-le, take-append-add, drop-cons}
+use Rattle.std.specs.List.{AllByRecursion, flat_map}
+use Rattle.std.proofs.lemmas.Bool.{ltb-false, ltb-true, le-ltb, lt-ltb}
+use Rattle.std.proofs.lemmas.List.{length-append, drop_all}
+use Rattle.std.proofs.lemmas.Grind.{flat_map-append}
+use Rattle.pl_core.specs.declared.reply.Reply.{Reply}
+use Rattle.pl_wire.specs.FrameWriting.{reply_frame}
+use Rattle.pl_conn.specs.Conversation.{AnswersBody, Answered, Calls, text_of}
+use Rattle.pl_conn.specs.Gathering.{whole_in}
+
+-- the chain goes one further
+pub answered_more : {P : Type 0} (calls : Calls P) (p q r : P) (bodies : List (List ℕ)) (rs : List Reply) (body : List ℕ) (reply : Reply)
+    → Answered calls p bodies rs q → AnswersBody calls q body reply r → Answered calls p (bodies ++ body ∷ []) (rs ++ reply ∷ []) r
+answered_more calls p q r [] [] body reply done next = (r, subst (λ x. AnswersBody calls x body reply r) done next, refl)
+answered_more calls p q r [] (y ∷ ys) body reply done next = absurd done
+answered_more calls p q r (b ∷ bs) [] body reply done next = absurd done
+answered_more calls p q r (b ∷ bs) (y ∷ ys) body reply done next =
+    (done.0, done.1, answered_more calls done.0 q r bs ys body reply done.2 next)
+
+-- all, and one more
+pub all_more : {X : Type 0} (P : X → Type 0) (xs : List X) (x : X) → AllByRecursion P xs → P x → AllByRecursion P (xs ++ x ∷ [])
+all_more P [] x all one = (one, tt)
+all_more P (y ∷ ys) x all one = (all.0, all_more P ys x all.1 one)
+
+-- what the list gives, and what one more gives
+pub joined : {X A : Type 0} (f : X → List A) (xs : List X) (x : X) → flat_map f (xs ++ x ∷ []) ≡ flat_map f xs ++ f x
+joined f xs x = flat_map-append f xs (x ∷ []) ∙ ap (λ l. flat_map f xs ++ l) (append-nil (f x))
+
+pub map_more : {X A : Type 0} (f : X → A) (xs : List X) (x : X) → map f (xs ++ x ∷ []) ≡ map f xs ++ f x ∷ []
+map_more f [] x = refl
+map_more f (y ∷ ys) x = ap (λ l. f y ∷ l) (map_more f ys x)
+
+-- a text of replies that is cut: some are whole, and the next one is not
+pub record Cut (waiting : List Reply) (count : ℕ) (bytes : List ℕ) : Type 0 where
+  pub whole : List Reply
+  pub next : Reply
+  pub more : List Reply
+  pub k : ℕ
+  pub parts : waiting ≡ whole ++ next ∷ more
+  pub number : length whole ≡ count
+  pub less : k < length (reply_frame next)
+  pub text : bytes ≡ text_of whole ++ take k (reply_frame next)
+
+abbrev pub lens_of : List Reply → List ℕ
+lens_of rs = map (λ r. length (reply_frame r)) rs
+
+pub cut_text : (rs : List Reply) (n : ℕ) → n < length (text_of rs) → Cut rs (whole_in (lens_of rs) n) (take n (text_of rs))
+cut_text [] n less = absurd (omega (arith, less))
+cut_text (r ∷ rs) n less = by (ltb n (length (reply_frame r))) refl (λ m l. cut_text rs m l)
+  where
+    by : (b : Bool) → ltb n (length (reply_frame r)) ≡ b → ((m : ℕ) → m < length (text_of rs) → Cut rs (whole_in (lens_of rs) m) (take m (text_of rs))) → Cut (r ∷ rs) (if b then 0 else suc (whole_in (lens_of rs) (n - length (reply_frame r)))) (take n (reply_frame r ++ text_of rs))
+    by true e again = let within : n < length (reply_frame r) = ltb-true _ _ e in record {
+      whole = [];
+      next = r;
+      more = rs;
+      k = n;
+      parts = refl;
+      number = refl;
+      less = within;
+      text = take-append-le n (reply_frame r) (text_of rs) (omega (arith, within));
+    }
+    by false e again =
+        let long : length (reply_frame r) ≤ n = ltb-false _ _ e in
+        let rest : n - length (reply_frame r) < length (text_of rs) = omega (arith, long, less, length-append (reply_frame r) (text_of rs)) in
+        let c = again (n - length (reply_frame r)) rest in
+        let whole : n ≡ length (reply_frame r) + (n - length (reply_frame r)) = omega (arith, long) in
+        record {
+          whole = r ∷ c.whole;
+          next = c.next;
+          more = c.more;
+          k = c.k;
+          parts = ap (λ (l : List Reply). r ∷ l) c.parts;
+          number = ap suc c.number;
+          less = c.less;
+          text = ap (λ (j : ℕ). take j (reply_frame r ++ text_of rs)) whole
+              ∙ take-append-add (reply_frame r) (text_of rs) (n - length (reply_frame r))
+              ∙ ap (λ (l : List ℕ). reply_frame r ++ l) c.text
+              ∙ sym (append_assoc (reply_frame r) (text_of c.whole) (take c.k (reply_frame c.next)));
+        }
+
+-- the lengths behind a place: the frame there is whole, or cut; there are none
+pub whole_at : (lens : List ℕ) (i k : ℕ) → i < length lens → slice_index lens i ≤ k → whole_in (drop i lens) k ≡ suc (whole_in (drop (i + 1) lens) (k - slice_index lens i))
+whole_at lens i k within fits =
+    rw (drop-cons lens i 0 within, le-ltb _ _ fits, add-one i) refl
+
+pub whole_cut : (lens : List ℕ) (i k : ℕ) → i < length lens → k < slice_index lens i → whole_in (drop i lens) k ≡ 0
+whole_cut lens i k within less = rw (drop-cons lens i 0 within, lt-ltb _ _ less) refl
+
+pub whole_past : (lens : List ℕ) (i k : ℕ) → length lens ≤ i → whole_in (drop i lens) k ≡ 0
+whole_past lens i k past = ap (λ (l : List ℕ). whole_in l k) (drop_all i lens past)
+
+pub whole_few : (lens : List ℕ) (k : ℕ) → whole_in lens k ≤ length lens
+whole_few [] k = omega arith
+whole_few (n ∷ ns) k = by (ltb k n) (whole_few ns (k - n))
+  where
+    by : (b : Bool) → whole_in ns (k - n) ≤ length ns → (if b then 0 else suc (whole_in ns (k - n))) ≤ suc (length ns)
+    by true few = omega arith
+    by false few = omega (arith, few)

@@ -1,0 +1,10 @@
+use Rattle.pl_conn.proofs.Rounds.{going_more, works_ended}
+use Rattle.pl_conn.proofs.materialising.materialise.Goals as goal
+
+pub loop-round-preserved : goal.loop-round-preserved
+loop-round-preserved g c =
+    (c.round.ensures.own, going_more _ _ _ _ _ _ _ _ c.loop-round.invariant.1 c.if-not-round.ensures.round)
+
+pub returns-then-not-round-clause-works : goal.returns-then-not-round-clause-works
+returns-then-not-round-clause-works g c =
+    works_ended _ _ _ _ _ _ _ _ _ c.loop-round-test.true c.loop-round.invariant.1 c.if-not-round.ensures.round

@@ -1,0 +1,113 @@
+-- What a connection's output is.
+use Rattle.std.specs.Prelude.{◌≡◌, ℕ, ◌+◌, ◌^◌, ◌<◌, ◌≤◌, ◌⊎◌, List, [], ◌∷◌, ◌++◌, length, take, Option, Result, Ok, Err}
+use Rattle.std.specs.Int.{w32, to_be_bytes}
+use Rattle.std.specs.Io.KnownBytes.{Appends, Consumes, IsAtEnd}
+use Rattle.std.specs.List.{AllByRecursion, flat_map}
+use Rattle.pl_table.specs.Request.{Query}
+use Rattle.pl_core.specs.declared.reply.Reply.{Reply}
+use Rattle.pl_core.specs.declared.reply.Reply.TheVariants as replies
+use Rattle.pl_wire.specs.Codes.{code_of}
+use Rattle.pl_wire.specs.FrameReading.{IsCut}
+use Rattle.pl_wire.specs.Frames.{frames_of, longest_request}
+use Rattle.pl_wire.specs.FrameWriting.{reply_frame}
+use Rattle.pl_wire.specs.Reading.{request_reading, MayLackMemory}
+use Rattle.pl_wire.specs.declared.fault.WireFault.{WireFault}
+use Rattle.pl_wire.specs.declared.frame_reading.FrameFault.{FrameFault}
+use Rattle.pl_wire.specs.declared.frame_reading.FrameFault.TheVariants as frame_faults
+use Rattle.pl_conn.specs.declared.cause.Cause.{Cause}
+use Rattle.pl_conn.specs.declared.cause.Cause.TheVariants as causes
+use Rattle.pl_conn.specs.declared.cause.ConnFault.{ConnFault}
+
+-- the frames of replies, one after the other
+abbrev pub text_of : List Reply → List ℕ
+text_of replies = flat_map reply_frame replies
+
+-- which calls there may be: the pass before, the request, the reply, and the pass after
+abbrev pub Calls : Type 0 → Type 1
+Calls P = P → Query → Reply → P → Type 0
+
+-- what was read as a request is called; for any other body the code of its fault is replied, without a call
+abbrev pub AnswersReading : {P : Type 0} → Calls P → Result Query WireFault → P → Reply → P → Type 0
+AnswersReading calls (Ok request) before reply after = calls before request reply after
+AnswersReading calls (Err fault) before reply after = (reply ≡ replies.Malformed (code_of fault)) × (after ≡ before)
+
+-- a body that asks for memory finds none: there is no call
+abbrev pub LacksMemory : {P : Type 0} → List ℕ → P → Reply → P → Type 0
+LacksMemory body before reply after = MayLackMemory body × (reply ≡ replies.NoMemory) × (after ≡ before)
+
+-- the reply to a body
+abbrev pub AnswersBody : {P : Type 0} → Calls P → P → List ℕ → Reply → P → Type 0
+AnswersBody calls before body reply after =
+    AnswersReading calls (request_reading body) before reply after ⊎ LacksMemory body before reply after
+
+-- each body has its reply, and each begins with the pass that the one before it left
+abbrev pub Answered : {P : Type 0} → Calls P → P → List (List ℕ) → List Reply → P → Type 0
+Answered calls before [] [] after = after ≡ before
+Answered calls before [] (reply ∷ replies) after = ⊥
+Answered calls before (body ∷ bodies) [] after = ⊥
+Answered calls before (body ∷ bodies) (reply ∷ replies) after =
+    (now : _) × AnswersBody calls before body reply now × Answered calls now bodies replies after
+
+-- what a reader has left, what a writer holds, and a pass
+pub record Scene (P : Type 0) : Type 0 where
+  pub input : Option (List ℕ)
+  pub output : Option (List ℕ)
+  pub pass : P
+
+abbrev pub scene : {P : Type 0} → Option (List ℕ) → Option (List ℕ) → P → Scene P
+scene input output pass = record { input = input; output = output; pass = pass }
+
+-- A conversation: the bodies of the frames that were read, the replies that were written whole, those that
+-- were not, and the bytes that were read and written behind the last whole one.
+pub record Talk : Type 0 where
+  pub bodies : List (List ℕ)
+  pub whole : List Reply
+  pub others : List Reply
+  pub part : List ℕ
+  pub cut : List ℕ
+
+-- that this was the conversation
+pub record Talks {P : Type 0} (calls : Calls P) (before after : Scene P) (talk : Talk) : Type 0 where
+  pub short : AllByRecursion (λ body. length body ≤ longest_request) talk.bodies
+  pub read : Consumes before.input after.input (frames_of talk.bodies ++ talk.part)
+  pub chain : Answered calls before.pass talk.bodies (talk.whole ++ talk.others) after.pass
+  pub written : Appends before.output after.output (text_of talk.whole ++ talk.cut)
+
+-- all replies are written
+abbrev pub IsTold : Talk → Type 0
+IsTold talk = (talk.others ≡ []) × (talk.cut ≡ [])
+
+-- the length of a frame that is too long
+abbrev pub IsTooLong : List ℕ → Type 0
+IsTooLong bytes = (len : ℕ) × (longest_request < len) × (len < 2 ^ 32) × (bytes ≡ to_be_bytes w32 len)
+
+-- some reply is not written whole: a beginning of it may be
+abbrev pub IsToldInPart : Talk → Type 0
+IsToldInPart talk = (next : Reply) × (more : List Reply) × (k : ℕ) × (talk.others ≡ next ∷ more)
+    × (k < length (reply_frame next)) × (talk.cut ≡ take k (reply_frame next))
+
+-- all replies but the last are written
+abbrev pub IsToldButLast : Talk → Type 0
+IsToldButLast talk = (last : Reply) × (talk.others ≡ last ∷ []) × (talk.cut ≡ []) × (talk.part ≡ [])
+
+-- why it ended, and what was read and written then; left is what the reader has left
+abbrev pub Ends : Cause → Talk → Option (List ℕ) → Type 0
+Ends causes.Short talk left = IsTold talk × (0 < length talk.part) × IsCut longest_request talk.part × IsAtEnd left
+Ends causes.TooLong talk left = IsTold talk × IsTooLong talk.part
+Ends causes.Read talk left = IsTold talk × IsCut longest_request talk.part
+Ends causes.Write talk left = IsToldInPart talk × (IsCut longest_request talk.part ⊎ IsTooLong talk.part)
+Ends causes.NoMemory talk left = (IsTold talk × IsCut longest_request talk.part) ⊎ IsToldButLast talk
+
+-- all frames of the input are answered, or 2^32 of them; or some, and then a fault
+abbrev pub Converses : {P : Type 0} → Calls P → Scene P → Scene P → Result ℕ ConnFault → Type 0
+Converses calls before after (Ok count) = (talk : Talk) × Talks calls before after talk × (length talk.whole ≡ count)
+    × IsTold talk × (talk.part ≡ []) × (count ≤ 2 ^ 32) × (count < 2 ^ 32 → IsAtEnd after.input)
+Converses calls before after (Err fault) = (talk : Talk) × Talks calls before after talk
+    × (length talk.whole ≡ fault.answered) × Ends fault.cause talk after.input
+
+-- why a conversation ends where a frame was not read
+abbrev pub cause_of : FrameFault → Cause
+cause_of frame_faults.Short = causes.Short
+cause_of frame_faults.TooLong = causes.TooLong
+cause_of frame_faults.Io = causes.Read
+cause_of frame_faults.NoMemory = causes.NoMemory

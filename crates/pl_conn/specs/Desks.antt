@@ -1,0 +1,54 @@
+-- Several desks and their passes, as a caller sees them: a list of desks, and a list with a pass of
+-- each.
+use Rattle.std.specs.Prelude.{◌≡◌, ℕ, List, [], ◌∷◌, ◌++◌, map, length, slice_get, slice_set, Option, Some, None}
+use Rattle.std.specs.List.{range_with_len}
+use Rattle.pl_table.specs.Request.{Query}
+use Rattle.pl_core.specs.History.{History}
+use Rattle.pl_core.specs.declared.reply.Reply.{Reply}
+use Rattle.pl_core.specs.declared.reply.Reply.TheVariants as replies
+use Rattle.pl_desk.specs.declared.rule.Terms.{Terms}
+use Rattle.pl_desk.specs.Passes.{Knowledge, Place, IsOf, IsSamePass, WasCalled, HasMet, fresh}
+
+-- as many passes as desks, each of the desk at its place
+pub record AreOf (desks : List Place) (passes : List Knowledge) : Type 0 where
+  pub count : length passes ≡ length desks
+  pub each : (i : ℕ) (desk : Place) (pass : Knowledge)
+      → slice_get desks i ≡ Some desk → slice_get passes i ≡ Some pass → IsOf desk pass
+
+-- a call with the pass of its database: that pass was called, and the others are the same; where
+-- there is no such pass, there is no such database, and nothing has changed
+abbrev pub CalledWith : Option Knowledge → List Knowledge → Query → Reply → List Knowledge → Type 0
+CalledWith None before request reply after = (reply ≡ replies.NoDatabase) × (after ≡ before)
+CalledWith (Some pass) before request reply after = (now : Knowledge)
+    × (after ≡ slice_set before request.head.database now)
+    × IsSamePass pass now × WasCalled pass request reply now
+
+-- a call of the database that the request names
+abbrev pub DesksCall : List Knowledge → Query → Reply → List Knowledge → Type 0
+DesksCall before request reply after =
+    CalledWith (slice_get before request.head.database) before request reply after
+
+-- at each desk the pass has met the other
+pub record HaveMet (before other after : List Knowledge) : Type 0 where
+  pub count : length after ≡ length before
+  pub each : (i : ℕ) (p o : Knowledge) → slice_get before i ≡ Some p → slice_get other i ≡ Some o
+      → (now : Knowledge) × (slice_get after i ≡ Some now) × IsSamePass p now × HasMet p o now
+
+-- what the desks of these databases are made with
+abbrev pub terms_of_each : ℕ → ℕ → List History → List Terms
+terms_of_each seats turns dbs =
+    map (λ db. record { seats = seats; turns = turns; opening = db }) dbs
+
+-- the fresh pass with a number of each desk
+abbrev pub fresh_at : List Place → ℕ → List Knowledge
+fresh_at desks number = map (λ desk. fresh desk number) desks
+
+-- so many of them, in the order of their numbers from 1 on
+abbrev pub all_fresh : List Place → ℕ → List (List Knowledge)
+all_fresh desks seats = map (fresh_at desks) (range_with_len 1 seats)
+
+-- each list has the item at its place behind its own, as far as there are items
+abbrev pub dealt : List Knowledge → List (List Knowledge) → List (List Knowledge)
+dealt [] lists = lists
+dealt (item ∷ items) [] = []
+dealt (item ∷ items) (list ∷ lists) = (list ++ item ∷ []) ∷ dealt items lists

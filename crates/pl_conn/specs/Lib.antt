@@ -1,0 +1,8 @@
+pub mod Solo
+pub mod Desks
+pub mod Materialising
+pub mod Conversation
+-- what only the code speaks of: replies that are not yet written, and workers
+pub mod Gathering
+pub mod Serving
+pub mod Workers

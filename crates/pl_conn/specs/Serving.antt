@@ -1,0 +1,33 @@
+-- Passes after the conversations of their workers.
+use Rattle.std.specs.Prelude.{◌≡◌, ℕ, ◌≤◌, ⊤, List, [], ◌∷◌, take}
+use Rattle.std.specs.List.{All}
+use Rattle.pl_table.specs.Request.{Query}
+use Rattle.pl_core.specs.declared.reply.Reply.{Reply}
+use Rattle.pl_conn.specs.Conversation.{Calls}
+use Rattle.pl_conn.specs.declared.serving.Stop.{Stop}
+use Rattle.pl_conn.specs.declared.serving.Stop.TheVariants as stops
+
+-- these calls, one after the other: each is a request and its reply, and begins with the pass that the one before it left
+abbrev pub Chained : {P : Type 0} → Calls P → P → List (Query × Reply) → P → Type 0
+Chained calls before [] after = after ≡ before
+Chained calls before (made ∷ more) after = (now : _) × calls before made.0 made.1 now × Chained calls now more after
+
+-- by a list of calls
+abbrev pub Reaches : {P : Type 0} → Calls P → P → P → Type 0
+Reaches calls before after = (made : List (Query × Reply)) × Chained calls before made after
+
+-- each pass came of the one at its place by a list of calls, and there are as many
+abbrev pub Returned : {P : Type 0} → Calls P → List P → List P → Type 0
+Returned calls [] [] = ⊤
+Returned calls [] (pass ∷ passes) = ⊥
+Returned calls (given ∷ others) [] = ⊥
+Returned calls (given ∷ others) (pass ∷ passes) = Reaches calls given pass × Returned calls others passes
+
+-- what is so once all connections are served: the passes that come back are those of the first workers, in order
+pub record Serves {P : Type 0} (calls : Calls P) (owns : P → Type 0) (given : List P) (connections accepted : ℕ) (stop : Stop) (passes : List P) : Type 0 where
+  pub most : accepted ≤ connections
+  pub limit : stop ≡ stops.Limit → accepted ≡ connections
+  pub none : stop ≡ stops.Start → (accepted ≡ 0) × (passes ≡ [])
+  pub started : ℕ
+  pub returned : Returned calls (take started given) passes
+  pub own : All owns passes

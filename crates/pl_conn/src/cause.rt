@@ -1,0 +1,44 @@
+//! Why a conversation ended before its input did.
+
+ghost use Rattle.std.specs.Prelude.{◌≡◌};
+ghost use Rattle.pl_conn.specs.Conversation.{cause_of};
+
+use pl_wire::FrameFault;
+
+/// Why a conversation ended before its input did.
+#[derive(Clone, Copy, Debug, PartialEq, Eq)]
+pub enum Cause {
+    /// The input ends inside a frame.
+    Short,
+    /// The length of a frame is above 65,536.
+    TooLong,
+    /// A read failed.
+    Read,
+    /// A write failed, or took no byte. Some frames behind the answered ones, at least one, were read
+    /// and handed to the gate, and a beginning of the next reply may be written.
+    Write,
+    /// An allocation failed, for a body or for a reply. Where it was for a reply, one frame behind the
+    /// answered ones was read and handed to the gate.
+    NoMemory,
+}
+
+/// A conversation that ended before its input did.
+#[derive(Clone, Copy, Debug, PartialEq, Eq)]
+pub struct ConnFault {
+    /// Why it ended.
+    pub cause: Cause,
+    /// How many frames were answered: so many replies are written whole.
+    pub answered: u64,
+}
+
+// Why a conversation ends where a frame was not read.
+pub(crate) fn cause_of(fault: FrameFault) -> Cause
+    ensures value { result ≡ cause_of fault }
+{
+    match fault {
+        FrameFault::Short => Cause::Short,
+        FrameFault::TooLong => Cause::TooLong,
+        FrameFault::Io => Cause::Read,
+        FrameFault::NoMemory => Cause::NoMemory,
+    }
+}

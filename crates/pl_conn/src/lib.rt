@@ -1,0 +1,25 @@
+//! Connections: the frames of requests that come from a reader are handed to a gate, one after the
+//! other, and the frames of the replies go to a writer.
+//!
+//! A [`Gate`] says which replies it may give. [`Solo`] answers from databases that its pass holds, and
+//! [`Desks`] from databases that many threads call. [`materialise`] applies the log to a partition.
+#![tactic(auto)]
+
+mod cause;
+mod conversing;
+mod desks;
+mod gate;
+mod materialising;
+mod outbox;
+mod serving;
+mod solo;
+mod source;
+
+pub use cause::{Cause, ConnFault};
+pub use conversing::converse;
+pub use desks::{Desks, Passes};
+pub use gate::Gate;
+pub use materialising::{Worked, materialise};
+pub use serving::{Served, Stop, serve};
+pub use solo::{Solo, SoloPass};
+pub use source::Source;

@@ -1,0 +1,129 @@
+//! Materialising a partition: the rounds of a page server that applies the log before anybody reads.
+
+ghost use Rattle.std.specs.Prelude.{◌≡◌, ◌+◌, ◌-◌, ◌^◌, ◌<◌, unwrap_or, if◌then◌else◌};
+ghost use Rattle.pl_conn.specs.Materialising.{advance_at, is_done, told_epoch, goes_on, Round, Works};
+
+use crate::gate::Gate;
+use pl_core::Reply;
+use pl_table::{Act, Head, Request, Role, Section};
+
+/// By how many blocks a round advances the partition.
+const STEPS: u16 = 16;
+
+/// The number of the row by which an older epoch is denied.
+const OLDER_EPOCH: u16 = 2;
+
+/// What came of materialising a partition.
+#[derive(Clone, Copy, Debug, PartialEq, Eq)]
+pub struct Worked {
+    /// How many rounds were answered `Done`.
+    pub done: u32,
+    /// The epoch that was told last; 1 where none was told.
+    pub epoch: u32,
+}
+
+impl Worked {
+    // Takes in the reply to a round, and returns whether another round may follow.
+    fn learn(&mut self, reply: &Reply) -> bool
+        requires { self.old.done < 2 ^ 32 - 1 }
+        ensures done { self.new.done ≡ self.old.done + (if is_done reply.now then 1 else 0) }
+        ensures epoch { self.new.epoch ≡ unwrap_or (told_epoch reply.now) self.old.epoch }
+        ensures onward { result ≡ goes_on reply.now }
+    {
+        match reply {
+            Reply::Done => {
+                self.done += 1;
+                true
+            }
+            Reply::Denied {
+                section: Section::A,
+                row: OLDER_EPOCH,
+                value,
+            } if *value <= u64::from(u32::MAX) => {
+                self.epoch = *value as u32;
+                true
+            }
+            _ => false,
+        }
+    }
+}
+
+/// What a page server says of itself, and which partition it applies the log to.
+#[derive(Drop)]
+struct Errand {
+    principal: u32,
+    token: [u8; 16],
+    database: u32,
+    partition: u16,
+}
+
+impl Errand {
+    // The request of a round at this epoch.
+    fn at(&self, epoch: u32) -> Request
+        ensures { result ≡ advance_at self.now.principal self.now.token self.now.database
+            self.now.partition epoch }
+    {
+        let head = Head {
+            principal: self.principal,
+            token: self.token,
+            role: Role::PageServer,
+            database: self.database,
+            epoch,
+        };
+        let act = Act::Advance {
+            partition: self.partition,
+            steps: STEPS,
+        };
+        let Some(request) = Request::new(head, act) else {
+            unreachable!();
+        };
+        request
+    }
+}
+
+// One round. It returns whether another may follow.
+fn round<G: Gate>(gate: &G, pass: &mut G::Pass, errand: &Errand, worked: &mut Worked) -> bool
+    requires own { G.owns gate.now pass.old }
+    requires few { worked.old.done < 2 ^ 32 - 1 }
+    ensures own { G.owns gate.now pass.new }
+    ensures round { Round (G.calls gate.now)
+        (advance_at errand.now.principal errand.now.token errand.now.database errand.now.partition)
+        pass.old worked.old worked.new result pass.new }
+{
+    let reply = gate.call(pass, errand.at(worked.epoch));
+    worked.learn(&reply)
+}
+
+/// Advances a partition by 16 blocks in each of so many rounds, as page server, first at epoch 1. Where
+/// a round is denied for its older epoch, the next one asks at the epoch that the denial tells. Any
+/// other reply than `Done` and such a denial ends it.
+///
+/// It makes one call of the gate a round, and no allocation of its own.
+pub fn materialise<G: Gate>(
+    gate: &G,
+    pass: &mut G::Pass,
+    principal: u32,
+    token: [u8; 16],
+    database: u32,
+    partition: u16,
+    rounds: u32,
+) -> Worked
+    requires own { G.owns gate.now pass.old }
+    ensures own { G.owns gate.now pass.new }
+    ensures works { Works (G.calls gate.now) (advance_at principal token database partition) rounds
+        pass.old result pass.new }
+{
+    let errand = Errand {
+        principal,
+        token,
+        database,
+        partition,
+    };
+    let mut worked = Worked { done: 0, epoch: 1 };
+    for _round in 0..rounds {
+        if !round(gate, pass, &errand, &mut worked) {
+            break;
+        }
+    }
+    worked
+}

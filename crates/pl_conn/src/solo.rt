@@ -1,0 +1,89 @@
+//! Databases of one caller, with no thread.
+
+ghost use Rattle.std.specs.Prelude.{◌≡◌, ◌≤◌, length};
+ghost use Rattle.pl_core.specs.Reply.{FitsReply};
+ghost use Rattle.pl_conn.specs.Solo.{HasDatabases, IsStep, SoloCall};
+
+use crate::gate::Gate;
+use pl_core::{Db, Reply};
+use pl_table::Request;
+use std::marker::Model;
+
+/// Databases, numbered from 0, and the number under which they are asked.
+///
+/// A contract sees the histories of the databases, and the number.
+#[derive(Drop)]
+pub struct SoloPass {
+    dbs: Vec<Db>,
+    number: u64,
+}
+
+impl Model for SoloPass {
+    ghost use Rattle.pl_conn.specs.Solo.{Holding};
+
+    ghost Value = { Holding };
+
+    ghost view = { λ p. record { dbs = p.dbs.items; number = p.number } };
+}
+
+// One step of the database.
+fn step(db: &mut Db, number: u64, request: Request) -> Reply
+    ensures step { IsStep number request db.old result db.new }
+    ensures fits { FitsReply result }
+{
+    db.step(number, request)
+}
+
+impl SoloPass {
+    /// A pass that holds these databases, 1 to 16. The number is that of each entry that it makes.
+    pub fn new(dbs: Vec<Db>, number: u64) -> SoloPass
+        requires some { 1 ≤ length dbs.items }
+        requires few { length dbs.items ≤ 16 }
+        ensures dbs { result.dbs ≡ dbs.items }
+        ensures number { result.number ≡ number }
+        ensures has { HasDatabases result }
+    {
+        SoloPass { dbs, number }
+    }
+
+    /// The databases, in the order of their numbers.
+    pub fn into_dbs(self) -> Vec<Db>
+        ensures value { result.items ≡ self.dbs }
+    {
+        let SoloPass { dbs, number: _ } = self;
+        dbs
+    }
+
+    // One step of the database that the request names.
+    fn call(&mut self, request: Request) -> Reply
+        ensures call { SoloCall self.old request result self.new }
+        ensures fits { FitsReply result }
+    {
+        let number = self.number;
+        let database = request.head().database as usize;
+        match self.dbs.get_mut(database) {
+            Some(db) => step(db, number, request),
+            None => Reply::NoDatabase,
+        }
+    }
+}
+
+/// The gate of one caller. The databases are in the pass, so that a call neither waits nor needs a
+/// handle.
+///
+/// A request is one step of the database that its head names, under the pass's number. `NoDatabase`
+/// is replied where there is none of that number, and then nothing has changed.
+#[derive(Clone, Copy, Debug)]
+pub struct Solo;
+
+impl Gate for Solo {
+    type Pass = SoloPass;
+
+    ghost owns = { λ _ pass. HasDatabases pass };
+
+    ghost calls = { λ _. SoloCall };
+
+    fn call(&self, pass: &mut SoloPass, request: Request) -> Reply {
+        SoloPass::call(pass, request)
+    }
+}
