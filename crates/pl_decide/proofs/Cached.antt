@@ -85,6 +85,7 @@ cache-keeps was now new q is keeps cap cache = record {
 
 -- the next of them agrees, and it goes on with the others
 pub passed-on : (rows : List Row) (verdicts was now : List CachedVerdict) (e : CachedVerdict) → was ≡ e ∷ now → IsOfRows rows e → Stays verdicts was × (All (IsOfRows rows) was → All (IsOfRows rows) verdicts) → Stays verdicts now × (All (IsOfRows rows) now → All (IsOfRows rows) verdicts)
-passed-on rows verdicts was now e turn of before =
-    (λ d there. before.0 d (subst (λ (es : List CachedVerdict). Contains es d) (sym turn) (Contains-append_right (e ∷ []) now d there)),
-     λ all. before.1 (subst (All (IsOfRows rows)) (sym turn) (All-cons (IsOfRows rows) e now of all)))
+passed-on rows verdicts was now e turn of before = (
+  λ d there. before.0 d (subst (λ (es : List CachedVerdict). Contains es d) (sym turn) (Contains-append_right (e ∷ []) now d there)),
+  λ all. before.1 (subst (All (IsOfRows rows)) (sym turn) (All-cons (IsOfRows rows) e now of all)),
+)

@@ -84,6 +84,7 @@ same-itself (Some x) = rw ((unsigned_Decides x.0 x.0).1 refl, (booleans_Decides 
 -- the comparison tells whether the verdict is that of the rows
 pub tells-of-rows : (rows : List Row) (key : VerdictKey) (found first : Option (ℕ × Bool)) (r : Bool) → r ≡ same_found first found → ((q : Query) → IsKeyOf key q → first ≡ first_match_from 1 rows q) → IsOfRequest (key, found) → IsTrue r ↔ IsOfRows rows (key, found)
 unfolding IsOfRows IsOfRequest
-tells-of-rows rows key found first r is value request =
-    (λ yes q of_q. sym (value q of_q) ∙ found-same first found (sym is ∙ yes),
-     λ of. is ∙ ap (λ (v : Option (ℕ × Bool)). same_found first v) (sym (of request.0 request.1) ∙ sym (value request.0 request.1)) ∙ same-itself first)
+tells-of-rows rows key found first r is value request = (
+  λ yes q of_q. sym (value q of_q) ∙ found-same first found (sym is ∙ yes),
+  λ of. is ∙ ap (λ (v : Option (ℕ × Bool)). same_found first v) (sym (of request.0 request.1) ∙ sym (value request.0 request.1)) ∙ same-itself first,
+)

@@ -6,7 +6,9 @@ ghost use Rattle.pl_conn.specs.Solo.{HasDatabases};
 
 use crate::table_text::table_named;
 use crate::transcript::Stop;
-use pl_conn::{Cause, ConnFault, Gate, Solo, SoloPass, Source, Stop as Stopped, converse, serve};
+use pl_conn::{
+    Cause, ConnFault, Desks, Gate, Solo, SoloPass, Source, Stop as Stopped, converse, serve,
+};
 use pl_core::{Db, Limits, Reply};
 use pl_table::{Act, Request};
 use std::alloc::Global;
@@ -29,6 +31,9 @@ const FRAMES: &str = "\
 0000000000000001\
 0000002c000000033333333333333333333333333333333302000000000000000105\
 0000ffff00000000000000010010";
+
+// The turns of a desk.
+const TURNS: u64 = 1 << 62;
 
 // Where each frame ends.
 const ENDS: [usize; 4] = [59, 118, 160, 208];
@@ -480,19 +485,20 @@ fn ask_in_turn<R: Net<Stream = TcpStream>>(
     second.read_exact(replies.1).ok()
 }
 
-// Serves two clients with one worker. The second sends its whole frame and reads the reply, or 10 bytes
+// Serves two clients with one worker, over the desk of one database. The second sends its whole frame and reads the reply, or 10 bytes
 // of it, which is a fault.
-fn serve_in_turn<R: Net<Listener = TcpListener, Stream = TcpStream> + Threads + Wait + Sync>(
-    rt: &R,
-    alloc: Global,
-    is_cut: bool,
-) -> Result<(), Stop> {
+fn serve_in_turn<R>(rt: &R, alloc: Global, is_cut: bool) -> Result<(), Stop>
+where
+    R: Net<Listener = TcpListener, Stream = TcpStream> + Threads + Wait + Sync + Copy + Drop,
+{
     let frames = hex::decode(alloc, FRAMES)?;
     let replies = hex::decode(alloc, REPLIES)?;
     let listener = TcpListener::bind(rt, "127.0.0.1:0").map_err(|_| Stop::Unread)?;
     let addr = listener.local_addr().map_err(|_| Stop::Unread)?;
-    let mut passes = Vec::with_capacity(alloc, 1)?;
-    passes.push_reserved(one_pass(alloc)?);
+    let mut dbs = Vec::with_capacity(alloc, 1)?;
+    dbs.push_reserved(open(alloc)?);
+    let (desks, passes) = Desks::new(alloc, *rt, dbs, 1, TURNS)?;
+    let gate = &desks;
     let (asked_first, asked_second) = frames.split_at(160.min(frames.len()));
     let (asked_second, _) = asked_second.split_at(if is_cut { 10 } else { 48 }.min(
         asked_second.len(),
@@ -502,7 +508,7 @@ fn serve_in_turn<R: Net<Listener = TcpListener, Stream = TcpStream> + Threads + 
     let (served, asked) = thread::join(
         rt,
         move || {
-            let served = serve(rt, alloc, &listener, &Solo, passes, 2);
+            let served = serve(rt, alloc, &listener, gate, passes, 2);
             drop(listener);
             served
         },
