@@ -20,6 +20,9 @@ pub(crate) fn find(verdicts: &mut LruCache<VerdictKey, Found>, key: VerdictKey) 
         Contains verdicts.old.entries e }
     ensures most { verdicts.new.cap ≡ verdicts.old.cap }
 {
+    if verdicts.is_empty() {
+        return None;
+    }
     verdicts.get(&key).copied()
 }
 
