@@ -40,6 +40,20 @@ pub fn credentials_of(
     })
 }
 
+// The second of two words, where the first is `set_table`.
+fn file_behind<'a>(word: &str, file: &'a str) -> Option<&'a str>
+    ensures some { IfSome result (λ found.
+        word.now ∷ file.entry.now ∷ [] ≡ codes "set_table" ∷ found.now ∷ []) }
+    ensures none { IsNone result → (found : _) →
+        word.now ∷ file.entry.now ∷ [] ≡ codes "set_table" ∷ found ∷ [] → ⊥ }
+{
+    if word == "set_table" {
+        Some(file)
+    } else {
+        None
+    }
+}
+
 /// The file whose text the words need: that of `set_table FILE`.
 pub fn file_of(words: &[String]) -> Option<&str>
     ensures some { IfSome result (λ file.
@@ -48,7 +62,7 @@ pub fn file_of(words: &[String]) -> Option<&str>
         map string_bytes words.now ≡ codes "set_table" ∷ file ∷ [] → ⊥ }
 {
     match words {
-        [word, file] if word.as_str() == "set_table" => Some(file.as_str()),
+        [word, file] => file_behind(word.as_str(), file.as_str()),
         _ => None,
     }
 }

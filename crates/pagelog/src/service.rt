@@ -71,6 +71,15 @@ fn serve_in<'s, E, R: Threads + Wait + Sync + Drop>(
     Some(serve(rt, alloc, listener, desks, passes, connections))
 }
 
+// Takes out the last of the passes.
+fn take_last<R>(desks: &Desks<R>, passes: &mut Vec<Passes>) -> Option<Passes>
+    requires of { All (AreOf desks.now) passes.old.items }
+    ensures rest { All (AreOf desks.now) passes.new.items }
+    ensures last { IfSome result (λ pass. AreOf desks.now pass) }
+{
+    passes.pop()
+}
+
 /// Serves connections over the databases, with so many workers, until so many were accepted. Where
 /// there is a pager, it works at the same time, in a thread of its own.
 ///
@@ -91,23 +100,30 @@ pub fn serve_databases<R: Threads + Wait + Sync + Copy + Drop>(
 {
     let databases = dbs.len() as u32;
     let (desks, mut passes) = Desks::new(alloc, *rt, dbs, workers + 1, TURNS)?;
-    let last = passes.pop();
+    let last = take_last(&desks, &mut passes);
     let pager = match (pager, last) {
         (Some(pager), Some(pass)) => Some((pager, pass, databases)),
         _ => None,
     };
     let desks = &desks;
-    let served = thread::scope(thread::scope_env(), rt, move |scope| {
-        serve_in(
-            scope,
-            rt,
-            alloc,
-            listener,
-            desks,
-            passes,
-            pager,
-            connections,
-        )
-    });
+    let served = thread::scope(
+        thread::scope_env(),
+        rt,
+        move |scope| -> Option<Served<Passes>>
+            requires own { All (AreOf desks.now) passes.items }
+            requires pager { IfSome pager (λ p. AreOf desks.now p.1) }
+        {
+            serve_in(
+                scope,
+                rt,
+                alloc,
+                listener,
+                desks,
+                passes,
+                pager,
+                connections,
+            )
+        },
+    );
     served.ok_or(RunFault::Threads)
 }

@@ -13,6 +13,16 @@ use pl_table::read_table;
 use std::alloc::Global;
 use std::fmt;
 
+// A database with the table that the text writes down.
+fn begin(alloc: Global, text: &[u8], primary: u32, audit: u32) -> Result<Db, StartFault>
+    requires { 1 ≤ audit }
+    ensures ok { IfOk result (λ db. start_of text.now primary audit ≡ Ok db) }
+    ensures err { IfErr result (λ fault. (fault ≡ StartFault.NoMemory)
+        ⊎ (start_of text.now primary audit ≡ Err fault)) }
+{
+    start_db(alloc, text, primary, u64::from(audit))
+}
+
 /// So many databases, each with the table that the text writes down and this primary, and with an
 /// audit list of at most so many entries. Of several faults the text's comes first.
 pub fn databases_of(
@@ -30,9 +40,10 @@ pub fn databases_of(
 {
     let mut dbs = Vec::new(alloc);
     for _ in 0..count {
-        let db = start_db(alloc, text, primary, u64::from(audit))?;
-        if dbs.push(db).is_err() {
-            return Err(StartFault::NoMemory);
+        let db = begin(alloc, text, primary, audit)?;
+        match dbs.push(db) {
+            Ok(()) => {}
+            Err(_) => return Err(StartFault::NoMemory),
         }
     }
     Ok(dbs)
