@@ -44,6 +44,35 @@ pub(crate) fn wait(rt: &impl Wait, board: &Board, bells: &Bells, chair: &mut Cha
     unreachable!()
 }
 
+// Takes the database out.
+fn take_out(board: &Board, chair: &mut Chair) -> Db
+    requires board { chair.old.table_id ≡ board.now.table_id }
+    requires turn { (h : History) × (chair.old.me.1 ≡ (0, Some h) ∷ []) }
+    ensures same { (chair.new.table_id ≡ chair.old.table_id) × (chair.new.id ≡ chair.old.id) }
+    ensures out { (o : Option History) × (chair.new.me ≡ (chair.old.me.0, (0, o) ∷ [])) }
+    ensures found { (h : History) → chair.old.me.1 ≡ (0, Some h) ∷ [] → result ≡ h }
+{
+    let Some(db) = board.exchange(chair, DB, None) else {
+        unreachable!();
+    };
+    db
+}
+
+// Makes one step of the database. It says whether an entry was made.
+fn step_of(db: &mut Db, number: u64, request: Request) -> (Reply, bool)
+    ensures step { IsStep request number db.old result.0 db.new }
+    ensures grows { Grows result.1 number db.old db.new }
+    ensures legal { IsLegal db.new }
+    ensures decided { result.0 ≢ Reply.Spent }
+    ensures fits { FitsReply result.0 }
+{
+    replies_tell_their_cause();
+    let before = db.audit_len();
+    let reply = db.step(number, request);
+    let made = db.audit_len() != before;
+    (reply, made)
+}
+
 // Takes the database out and makes one step of it. It says whether an entry was made.
 fn step(board: &Board, chair: &mut Chair, number: u64, request: Request) -> (Reply, bool, Db)
     requires board { chair.old.table_id ≡ board.now.table_id }
@@ -56,13 +85,8 @@ fn step(board: &Board, chair: &mut Chair, number: u64, request: Request) -> (Rep
     ensures decided { result.0 ≢ Reply.Spent }
     ensures fits { FitsReply result.0 }
 {
-    replies_tell_their_cause();
-    let Some(mut db) = board.exchange(chair, DB, None) else {
-        unreachable!();
-    };
-    let before = db.audit_len();
-    let reply = db.step(number, request);
-    let made = db.audit_len() != before;
+    let mut db = take_out(board, chair);
+    let (reply, made) = step_of(&mut db, number, request);
     (reply, made, db)
 }
 

@@ -1,7 +1,7 @@
 use Rattle.std.proofs.Common.{ℕ, List, ◌∷◌, Option, Some, sym, ap, ◌∙◌}
 use Rattle.atomic_table.specs.Table.{rest}
 use Rattle.pl_core.specs.History.{History}
-use Rattle.pl_desk.proofs.turn.step.Goals as goal
+use Rattle.pl_desk.proofs.turn.take_out.Goals as goal
 
 pub exchange-requires : goal.exchange-requires
 exchange-requires c =
