@@ -2,12 +2,14 @@
 
 ghost use Rattle.std.specs.Prelude.{IfOk, ⊤};
 ghost use Rattle.std.specs.List.{All};
+ghost use Rattle.pl_conn.specs.Desks.{AreOf};
 ghost use Rattle.pl_conn.specs.Solo.{HasDatabases};
 
 use crate::table_text::table_named;
 use crate::transcript::Stop;
 use pl_conn::{
-    Cause, ConnFault, Desks, Gate, Solo, SoloPass, Source, Stop as Stopped, converse, serve,
+    Cause, ConnFault, Desks, Gate, Passes, Served, Solo, SoloPass, Source, Stop as Stopped,
+    converse, serve,
 };
 use pl_core::{Db, Limits, Reply};
 use pl_table::{Act, Request};
@@ -507,7 +509,9 @@ where
     let (second, _) = of_second.split_at_mut(if is_cut { 0 } else { 43 });
     let (served, asked) = thread::join(
         rt,
-        move || {
+        move || -> Served<Passes>
+            requires own { All (AreOf gate.now) passes.items }
+        {
             let served = serve(rt, alloc, &listener, gate, passes, 2);
             drop(listener);
             served
