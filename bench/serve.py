@@ -8,8 +8,14 @@ connection. All are asked by the same client, bench/frames.c, and so is the echo
 long as the service's. Redis is asked for XADD of 100 bytes, XRANGE of one entry and GET of 8,192 bytes. Each number is
 the best of three runs. Beside them stand the processor time that the service took for a request, and the most memory
 that it held until then, which grows with its audit list.
+
+Where etcd is installed, a client in Python asks the service and one node of etcd, which syncs nothing to its disk, one
+request at a time on one connection: a 100-byte write beside a put, and a pull of one block beside a range of one key.
 """
 
+import base64
+import http.client
+import json
 import os
 import pathlib
 import shutil
@@ -66,7 +72,7 @@ class Running:
     """A server that is ended with this program's leave alone."""
 
     def __init__(self, words, port=None):
-        self.process = subprocess.Popen([str(word) for word in words], stdout=subprocess.PIPE, text=True)
+        self.process = subprocess.Popen([str(word) for word in words], stdout=subprocess.PIPE, stderr=subprocess.DEVNULL, text=True)
         self.port = port
 
     def seconds(self):
@@ -101,9 +107,7 @@ def echo(reply):
 
 
 def redis():
-    with socket.socket() as free:
-        free.bind(("127.0.0.1", 0))
-        port = free.getsockname()[1]
+    port = free_port()
     running = Running(["redis-server", "--port", port, "--bind", "127.0.0.1", "--save", "", "--appendonly", "no"], port)
     for _ in range(100):
         try:
@@ -166,6 +170,70 @@ def times(case, ours, bare, other):
               f" {spent * 1e6:8.2f} {ours.peak():8.1f}", flush=True)
 
 
+def free_port():
+    with socket.socket() as free:
+        free.bind(("127.0.0.1", 0))
+        return free.getsockname()[1]
+
+
+def etcd(work):
+    client, peer = (f"http://127.0.0.1:{free_port()}" for _ in range(2))
+    running = Running(["etcd", "--data-dir", pathlib.Path(work) / "etcd", "--log-level", "fatal", "--unsafe-no-fsync",
+                       "--listen-client-urls", client, "--advertise-client-urls", client, "--listen-peer-urls", peer,
+                       "--initial-advertise-peer-urls", peer, "--initial-cluster", f"default={peer}"], int(client.rsplit(":", 1)[1]))
+    for _ in range(100):
+        try:
+            with socket.create_connection(("127.0.0.1", running.port)):
+                return running
+        except ConnectionRefusedError:
+            time.sleep(0.1)
+    raise SystemExit("etcd does not answer")
+
+
+def rate_by_python(count, ask):
+    """Round trips a second, the best of the runs."""
+    best = None
+    for _ in range(RUNS):
+        start = time.perf_counter()
+        for _ in range(count):
+            ask()
+        best = min(best or 1e9, time.perf_counter() - start)
+    return count / best
+
+
+def beside_etcd(work):
+    count = max(1, int(2000 * SHARE))
+    store, ours = etcd(work), service()
+    connection = http.client.HTTPConnection("127.0.0.1", store.port)
+    key = base64.b64encode(b"key").decode()
+
+    def posted(path, words):
+        connection.request("POST", path, json.dumps(words), {"Content-Type": "application/json"})
+        return connection.getresponse().read()
+
+    try:
+        value = base64.b64encode(b"v" * 100).decode()
+        asked = (("100-byte write", lambda: posted("/v3/kv/put", {"key": key, "value": value})),
+                 ("pull of one block", lambda: posted("/v3/kv/range", {"key": key})))
+        print(f"\n{'':18} {'':9} {'pagelog':>9} {'etcd':>9} {'ratio':>6}   (a client in Python)")
+        with socket.create_connection(("127.0.0.1", ours.port)) as client:
+            for name, theirs in asked:
+                _, request, reply, _ = next(case for case in CASES if case[0] == name)
+
+                def ask(request=request, reply=reply):
+                    client.sendall(request)
+                    left = reply
+                    while left:
+                        left -= len(client.recv(left))
+
+                own, other = rate_by_python(count, ask), rate_by_python(count, theirs)
+                print(f"{name:18} {1:4} x {1:2} {own:9,.0f} {other:9,.0f} {own / other:6.2f}", flush=True)
+    finally:
+        connection.close()
+        ours.end()
+        store.end()
+
+
 def main():
     print(f"{'':18} {'':9} {'pagelog':>9} {'echo':>9} {'ratio':>6} {'redis':>9} {'ratio':>6} {'us each':>8} {'MiB':>8}")
     other = redis() if shutil.which("redis-server") else None
@@ -184,3 +252,5 @@ with tempfile.TemporaryDirectory() as work:
     FRAMES = pathlib.Path(work) / "frames"
     subprocess.run(["gcc", "-O2", "-pthread", "-o", FRAMES, ROOT / "bench" / "frames.c"], check=True)
     main()
+    if shutil.which("etcd"):
+        beside_etcd(work)

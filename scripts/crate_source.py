@@ -149,7 +149,7 @@ def has_impl(crate, name):
 def defines(text, name):
     """Whether a file of specs/ or src/ defines the name."""
     name = re.escape(name)
-    in_specs = rf"^(?:(?:abbrev|unfoldable) )?pub (?:(?:record|data) )?{name}\b"
+    in_specs = rf"^ *(?:(?:abbrev|unfoldable) )?pub (?:(?:record|data) )?{name}\b"
     in_source = rf"\b(?:struct|enum|trait|type|const|static|fn)\s+{name}\b"
     return bool(re.search(in_specs, text, flags=re.M) or re.search(in_source, text))
 

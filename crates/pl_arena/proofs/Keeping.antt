@@ -3,13 +3,12 @@ use Rattle.std.proofs.Common.{◌≡◌, ◌≢◌, ℕ, ◌+◌, ◌-◌, ◌*�
 use Rattle.std.proofs.lemmas.Bool.{cases_eq, cases_lt}
 use Rattle.std.proofs.lemmas.List.{get_or_past, get_or_append_left, get_or-append-add}
 use Rattle.pl_arena.specs.Arena.{Arena, frame, IsOut, IsFull, with_frame, without_frame}
-use Rattle.pl_arena.specs.Frames.{IsLonger}
 use Rattle.pl_arena.specs.declared.arena.TakeFault.{TakeFault}
 use Rattle.pl_arena.specs.declared.arena.TakeFault.TheVariants.{Full, NoMemory}
 use Rattle.pl_arena.specs.Free.{link, links, held, arena_of, IsGiven, IsFreeList, IsKept}
 use Rattle.pl_arena.proofs.Rows.{Row}
 use Rattle.pl_arena.proofs.Chains.{same_list, pushed_list, given_list, taken_list, first_of, none_given}
-use Rattle.pl_arena.proofs.Gathered.{frame_is, put_frame, remove_frame, same_arena, insert_here}
+use Rattle.pl_arena.proofs.Gathered.{frame_is, put_frame, remove_frame, insert_here}
 
 module _ (frames : Row) (outs : List Bool) where
   held_out : (k : ℕ) → get_or outs k false ≡ true → held frames outs k ≡ Some (get_or frames k [])
@@ -148,27 +147,12 @@ module _ (frames : Row) (outs : List Bool) (head max : ℕ) (kept : IsKept frame
     not_full full = true≢false (sym (full first first_within) ∙ ap is_some first_fresh)
 
   -- a frame is taken that was never out
-  module _ (longer : Row) (is : IsLonger frames longer) where
-    -- memory alone changes nothing
-    pub longer_kept : IsKept longer outs head max
-    longer_kept = record {
-      memory = omega (arith, is.len, kept.memory);
-      limit = kept.limit;
-      some = kept.some;
-      few = kept.few;
-      list = (kept.list.0, same_list (links frames) (links longer) outs head kept.list.0 (λ id g. ap link (is.same id (omega (arith, g.0, kept.memory)))) kept.list.1);
-    }
-
-    pub longer_is : arena_of longer outs max ≡ arena_of frames outs max
-    longer_is = same_arena frames longer outs max (λ q.
-        elim (cases_lt q (length outs)) [
-          | inl lt ↦ ap (λ b. cond (get_or outs q false) (Some b) None) (is.same q (omega (arith, lt, kept.memory)))
-          | inr ge ↦ held_not longer outs q (get_or_past outs q false ge) ∙ sym (held_not frames outs q (get_or_past outs q false ge))
-        ])
-
-  module _ (room : length outs < length frames) (below : length outs < 64 * max) (w : List ℕ) where
+  module _ (below : length outs < 64 * max) (w : List ℕ) where
     abbrev next : ℕ
     next = length outs
+
+    abbrev frames' : Row
+    frames' = frames ++ w ∷ []
 
     abbrev outs' : List Bool
     outs' = outs ++ true ∷ []
@@ -179,33 +163,35 @@ module _ (frames : Row) (outs : List Bool) (head max : ℕ) (kept : IsKept frame
     next_out : get_or outs' next false ≡ true
     next_out = ap (λ k. get_or outs' k false) (omega arith) ∙ get_or-append-add outs (true ∷ []) 0 false
 
-    others : (q : ℕ) → q ≢ next → get_or outs' q false ≡ get_or outs q false
+    next_bytes : get_or frames' next [] ≡ w
+    next_bytes = ap (λ k. get_or frames' k []) (omega (arith, kept.memory)) ∙ get_or-append-add frames (w ∷ []) 0 []
+
+    before : (q : ℕ) → q < next → get_or frames' q [] ≡ get_or frames q []
+    before q lt = get_or_append_left frames (w ∷ []) [] q (omega (arith, lt, kept.memory))
+
+    others : (q : ℕ) → q ≢ next → held frames' outs' q ≡ held frames outs q
     others q n =
         elim (cases_lt q next) [
-          | inl lt ↦ get_or_append_left outs (true ∷ []) false q lt
-          | inr ge ↦ get_or_past outs' q false (omega (arith, long, ge, n)) ∙ sym (get_or_past outs q false ge)
+          | inl lt ↦ (λ j. cond (get_or_append_left outs (true ∷ []) false q lt j) (Some (before q lt j)) None)
+          | inr ge ↦ held_not frames' outs' q (get_or_past outs' q false (omega (arith, long, ge, n))) ∙ sym (held_not frames outs q (get_or_past outs q false ge))
         ]
 
-    pub new_kept : IsKept (set frames next w) outs' head max
+    pub new_kept : IsKept frames' outs' head max
     new_kept = record {
-      memory = omega (arith, length-set frames next w, long, room);
+      memory = omega (arith, long, length-append frames (w ∷ []), kept.memory);
       limit = omega (arith, long, below);
       some = kept.some;
       few = kept.few;
       list = (
         kept.list.0,
-        same_list (links frames) (links (set frames next w)) outs' head kept.list.0
-            (λ id is. ap link (get_or-set_other frames next id w [] (λ e. true≢false (sym next_out ∙ ap (λ j. get_or outs' j false) (sym e) ∙ is.1)))) (pushed_list (links frames) outs head kept.list.0 kept.list.1),
+        same_list (links frames) (links frames') outs' head kept.list.0
+            (λ id is. ap link (before id (omega (arith, long, is.0, (λ (e : id ≡ next). true≢false (sym next_out ∙ ap (λ j. get_or outs' j false) (sym e) ∙ is.1))))))
+            (pushed_list (links frames) outs head kept.list.0 kept.list.1),
       );
     }
 
-    pub new_is : arena_of (set frames next w) outs' max ≡ with_frame (arena_of frames outs max) next w
-    new_is = put_frame frames (set frames next w) outs outs' max next
-        (λ q n.
-        ap (λ b. cond b (Some (get_or (set frames next w) q [])) None) (others q n)
-        ∙ ap (λ b. cond (get_or outs q false) (Some b) None) (get_or-set_other frames next q w [] n))
-        w
-        (held_out (set frames next w) outs' next next_out ∙ ap Some (get_or-set_same frames next w [] room))
+    pub new_is : arena_of frames' outs' max ≡ with_frame (arena_of frames outs max) next w
+    new_is = put_frame frames frames' outs outs' max next others w (held_out frames' outs' next next_out ∙ ap Some next_bytes)
 
   -- a number that was never out
   module _ (place : ℕ) (e : place ≡ length outs) (open_yet : place ≡ 64 * max → ⊥) where
@@ -226,28 +212,22 @@ module _ (frames : Row) (outs : List Bool) (head max : ℕ) (kept : IsKept frame
         | inr n ↦ absurd (place_not_full place e n f)
       ]
 
--- it is taken, in memory that may have grown
-module _ (frames : Row) (outs : List Bool) (head max : ℕ) (kept : IsKept frames outs head max) (longer : Row) (is : IsLonger frames longer)
-    (place : ℕ) (e : place ≡ length outs) (open_yet : place ≡ 64 * max → ⊥) (room : place < length longer) (outs' : List Bool) (pushed : outs' ≡ outs ++ true ∷ []) (w : List ℕ) where
-  there : IsKept longer outs head max
-  there = longer_kept frames outs head max kept longer is
-
-  room' : length outs < length longer
-  room' = omega (arith, e, room)
-
+-- it is taken, behind those that were out
+module _ (frames : Row) (outs : List Bool) (head max : ℕ) (kept : IsKept frames outs head max) (place : ℕ) (e : place ≡ length outs) (open_yet : place ≡ 64 * max → ⊥)
+    (w : List ℕ) (frames' : Row) (grown : frames' ≡ frames ++ w ∷ []) (outs' : List Bool) (pushed : outs' ≡ outs ++ true ∷ []) where
   below' : length outs < 64 * max
   below' = omega (arith, e, place_below frames outs head max kept place e open_yet)
 
-  pub extended_kept : IsKept (set longer place w) outs' head max
+  pub extended_kept : IsKept frames' outs' head max
   extended_kept =
-      subst (λ (k : ℕ). IsKept (set longer k w) outs' head max) (sym e)
-      (subst (λ (os : List Bool). IsKept (set longer (length outs) w) os head max) (sym pushed) (new_kept longer outs head max there room' below' w))
+      subst (λ (fs : Row). IsKept fs outs' head max) (sym grown)
+      (subst (λ (os : List Bool). IsKept (frames ++ w ∷ []) os head max) (sym pushed) (new_kept frames outs head max kept below' w))
 
-  pub extended_is : arena_of (set longer place w) outs' max ≡ with_frame (arena_of frames outs max) place w
+  pub extended_is : arena_of frames' outs' max ≡ with_frame (arena_of frames outs max) place w
   extended_is =
-      (λ j. arena_of (set longer (e j) w) (pushed j) max)
-      ∙ new_is longer outs head max there room' below' w
-      ∙ (λ j. with_frame (longer_is frames outs head max kept longer is j) (sym e j) w)
+      (λ j. arena_of (grown j) (pushed j) max)
+      ∙ new_is frames outs head max kept below' w
+      ∙ (λ j. with_frame (arena_of frames outs max) (sym e j) w)
 
 -- a frame that was put is out
 pub now_out : (old new : Arena) (k : ℕ) (w : List ℕ) → new ≡ with_frame old k w → IsOut new k

@@ -1,5 +1,9 @@
 mod Chains
+mod Crossing
 mod Gathered
+mod Halves
 mod Keeping
+mod Lending
 mod Linked
 mod Rows
+mod Steps

@@ -39,10 +39,10 @@ pub record IsFreeList (next : ℕ → ℕ) (outs : List Bool) (head : ℕ) (ids 
   pub once : IsOnce ids
   pub given : (id : ℕ) → Among id ids ↔ IsGiven outs id
 
--- Of the frames in memory, those behind the end of outs were never out, and of the others it says
--- which are; those that are not lie in the free list.
+-- Each frame that there is was out before. Of each outs says whether it is out now; those that are not lie in the
+-- free list.
 pub record IsKept (frames : List (List ℕ)) (outs : List Bool) (head max_chunks : ℕ) : Type 0 where
-  pub memory : length outs ≤ length frames
+  pub memory : length outs ≡ length frames
   pub limit : length outs ≤ 64 * max_chunks
   pub some : 1 ≤ max_chunks
   pub few : max_chunks ≤ 65536

@@ -1,6 +1,10 @@
 pub mod Arena
 pub mod Codes
 pub mod Free
+pub mod Ownership
+pub mod Block
+pub mod Packed
+pub mod Writes
 pub mod Chunks
 pub mod Frames
 pub mod Lends

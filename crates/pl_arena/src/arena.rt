@@ -1,10 +1,9 @@
 //! The arena: which frames are out, and which are taken again.
 
-ghost use Rattle.std.specs.Prelude.{◌≡◌, ◌<◌, ◌≤◌, ◌*◌, ◌↔◌, None, Some, false, length, is_some, slice_index_or, IfOk, IfSome, OnErr, OnOk, IsErrOf};
+ghost use Rattle.std.specs.Prelude.{◌≡◌, ◌<◌, ◌≤◌, ◌*◌, ◌↔◌, [], ◌∷◌, ◌++◌, None, Some, true, false, length, is_some, slice_index_or, IfOk, IfSome, OnErr, OnOk, IsErrOf};
 ghost use Rattle.std.specs.FinMap as maps;
 ghost use Rattle.std.specs.Borrow.{sem};
 ghost use Rattle.pl_arena.specs.Arena.{IsFull, IsOut, capacity, frame, with_frame, without_frame, zeros};
-ghost use Rattle.pl_arena.specs.Frames.{IsLonger};
 ghost use Rattle.pl_arena.specs.Lends.{LendsFrame};
 ghost use Rattle.pl_arena.specs.declared.arena.TakeFault.TheVariants.{Full};
 
@@ -115,19 +114,11 @@ impl VersionArena {
             clear(self.frames.get_mut(place));
             return Ok(FrameId { number });
         }
-        let place = self.out.len();
-        match make_room(&mut self.frames, place, self.max_chunks) {
-            Ok(()) => {}
+        let number = match push_frame(&mut self.frames, &mut self.out, self.max_chunks) {
+            Ok(number) => number,
             Err(fault) => return Err(fault),
-        }
-        match self.out.push(true) {
-            Ok(()) => {}
-            Err(_) => return Err(TakeFault::NoMemory),
-        }
-        clear(self.frames.get_mut(place));
-        Ok(FrameId {
-            number: place as u32,
-        })
+        };
+        Ok(FrameId { number })
     }
 
     /// Takes back a frame that is out. Its memory is kept for the next that is taken.
@@ -169,8 +160,7 @@ impl VersionArena {
         requires to { IsOut self.old to }
         ensures value { IfSome (frame self.old from) (λ bytes. self.new ≡ with_frame self.old to bytes) }
     {
-        let bytes = *self.frames.get(from.number as usize);
-        *self.frames.get_mut(to.number as usize) = bytes;
+        self.frames.copy(from.number as usize, to.number as usize);
     }
 }
 
@@ -184,22 +174,30 @@ fn flag_at(out: &[bool], place: usize) -> bool
     }
 }
 
-// Sees that there is memory for one frame more than were ever out.
-fn make_room(frames: &mut Frames, used: usize, max_chunks: u32) -> Result<(), TakeFault>
-    requires memory { used ≤ length frames.old }
+// Makes a frame of zeros that was never out, and marks it as out.
+fn push_frame(frames: &mut Frames, out: &mut Vec<bool>, max_chunks: u32) -> Result<u32, TakeFault>
+    requires memory { length out.old.items ≡ length frames.old }
+    requires limit { length out.old.items ≤ 64 * max_chunks }
     requires few { max_chunks ≤ 65536 }
-    ensures full { IsErrOf result Full ↔ (used ≡ 64 * max_chunks) }
-    ensures ok { OnOk result (IsLonger frames.old frames.new × (used < length frames.new)) }
-    ensures err { OnErr result (frames.new ≡ frames.old) }
+    ensures full { IsErrOf result Full ↔ (length out.old.items ≡ 64 * max_chunks) }
+    ensures number { IfOk result (λ number. number ≡ length out.old.items) }
+    ensures frame { OnOk result (frames.new ≡ frames.old ++ zeros ∷ []) }
+    ensures flag { OnOk result (out.new.items ≡ out.old.items ++ true ∷ []) }
+    ensures err { OnErr result ((frames.new ≡ frames.old) × (out.new.items ≡ out.old.items)) }
 {
+    let used = out.len();
     if used == CHUNK_FRAMES * max_chunks as usize {
         return Err(TakeFault::Full);
     }
-    if frames.has(used) {
-        return Ok(());
+    match out.push(true) {
+        Ok(()) => {}
+        Err(_) => return Err(TakeFault::NoMemory),
     }
-    match frames.add_chunk() {
-        Ok(()) => Ok(()),
-        Err(_) => Err(TakeFault::NoMemory),
+    match frames.push_zeros() {
+        Ok(()) => Ok(used as u32),
+        Err(_) => {
+            let _flag = out.pop();
+            Err(TakeFault::NoMemory)
+        }
     }
 }

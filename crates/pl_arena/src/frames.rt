@@ -1,15 +1,18 @@
 //! The frames of all chunks, by number.
 
-ghost use Rattle.std.specs.Prelude.{◌≡◌, ◌<◌, ◌+◌, [], length, nat_lt, OnOk, OnErr, slice_index_or};
+ghost use Rattle.std.specs.Prelude.{◌≡◌, ◌<◌, [], ◌∷◌, ◌++◌, length, OnOk, OnErr, slice_index_or, slice_set};
 ghost use Rattle.std.specs.Borrow.{sem};
-ghost use Rattle.pl_arena.specs.Frames.{IsLonger, LendsPlace};
+ghost use Rattle.pl_arena.specs.Arena.{zeros};
+ghost use Rattle.pl_arena.specs.Frames.{LendsPlace};
+ghost use Rattle.pl_arena.specs.Packed.{with_copy};
 
 use crate::FRAME_SIZE;
 use crate::chunk::{CHUNK_FRAMES, Chunk};
 use std::alloc::{AllocError, Global};
 use std::marker::Model;
 
-/// Chunks of 64 frames, one behind the other. A frame stays where it is as long as the arena lives.
+/// Chunks of up to 64 frames, one behind the other; each but the last has 64. A frame stays where it
+/// is as long as the arena lives.
 #[derive(Drop)]
 pub(crate) struct Frames {
     alloc: Global,
@@ -17,14 +20,14 @@ pub(crate) struct Frames {
 }
 
 impl Model for Frames {
-    ghost use Rattle.std.specs.Prelude.{◌≡◌, ℕ, List, length};
-    ghost use Rattle.std.specs.List.{AllByRecursion, flat_map};
+    ghost use Rattle.std.specs.Prelude.{ℕ, List};
+    ghost use Rattle.pl_arena.specs.Packed.{IsPacked, flat};
 
     ghost Value = { List (List ℕ) };
 
-    ghost view = { λ f. flat_map (λ chunk. chunk) f.chunks.items };
+    ghost view = { λ f. flat f.chunks.items };
 
-    ghost invariant = { λ f. AllByRecursion (λ chunk. length chunk ≡ 64) f.chunks.items };
+    ghost invariant = { λ f. IsPacked f.chunks.items };
 }
 
 impl Frames {
@@ -38,20 +41,18 @@ impl Frames {
         }
     }
 
-    /// Whether there is a frame of the number.
-    pub(crate) fn has(&self, i: usize) -> bool
-        ensures value { result ≡ nat_lt i (length self.now) }
-    {
-        i / CHUNK_FRAMES < self.chunks.len()
-    }
-
-    /// Makes 64 frames more.
-    pub(crate) fn add_chunk(&mut self) -> Result<(), AllocError>
-        ensures ok { OnOk result (IsLonger self.old self.new) }
-        ensures len { OnOk result (length self.new ≡ length self.old + 64) }
+    /// Makes a frame of zeros more. A chunk is allocated where the last has no room.
+    pub(crate) fn push_zeros(&mut self) -> Result<(), AllocError>
+        ensures ok { OnOk result (self.new ≡ self.old ++ zeros ∷ []) }
         ensures err { OnErr result (self.new ≡ self.old) }
     {
-        let chunk = Chunk::new(self.alloc)?;
+        let count = self.chunks.len();
+        if count > 0 && self.chunks[count - 1].has_room() {
+            self.chunks[count - 1].push_zeros();
+            return Ok(());
+        }
+        let mut chunk = Chunk::new(self.alloc)?;
+        chunk.push_zeros();
         Ok(self.chunks.push(chunk)?)
     }
 
@@ -71,5 +72,37 @@ impl Frames {
     {
         let chunk = &mut self.chunks[i / CHUNK_FRAMES];
         chunk.get_mut(i % CHUNK_FRAMES)
+    }
+
+    /// Writes the bytes of the frame `from` into the frame `to`.
+    pub(crate) fn copy(&mut self, from: usize, to: usize)
+        requires from { from < length self.old }
+        requires to { to < length self.old }
+        ensures value { self.new ≡ slice_set self.old to (slice_index_or self.old from []) }
+    {
+        let (a, b) = (from / CHUNK_FRAMES, to / CHUNK_FRAMES);
+        let (i, j) = (from % CHUNK_FRAMES, to % CHUNK_FRAMES);
+        copy_among(&mut self.chunks, a, i, b, j);
+    }
+}
+
+// Writes the frame `i` of the chunk `a` into the frame `j` of the chunk `b`, with nothing between the two.
+fn copy_among(chunks: &mut [Chunk], a: usize, i: usize, b: usize, j: usize)
+    requires from { (a < length chunks.old) × (i < length (slice_index_or chunks.old a [])) }
+    requires to { (b < length chunks.old) × (j < length (slice_index_or chunks.old b [])) }
+    ensures value { chunks.new ≡ with_copy chunks.old a i b j }
+{
+    if a == b {
+        chunks[b].copy(i, j);
+    } else if a < b {
+        let (front, back) = chunks.split_at_mut(b);
+        let source = front[a].get(i);
+        let target = back[0].get_mut(j);
+        *target = *source;
+    } else {
+        let (front, back) = chunks.split_at_mut(a);
+        let source = back[0].get(i);
+        let target = front[b].get_mut(j);
+        *target = *source;
     }
 }

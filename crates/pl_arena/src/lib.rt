@@ -8,6 +8,7 @@ mod arena;
 mod chunk;
 mod frames;
 mod links;
+mod memory;
 
 pub use arena::{FrameId, TakeFault, VersionArena};
 

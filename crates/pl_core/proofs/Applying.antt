@@ -16,9 +16,16 @@ use Rattle.pl_audit.specs.declared.audit.Entry.{Entry as KeptEntry}
 use Rattle.pl_core.specs.History.{Effect, wrote, offered, hardened, advanced, failed_over, set, nothing, Entry, Start, History, grown, effect_of_reading, effect_of_act, effect_of}
 use Rattle.pl_core.specs.Log.{hardened_log, hard_of}
 use Rattle.pl_core.specs.Applied.{applied_by, applied_after, applied_of}
-use Rattle.pl_core.specs.Keeping.{Holds, HoldsPages, IsKept}
+use Rattle.pl_core.specs.Keeping.{history_kept, Holds, HoldsPages, IsKept, IsSound}
 use Rattle.pl_core.specs.Laws.{AppliedLsnsOnlyRise}
-use Rattle.pl_core.specs.Performing.{PagesFollow, with_pages, applied_then, applied_by_verdict}
+use Rattle.pl_core.specs.Performing.{PagesFollow, with_unseen, applied_then, applied_by_verdict}
+use Rattle.pl_decide.specs.Agreement.{AgreesWith}
+use Rattle.pl_decide.specs.Keys.{CachedVerdict}
+use Rattle.pl_audit.specs.Audit.{AuditList}
+use Rattle.pl_core.specs.Epoch.{table_of}
+use Rattle.pl_core.specs.Verdict.{epochs_of}
+use Rattle.pl_core.specs.Legal.{IsLegal}
+use Rattle.pl_core.proofs.Moved.{entries-moved, holds_moved}
 use Rattle.pl_core.proofs.AboveTheWindow.{hard_rises}
 use Rattle.pl_core.proofs.Staying.{only_grow}
 
@@ -104,16 +111,34 @@ holds_pages law v act h e kept pages log held effect follow =
       chunks = follow.chunks ∙ held.chunks;
     }
 
+-- the history is the same wherever the blocks lie, and whatever is kept of pages
+history-moved : (start : Start) (kept : Kept) (entries : List KeptEntry) (pages : PagesState) (in_broker : ℕ) → history_kept start kept entries ≡ history_kept start (with_unseen kept pages in_broker) entries
+history-moved start kept entries pages in_broker = ap (λ (xs : List Entry). record { start = start; entries = xs }) (sym (entries-moved kept.log in_broker entries))
+
 -- and after one that had no memory
-pub still_kept : (start : Start) (kept : Kept) (entries : List KeptEntry) (pages : PagesState) → IsKept start kept entries → PagesFollow kept (λ p. applied_at kept.pages p) pages → IsKept start (with_pages kept pages) entries
-still_kept start kept entries pages sound follow = record {
-  legal = sound.legal;
-  log = sound.log;
-  pages = record {
-    fits = subst (λ (l : List Content). FitsLog pages l) sound.log.hardened follow.fits;
-    applied = λ p. follow.applied_are p ∙ sound.pages.applied p;
-    chunks = follow.chunks ∙ sound.pages.chunks;
-  };
-  table = sound.table;
-  epochs = sound.epochs;
-}
+pub still_kept : (start : Start) (kept : Kept) (entries : List KeptEntry) (pages : PagesState) (in_broker : ℕ) → IsKept start kept entries → PagesFollow kept (λ p. applied_at kept.pages p) pages → IsKept start (with_unseen kept pages in_broker) entries
+still_kept start kept entries pages in_broker sound follow =
+    let same = history-moved start kept entries pages in_broker in
+    record {
+      legal = subst IsLegal same sound.legal;
+      log = holds_moved _ kept.log in_broker (subst (λ (h : History). Holds h kept.log) same sound.log);
+      pages = subst (λ (h : History). HoldsPages h pages) same (record {
+        fits = subst (λ (l : List Content). FitsLog pages l) sound.log.hardened follow.fits;
+        applied = λ p. follow.applied_are p ∙ sound.pages.applied p;
+        chunks = follow.chunks ∙ sound.pages.chunks;
+      });
+      table = sound.table ∙ ap table_of same;
+      epochs = sound.epochs ∙ ap epochs_of same;
+    }
+
+-- with a place reserved in the audit list
+pub still_sound : (start : Start) (kept after : Kept) (before audit : AuditList) (verdicts : List CachedVerdict) → IsSound start kept before verdicts → after ≡ with_unseen kept after.pages after.log.in_broker → PagesFollow kept (λ p. applied_at kept.pages p) after.pages
+    → audit ≡ record before { reserved = true } → IsSound start after audit verdicts
+still_sound start kept after before audit verdicts sound after-is follow audit-is =
+    let same = history-moved start kept before.entries after.pages after.log.in_broker in
+    let here : IsSound start (with_unseen kept after.pages after.log.in_broker) (record before { reserved = true }) verdicts = record {
+      history = still_kept start kept before.entries after.pages after.log.in_broker sound.history follow;
+      limit = sound.limit;
+      agrees = subst (λ (h : History). AgreesWith verdicts (table_of h)) same sound.agrees;
+    } in
+    subst (λ (a : AuditList). IsSound start after a verdicts) (sym audit-is) (subst (λ (k : Kept). IsSound start k (record before { reserved = true }) verdicts) (sym after-is) here)

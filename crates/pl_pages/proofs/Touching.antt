@@ -8,7 +8,7 @@ use Rattle.std.proofs.lemmas.List.Elements.{filter-append}
 use Rattle.std.proofs.lemmas.Option.{slice_get-get_or, slice_get_within, none-some, same_Some}
 use Rattle.pl_block.specs.Block.{Content, changed_page}
 use Rattle.pl_block.specs.declared.record.Record.{Record}
-use Rattle.pl_log.specs.State.{AreNumbered}
+use Rattle.pl_block.specs.Numbered.{AreNumbered}
 use Rattle.pl_pages.specs.Page.{changed, after_record, after_block, page_of, zeros}
 use Rattle.pl_pages.specs.State.{Version, IsVersion, AreVersions, changes_page, lsns_of}
 use Rattle.pl_pages.specs.Kept.{IsAt, version_at, with_block}

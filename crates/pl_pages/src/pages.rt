@@ -4,7 +4,7 @@ ghost use Rattle.std.specs.Prelude.{◌≡◌, ◌≢◌, ◌+◌, ◌-◌, ◌<
 ghost use Rattle.std.specs.Borrow.{sem};
 ghost use Rattle.pl_block.specs.Block.{Content};
 ghost use Rattle.pl_block.specs.Bounds.{page_size};
-ghost use Rattle.pl_log.specs.State.{AreNumbered};
+ghost use Rattle.pl_block.specs.Numbered.{AreNumbered};
 ghost use Rattle.pl_pages.specs.Index.{IsBehind, IsIndex, count_before};
 ghost use Rattle.pl_pages.specs.Kept.{version_at};
 ghost use Rattle.pl_pages.specs.Page.{page_of};

@@ -218,6 +218,28 @@ fn frames_are_apart(rt: HostRuntime) -> Result<(), Fail> {
     plays::<Framed>(&rt, rt.alloc(), FRAMES_ARE_APART)
 }
 
+// Takes so many frames of an arena, gives back the last, and lets the arena go.
+fn ends(alloc: Global, frames: u32, refused: &mut bool) -> Result<(), Stop> {
+    let mut arena = VersionArena::new(alloc, 3);
+    let mut last = None;
+    for _ in 0..frames {
+        last = taken(&mut arena, refused)?;
+    }
+    match last {
+        Some(id) => give(&mut arena, id),
+        None => Ok(()),
+    }
+}
+
+#[test]
+fn arena_ends_with_frames_out(rt: HostRuntime) -> Result<(), Fail> {
+    let mut refused = false;
+    for frames in [0u32, 1, 64, 65, 192] {
+        assert!(rt; ends(rt.alloc(), frames, &mut refused).is_ok());
+    }
+    Ok(())
+}
+
 #[test]
 fn arena_ends_on_another_thread(rt: HostRuntime) -> Result<(), Fail> {
     let mut arena = VersionArena::new(rt.alloc(), 2);

@@ -90,6 +90,24 @@ impl Driven {
         Ok(self.log.report(lsn)?)
     }
 
+    // Writes a block, whose byte is its number, to two copies, and reports it.
+    fn harden(&mut self, alloc: Global, lsn: u64, refused: &mut bool) -> Result<(), Stop> {
+        let word = format!(in alloc; "{lsn}:{:02x}", lsn % 256)?;
+        self.write(alloc, word.as_str(), 0)?;
+        self.write(alloc, word.as_str(), 1)?;
+        self.report(lsn, refused)
+    }
+
+    // Leaves the newest blocks in the broker.
+    fn tidy(&mut self, refused: &mut bool) -> Result<(), Stop> {
+        let before = self.short();
+        if self.log.tidy().is_ok() {
+            return Ok(());
+        }
+        meets_refusal(refused, self.short() == before)?;
+        Ok(self.log.tidy()?)
+    }
+
     // Ends the epoch, and tells how many numbers were hardened.
     fn recover(&mut self, refused: &mut bool) -> Result<u64, Stop> {
         failovers_harden_the_longest_run();
@@ -166,6 +184,16 @@ impl Log {
                 driven.report(lsn.parse()?, refused)?;
                 push_word(out, "Ok")
             }
+            ["harden", first, last] => {
+                for lsn in first.parse::<u64>()?..=last.parse::<u64>()? {
+                    driven.harden(self.alloc, lsn, refused)?;
+                }
+                push_word(out, "Ok")
+            }
+            ["tidy"] => {
+                driven.tidy(refused)?;
+                push_word(out, "Ok")
+            }
             ["recover"] => push_numbers(out, &[driven.recover(refused)?]),
             ["read", lsn] => driven.read(out, lsn.parse()?),
             ["pull", lo, hi, from, max, reach] => driven.pull(out, [lo, hi, from, max, reach]),
@@ -183,6 +211,7 @@ impl Log {
                 let (pending, landing) = log.counts();
                 push_numbers(out, &[pending, landing])
             }
+            ["in_broker"] => push_numbers(out, &[log.in_broker() as u64]),
             ["in_window", lsn] => push_truth(out, log.in_window(lsn.parse()?)),
             ["can_harden", lsn] => push_truth(out, log.can_harden(lsn.parse()?)),
             ["agrees", block] => push_truth(out, log.agrees(&block_of(self.alloc, block)?)),
@@ -207,7 +236,7 @@ impl Subject for Log {
                 push_word(out, "Ok")
             }
             [
-                "write" | "offer" | "report" | "recover" | "read" | "pull",
+                "write" | "offer" | "report" | "harden" | "tidy" | "recover" | "read" | "pull",
                 ..
             ] => { self.change(words, out, refused) }
             _ => self.state(words, out),

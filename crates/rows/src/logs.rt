@@ -278,3 +278,48 @@ read 1           = 1:
 fn each_growth_alone(rt: HostRuntime) -> Result<(), Fail> {
     plays::<Log>(&rt, rt.alloc(), EACH_GROWTH_ALONE)
 }
+
+const READ_FROM_BOTH_STORES: &str = "\
+log 3 2                = Ok
+in_broker              = 0
+tidy                   = Ok
+in_broker              = 0
+harden 1 256           = Ok
+in_broker              = 256
+harden 257 300         = Ok
+hard                   = 300
+in_broker              = 256
+read 1                 = 1:01
+read 44                = 44:2c
+read 45                = 45:2d
+read 300               = 300:2c
+pull 0 65535 43 4 300  = 47 43:2b 44:2c 45:2d 46:2e
+tidy                   = Ok
+in_broker              = 64
+hard                   = 300
+counts                 = 0 300
+pull 0 65535 236 2 300 = 238 236:ec 237:ed
+read 236               = 236:ec
+read 237               = 237:ed
+tidy                   = Ok
+in_broker              = 64
+pull 1 65535 1 16 300  = 301
+pull 0 0 299 16 300    = 301 299:2b 300:2c
+harden 301 301         = Ok
+in_broker              = 65
+read 44                = 44:2c
+read 301               = 301:2d
+write 302:aa 0         = Ok
+write 302:aa 2         = Ok
+write 304:bb 0         = Ok
+recover                = 1
+hard                   = 302
+in_broker              = 66
+read 302               = 302:aa
+annulled 1 304         = 304:bb
+";
+
+#[test]
+fn read_from_both_stores(rt: HostRuntime) -> Result<(), Fail> {
+    plays::<Log>(&rt, rt.alloc(), READ_FROM_BOTH_STORES)
+}

@@ -1,7 +1,7 @@
-use Rattle.std.proofs.Common.{◌≡◌, ℕ, ◌-◌, ◌<◌, ◌*◌, Bool, List, length, set, true, None, subst, sym, ap, ◌∙◌, arith}
+use Rattle.std.proofs.Common.{◌≡◌, ℕ, ◌-◌, ◌<◌, length, set, true, None, refl, subst, sym, ap, ◌∙◌, arith}
 use Rattle.pl_arena.specs.Arena.{Arena, IsFull, frame, with_frame, zeros, capacity}
 use Rattle.pl_arena.specs.Free.{links, link, IsKept}
-use Rattle.pl_arena.proofs.Keeping.{first_given, first_within, first_fresh, not_full, taken_kept, taken_is, longer_kept, place_fresh, place_not_full, extended_kept, extended_is, now_out, ok_is_no_fault, of_fault, no_memory_is_not_full, full_only, full}
+use Rattle.pl_arena.proofs.Keeping.{first_given, first_within, first_fresh, not_full, taken_kept, taken_is, place_fresh, place_not_full, extended_kept, extended_is, now_out, ok_is_no_fault, of_fault, full_only, full}
 use Rattle.pl_arena.proofs.arena.VersionArena.take.Goals as goal
 
 -- the frame that was given back last
@@ -58,59 +58,43 @@ returns-then-self-gt0-clause-full c =
 pub returns-in-Err-clause-full : goal.returns-in-Err-clause-full
 returns-in-Err-clause-full c =
     let a = c.self.inside in
-    let none : a.free ≡ 0 = omega (arith, c.if-self-gt0.false) in
-    let place : c.len-place.result ≡ length a.out.items = c.len-place.ensures ∙ a.out.ok.0 in (
+    let none : a.free ≡ 0 = omega (arith, c.if-self-gt0.false) in (
       (λ e. subst IsFull c.self.view_is (full a.frames a.out.items a.max_chunks (subst (λ (k : ℕ). IsKept a.frames a.out.items k a.max_chunks) none c.self.invariant)
-          (sym place ∙ c.in-Err.ensures.full.0 (of_fault c.in-Err.fault e)))),
-      (λ f. of_fault c.in-Err.fault (c.in-Err.ensures.full.1 (full_only a.frames a.out.items a.free a.max_chunks c.self.invariant c.len-place.result place (subst IsFull (sym c.self.view_is) f)))),
+          (c.in-Err.ensures.full.0 (of_fault c.in-Err.fault e)))),
+      (λ f. of_fault c.in-Err.fault (c.in-Err.ensures.full.1 (full_only a.frames a.out.items a.free a.max_chunks c.self.invariant (length a.out.items) refl (subst IsFull (sym c.self.view_is) f)))),
     )
 
 -- a frame that was never out
-pub invariant_of-self-in-Err-push : goal.invariant_of-self-in-Err-push
-invariant_of-self-in-Err-push c =
-    let a = c.self.inside in
-    subst (λ (os : List Bool). IsKept c.make_room.new.frames os a.free a.max_chunks) (sym c.in-Err-push.ensures.items) (longer_kept a.frames a.out.items a.free a.max_chunks c.self.invariant c.make_room.new.frames c.in-Ok.ensures.ok.0)
-
-pub returns-in-Err-push-clause-full : goal.returns-in-Err-push-clause-full
-returns-in-Err-push-clause-full c =
-    let a = c.self.inside in
-    let place : c.len-place.result ≡ length a.out.items = c.len-place.ensures ∙ a.out.ok.0 in
-    let below : c.len-place.result ≡ 64 * a.max_chunks → ⊥ = λ e. ok_is_no_fault _ _ (c.in-Ok.ensures.full.1 e) in (
-      (λ e. absurd (no_memory_is_not_full e)),
-      (λ f. absurd (place_not_full a.frames a.out.items a.free a.max_chunks c.self.invariant c.len-place.result place below (subst IsFull (sym c.self.view_is) f))),
-    )
-
 pub invariant_of-self-2 : goal.invariant_of-self-2
 invariant_of-self-2 c =
     let a = c.self.inside in
-    extended_kept a.frames a.out.items a.free a.max_chunks c.self.invariant c.make_room.new.frames c.in-Ok.ensures.ok.0 c.len-place.result (c.len-place.ensures ∙ a.out.ok.0)
-    (λ e. ok_is_no_fault _ _ (c.in-Ok.ensures.full.1 e)) c.in-Ok.ensures.ok.1 c.push.new.self.items c.in-Ok-push.ensures.items c.clear-2.new.frame
+    extended_kept a.frames a.out.items a.free a.max_chunks c.self.invariant c.in-Ok.number c.in-Ok.ensures.number (λ e. ok_is_no_fault _ _ (c.in-Ok.ensures.full.1 (sym c.in-Ok.ensures.number ∙ e)))
+    zeros c.push_frame.new.frames c.in-Ok.ensures.frame c.push_frame.new.out.items c.in-Ok.ensures.flag
 
 pub returns-clause-fresh : goal.returns-clause-fresh
 returns-clause-fresh c =
     let a = c.self.inside in
-    subst (λ (s : Arena). frame s c.len-place.result ≡ None) c.self.view_is
-    (place_fresh a.frames a.out.items a.free a.max_chunks c.self.invariant c.len-place.result (c.len-place.ensures ∙ a.out.ok.0) (λ e. ok_is_no_fault _ _ (c.in-Ok.ensures.full.1 e)))
+    subst (λ (s : Arena). frame s c.in-Ok.number ≡ None) c.self.view_is
+    (place_fresh a.frames a.out.items a.free a.max_chunks c.self.invariant c.in-Ok.number c.in-Ok.ensures.number (λ e. ok_is_no_fault _ _ (c.in-Ok.ensures.full.1 (sym c.in-Ok.ensures.number ∙ e))))
 
 pub returns-clause-taken : goal.returns-clause-taken
 returns-clause-taken c =
     let a = c.self.inside in
-    extended_is a.frames a.out.items a.free a.max_chunks c.self.invariant c.make_room.new.frames c.in-Ok.ensures.ok.0 c.len-place.result (c.len-place.ensures ∙ a.out.ok.0)
-    (λ e. ok_is_no_fault _ _ (c.in-Ok.ensures.full.1 e)) c.in-Ok.ensures.ok.1 c.push.new.self.items c.in-Ok-push.ensures.items c.clear-2.new.frame
-    ∙ (λ j. with_frame (c.self.view_is j) c.len-place.result (c.clear-2.ensures.value j))
+    extended_is a.frames a.out.items a.free a.max_chunks c.self.invariant c.in-Ok.number c.in-Ok.ensures.number (λ e. ok_is_no_fault _ _ (c.in-Ok.ensures.full.1 (sym c.in-Ok.ensures.number ∙ e)))
+    zeros c.push_frame.new.frames c.in-Ok.ensures.frame c.push_frame.new.out.items c.in-Ok.ensures.flag
+    ∙ ap (λ (s : Arena). with_frame s c.in-Ok.number zeros) c.self.view_is
 
 pub returns-clause-out : goal.returns-clause-out
 returns-clause-out c =
     let a = c.self.inside in
-    now_out _ _ c.len-place.result _
-    (extended_is a.frames a.out.items a.free a.max_chunks c.self.invariant c.make_room.new.frames c.in-Ok.ensures.ok.0 c.len-place.result (c.len-place.ensures ∙ a.out.ok.0)
-    (λ e. ok_is_no_fault _ _ (c.in-Ok.ensures.full.1 e)) c.in-Ok.ensures.ok.1 c.push.new.self.items c.in-Ok-push.ensures.items c.clear-2.new.frame)
+    now_out _ _ c.in-Ok.number _
+    (extended_is a.frames a.out.items a.free a.max_chunks c.self.invariant c.in-Ok.number c.in-Ok.ensures.number (λ e. ok_is_no_fault _ _ (c.in-Ok.ensures.full.1 (sym c.in-Ok.ensures.number ∙ e)))
+    zeros c.push_frame.new.frames c.in-Ok.ensures.frame c.push_frame.new.out.items c.in-Ok.ensures.flag)
 
 pub returns-clause-full : goal.returns-clause-full
 returns-clause-full c =
-    let a = c.self.inside in
-    let place : c.len-place.result ≡ length a.out.items = c.len-place.ensures ∙ a.out.ok.0 in
-    let below : c.len-place.result ≡ 64 * a.max_chunks → ⊥ = λ e. ok_is_no_fault _ _ (c.in-Ok.ensures.full.1 e) in (
+    let a = c.self.inside in (
       (λ e. absurd (ok_is_no_fault _ _ e)),
-      (λ f. absurd (place_not_full a.frames a.out.items a.free a.max_chunks c.self.invariant c.len-place.result place below (subst IsFull (sym c.self.view_is) f))),
+      (λ f. absurd (place_not_full a.frames a.out.items a.free a.max_chunks c.self.invariant c.in-Ok.number c.in-Ok.ensures.number
+          (λ e. ok_is_no_fault _ _ (c.in-Ok.ensures.full.1 (sym c.in-Ok.ensures.number ∙ e))) (subst IsFull (sym c.self.view_is) f))),
     )

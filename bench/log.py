@@ -1,0 +1,107 @@
+"""Times the calls of a log whose hardened blocks lie in two stores, beside a plain list of the same blocks.
+
+Usage: python3 bench/log.py [BLOCKS..]      (1000 100000 1000000 where none are given)
+
+Builds bench/log, a program over pl_log, and drives it. For each number of hardened blocks of 100 bytes, and for 10,000 of
+16 KiB, it prints the time of
+- a write to one copy, a report of one and of 64,
+- a pull of 16 blocks: the newest, out of the broker, out of the segments where nothing is cached and where all is, and of a
+  partition that one block in a thousand touches,
+- a tidy, for each block that it moves,
+
+beside the same pulls from a list, and the peak of memory for each hardened block, beside the bytes of its spelling.
+"""
+
+import pathlib
+import subprocess
+import sys
+
+import programs
+
+
+def spelled(length):
+    """The bytes of a block: an LSN, two counts and a partition, and of each record its kind, page, offset and length."""
+    return 8 + 2 + 2 + 2 + (1 if length <= 8192 else 2) * (1 + 4 + 2 + 2) + length
+
+
+class Program:
+    """The program, asked line by line."""
+
+    def __init__(self, path):
+        self.child = subprocess.Popen([path], stdin=subprocess.PIPE, stdout=subprocess.PIPE, text=True)
+
+    def ask(self, *words):
+        self.child.stdin.write(" ".join(map(str, words)) + "\n")
+        self.child.stdin.flush()
+        nanos, other = self.child.stdout.readline().split()
+        return int(nanos), int(other)
+
+    def end(self):
+        """The peak of memory in bytes."""
+        status = pathlib.Path(f"/proc/{self.child.pid}/status").read_text()
+        self.child.stdin.close()
+        self.child.wait()
+        return int(status.split("VmHWM:")[1].split()[0]) * 1024
+
+
+def pulls(program, case, first, step, lo, hi, laps):
+    """Nanoseconds of a pull, and how many blocks it served."""
+    program.ask(case, first, step, lo, hi, min(laps, 4))
+    nanos, served = program.ask(case, first, step, lo, hi, laps)
+    return nanos / laps, served / laps
+
+
+def rows(program, case, blocks):
+    """What is pulled, by name: nanoseconds, and how many blocks."""
+    yield "pull of the newest 16", pulls(program, case, blocks - 15, 0, 0, 65535, 20000)
+    if blocks >= 256:
+        yield "pull of 16 out of the broker", pulls(program, case, blocks - 200, 0, 0, 65535, 20000)
+    old = blocks - 300
+    if old > 64:
+        step = max(16, old // 1000)
+        yield "pull of 16 out of the segments, cold", pulls(program, case, 1, step, 0, 65535, old // step)
+        yield "pull of 16 out of the segments, cached", pulls(program, case, old // 2, 0, 0, 65535, 20000)
+    yield "pull of a partition that one in 1,000 touches", pulls(program, case, 1, 0, 1, 1, max(20, 20_000_000 // blocks // 16))
+
+
+def empty(path):
+    """The memory of a log without blocks."""
+    program = Program(path)
+    program.ask("tidy")
+    return program.end()
+
+
+def measure(path, blocks, length):
+    print(f"{blocks} blocks of {length} bytes")
+    program = Program(path)
+    fill, _ = program.ask("fill", blocks, length)
+    peak = program.end() - empty(path)
+    print(f"  {'memory for each hardened block':<50} {peak / blocks:10.0f} bytes, spelled in {spelled(length)}")
+    print(f"  {'made, written twice and reported':<50} {fill / blocks:10.0f} ns")
+    program, plain = Program(path), Program(path)
+    program.ask("fill", blocks, length)
+    plain.ask("plain-fill", blocks, length)
+    beside = dict(rows(plain, "plain-pull", blocks))
+    for name, (nanos, served) in rows(program, "pull", blocks):
+        print(f"  {name:<50} {nanos:10.0f} ns   list {beside[name][0]:10.0f} ns   {served:.0f} blocks")
+    laps = 200 if length < 1000 else 20
+    writes, reports = program.ask("windows", laps, length)
+    print(f"  {'a write to one copy':<50} {writes / laps / 128:10.0f} ns   (with half of making the block)")
+    print(f"  {'a report of 64':<50} {reports / laps:10.0f} ns")
+    _, reports = program.ask("reports", laps, length)
+    print(f"  {'a report of one':<50} {reports / laps / 64:10.0f} ns")
+    nanos, moved = program.ask("tidy")
+    print(f"  {'a tidy, for each block that it moves':<50} {nanos / max(1, moved):10.0f} ns   {moved} blocks")
+    program.end()
+    print(f"  {'memory of the list for each block':<50} {(plain.end() - empty(path)) / blocks:10.0f} bytes")
+
+
+def main():
+    path = programs.program("log", "pl_block pl_log bytes")
+    for blocks in [int(word) for word in sys.argv[1:]] or [1000, 100_000, 1_000_000]:
+        measure(path, blocks, 100)
+    measure(path, 10_000, 16_384)
+
+
+if __name__ == "__main__":
+    main()

@@ -1,0 +1,18 @@
+-- A `&` to a deed holds nothing. Assumes `Logic`.
+use denote.RattleType.{RattleType}
+use denote.RawPtr.{RawPtr}
+use denote.Param.Laws.{Laws}
+use denote.Param.Shared.{copy_shared}
+use denote.SharingLaws.{nothing_shr_laws}
+use denote.Struct.Laws.{field_copy}
+use denote.Struct.Lending.{of_Lends, Lends-nothing}
+use Rattle.core.specs.declared.alloc.Allocator.{Ghosts}
+use Rattle.core.specs.contracts.marker.PhantomData as marker
+use Rattle.pl_arena.specs.contracts.memory.Deed as Deed
+use Rattle.pl_arena.proofs.memory.Deed.TheLaw.Statement.{statement}
+
+pub shares : (R A : RattleType) (g : Ghosts A.Denot) (L : Laws R) (K : Laws A) → statement R A g L K
+shares R A g L K =
+    let pointer = copy_shared (marker.the_field RawPtr) (field_copy (marker.the_type RawPtr) tt) in
+    of_Lends (Deed.struct R A g) (Deed.the_codes R.Denot A.Denot R.coded A.coded (marker.the_row RawPtr).coded) (Deed.the_heap R A g) (Deed.the_lent R A g)
+    (λ d p. nothing_shr_laws) (pointer, tt) (λ M 𝓤 𝓛 d p. Lends-nothing 𝓛 (Deed.the_heap R A g d) (Deed.the_row R A g).lives)
