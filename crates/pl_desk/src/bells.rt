@@ -3,8 +3,6 @@
 
 ghost use Rattle.std.specs.Prelude.{◌≡◌, vec_len};
 
-use crate::steps::{Board, NEXT, SERVING};
-use crossbeam_utils::Backoff;
 use std::alloc::{AllocError, Global};
 use std::sync::Wait;
 use std::sync::atomic::AtomicU64;
@@ -15,9 +13,6 @@ const BELLS: u64 = 64;
 
 /// A bell that nobody sleeps at.
 const QUIET: u64 = 0;
-
-/// The mark of those who sleep at the door.
-const AT_THE_DOOR: u32 = 1;
 
 // The mark under which the thread with this ticket sleeps. It is never that of a quiet bell, and no
 // two tickets that are out at the same moment and share a bell have the same.
@@ -31,23 +26,23 @@ fn mark_of(ticket: u64) -> u32 {
 /// as long as the word is its mark. Who rings changes the words of the table first, and who announces
 /// another mark keeps the first one awake. So no ring is missed.
 #[derive(Drop)]
-struct Bell {
+pub(crate) struct Bell {
     word: AtomicU64,
 }
 
 impl Bell {
-    const fn new() -> Bell {
+    pub(crate) const fn new() -> Bell {
         Bell {
             word: AtomicU64::new(QUIET),
         }
     }
 
-    fn announce(&self, mark: u32) {
+    pub(crate) fn announce(&self, mark: u32) {
         self.word.store(u64::from(mark), SeqCst);
     }
 
-    // Sleeps until a ring, unless there was one since the announcement.
-    fn sleep(&self, rt: &impl Wait, mark: u32) {
+    /// Sleeps until a ring, unless there was one since the announcement.
+    pub(crate) fn sleep(&self, rt: &impl Wait, mark: u32) {
         self.word.park(rt, mark);
     }
 
@@ -55,14 +50,26 @@ impl Bell {
     fn take(&self) -> bool {
         self.word.load(SeqCst) != QUIET && self.word.swap(QUIET, SeqCst) != QUIET
     }
+
+    /// Wakes all who sleep here.
+    pub(crate) fn ring_for_all(&self) {
+        if self.take() {
+            self.word.wake_all();
+        }
+    }
+
+    /// Wakes one of those who sleep here. It announces again, where others are left.
+    pub(crate) fn ring_for_one(&self) {
+        if self.take() {
+            self.word.wake_one();
+        }
+    }
 }
 
-/// The bells of a desk.
+/// The bells of those who have a ticket.
 #[derive(Drop)]
 pub(crate) struct Bells {
-    /// For those who have no ticket yet.
-    door: Bell,
-    /// For those who have one, by its remainder.
+    /// By the remainder of the ticket.
     tickets: Vec<Bell>,
     ghost count: { vec_len tickets ≡ 64 },
 }
@@ -74,40 +81,11 @@ impl Bells {
         while (tickets.len() as u64) < BELLS {
             tickets.push(Bell::new()).unwrap();
         }
-        Ok(Bells {
-            door: Bell::new(),
-            tickets,
-        })
+        Ok(Bells { tickets })
     }
 
     fn of(&self, ticket: u64) -> &Bell {
         &self.tickets[(ticket % BELLS) as usize]
-    }
-
-    /// Waits until no ticket is out, or returns sooner. A thread that keeps calling so finds the
-    /// database in its cache, and the others sleep meanwhile.
-    pub(crate) fn enter(&self, rt: &impl Wait, board: &Board)
-        requires board { board.now.table_id.words ≡ 3 }
-    {
-        let backoff = Backoff::new();
-        let mut has_slept = false;
-        for _ in rt.forever() {
-            let is_tired = backoff.is_completed();
-            // One thread is woken at a time, and by this announcement wakes the next one.
-            if is_tired || has_slept {
-                self.door.announce(AT_THE_DOOR);
-            }
-            if board.peek(NEXT) == board.peek(SERVING) {
-                return;
-            }
-            if is_tired {
-                self.door.sleep(rt, AT_THE_DOOR);
-                has_slept = true;
-                backoff.reset();
-            } else {
-                backoff.snooze();
-            }
-        }
     }
 
     /// Says that a thread with this ticket will sleep.
@@ -120,19 +98,8 @@ impl Bells {
         self.of(ticket).sleep(rt, mark_of(ticket));
     }
 
-    /// Wakes who has the ticket, and one of those who have none.
+    /// Wakes who has the ticket.
     pub(crate) fn ring(&self, ticket: u64) {
-        let bell = self.of(ticket);
-        if bell.take() {
-            bell.word.wake_all();
-        }
-        self.ring_at_the_door();
-    }
-
-    /// Wakes one of those who have no ticket. Each of them that leaves without one does the same.
-    pub(crate) fn ring_at_the_door(&self) {
-        if self.door.take() {
-            self.door.word.wake_one();
-        }
+        self.of(ticket).ring_for_all();
     }
 }

@@ -7,6 +7,7 @@ ghost use Rattle.pl_desk.specs.Rule.{IsAhead};
 ghost use Rattle.pl_desk.specs.Passes.{IsOf, IsSamePass, WasCalled, HasMet, fresh_passes};
 
 use crate::bells::Bells;
+use crate::door::Door;
 use crate::opening::{DeskTable, deal_all, open_table};
 use crate::pass::Pass;
 use crate::steps::{DB, NEXT, SERVING, ask, compare, draw, join};
@@ -23,6 +24,7 @@ use std::sync::Wait;
 #[derive(Drop)]
 pub struct Desk {
     pub(crate) table: DeskTable,
+    pub(crate) door: Door,
     pub(crate) bells: Bells,
     /// Where the next ticket is this or more, a call is answered Spent.
     pub(crate) turns: u64,
@@ -65,6 +67,7 @@ impl Desk {
         let passes = deal_all(&table.shared, first, seats, passes);
         let desk = Desk {
             table,
+            door: Door::new(),
             bells,
             turns,
         };
@@ -83,9 +86,8 @@ impl Desk {
         ensures fits { FitsReply result }
     {
         let board = &self.table.shared;
-        self.bells.enter(rt, board);
+        self.door.enter(rt, board);
         if ask(board, &mut pass.chair) >= self.turns {
-            self.bells.ring_at_the_door();
             return Reply::Spent;
         }
         let ticket = draw(board, &mut pass.chair);
@@ -117,6 +119,7 @@ impl Desk {
     {
         let Desk {
             table,
+            door: _,
             bells: _,
             turns: _,
         } = self;

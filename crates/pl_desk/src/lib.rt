@@ -8,6 +8,7 @@
 
 mod bells;
 mod desk;
+mod door;
 pub mod laws;
 mod opening;
 mod pass;

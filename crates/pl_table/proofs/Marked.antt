@@ -278,6 +278,9 @@ place-found names id i at =
     let here : slice_get names i ≡ Some id = slice_get-get_or names i 0 at.0 ∙ ap (λ (n : ℕ). Some n) at.1 in
     place_named names id i here ∙ ap (λ (o : Option ℕ). Some o) (sym (name_found id names (i, at.0, get_or_default names i id 0 at.0 ∙ at.1)))
 
+pub place-got : (names : List ℕ) (id i : ℕ) → slice_get names i ≡ Some id → slice_get (askers names) i ≡ Some (asker_of id names)
+place-got names id i got = place-found names id i (slice_get_within names i id got, get_or_from_slice_get names i id 0 got)
+
 pub place-none : (names : List ℕ) (id i : ℕ) → (i ≤ length names) × ((k : ℕ) → k < i → get_or names k 0 < id) × ((k : ℕ) → i ≤ k → k < length names → id < get_or names k 0) → slice_get (askers names) (length names) ≡ Some (asker_of id names)
 place-none names id i past =
     place_other names ∙ ap (λ (o : Option ℕ). Some o) (sym (not_found id names (λ w. elim (cases_lt w.0 i) [

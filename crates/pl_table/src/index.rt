@@ -166,11 +166,27 @@ fn marks_of_op(rows: &[Row], op: Op) -> u64
     word
 }
 
-// The place of the asker in each block: about log n steps for n names.
+// The place of the id, where it and the names before it follow one another without a gap.
+fn place_in_a_row(names: &[u32], id: u32) -> Option<usize>
+    ensures found { IfSome result (λ place. slice_get names.now place ≡ Some id) }
+{
+    let place = id.checked_sub(*names.first()?)? as usize;
+    if *names.get(place)? == id {
+        Some(place)
+    } else {
+        None
+    }
+}
+
+// The place of the asker in each block: one step where ids follow one another, else about log n steps
+// for n names.
 fn place_of(names: &[u32], id: u32) -> usize
     requires { IsStrictlyIncreasing names.now }
     ensures value { slice_get (askers names.now) result ≡ Some (asker_of id names.now) }
 {
+    if let Some(place) = place_in_a_row(names, id) {
+        return place;
+    }
     match names.binary_search(&id) {
         Ok(place) => place,
         Err(_) => names.len(),

@@ -224,6 +224,7 @@ impl Database {
                 push_numbers(out, &[u64::from(epoch), u64::from(primary)])
             }
             ["log"] => push_log(out, db.log()),
+            ["in_broker"] => push_numbers(out, &[db.log().in_broker() as u64]),
             ["applied", partition] => {
                 push_numbers(out, &[db.pages().applied(partition.parse()?)])
             }
@@ -279,7 +280,7 @@ impl Subject for Database {
                 push_word(out, self.open(table, primary, audit, chunks)?)
             }
             [
-                "audit" | "hard" | "epochs" | "log" | "applied" | "annulled",
+                "audit" | "hard" | "epochs" | "log" | "in_broker" | "applied" | "annulled",
                 ..
             ] => { self.state(words, out) }
             ["queue", request @ ..] => push_numbers(out, &[self.queue(request)? as u64]),

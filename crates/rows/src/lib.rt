@@ -23,6 +23,8 @@ mod codec;
 #[cfg(test)]
 mod connections;
 #[cfg(test)]
+mod conversations;
+#[cfg(test)]
 mod database;
 #[cfg(test)]
 mod decisions;
@@ -31,19 +33,27 @@ mod desk_changes;
 #[cfg(test)]
 mod desks;
 #[cfg(test)]
+mod destaged_blocks;
+#[cfg(test)]
 mod entries;
 #[cfg(test)]
 mod failovers;
 #[cfg(test)]
 mod frames;
 #[cfg(test)]
+mod framing;
+#[cfg(test)]
 mod gates;
+#[cfg(test)]
+mod landing_zone;
 #[cfg(test)]
 mod line_text;
 #[cfg(test)]
 mod log;
 #[cfg(test)]
 mod logs;
+#[cfg(test)]
+mod newest_blocks;
 #[cfg(test)]
 mod numbers;
 #[cfg(test)]

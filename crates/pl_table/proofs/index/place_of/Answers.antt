@@ -1,5 +1,8 @@
-use Rattle.pl_table.proofs.Marked.{searched-names, place-found, place-none}
+use Rattle.pl_table.proofs.Marked.{searched-names, place-found, place-got, place-none}
 use Rattle.pl_table.proofs.index.place_of.Goals as goal
+
+pub returns-in-Some : goal.returns-in-Some
+returns-in-Some c = record { value = place-got c.args.names.now c.args.id c.in-Some.place (rw c.in-Some.is at c.place_in_a_row.ensures.found) }
 
 pub returns-in-Ok : goal.returns-in-Ok
 returns-in-Ok c =
