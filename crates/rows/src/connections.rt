@@ -145,43 +145,57 @@ fn ask_in_turn<R: Net<Stream = TcpStream>>(
     second.read_exact(replies.1).ok()
 }
 
-// Serves two clients with one worker, over the desk of one database. The second sends its whole frame and reads the reply, or 10 bytes
-// of it, which is a fault.
+/// What the first client read, and what the second did.
+type Answers = ([u8; 15], [u8; 43]);
+
+// Serves two clients over the desks, one after the other.
+fn serve_two<R>(
+    rt: &R,
+    alloc: Global,
+    desks: &Desks<R>,
+    passes: Vec<Passes>,
+    asked: (&[u8], &[u8]),
+    is_cut: bool,
+) -> Result<(Served<Passes>, Answers), Stop>
+where
+    R: Net<Listener = TcpListener, Stream = TcpStream> + Threads + Wait + Sync + Drop,
+    requires own { All (AreOf desks.now) passes.items }
+{
+    let listener = TcpListener::bind(rt, "127.0.0.1:0").map_err(|_| Stop::Unread)?;
+    let addr = listener.local_addr().map_err(|_| Stop::Unread)?;
+    let (mut of_first, mut of_second) = ([0; 15], [0; 43]);
+    let (second, _) = of_second.split_at_mut(if is_cut { 0 } else { 43 });
+    let (served, are_asked) = thread::join(
+        rt,
+        move || -> Served<Passes>
+            requires own { All (AreOf desks.now) passes.items }
+        {
+            let served = serve(rt, alloc, &listener, desks, passes, 2);
+            drop(listener);
+            served
+        },
+        || ask_in_turn(rt, addr, asked, (&mut of_first, second)),
+    );
+    are_asked.ok_or(Stop::Changed)?;
+    Ok((served, (of_first, of_second)))
+}
+
+// Serves two clients with one worker, over the desk of one database. The second sends its whole frame
+// and reads the reply, or 10 bytes of it, which is a fault.
 fn serve_in_turn<R>(rt: &R, alloc: Global, is_cut: bool) -> Result<(), Stop>
 where
     R: Net<Listener = TcpListener, Stream = TcpStream> + Threads + Wait + Sync + Copy + Drop,
 {
     let frames = hex::decode(alloc, FRAMES)?;
     let replies = hex::decode(alloc, REPLIES)?;
-    let listener = TcpListener::bind(rt, "127.0.0.1:0").map_err(|_| Stop::Unread)?;
-    let addr = listener.local_addr().map_err(|_| Stop::Unread)?;
     let mut dbs = Vec::with_capacity(alloc, 1)?;
     dbs.push_reserved(open(alloc)?);
     let (desks, passes) = Desks::new(alloc, *rt, dbs, 1, TURNS)?;
-    let gate = &desks;
-    let (asked_first, asked_second) = frames.split_at(160.min(frames.len()));
-    let (asked_second, _) = asked_second.split_at(if is_cut { 10 } else { 48 }.min(
-        asked_second.len(),
-    ));
-    let (mut of_first, mut of_second) = ([0; 15], [0; 43]);
-    let (second, _) = of_second.split_at_mut(if is_cut { 0 } else { 43 });
-    let (served, asked) = thread::join(
-        rt,
-        move || -> Served<Passes>
-            requires own { All (AreOf gate.now) passes.items }
-        {
-            let served = serve(rt, alloc, &listener, gate, passes, 2);
-            drop(listener);
-            served
-        },
-        || ask_in_turn(
-            rt,
-            addr,
-            (asked_first, asked_second),
-            (&mut of_first, second),
-        ),
-    );
-    asked.ok_or(Stop::Changed)?;
+    let (first, second) = frames.split_at(160.min(frames.len()));
+    let count = if is_cut { 10 } else { 48 };
+    let (second, _) = second.split_at(count.min(second.len()));
+    let (served, answers) = serve_two(rt, alloc, &desks, passes, (first, second), is_cut)?;
+    let (of_first, of_second) = answers;
     check(served.accepted == 2 && served.stop == Stopped::Limit && served.passes.len() == 1)?;
     check(served.faults == if is_cut { 1 } else { 0 })?;
     let (wanted_first, wanted_second) = replies.split_at(15.min(replies.len()));

@@ -1,7 +1,7 @@
 //! Desks that two threads call at once: what is so in the end whatever the schedule.
 
 ghost use Rattle.std.specs.Prelude.{◌≡◌, ◌≤◌, ◌^◌};
-ghost use Rattle.pl_desk.specs.Passes.{IsOf, IsSamePass};
+ghost use Rattle.pl_desk.specs.Passes.{IsOf};
 
 use crate::asking::request_of;
 use crate::desks::{HARDENS, TURNS, ask, open, play};
@@ -48,7 +48,7 @@ fn ask_over_a_change(
     asked: Asked,
 ) -> Result<u64, Stop>
     requires of { IsOf desk.now pass.old }
-    ensures same { IsSamePass pass.old pass.new }
+    ensures of { IsOf desk.now pass.new }
 {
     let [before, behind] = asked.answers;
     let mut count: u64 = 0;
@@ -63,6 +63,15 @@ fn ask_over_a_change(
         }
     }
     Ok(count)
+}
+
+// The first pass takes in the second.
+fn meet(desk: &Desk, pass: &mut Pass, other: Pass)
+    requires of { IsOf desk.now pass.old }
+    requires other { IsOf desk.now other }
+    ensures of { IsOf desk.now pass.new }
+{
+    desk.meet(pass, other);
 }
 
 // Plays a row. It returns how many answers of each thread are those up to the change, and the
@@ -87,7 +96,7 @@ fn play_two<R: Threads + Wait + Abort + Sync>(
         &mut || ask_over_a_change(rt, alloc, &desk, &mut q, row.second),
     );
     let (first, second) = (first?, second?);
-    desk.meet(&mut p, q);
+    meet(&desk, &mut p, q);
     play(rt, alloc, &desk, &mut p, row.after)?;
     Ok((first, second, desk.close(p).ok_or(Stop::Unread)?))
 }

@@ -1,7 +1,7 @@
 //! Desks: several passes of one database, in one thread.
 
 ghost use Rattle.std.specs.Prelude.{◌≡◌, ◌≤◌, ◌^◌};
-ghost use Rattle.pl_desk.specs.Passes.{IsOf, IsSamePass};
+ghost use Rattle.pl_desk.specs.Passes.{IsOf};
 
 use crate::asking::request_of;
 use crate::reply_text::push_reply;
@@ -36,7 +36,7 @@ pub(crate) fn ask(
     line: &str,
 ) -> Result<String, Stop>
     requires of { IsOf desk.now pass.old }
-    ensures same { IsSamePass pass.old pass.new }
+    ensures of { IsOf desk.now pass.new }
 {
     let words: Vec<&str> = line.split_whitespace().collect(alloc)?;
     let request = request_of(alloc, 0, &words)?.ok_or(Stop::Unread)?;
@@ -58,7 +58,7 @@ pub(crate) fn play<R: Wait + Abort>(
     row: &str,
 ) -> Result<(), Stop>
     requires of { IsOf desk.now pass.old }
-    ensures same { IsSamePass pass.old pass.new }
+    ensures of { IsOf desk.now pass.new }
 {
     for line in row.lines() {
         let (asked, wanted) = line.split_once('=').ok_or(Stop::Unread)?;
