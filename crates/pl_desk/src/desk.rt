@@ -7,6 +7,7 @@ ghost use Rattle.pl_desk.specs.Rule.{IsAhead};
 ghost use Rattle.pl_desk.specs.Passes.{IsOf, IsSamePass, WasCalled, HasMet, fresh_passes};
 
 use crate::bells::Bells;
+use crate::boxed::{BoxedDb, unboxed};
 use crate::door::Door;
 use crate::opening::{DeskTable, deal_all, open_table};
 use crate::pass::Pass;
@@ -63,7 +64,8 @@ impl Desk {
         else {
             return Err(db);
         };
-        let (table, first) = open_table(alloc, db, seats, turns)?;
+        let boxed = BoxedDb::new(alloc, db)?;
+        let (table, first) = open_table(alloc, boxed, seats, turns)?;
         let passes = deal_all(&table.shared, first, seats, passes);
         let desk = Desk {
             table,
@@ -128,7 +130,7 @@ impl Desk {
         let is_idle = closed.word(NEXT) == closed.word(SERVING);
         let db = closed.take(DB);
         closed.free();
-        if is_idle { db } else { None }
+        if is_idle { unboxed(db) } else { None }
     }
 
     /// The number of a pass, from 1.

@@ -7,6 +7,7 @@
 #![tactic(auto)]
 
 mod bells;
+mod boxed;
 mod desk;
 mod door;
 pub mod laws;

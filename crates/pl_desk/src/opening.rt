@@ -6,6 +6,7 @@ ghost use Rattle.pl_desk.specs.declared.rule.Stage.TheVariants.{Idle};
 ghost use Rattle.pl_desk.specs.Rule.{first_view, terms_of};
 ghost use Rattle.pl_desk.specs.Passes.{fresh, fresh_passes, place_of};
 
+use crate::boxed::BoxedDb;
 use crate::pass::Pass;
 use crate::rule::{Opening, Turns, View};
 use crate::steps::{Board, Chair, deal};
@@ -15,12 +16,12 @@ use std::alloc::Global;
 use std::snapshot::Snapshot;
 
 /// The table of a desk: three words and one slot.
-pub(crate) type DeskTable = Table<Option<Db>, View, Opening, Turns, Global>;
+pub(crate) type DeskTable = Table<Option<BoxedDb>, View, Opening, Turns, Global>;
 
 /// The table, with the database in its slot, and the seat of the first pass.
 pub(crate) fn open_table(
     alloc: Global,
-    db: Db,
+    db: BoxedDb,
     seats: u32,
     turns: u64,
 ) -> Result<(DeskTable, Chair), Db>
@@ -46,7 +47,7 @@ pub(crate) fn open_table(
         let Some(db) = failed.value else {
             unreachable!();
         };
-        return Err(db);
+        return Err(db.into_db());
     }
     match Table::new(alloc, &words, slots, &opening) {
         Ok(opened) => Ok(opened),
@@ -54,7 +55,7 @@ pub(crate) fn open_table(
             let Some(Some(db)) = slots.pop() else {
                 unreachable!();
             };
-            Err(db)
+            Err(db.into_db())
         }
     }
 }

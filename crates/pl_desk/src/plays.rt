@@ -2,15 +2,15 @@
 
 ghost use Rattle.pl_core.specs.History.{History};
 
+use crate::boxed::BoxedDb;
 use crate::rule::View;
 use atomic_table::{Join, Play, Split};
-use pl_core::Db;
 use std::marker::{Brand, PhantomData};
 
 /// Loads the ticket word.
 pub(crate) struct Asks;
 
-impl Play<Option<Db>, View> for Asks {
+impl Play<Option<BoxedDb>, View> for Asks {
     ghost use Rattle.pl_desk.specs.Steps.{asks_then};
 
     ghost then = { asks_then };
@@ -19,7 +19,7 @@ impl Play<Option<Db>, View> for Asks {
 /// Adds 1 to the ticket word.
 pub(crate) struct Draws;
 
-impl Play<Option<Db>, View> for Draws {
+impl Play<Option<BoxedDb>, View> for Draws {
     ghost use Rattle.pl_desk.specs.Steps.{draws_then};
 
     ghost then = { draws_then };
@@ -28,7 +28,7 @@ impl Play<Option<Db>, View> for Draws {
 /// Loads the serving word.
 pub(crate) struct Looks;
 
-impl Play<Option<Db>, View> for Looks {
+impl Play<Option<BoxedDb>, View> for Looks {
     ghost use Rattle.pl_desk.specs.Steps.{looks_then};
 
     ghost then = { looks_then };
@@ -52,7 +52,7 @@ pub(crate) struct Counts<J> {
     told: PhantomData<J>,
 }
 
-impl<J: Told> Play<Option<Db>, View> for Counts<J> {
+impl<J: Told> Play<Option<BoxedDb>, View> for Counts<J> {
     ghost use Rattle.pl_desk.specs.Steps.{counts_then};
 
     ghost then = { counts_then J.told };
@@ -61,7 +61,7 @@ impl<J: Told> Play<Option<Db>, View> for Counts<J> {
 /// Adds 1 to the serving word.
 pub(crate) struct Serves;
 
-impl Play<Option<Db>, View> for Serves {
+impl Play<Option<BoxedDb>, View> for Serves {
     ghost use Rattle.pl_desk.specs.Steps.{serves_then};
 
     ghost then = { serves_then };
@@ -92,7 +92,7 @@ impl Join<View> for Joins {
 /// Loads the count of entries for the meeting.
 pub(crate) struct Meets;
 
-impl Play<Option<Db>, View> for Meets {
+impl Play<Option<BoxedDb>, View> for Meets {
     ghost use Rattle.pl_desk.specs.Steps.{meets_then};
 
     ghost then = { meets_then };

@@ -1,6 +1,7 @@
 //! The rule of a desk's table, and what it speaks of: what the desk was made with, and the view of
 //! each pass. A view is for the proofs alone: no value of `Terms`, `Stage` or `View` is ever made.
 
+use crate::boxed::BoxedDb;
 use atomic_table::TableRule;
 use pl_core::Db;
 use std::snapshot::Snapshot;
@@ -10,7 +11,7 @@ use std::snapshot::Snapshot;
 pub struct Opening {
     pub seats: u32,
     pub turns: u64,
-    pub db: Snapshot<Db>,
+    pub db: Snapshot<BoxedDb>,
 }
 
 /// The same as plain data, with the history of the database.
@@ -53,7 +54,7 @@ pub struct View {
 /// The rule.
 pub struct Turns;
 
-impl TableRule<Option<Db>, View, Opening> for Turns {
+impl TableRule<Option<BoxedDb>, View, Opening> for Turns {
     ghost use Rattle.pl_desk.specs.Rule.{IsKept, first_view, terms_of};
 
     ghost holds = { λ opening. IsKept (terms_of opening) };

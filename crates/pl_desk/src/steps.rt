@@ -6,17 +6,17 @@ ghost use Rattle.pl_desk.specs.declared.rule.Stage.TheVariants.{Idle, Asking, Wa
 ghost use Rattle.pl_desk.specs.Rule.{IsSound, IsAhead, HasBoth};
 ghost use Rattle.pl_desk.specs.Steps.{at_stage, asked, AddsOne, counted, served, dealing, dealt, meeting};
 
+use crate::boxed::BoxedDb;
 use crate::plays::{Asks, Counts, Deals, Draws, Joins, Looks, Meets, Serves, Told};
 use crate::rule::{Opening, Turns, View};
 use atomic_table::{Seat, Shared};
-use pl_core::Db;
 use std::marker::Brand;
 
 /// The words and the slot of a desk.
-pub(crate) type Board = Shared<Option<Db>, View, Opening, Turns>;
+pub(crate) type Board = Shared<Option<BoxedDb>, View, Opening, Turns>;
 
 /// The seat of a pass at the board.
-pub(crate) type Chair = Seat<Option<Db>, View>;
+pub(crate) type Chair = Seat<Option<BoxedDb>, View>;
 
 /// The word that counts the entries of the audit list.
 const COUNT: usize = 0;
@@ -66,7 +66,7 @@ pub(crate) fn look(board: &Board, chair: &mut Chair, ticket: u64) -> u64
 }
 
 // The one step that makes an entry. The database is out, and has the history that the step announces.
-fn count_as<J: Told>(board: &Board, chair: &mut Chair, db: &Db)
+fn count_as<J: Told>(board: &Board, chair: &mut Chair, db: &BoxedDb)
     requires board { (chair.old.table_id ≡ board.now.table_id) × (board.now.table_id.words ≡ 3) }
     requires told { db.now ≡ J.told }
     requires turn { (t : ℕ) × (h : History) × (chair.old.me.0.stage ≡ InTurn t h) ×
@@ -79,7 +79,7 @@ fn count_as<J: Told>(board: &Board, chair: &mut Chair, db: &Db)
 }
 
 /// Counts an entry: the history is that of the database from here on.
-pub(crate) fn count(board: &Board, chair: &mut Chair, db: &Db)
+pub(crate) fn count(board: &Board, chair: &mut Chair, db: &BoxedDb)
     requires board { (chair.old.table_id ≡ board.now.table_id) × (board.now.table_id.words ≡ 3) }
     requires turn { (t : ℕ) × (h : History) × (chair.old.me.0.stage ≡ InTurn t h) ×
         AddsOne chair.old.me.0.number h db.now }

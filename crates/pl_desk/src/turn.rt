@@ -9,10 +9,11 @@ ghost use Rattle.pl_desk.specs.Rule.{IsAhead};
 ghost use Rattle.pl_desk.specs.Steps.{at_stage, counted, Grows, IsStep, settled};
 
 use crate::bells::Bells;
+use crate::boxed::BoxedDb;
 use crate::steps::{Board, Chair, DB, count, look, serve};
 use crossbeam_utils::Backoff;
+use pl_core::Reply;
 use pl_core::laws::replies_tell_their_cause;
-use pl_core::{Db, Reply};
 use pl_table::Request;
 use std::sync::Wait;
 
@@ -45,7 +46,7 @@ pub(crate) fn wait(rt: &impl Wait, board: &Board, bells: &Bells, chair: &mut Cha
 }
 
 // Takes the database out.
-fn take_out(board: &Board, chair: &mut Chair) -> Db
+fn take_out(board: &Board, chair: &mut Chair) -> BoxedDb
     requires board { chair.old.table_id ≡ board.now.table_id }
     requires turn { (h : History) × (chair.old.me.1 ≡ (0, Some h) ∷ []) }
     ensures same { (chair.new.table_id ≡ chair.old.table_id) × (chair.new.id ≡ chair.old.id) }
@@ -59,7 +60,7 @@ fn take_out(board: &Board, chair: &mut Chair) -> Db
 }
 
 // Makes one step of the database. It says whether an entry was made.
-fn step_of(db: &mut Db, number: u64, request: Request) -> (Reply, bool)
+fn step_of(db: &mut BoxedDb, number: u64, request: Request) -> (Reply, bool)
     ensures step { IsStep request number db.old result.0 db.new }
     ensures grows { Grows result.1 number db.old db.new }
     ensures legal { IsLegal db.new }
@@ -67,6 +68,7 @@ fn step_of(db: &mut Db, number: u64, request: Request) -> (Reply, bool)
     ensures fits { FitsReply result.0 }
 {
     replies_tell_their_cause();
+    let db = &mut *db.db;
     let before = db.audit_len();
     let reply = db.step(number, request);
     let made = db.audit_len() != before;
@@ -74,7 +76,7 @@ fn step_of(db: &mut Db, number: u64, request: Request) -> (Reply, bool)
 }
 
 // Takes the database out and makes one step of it. It says whether an entry was made.
-fn step(board: &Board, chair: &mut Chair, number: u64, request: Request) -> (Reply, bool, Db)
+fn step(board: &Board, chair: &mut Chair, number: u64, request: Request) -> (Reply, bool, BoxedDb)
     requires board { chair.old.table_id ≡ board.now.table_id }
     requires turn { (h : History) × (chair.old.me.1 ≡ (0, Some h) ∷ []) }
     ensures same { (chair.new.table_id ≡ chair.old.table_id) × (chair.new.id ≡ chair.old.id) }
@@ -91,7 +93,7 @@ fn step(board: &Board, chair: &mut Chair, number: u64, request: Request) -> (Rep
 }
 
 // Counts the entry, if one was made. From then on the history is that of the database.
-fn count_made(board: &Board, chair: &mut Chair, db: &Db, made: bool)
+fn count_made(board: &Board, chair: &mut Chair, db: &BoxedDb, made: bool)
     requires board { (chair.old.table_id ≡ board.now.table_id) × (board.now.table_id.words ≡ 3) }
     requires turn { (t : ℕ) × (h : History) × (chair.old.me.0.stage ≡ InTurn t h) ×
         Grows made chair.old.me.0.number h db.now }
@@ -106,7 +108,7 @@ fn count_made(board: &Board, chair: &mut Chair, db: &Db, made: bool)
 }
 
 // Puts the database back, so that the turn may be given on.
-fn put_back(board: &Board, chair: &mut Chair, db: Db)
+fn put_back(board: &Board, chair: &mut Chair, db: BoxedDb)
     requires board { chair.old.table_id ≡ board.now.table_id }
     requires turn { (t : ℕ) × (chair.old.me.0.stage ≡ InTurn t db) }
     requires out { (o : Option History) × (chair.old.me.1 ≡ (0, o) ∷ []) }
