@@ -54,7 +54,7 @@ fn spins(board: &Board) -> bool
 ///
 /// The first in line sleeps for a while and goes in, whoever is inside. All others sleep until the
 /// first has gone in, which wakes one of them. So whoever gives a turn on wakes nobody here: a thread
-/// that keeps calling keeps the database in its cache meanwhile, and each in line gets its turn.
+/// that keeps calling keeps the database in its cache meanwhile.
 #[derive(Drop)]
 pub(crate) struct Door {
     /// How many threads got in by looking again and again, since one found the desk free.
