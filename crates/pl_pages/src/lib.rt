@@ -7,6 +7,7 @@
 mod changes;
 mod index;
 pub mod laws;
+mod newest;
 mod pages;
 mod versions;
 

@@ -6,6 +6,7 @@ ghost use Rattle.pl_pages.specs.Kept.{IsAt, StayInPlace, StayTrue, version_at, w
 ghost use Rattle.pl_pages.specs.Page.{zeros};
 
 use crate::changes::{clear, redo_block};
+use crate::newest::Newest;
 use pl_arena::{FrameId, TakeFault, VersionArena};
 use pl_block::Block;
 use std::alloc::{AllocError, Global};
@@ -16,7 +17,7 @@ use std::marker::Model;
 /// A page as it was at an LSN, and the frame that it lies in.
 #[derive(Clone, Copy, Debug, PartialEq, Eq)]
 pub(crate) struct Kept {
-    page: u32,
+    pub(crate) page: u32,
     lsn: u64,
     frame: FrameId,
 }
@@ -39,6 +40,8 @@ pub(crate) struct Versions {
     /// The place of each version, by its page and LSN. What it leads to is looked at before it is
     /// used.
     places: BTreeMap<(u32, u64), usize>,
+    /// The place of the newest version of most pages, so that most gets need no search.
+    newest: Newest,
 }
 
 impl Model for Versions {
@@ -74,6 +77,7 @@ impl Versions {
             kept: Vec::new(alloc),
             oldest: 0,
             places: BTreeMap::new(alloc),
+            newest: Newest::new(alloc),
         }
     }
 
@@ -82,12 +86,26 @@ impl Versions {
         ensures at { IfSome result (λ found. IsAt self.now.versions found.place page found.lsn) }
         ensures below { IfSome result (λ found. found.lsn ≤ lsn) }
     {
-        let (_, place) = self.places.range((page, 0)..=(page, lsn)).next_back()?;
-        let place = *place;
-        if place >= self.kept.len() {
-            return None;
+        let found = self.found(self.newest.place(page), page, lsn);
+        if found.is_some() {
+            return found;
         }
-        let version = self.kept[place];
+        self.found(self.search(page, lsn), page, lsn)
+    }
+
+    // The place of the newest version of the page at or below the LSN, in the order of the LSNs.
+    fn search(&self, page: u32, lsn: u64) -> Option<usize> {
+        let (_, place) = self.places.range((page, 0)..=(page, lsn)).next_back()?;
+        Some(*place)
+    }
+
+    // The version at the place, if it is of the page and not above the LSN.
+    fn found(&self, place: Option<usize>, page: u32, lsn: u64) -> Option<Found>
+        ensures at { IfSome result (λ found. IsAt self.now.versions found.place page found.lsn) }
+        ensures below { IfSome result (λ found. found.lsn ≤ lsn) }
+    {
+        let place = place?;
+        let version = *self.kept.get(place)?;
         if version.page == page && version.lsn <= lsn {
             Some(Found {
                 place,
@@ -153,7 +171,18 @@ impl Versions {
     {
         let version = self.kept[place];
         self.places.insert((version.page, version.lsn), place)?;
+        self.newest.grow(&self.kept);
+        self.note_newest(version.page);
         Ok(())
+    }
+
+    // Notes where the newest version of the page is.
+    fn note_newest(&mut self, page: u32)
+        ensures same { self.new ≡ self.old }
+    {
+        if let Some(place) = self.search(page, u64::MAX) {
+            self.newest.put(page, place);
+        }
     }
 
     // A place whose version may be replaced: a new one, or that of the oldest version, which is
@@ -180,6 +209,7 @@ impl Versions {
                 let place = self.oldest;
                 let version = self.kept[place];
                 self.places.remove(&(version.page, version.lsn));
+                self.note_newest(version.page);
                 self.oldest = (place + 1) % self.kept.len();
                 Ok(place)
             }
