@@ -1,8 +1,10 @@
 //! A service: databases behind their desks, a worker for each connection, and a page server.
 
-ghost use Rattle.std.specs.Prelude.{◌≡◌, ◌≤◌, IfSome, vec_len};
+ghost use Rattle.std.specs.Prelude.{◌≡◌, ◌+◌, ◌≤◌, ℕ, IfOk, IfSome, length, take, vec_len};
 ghost use Rattle.std.specs.List.{All};
-ghost use Rattle.pl_conn.specs.Desks.{AreOf};
+ghost use Rattle.pl_conn.specs.Desks.{AreOf, DesksCall};
+ghost use Rattle.pl_conn.specs.Serving.{Serves};
+ghost use Rattle.pagelog.specs.Serving.{ServesDatabases};
 
 use crate::run_fault::RunFault;
 use pl_conn::{Desks, Passes, Served, materialise, serve};
@@ -61,6 +63,8 @@ fn serve_in<'s, E, R: Threads + Wait + Sync + Drop>(
 ) -> Option<Served<Passes>>
     requires own { All (AreOf desks.now) passes.items }
     requires pager { IfSome pager (λ p. AreOf desks.now p.1) }
+    ensures serves { IfSome result (λ s. Serves DesksCall (AreOf desks.now) passes.items connections
+        s.accepted s.stop s.passes.items) }
 {
     if let Some((pager, pass, databases)) = pager {
         let work = move || page(desks, pass, pager, databases);
@@ -76,8 +80,48 @@ fn take_last<R>(desks: &Desks<R>, passes: &mut Vec<Passes>) -> Option<Passes>
     requires of { All (AreOf desks.now) passes.old.items }
     ensures rest { All (AreOf desks.now) passes.new.items }
     ensures last { IfSome result (λ pass. AreOf desks.now pass) }
+    ensures left { (count : ℕ) → length passes.old.items ≡ count + 1 →
+        passes.new.items ≡ take count passes.old.items }
 {
     passes.pop()
+}
+
+// Serves over the desks, with a worker for each of the passes.
+fn serve_over<R: Threads + Wait + Sync + Drop>(
+    rt: &R,
+    alloc: Global,
+    listener: &TcpListener,
+    desks: &Desks<R>,
+    passes: Vec<Passes>,
+    pager: Option<(Pager, Passes, u32)>,
+    connections: u32,
+) -> Option<Served<Passes>>
+    requires own { All (AreOf desks.now) passes.items }
+    requires pager { IfSome pager (λ p. AreOf desks.now p.1) }
+    ensures serves { IfSome result (λ s. Serves DesksCall (AreOf desks.now) passes.items connections
+        s.accepted s.stop s.passes.items) }
+{
+    thread::scope(
+        thread::scope_env(),
+        rt,
+        move |scope| -> Option<Served<Passes>>
+            requires own { All (AreOf desks.now) passes.items }
+            requires pager { IfSome pager (λ p. AreOf desks.now p.1) }
+            ensures serves { IfSome result (λ s. Serves DesksCall (AreOf desks.entry.now) passes.items
+                connections s.accepted s.stop s.passes.items) }
+        {
+            serve_in(
+                scope,
+                rt,
+                alloc,
+                listener,
+                desks,
+                passes,
+                pager,
+                connections,
+            )
+        },
+    )
 }
 
 /// Serves connections over the databases, with so many workers, until so many were accepted. Where
@@ -97,6 +141,9 @@ pub fn serve_databases<R: Threads + Wait + Sync + Copy + Drop>(
     requires some { 1 ≤ vec_len dbs }
     requires few { vec_len dbs ≤ 16 }
     requires workers { workers ≤ 64 }
+    // Each database has a desk, and each pass that comes back is one of these desks, after calls.
+    ensures serves { IfOk result
+        (λ s. ServesDatabases dbs.items workers connections s.accepted s.stop s.passes.items) }
 {
     let databases = dbs.len() as u32;
     let (desks, mut passes) = Desks::new(alloc, *rt, dbs, workers + 1, TURNS)?;
@@ -105,25 +152,8 @@ pub fn serve_databases<R: Threads + Wait + Sync + Copy + Drop>(
         (Some(pager), Some(pass)) => Some((pager, pass, databases)),
         _ => None,
     };
-    let desks = &desks;
-    let served = thread::scope(
-        thread::scope_env(),
-        rt,
-        move |scope| -> Option<Served<Passes>>
-            requires own { All (AreOf desks.now) passes.items }
-            requires pager { IfSome pager (λ p. AreOf desks.now p.1) }
-        {
-            serve_in(
-                scope,
-                rt,
-                alloc,
-                listener,
-                desks,
-                passes,
-                pager,
-                connections,
-            )
-        },
-    );
-    served.ok_or(RunFault::Threads)
+    match serve_over(rt, alloc, listener, &desks, passes, pager, connections) {
+        Some(served) => Ok(served),
+        None => Err(RunFault::Threads),
+    }
 }
