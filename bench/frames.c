@@ -1,9 +1,9 @@
 /* A client and an echo of frames, for bench/serve.py.
  *
- *   frames echo REPLY
+ *   frames echo REPLY [gather]
  *     Listens at a free port of the loopback and prints it. Each frame that comes, a length of four bytes, the high one
- *     first, and so many bytes, is answered by a frame with a body of REPLY bytes. What is answered is written before
- *     the next wait for bytes. One thread a connection.
+ *     first, and so many bytes, is answered by a frame with a body of REPLY bytes, in a write of its own. With `gather`
+ *     the answers to all frames that one read gave go out together. One thread a connection.
  *
  *   frames ask PORT CONNECTIONS FLIGHT COUNT REPLY FILE
  *     Opens so many connections, a thread each. Each sends COUNT requests, the bytes of FILE each, with up to FLIGHT of
@@ -50,6 +50,7 @@ static double now(void) {
 /* ---- the echo */
 
 static size_t reply_bytes;
+static int gathers;
 
 static void *echo(void *given) {
     int fd = (int)(long)given;
@@ -70,7 +71,7 @@ static void *echo(void *given) {
             memcpy(out + put, head, 4);
             memset(out + put + 4, 0, reply_bytes);
             put += 4 + reply_bytes;
-            if (put > ROOM - 4) {
+            if (!gathers || put > ROOM - 4) {
                 write_all(fd, out, put);
                 put = 0;
             }
@@ -190,8 +191,9 @@ static void run_client(int connections, const char *reply, const char *path) {
 }
 
 int main(int argc, char **argv) {
-    if (argc == 3 && !strcmp(argv[1], "echo")) {
+    if ((argc == 3 || argc == 4) && !strcmp(argv[1], "echo")) {
         reply_bytes = strtoul(argv[2], NULL, 10);
+        gathers = argc == 4;
         serve_echo();
     } else if (argc == 8 && !strcmp(argv[1], "ask")) {
         port = atoi(argv[2]);

@@ -5,7 +5,8 @@ Usage: python3 bench/serve.py [SHARE]     (1; a tenth of the requests with 0.1)
 For each of a 100-byte write (the same block again and again), a report, a pull of one block and a get of a page, round
 trips a second at 1, 8 and 64 connections with one request each at a time, and with 64 requests in flight on one
 connection. All are asked by the same client, bench/frames.c, and so is the echo, which answers each frame by one as
-long as the service's. Redis is asked for XADD of 100 bytes, XRANGE of one entry and GET of 8,192 bytes. Each number is
+long as the service's, in a write of its own. Beside it stands, with requests in flight, an echo that gathers what it
+answers as the service does: it reads and writes whole batches and looks at nothing. Redis is asked for XADD of 100 bytes, XRANGE of one entry and GET of 8,192 bytes. Each number is
 the best of three runs. Beside them stand the processor time that the service took for a request, and the most memory
 that it held until then, which grows with its audit list.
 
@@ -100,8 +101,8 @@ def service():
     return running
 
 
-def echo(reply):
-    running = Running([FRAMES, "echo", reply - 4])
+def echo(reply, *how):
+    running = Running([FRAMES, "echo", reply - 4, *how])
     running.port = int(running.process.stdout.readline())
     return running
 
@@ -151,7 +152,7 @@ def rate(port, shape, request, reply):
     return connections * count / min(took)
 
 
-def times(case, ours, bare, other):
+def times(case, ours, bare, gathering, other):
     name, request, reply, command = case
     length = len(first_bytes(ours.port, request))
     assert length == reply, f"{name}: a reply of {length} bytes"
@@ -161,12 +162,14 @@ def times(case, ours, bare, other):
         own = rate(ours.port, shape, request, reply)
         spent = (ours.seconds() - before) / (RUNS * connections * max(1, int(count * SHARE)))
         plain = rate(bare.port, shape, request, reply)
+        most = rate(gathering.port, shape, request, reply) if flight > 1 else None
+        together = f"{most:9,.0f} {own / most:6.2f}" if most else f"{'':>9} {'':>6}"
         beside = f"{'':>9} {'':>6}"
         if other and command:
             wanted = "+2" if command[0] == "XADD" else len(first_bytes(other.port, spelled(command)))
             theirs = rate(other.port, shape, spelled(command), wanted)
             beside = f"{theirs:9,.0f} {own / theirs:6.2f}"
-        print(f"{name:18} {connections:4} x {flight:2} {own:9,.0f} {plain:9,.0f} {own / plain:6.2f} {beside}"
+        print(f"{name:18} {connections:4} x {flight:2} {own:9,.0f} {plain:9,.0f} {own / plain:6.2f} {together} {beside}"
               f" {spent * 1e6:8.2f} {ours.peak():8.1f}", flush=True)
 
 
@@ -235,15 +238,16 @@ def beside_etcd(work):
 
 
 def main():
-    print(f"{'':18} {'':9} {'pagelog':>9} {'echo':>9} {'ratio':>6} {'redis':>9} {'ratio':>6} {'us each':>8} {'MiB':>8}")
+    print(f"{'':18} {'':9} {'pagelog':>9} {'echo':>9} {'ratio':>6} {'gathered':>9} {'ratio':>6} {'redis':>9}"
+          f" {'ratio':>6} {'us each':>8} {'MiB':>8}")
     other = redis() if shutil.which("redis-server") else None
     for case in CASES:
-        ours, bare = service(), echo(case[2])
+        ours, bare, gathering = service(), echo(case[2]), echo(case[2], "gather")
         try:
-            times(case, ours, bare, other)
+            times(case, ours, bare, gathering, other)
         finally:
-            ours.end()
-            bare.end()
+            for running in (ours, bare, gathering):
+                running.end()
     if other:
         other.end()
 

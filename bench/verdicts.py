@@ -3,7 +3,8 @@
 Usage: python3 bench/verdicts.py [RUNS]     (3 runs, of which the least of each time counts)
 
 Builds bench/verdicts, a program over pl_table and pl_decide. It times tables of 1, 16 and 256 rows for 64 principals,
-where each row names a principal and where none does, for a request that the first row, the last or no row matches:
+where each row names a principal and where none does, for a request that the first row, the last or no row matches, and
+a small table of six rows for five principals:
 
 - walk: each row is looked at, up to the first that matches;
 - index: `Table::first_match`;

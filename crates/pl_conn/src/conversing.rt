@@ -178,7 +178,7 @@ fn ended(end: Result<(), Cause>, sent: Result<(), Cause>, answered: u64) -> Resu
 /// written before the next wait for bytes, and before the conversation ends for whatever cause. Replies
 /// to frames that are at hand go out together, in one write where the writer takes it at once.
 ///
-/// Beside what a request and its reply need, it keeps the replies that wait, at most 64 KiB and one
+/// Beside what a request and its reply need, it keeps the replies that wait, at most 256 KiB and one
 /// reply more.
 pub fn converse<R: Source, W: Write, G: Gate>(
     alloc: Global,

@@ -12,7 +12,7 @@ use std::io::Write;
 use std::marker::Model;
 
 /// From how many bytes on replies are written, whatever is at hand.
-const MANY_BYTES: usize = 65_536;
+const MANY_BYTES: usize = 262_144;
 
 /// The frames of replies that wait to be written, and how many replies were written whole.
 #[derive(Drop)]
