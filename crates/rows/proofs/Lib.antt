@@ -1,1 +1,0 @@
--- The loops of the desks keep a pass at its desk.

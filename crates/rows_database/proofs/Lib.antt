@@ -1,0 +1,1 @@
+-- The loops of the plain replay keep the length of the page.

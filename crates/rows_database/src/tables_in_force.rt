@@ -1,0 +1,108 @@
+//! Rows of one database whose table changes.
+
+use crate::database::Database;
+use std::test::Fail;
+use transcripts::transcript::plays;
+
+const NEW_TABLE_IN_FORCE: &str = "\
+open start 2 65536                 = Ok
+2 22 primary 1 write 1:aa 0        = Done
+2 22 primary 1 write 1:aa 1        = Done
+2 22 primary 1 report 1            = Done
+1 11 operator 1 set_table other    = Done
+3 33 secondary 1 pull 0 65535 1 16 = Denied B1 0
+3 33 secondary 1 pull 4 4 1 16     = Blocks 2
+3 33 secondary 1 pull 0 0 1 16     = Blocks 2 1:aa
+audit                              = 7
+";
+
+#[test]
+fn new_table_in_force(rt: HostRuntime) -> Result<(), Fail> {
+    plays::<Database>(&rt, rt.alloc(), NEW_TABLE_IN_FORCE)
+}
+
+const FIRST_TABLE_SET_AGAIN: &str = "\
+open start 2 65536                 = Ok
+2 22 primary 1 write 1:aa 0        = Done
+2 22 primary 1 write 1:aa 1        = Done
+2 22 primary 1 report 1            = Done
+1 11 operator 1 set_table other    = Done
+4 44 page_server 1 pull 0 0 1 16   = Denied B0 0
+3 33 secondary 1 pull 0 65535 1 16 = Denied B1 0
+1 11 operator 1 set_table start    = Done
+4 44 page_server 1 pull 0 0 1 16   = Blocks 2 1:aa
+3 33 secondary 1 pull 0 65535 1 16 = Blocks 2 1:aa
+";
+
+#[test]
+fn first_table_set_again(rt: HostRuntime) -> Result<(), Fail> {
+    plays::<Database>(&rt, rt.alloc(), FIRST_TABLE_SET_AGAIN)
+}
+
+const TOKEN_OF_A_NEW_TABLE: &str = "\
+open start 2 65536                      = Ok
+3 66 secondary 1 pull 0 65535 1 16      = Denied A1 0
+3 33 secondary 1 pull 0 65535 1 16      = Denied C1 0
+1 11 operator 1 set_table another_token = Done
+3 33 secondary 1 pull 0 65535 1 16      = Denied A1 0
+3 66 secondary 1 pull 0 65535 1 16      = Denied C1 0
+5 55 primary 1 status                   = Denied A1 0
+1 11 operator 1 set_table other         = Done
+3 66 secondary 1 pull 0 65535 1 16      = Denied A1 0
+3 33 secondary 1 pull 0 65535 1 16      = Denied B1 0
+5 55 primary 1 status                   = Denied A4 0
+audit                                   = 6
+";
+
+#[test]
+fn token_of_a_new_table(rt: HostRuntime) -> Result<(), Fail> {
+    plays::<Database>(&rt, rt.alloc(), TOKEN_OF_A_NEW_TABLE)
+}
+
+const FAULTY_TABLES_CHANGE_NOTHING: &str = "\
+open start 2 65536                         = Ok
+1 11 operator 1 set_table without_operator = Denied C7 12
+1 11 operator 1 set_table x                = Denied C7 1
+1 11 operator 1 set_table x_is_1           = Denied C7 2
+1 11 operator 1 set_table empty            = Denied C7 3
+1 11 operator 1 status                     = Status 1 2 0 0 0
+2 22 primary 1 set_table x                 = Denied A5 0
+3 33 operator 1 set_table x                = Denied B0 0
+3 33 operator 1 set_table other            = Denied B0 0
+3 33 secondary 1 pull 0 65535 1 16         = Denied C1 0
+1 11 operator 1 set_table other            = Done
+1 11 operator 1 set_table without_operator = Denied C7 12
+3 33 secondary 1 pull 0 65535 1 16         = Denied B1 0
+audit                                      = 12
+";
+
+#[test]
+fn faulty_tables_change_nothing(rt: HostRuntime) -> Result<(), Fail> {
+    plays::<Database>(&rt, rt.alloc(), FAULTY_TABLES_CHANGE_NOTHING)
+}
+
+// Rows of new tables that deny writes of partition 2, and pulls of partition 6. Page 131072 is the
+// first of partition 2.
+const PARTITIONS_OF_A_NEW_TABLE: &str = "\
+open start 2 65536                      = Ok
+1 11 operator 1 set_table denies_writes = Done
+2 22 primary 1 write 1:aa@131072 0      = Denied B1 0
+2 22 primary 1 write 1:aa@131071 0      = Done
+2 22 primary 1 write 2: 0               = Denied B1 0
+4 44 page_server 1 status               = Denied B0 0
+1 11 operator 1 set_table denies_pulls  = Done
+2 22 primary 1 write 2:aa@131072 0      = Done
+2 22 primary 1 write 1:aa@131071 1      = Done
+2 22 primary 1 report 1                 = Done
+3 33 secondary 1 pull 5 6 1 16          = Denied B2 0
+3 33 secondary 1 pull 1 5 1 16          = Blocks 2 1:aa@131071
+4 44 page_server 1 pull 0 3 1 16        = Blocks 2 1:aa@131071
+4 44 page_server 1 pull 6 6 1 16        = Denied B2 0
+1 11 operator 1 set_table denies_writes = Done
+2 22 primary 1 write 3:aa@131072 0      = Denied B1 0
+";
+
+#[test]
+fn partitions_of_a_new_table(rt: HostRuntime) -> Result<(), Fail> {
+    plays::<Database>(&rt, rt.alloc(), PARTITIONS_OF_A_NEW_TABLE)
+}

@@ -1,0 +1,245 @@
+//! A log on its own, asked line by line.
+
+ghost use Rattle.std.specs.Prelude.{◌≤◌, IfOk, IsTrue};
+ghost use Rattle.pl_log.specs.Change.{ArePast};
+ghost use Rattle.pl_log.specs.Window.{in_window, window_open_to};
+
+use pl_block::Block;
+use pl_log::DbLog;
+use pl_log::laws::failovers_harden_the_longest_run;
+use std::alloc::Global;
+use transcripts::answer::{push_numbers, push_truth, push_word};
+use transcripts::block_text::{block_of, push_block, push_blocks};
+use transcripts::transcript::{Stop, Subject};
+
+/// A log in an epoch, as whoever drives one keeps it.
+#[derive(Drop)]
+struct Driven {
+    epoch: u32,
+    log: DbLog,
+    ghost past: { ArePast epoch log.annulled },
+}
+
+/// The log of a transcript.
+#[derive(Drop)]
+pub(crate) struct Log {
+    alloc: Global,
+    driven: Option<Driven>,
+}
+
+fn open(alloc: Global, copies: u8, quorum: u8) -> Result<Driven, Stop> {
+    if quorum < 1 || copies < quorum || 3 < copies {
+        return Err(Stop::Unread);
+    }
+    Ok(Driven {
+        epoch: 1,
+        log: DbLog::new(alloc, copies, quorum)?,
+    })
+}
+
+impl Driven {
+    // All that is read of the log in short.
+    fn short(&self) -> (u64, u8, (u64, u64)) {
+        (self.log.hard(), self.log.copies(), self.log.counts())
+    }
+
+    fn write(&mut self, alloc: Global, word: &str, copy: u8) -> Result<(), Stop> {
+        let block = block_of(alloc, word)?;
+        let may = self.log.in_window(block.lsn()) && self.log.agrees(&block);
+        if !may || self.log.copies() <= copy {
+            return Err(Stop::Unread);
+        }
+        Ok(self.log.write(copy, block)?)
+    }
+
+    // The block of the word, where it may be offered.
+    fn offered(&self, alloc: Global, word: &str) -> Result<Block, Stop>
+        ensures window { IfOk result (λ block. IsTrue (in_window self.now.log block.lsn)) }
+        ensures agrees { IfOk result (λ block. IsTrue (window_open_to self.now.log block)) }
+    {
+        let block = block_of(alloc, word)?;
+        if !self.log.in_window(block.lsn()) || !self.log.agrees(&block) {
+            return Err(Stop::Unread);
+        }
+        Ok(block)
+    }
+
+    fn offer(&mut self, alloc: Global, word: &str, refused: &mut bool) -> Result<(), Stop> {
+        let block = self.offered(alloc, word)?;
+        let before = self.short();
+        if self.log.offer(block).is_ok() {
+            return Ok(());
+        }
+        meets_refusal(refused, self.short() == before)?;
+        let block = self.offered(alloc, word)?;
+        Ok(self.log.offer(block)?)
+    }
+
+    fn report(&mut self, lsn: u64, refused: &mut bool) -> Result<(), Stop> {
+        if !self.log.can_harden(lsn) {
+            return Err(Stop::Unread);
+        }
+        let before = self.short();
+        if self.log.report(lsn).is_ok() {
+            return Ok(());
+        }
+        meets_refusal(refused, self.short() == before)?;
+        if !self.log.can_harden(lsn) {
+            return Err(Stop::Unread);
+        }
+        Ok(self.log.report(lsn)?)
+    }
+
+    // Writes a block, whose byte is its number, to two copies, and reports it.
+    fn harden(&mut self, alloc: Global, lsn: u64, refused: &mut bool) -> Result<(), Stop> {
+        let word = format!(in alloc; "{lsn}:{:02x}", lsn % 256)?;
+        self.write(alloc, word.as_str(), 0)?;
+        self.write(alloc, word.as_str(), 1)?;
+        self.report(lsn, refused)
+    }
+
+    // Leaves the newest blocks in the broker.
+    fn tidy(&mut self, refused: &mut bool) -> Result<(), Stop> {
+        let before = self.short();
+        if self.log.tidy().is_ok() {
+            return Ok(());
+        }
+        meets_refusal(refused, self.short() == before)?;
+        Ok(self.log.tidy()?)
+    }
+
+    // Ends the epoch, and tells how many numbers were hardened.
+    fn recover(&mut self, refused: &mut bool) -> Result<u64, Stop> {
+        failovers_harden_the_longest_run();
+        if 1_000 <= self.epoch {
+            return Err(Stop::Unread);
+        }
+        let before = self.short();
+        let count = match self.log.recover(self.epoch) {
+            Ok(count) => count,
+            Err(_) => {
+                meets_refusal(refused, self.short() == before)?;
+                self.log.recover(self.epoch)?
+            }
+        };
+        self.epoch += 1;
+        Ok(count)
+    }
+
+    fn read(&mut self, out: &mut String, lsn: u64) -> Result<(), Stop> {
+        if lsn < 1 || self.log.hard() < lsn {
+            return Err(Stop::Unread);
+        }
+        let block = self.log.read(lsn)?;
+        push_block(out, &block)
+    }
+
+    fn pull(&mut self, out: &mut String, asked: [&str; 5]) -> Result<(), Stop> {
+        let [lo, hi, from, max, reach] = asked;
+        let max = max.parse()?;
+        let reach = reach.parse()?;
+        if max < 1 || self.log.hard() < reach {
+            return Err(Stop::Unread);
+        }
+        let (next, blocks) = self
+            .log
+            .pull(lo.parse()?, hi.parse()?, from.parse()?, max, reach)?;
+        push_numbers(out, &[next])?;
+        push_blocks(out, &blocks)
+    }
+
+    fn annulled(&self, out: &mut String, epoch: &str, lsn: &str) -> Result<(), Stop> {
+        match self.log.annulled(epoch.parse()?, lsn.parse()?) {
+            Some(block) => push_block(out, block),
+            None => push_word(out, "none"),
+        }
+    }
+}
+
+// A test meets one refusal, which has changed nothing.
+fn meets_refusal(refused: &mut bool, same: bool) -> Result<(), Stop> {
+    if !same {
+        return Err(Stop::Changed);
+    }
+    if *refused {
+        return Err(Stop::NoMemory);
+    }
+    *refused = true;
+    Ok(())
+}
+
+impl Log {
+    fn change(&mut self, words: &[&str], out: &mut String, refused: &mut bool) -> Result<(), Stop> {
+        let driven = self.driven.as_mut().ok_or(Stop::Unread)?;
+        match words {
+            ["write", block, copy] => {
+                driven.write(self.alloc, block, copy.parse()?)?;
+                push_word(out, "Ok")
+            }
+            ["offer", block] => {
+                driven.offer(self.alloc, block, refused)?;
+                push_word(out, "Ok")
+            }
+            ["report", lsn] => {
+                driven.report(lsn.parse()?, refused)?;
+                push_word(out, "Ok")
+            }
+            ["harden", first, last] => {
+                for lsn in first.parse::<u64>()?..=last.parse::<u64>()? {
+                    driven.harden(self.alloc, lsn, refused)?;
+                }
+                push_word(out, "Ok")
+            }
+            ["tidy"] => {
+                driven.tidy(refused)?;
+                push_word(out, "Ok")
+            }
+            ["recover"] => push_numbers(out, &[driven.recover(refused)?]),
+            ["read", lsn] => driven.read(out, lsn.parse()?),
+            ["pull", lo, hi, from, max, reach] => driven.pull(out, [lo, hi, from, max, reach]),
+            _ => Err(Stop::Unread),
+        }
+    }
+
+    fn state(&self, words: &[&str], out: &mut String) -> Result<(), Stop> {
+        let driven = self.driven.as_ref().ok_or(Stop::Unread)?;
+        let log = &driven.log;
+        match words {
+            ["hard"] => push_numbers(out, &[log.hard()]),
+            ["copies"] => push_numbers(out, &[u64::from(log.copies())]),
+            ["counts"] => {
+                let (pending, landing) = log.counts();
+                push_numbers(out, &[pending, landing])
+            }
+            ["in_broker"] => push_numbers(out, &[log.in_broker() as u64]),
+            ["in_window", lsn] => push_truth(out, log.in_window(lsn.parse()?)),
+            ["can_harden", lsn] => push_truth(out, log.can_harden(lsn.parse()?)),
+            ["agrees", block] => push_truth(out, log.agrees(&block_of(self.alloc, block)?)),
+            ["annulled", epoch, lsn] => driven.annulled(out, epoch, lsn),
+            _ => Err(Stop::Unread),
+        }
+    }
+}
+
+impl Subject for Log {
+    fn new(alloc: Global) -> Log {
+        Log {
+            alloc,
+            driven: None,
+        }
+    }
+
+    fn answer(&mut self, words: &[&str], out: &mut String, refused: &mut bool) -> Result<(), Stop> {
+        match words {
+            ["log", copies, quorum] => {
+                self.driven = Some(open(self.alloc, copies.parse()?, quorum.parse()?)?);
+                push_word(out, "Ok")
+            }
+            [
+                "write" | "offer" | "report" | "harden" | "tidy" | "recover" | "read" | "pull",
+                ..
+            ] => { self.change(words, out, refused) }
+            _ => self.state(words, out),
+        }
+    }
+}

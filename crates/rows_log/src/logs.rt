@@ -1,0 +1,325 @@
+//! Rows of a log on its own: what is written, hardened, served and annulled.
+
+use crate::log::Log;
+use std::test::Fail;
+use transcripts::transcript::plays;
+
+const WRITTEN_HARDENED_READ: &str = "\
+log 3 2          = Ok
+hard             = 0
+copies           = 3
+counts           = 0 0
+write 1:aa 0     = Ok
+can_harden 1     = false
+write 1:aa 0     = Ok
+write 1:aa 1     = Ok
+can_harden 0     = true
+can_harden 1     = true
+can_harden 2     = false
+hard             = 0
+counts           = 0 0
+report 1         = Ok
+hard             = 1
+copies           = 3
+counts           = 0 1
+read 1           = 1:aa
+report 1         = Ok
+report 0         = Ok
+hard             = 1
+counts           = 0 1
+";
+
+#[test]
+fn written_hardened_read(rt: HostRuntime) -> Result<(), Fail> {
+    plays::<Log>(&rt, rt.alloc(), WRITTEN_HARDENED_READ)
+}
+
+const WINDOW_OF_SIXTY_FOUR: &str = "\
+log 3 2          = Ok
+in_window 0      = false
+in_window 1      = true
+in_window 64     = true
+in_window 65     = false
+write 1:aa 1     = Ok
+write 1:aa 2     = Ok
+write 64:bb 0    = Ok
+write 64:bb 2    = Ok
+can_harden 1     = true
+can_harden 64    = false
+can_harden 65    = false
+can_harden 281474976710656 = false
+report 1         = Ok
+in_window 1      = false
+in_window 2      = true
+in_window 65     = true
+in_window 66     = false
+";
+
+#[test]
+fn window_of_sixty_four(rt: HostRuntime) -> Result<(), Fail> {
+    plays::<Log>(&rt, rt.alloc(), WINDOW_OF_SIXTY_FOUR)
+}
+
+const CONTENT_IS_FIXED: &str = "\
+log 3 2          = Ok
+write 1:aa 0     = Ok
+agrees 1:aa      = true
+agrees 1:ab      = false
+agrees 2:ab      = true
+";
+
+#[test]
+fn content_is_fixed(rt: HostRuntime) -> Result<(), Fail> {
+    plays::<Log>(&rt, rt.alloc(), CONTENT_IS_FIXED)
+}
+
+const FAILOVER_HARDENS_QUORUM_RUN: &str = "\
+log 3 2          = Ok
+write 1:01 0     = Ok
+write 1:01 1     = Ok
+write 2:02 1     = Ok
+write 2:02 2     = Ok
+write 3:03 0     = Ok
+write 5:05 0     = Ok
+write 5:05 1     = Ok
+write 5:05 2     = Ok
+recover          = 2
+hard             = 2
+counts           = 0 2
+read 1           = 1:01
+read 2           = 2:02
+annulled 1 1     = none
+annulled 1 2     = none
+annulled 1 3     = 3:03
+annulled 1 4     = none
+annulled 1 5     = 5:05
+annulled 2 3     = none
+# The window is empty: another content fits, and stands in no copy yet.
+write 3:33 1     = Ok
+can_harden 3     = false
+";
+
+#[test]
+fn failover_hardens_quorum_run(rt: HostRuntime) -> Result<(), Fail> {
+    plays::<Log>(&rt, rt.alloc(), FAILOVER_HARDENS_QUORUM_RUN)
+}
+
+const FAILOVER_STOPS_AT_GAP: &str = "\
+log 3 2          = Ok
+write 1:01 0     = Ok
+write 1:01 1     = Ok
+write 3:03 0     = Ok
+write 3:03 1     = Ok
+write 2:02 2     = Ok
+recover          = 1
+hard             = 1
+counts           = 0 1
+write 2:02 0     = Ok
+write 2:02 1     = Ok
+write 3:44 0     = Ok
+write 3:44 1     = Ok
+report 3         = Ok
+read 1           = 1:01
+read 2           = 2:02
+read 3           = 3:44
+annulled 1 2     = 2:02
+annulled 1 3     = 3:03
+";
+
+#[test]
+fn failover_stops_at_gap(rt: HostRuntime) -> Result<(), Fail> {
+    plays::<Log>(&rt, rt.alloc(), FAILOVER_STOPS_AT_GAP)
+}
+
+const TWO_FAILOVERS: &str = "\
+log 3 2          = Ok
+write 1:11 0     = Ok
+write 2:12 0     = Ok
+write 2:12 1     = Ok
+recover          = 0
+write 64:21 2    = Ok
+write 1:22 2     = Ok
+recover          = 0
+recover          = 0
+hard             = 0
+counts           = 0 0
+annulled 1 1     = 1:11
+annulled 1 2     = 2:12
+annulled 1 64    = none
+annulled 2 1     = 1:22
+annulled 2 2     = none
+annulled 2 64    = 64:21
+annulled 3 1     = none
+annulled 0 1     = none
+";
+
+#[test]
+fn two_failovers(rt: HostRuntime) -> Result<(), Fail> {
+    plays::<Log>(&rt, rt.alloc(), TWO_FAILOVERS)
+}
+
+// 1 and 3 are offered, 1 before it is written and 3 behind it; 5 is in no copy.
+const OFFERS_ARE_COUNTED: &str = "\
+log 3 2          = Ok
+offer 1:01       = Ok
+offer 1:01       = Ok
+agrees 1:01      = true
+agrees 1:02      = false
+can_harden 1     = false
+write 1:01 0     = Ok
+write 1:01 1     = Ok
+write 2:02 0     = Ok
+write 2:02 2     = Ok
+report 2         = Ok
+counts           = 1 1
+write 3:03 0     = Ok
+write 3:03 1     = Ok
+offer 3:03       = Ok
+write 4:04 1     = Ok
+write 4:04 2     = Ok
+offer 5:05       = Ok
+counts           = 1 1
+recover          = 2
+counts           = 2 2
+hard             = 4
+read 3           = 3:03
+annulled 1 3     = none
+annulled 1 5     = 5:05
+# The offers of the epoch before are gone.
+offer 5:55       = Ok
+agrees 5:05      = false
+write 5:55 0     = Ok
+write 5:55 1     = Ok
+write 6:06 0     = Ok
+write 6:06 1     = Ok
+report 6         = Ok
+counts           = 3 3
+recover          = 0
+annulled 2 5     = none
+";
+
+#[test]
+fn offers_are_counted(rt: HostRuntime) -> Result<(), Fail> {
+    plays::<Log>(&rt, rt.alloc(), OFFERS_ARE_COUNTED)
+}
+
+// Partition 0, partition 7, partition 0, none, partitions 7 and 0; then lo, hi, from, max and reach.
+const PULL_IN_PARTS: &str = "\
+log 3 2                  = Ok
+write 1:aa 0             = Ok
+write 1:aa 1             = Ok
+write 2:aa@458752 0      = Ok
+write 2:aa@458752 1      = Ok
+write 3:aa@65535 0       = Ok
+write 3:aa@65535 1       = Ok
+write 4: 0               = Ok
+write 4: 1               = Ok
+write 5:aa@458752,aa 0   = Ok
+write 5:aa@458752,aa 1   = Ok
+report 5                 = Ok
+pull 0 65535 1 16 5      = 6 1:aa 2:aa@458752 3:aa@65535 5:aa@458752,aa
+pull 0 65535 1 4 5       = 6 1:aa 2:aa@458752 3:aa@65535 5:aa@458752,aa
+pull 0 0 1 2 5           = 4 1:aa 3:aa@65535
+pull 0 0 4 2 5           = 6 5:aa@458752,aa
+pull 1 7 1 1 5           = 3 2:aa@458752
+pull 1 6 1 16 5          = 6
+pull 0 65535 2 16 3      = 4 2:aa@458752 3:aa@65535
+pull 0 65535 6 16 5      = 6
+pull 0 65535 9 16 5      = 6
+pull 0 65535 0 1 5       = 2 1:aa
+pull 7 1 1 16 5          = 6
+pull 0 65535 1 16 0      = 1
+";
+
+#[test]
+fn pull_in_parts(rt: HostRuntime) -> Result<(), Fail> {
+    plays::<Log>(&rt, rt.alloc(), PULL_IN_PARTS)
+}
+
+const OTHER_COPIES_AND_QUORUMS: &str = "\
+log 1 1          = Ok
+write 1:aa 0     = Ok
+report 1         = Ok
+hard             = 1
+copies           = 1
+counts           = 0 1
+log 3 3          = Ok
+write 1:aa 0     = Ok
+write 1:aa 2     = Ok
+can_harden 1     = false
+recover          = 0
+annulled 1 1     = 1:aa
+";
+
+#[test]
+fn other_copies_and_quorums(rt: HostRuntime) -> Result<(), Fail> {
+    plays::<Log>(&rt, rt.alloc(), OTHER_COPIES_AND_QUORUMS)
+}
+
+const EACH_GROWTH_ALONE: &str = "\
+log 3 2          = Ok
+write 1:aa 0     = Ok
+write 1:aa 1     = Ok
+write 2: 0       = Ok
+recover          = 1
+annulled 1 2     = 2:
+annulled 1 1     = none
+pull 0 0 1 1 1   = 2 1:aa
+log 3 2          = Ok
+write 1: 0       = Ok
+write 1: 1       = Ok
+report 1         = Ok
+hard             = 1
+counts           = 0 1
+read 1           = 1:
+";
+
+#[test]
+fn each_growth_alone(rt: HostRuntime) -> Result<(), Fail> {
+    plays::<Log>(&rt, rt.alloc(), EACH_GROWTH_ALONE)
+}
+
+const READ_FROM_BOTH_STORES: &str = "\
+log 3 2                = Ok
+in_broker              = 0
+tidy                   = Ok
+in_broker              = 0
+harden 1 256           = Ok
+in_broker              = 256
+harden 257 300         = Ok
+hard                   = 300
+in_broker              = 256
+read 1                 = 1:01
+read 44                = 44:2c
+read 45                = 45:2d
+read 300               = 300:2c
+pull 0 65535 43 4 300  = 47 43:2b 44:2c 45:2d 46:2e
+tidy                   = Ok
+in_broker              = 64
+hard                   = 300
+counts                 = 0 300
+pull 0 65535 236 2 300 = 238 236:ec 237:ed
+read 236               = 236:ec
+read 237               = 237:ed
+tidy                   = Ok
+in_broker              = 64
+pull 1 65535 1 16 300  = 301
+pull 0 0 299 16 300    = 301 299:2b 300:2c
+harden 301 301         = Ok
+in_broker              = 65
+read 44                = 44:2c
+read 301               = 301:2d
+write 302:aa 0         = Ok
+write 302:aa 2         = Ok
+write 304:bb 0         = Ok
+recover                = 1
+hard                   = 302
+in_broker              = 66
+read 302               = 302:aa
+annulled 1 304         = 304:bb
+";
+
+#[test]
+fn read_from_both_stores(rt: HostRuntime) -> Result<(), Fail> {
+    plays::<Log>(&rt, rt.alloc(), READ_FROM_BOTH_STORES)
+}

@@ -1,0 +1,153 @@
+//! The pages of a log, asked line by line, and their rows.
+
+ghost use Rattle.pl_pages.specs.State.{FitsLog};
+
+use pl_log::DbLog;
+use pl_log::laws::reports_harden_contents;
+use pl_pages::Pages;
+use pl_pages::laws::pages_fit_longer_logs;
+use std::alloc::Global;
+use std::test::Fail;
+use transcripts::answer::{push_numbers, push_word};
+use transcripts::block_text::block_of;
+use transcripts::transcript::{Stop, Subject, plays};
+
+/// A log with its pages, as whoever serves pages keeps them.
+#[derive(Drop)]
+struct Served {
+    log: DbLog,
+    pages: Pages,
+    ghost fits: { FitsLog pages log.hardened },
+}
+
+/// The pages of a transcript.
+#[derive(Drop)]
+struct Replayed {
+    alloc: Global,
+    served: Option<Served>,
+}
+
+fn open(alloc: Global) -> Result<Served, Stop> {
+    Ok(Served {
+        log: DbLog::new(alloc, 3, 2)?,
+        pages: Pages::new(alloc, 16),
+    })
+}
+
+impl Served {
+    // Writes the block to a copy.
+    fn write(&mut self, alloc: Global, word: &str, copy: u8) -> Result<(), Stop> {
+        let block = block_of(alloc, word)?;
+        let may = self.log.in_window(block.lsn()) && self.log.agrees(&block);
+        if !may || self.log.copies() <= copy {
+            return Err(Stop::Unread);
+        }
+        Ok(self.log.write(copy, block)?)
+    }
+
+    fn report(&mut self, lsn: u64) -> Result<(), Stop> {
+        reports_harden_contents();
+        pages_fit_longer_logs();
+        if !self.log.can_harden(lsn) {
+            return Err(Stop::Unread);
+        }
+        Ok(self.log.report(lsn)?)
+    }
+
+    fn advance(&mut self, partition: u16, steps: u64) -> Result<(), Stop> {
+        Ok(self.pages.advance(&mut self.log, partition, steps)?)
+    }
+
+    // The LSN that is answered, and the first and the last byte of the page.
+    fn get(&mut self, page: u32, lsn: u64, exact: bool) -> Result<[u64; 3], Stop> {
+        if self.log.hard() < lsn {
+            return Err(Stop::Unread);
+        }
+        let (at, bytes) = self.pages.get(&mut self.log, page, lsn, exact)?;
+        Ok([at, u64::from(bytes[0]), u64::from(bytes[8_191])])
+    }
+}
+
+impl Subject for Replayed {
+    fn new(alloc: Global) -> Replayed {
+        Replayed {
+            alloc,
+            served: None,
+        }
+    }
+
+    fn answer(
+        &mut self,
+        words: &[&str],
+        out: &mut String,
+        _refused: &mut bool,
+    ) -> Result<(), Stop> {
+        if let ["pages"] = words {
+            self.served = Some(open(self.alloc)?);
+            return push_word(out, "Ok");
+        }
+        let served = self.served.as_mut().ok_or(Stop::Unread)?;
+        match words {
+            ["harden", lsn, block] => {
+                served.write(self.alloc, block, 0)?;
+                served.write(self.alloc, block, 1)?;
+                served.report(lsn.parse()?)?;
+                push_word(out, "Ok")
+            }
+            ["advance", partition, steps] => {
+                served.advance(partition.parse()?, steps.parse()?)?;
+                push_word(out, "Ok")
+            }
+            ["applied", partition] => push_numbers(
+                out,
+                &[served.pages.applied(partition.parse()?)],
+            ),
+            ["get", page, lsn] => push_numbers(
+                out,
+                &served.get(page.parse()?, lsn.parse()?, false)?,
+            ),
+            ["get", page, lsn, "exact"] => {
+                push_numbers(out, &served.get(page.parse()?, lsn.parse()?, true)?)
+            }
+            _ => Err(Stop::Unread),
+        }
+    }
+}
+
+const PAGES_AT_EACH_LSN: &str = "\
+pages                         = Ok
+# A page that nothing changed.
+get 9 0                       = 0 0 0
+get 9 0 exact                 = 0 0 0
+harden 1 1:01                 = Ok
+harden 2 2:02,ee@65536+8191   = Ok
+harden 3 3:03                 = Ok
+get 0 1                       = 1 1 0
+get 0 2                       = 2 2 0
+get 0 3                       = 3 3 0
+get 0 0                       = 0 0 0
+get 65536 1                   = 1 0 0
+get 65536 2                   = 2 0 238
+# What is applied is answered, where it is far enough.
+advance 0 2                   = Ok
+applied 0                     = 2
+applied 1                     = 0
+get 0 1                       = 2 2 0
+get 0 1 exact                 = 1 1 0
+get 0 3                       = 3 3 0
+get 65536 1                   = 1 0 0
+# Not past the hardened end.
+advance 0 16                  = Ok
+applied 0                     = 3
+advance 65535 1               = Ok
+applied 65535                 = 1
+harden 4 4:04                 = Ok
+applied 0                     = 3
+get 0 1                       = 3 3 0
+get 0 4                       = 4 4 0
+";
+
+#[test]
+fn pages_at_each_lsn(rt: HostRuntime) -> Result<(), Fail> {
+    plays::<Replayed>(&rt, rt.alloc(), PAGES_AT_EACH_LSN)
+}

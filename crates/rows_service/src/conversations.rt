@@ -1,0 +1,347 @@
+//! Conversations over memory: whole, cut anywhere, and with frames that are none.
+
+ghost use Rattle.std.specs.Prelude.{IfOk};
+ghost use Rattle.pl_conn.specs.Solo.{HasDatabases};
+
+use pl_conn::{Cause, ConnFault, Solo, SoloPass, Source, converse};
+use pl_core::{Db, Limits};
+use std::alloc::Global;
+use std::io::{self, ErrorKind, Read, Write};
+use transcripts::table_text::table_named;
+use transcripts::transcript::Stop;
+
+// The four frames of the stored run: a block is written to two copies, reported and pulled.
+pub(crate) const FRAMES: &str = "\
+0000003700000002222222222222222222222222222222220100000000000000010100\
+0000000000000001000100000001010000000000000001aa\
+0000003700000002222222222222222222222222222222220100000000000000010101\
+0000000000000001000100000001010000000000000001aa\
+00000026000000022222222222222222222222222222222201000000000000000103\
+0000000000000001\
+0000002c000000033333333333333333333333333333333302000000000000000105\
+0000ffff00000000000000010010";
+
+// Where each frame ends.
+const ENDS: [usize; 4] = [59, 118, 160, 208];
+
+// The frames of their replies.
+pub(crate) const REPLIES: &str = "\
+000000010000000001000000000100\
+00000027010000000000000002000100000018\
+0000000000000001000100000001010000000000000001aa";
+
+// Where the frame of each reply ends.
+const REPLY_ENDS: [usize; 4] = [5, 10, 15, 58];
+
+// A database with the start table and primary 2.
+pub(crate) fn open(alloc: Global) -> Result<Db, Stop> {
+    let limits = Limits {
+        audit: 65_536,
+        chunks: 16,
+    };
+    if !limits.are_valid() {
+        return Err(Stop::Unread);
+    }
+    Db::new(alloc, table_named(alloc, "start")?, 2, limits).map_err(|_| Stop::NoMemory)
+}
+
+// A pass with one database, under the number 1.
+fn one_pass(alloc: Global) -> Result<SoloPass, Stop>
+    ensures has { IfOk result (λ pass. HasDatabases pass) }
+{
+    let mut dbs = Vec::with_capacity(alloc, 1)?;
+    dbs.push_reserved(open(alloc)?);
+    Ok(SoloPass::new(dbs, 1))
+}
+
+// A reader that gives a few bytes at once, of which it says that they are at hand. At the end it
+// fails, or has no more.
+#[derive(Drop)]
+struct Input<'a> {
+    left: &'a [u8],
+    at_once: usize,
+    fails: bool,
+}
+
+impl Read for Input<'_> {
+    fn read(&mut self, buf: &mut [u8]) -> io::Result<usize> {
+        let count = self.at_once.min(self.left.len()).min(buf.len());
+        if self.fails && self.left.is_empty() {
+            return Err(io::Error::from(ErrorKind::TimedOut));
+        }
+        let (now, later) = self.left.split_at(count);
+        let (front, _) = buf.split_at_mut(count);
+        front.copy_from_slice(now);
+        self.left = later;
+        Ok(count)
+    }
+}
+
+impl Source for Input<'_> {
+    fn at_hand(&self) -> &[u8] {
+        let (now, _) = self.left.split_at(self.at_once.min(self.left.len()));
+        now
+    }
+}
+
+// A writer that takes a few bytes at once, and so many in all.
+#[derive(Drop)]
+struct Output {
+    taken: Vec<u8>,
+    at_once: usize,
+    room: usize,
+}
+
+impl Write for Output {
+    fn write(&mut self, buf: &[u8]) -> io::Result<usize> {
+        let count = self.at_once.min(self.room).min(buf.len());
+        if count == 0 {
+            return Err(io::Error::from(ErrorKind::BrokenPipe));
+        }
+        let (now, _) = buf.split_at(count);
+        self.taken.extend_from_slice(now)?;
+        self.room -= count;
+        Ok(count)
+    }
+
+    fn flush(&mut self) -> io::Result<()> {
+        Ok(())
+    }
+}
+
+// What a conversation ended with, what it wrote, and how many entries it made.
+#[derive(Drop)]
+struct Talked {
+    end: Result<u64, ConnFault>,
+    output: Vec<u8>,
+    entries: u64,
+}
+
+// A conversation with a fresh database, over these bytes.
+fn talk(alloc: Global, input: Input<'_>, at_once: usize, room: usize) -> Result<Talked, Stop> {
+    let mut pass = one_pass(alloc)?;
+    let mut reader = input;
+    let mut writer = Output {
+        taken: Vec::new(alloc),
+        at_once,
+        room,
+    };
+    let end = converse(alloc, &mut reader, &mut writer, &Solo, &mut pass);
+    let db = pass.into_dbs().pop().ok_or(Stop::Unread)?;
+    let Output {
+        taken,
+        at_once: _,
+        room: _,
+    } = writer;
+    Ok(Talked {
+        end,
+        output: taken,
+        entries: db.audit_len(),
+    })
+}
+
+pub(crate) fn check(holds: bool) -> Result<(), Stop> {
+    if holds { Ok(()) } else { Err(Stop::Changed) }
+}
+
+// How many of these places are reached with so many bytes.
+fn whole(ends: &[usize], count: usize) -> u64 {
+    let mut whole: u64 = 0;
+    for end in ends {
+        if *end <= count {
+            whole = whole.saturating_add(1);
+        }
+    }
+    whole
+}
+
+// The conversation over these bytes, all at hand, ends with this fault, without a reply or an entry.
+fn ends_at_once(alloc: Global, bytes: &[u8], wanted: ConnFault) -> Result<(), Stop> {
+    let input = Input {
+        left: bytes,
+        at_once: 1_000,
+        fails: false,
+    };
+    let talked = talk(alloc, input, 1_000, 1_000)?;
+    check(matches!(talked.end, Err(fault) if fault == wanted))?;
+    check(talked.output.is_empty() && talked.entries == 0)
+}
+
+// A write to copy 0, whose block has a record on page 0 and names partition 1.
+const WRONG_PARTITION: &str = "\
+0000003700000002222222222222222222222222222222220100000000000000010100\
+0000000000000001000100010001010000000000000001aa";
+
+fn broken_frames(alloc: Global) -> Result<(), Stop> {
+    let short = ConnFault {
+        cause: Cause::Short,
+        answered: 0,
+    };
+    ends_at_once(alloc, &[0, 0, 0, 30, 1, 2, 3, 4, 5, 6, 7, 8, 9, 10], short)?;
+    let too_long = ConnFault {
+        cause: Cause::TooLong,
+        answered: 0,
+    };
+    ends_at_once(alloc, &[0, 1, 0, 1, 0, 0, 0, 0], too_long)?;
+    let frame = hex::decode(alloc, WRONG_PARTITION)?;
+    let input = Input {
+        left: &frame,
+        at_once: 1_000,
+        fails: false,
+    };
+    let talked = talk(alloc, input, 1_000, 1_000)?;
+    check(matches!(talked.end, Ok(1)))?;
+    check(talked.output.as_slice() == [0, 0, 0, 2, 10, 14].as_slice() && talked.entries == 0)
+}
+
+#[test]
+fn converse_over_broken_frames(rt: HostRuntime) {
+    let mut done = broken_frames(rt.alloc());
+    if done.is_err() {
+        done = broken_frames(rt.alloc());
+    }
+    assert!(&rt; done.is_ok());
+}
+
+// However few bytes come at once, and however many are at hand, the replies are the same.
+fn any_cut(alloc: Global) -> Result<(), Stop> {
+    let frames = hex::decode(alloc, FRAMES)?;
+    let replies = hex::decode(alloc, REPLIES)?;
+    for at_once in 1..=208 {
+        let input = Input {
+            left: &frames,
+            at_once,
+            fails: false,
+        };
+        let talked = talk(alloc, input, at_once, 1_000)?;
+        check(matches!(talked.end, Ok(4)) && talked.entries == 4)?;
+        check(talked.output.as_slice() == replies.as_slice())?;
+    }
+    Ok(())
+}
+
+#[test]
+fn converse_any_cut(rt: HostRuntime) {
+    let mut done = any_cut(rt.alloc());
+    if done.is_err() {
+        done = any_cut(rt.alloc());
+    }
+    assert!(&rt; done.is_ok());
+}
+
+// Where the input has so many bytes and then ends, or fails.
+fn cut_input(
+    alloc: Global,
+    frames: &[u8],
+    replies: &[u8],
+    len: usize,
+    fails: bool,
+) -> Result<(), Stop> {
+    let (left, _) = frames.split_at(len.min(frames.len()));
+    let input = Input {
+        left,
+        at_once: 50,
+        fails,
+    };
+    let talked = talk(alloc, input, 1_000, 1_000)?;
+    let answered = whole(&ENDS, len);
+    let is_end = len == 0 || ENDS.contains(&len);
+    check(match talked.end {
+        Ok(count) => !fails && is_end && count == answered,
+        Err(fault) if fails => fault.cause == Cause::Read && fault.answered == answered,
+        Err(fault) => !is_end && fault.cause == Cause::Short && fault.answered == answered,
+    })?;
+    let told = [0, 5, 10, 15, 58];
+    let len = told.get(answered as usize).ok_or(Stop::Changed)?;
+    let (wanted, _) = replies.split_at((*len).min(replies.len()));
+    check(talked.output.as_slice() == wanted && talked.entries == answered)
+}
+
+fn cut_inputs(alloc: Global) -> Result<(), Stop> {
+    let frames = hex::decode(alloc, FRAMES)?;
+    let replies = hex::decode(alloc, REPLIES)?;
+    for len in 0..=208 {
+        cut_input(alloc, &frames, &replies, len, false)?;
+        cut_input(alloc, &frames, &replies, len, true)?;
+    }
+    Ok(())
+}
+
+#[test]
+fn input_cut_anywhere(rt: HostRuntime) {
+    let mut done = cut_inputs(rt.alloc());
+    if done.is_err() {
+        done = cut_inputs(rt.alloc());
+    }
+    assert!(&rt; done.is_ok());
+}
+
+// Where the writer takes so many bytes in all, and then fails.
+fn cut_output(
+    alloc: Global,
+    frames: &[u8],
+    replies: &[u8],
+    room: usize,
+    at_once: usize,
+) -> Result<(), Stop> {
+    let input = Input {
+        left: frames,
+        at_once,
+        fails: false,
+    };
+    let talked = talk(alloc, input, at_once, room)?;
+    let wanted = ConnFault {
+        cause: Cause::Write,
+        answered: whole(&REPLY_ENDS, room),
+    };
+    check(matches!(talked.end, Err(fault) if fault == wanted))?;
+    let (wanted, _) = replies.split_at(room.min(replies.len()));
+    check(talked.output.as_slice() == wanted)
+}
+
+// The frames come one after the other, so that each reply is written before the next one is read, or
+// all at once, so that the replies go out together.
+fn cut_outputs(alloc: Global) -> Result<(), Stop> {
+    let frames = hex::decode(alloc, FRAMES)?;
+    let replies = hex::decode(alloc, REPLIES)?;
+    for room in 0..58 {
+        cut_output(alloc, &frames, &replies, room, 1)?;
+        cut_output(alloc, &frames, &replies, room, 208)?;
+    }
+    Ok(())
+}
+
+#[test]
+fn output_cut_anywhere(rt: HostRuntime) {
+    let mut done = cut_outputs(rt.alloc());
+    if done.is_err() {
+        done = cut_outputs(rt.alloc());
+    }
+    assert!(&rt; done.is_ok());
+}
+
+// A status of database 1.
+const OF_DATABASE_1: &str = "\
+0000001e00000002222222222222222222222222222222220100000001\
+0000000107";
+
+fn asks_no_database(alloc: Global) -> Result<(), Stop> {
+    let frame = hex::decode(alloc, OF_DATABASE_1)?;
+    let input = Input {
+        left: &frame,
+        at_once: 1_000,
+        fails: false,
+    };
+    let talked = talk(alloc, input, 1_000, 1_000)?;
+    check(matches!(talked.end, Ok(1)) && talked.entries == 0)?;
+    check(talked.output.as_slice() == [0, 0, 0, 1, 9].as_slice())
+}
+
+#[test]
+fn no_such_database(rt: HostRuntime) {
+    let mut done = asks_no_database(rt.alloc());
+    if done.is_err() {
+        done = asks_no_database(rt.alloc());
+    }
+    assert!(&rt; done.is_ok());
+}

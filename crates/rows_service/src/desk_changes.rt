@@ -1,0 +1,283 @@
+//! Desks that two threads call at once: what is so in the end whatever the schedule.
+
+ghost use Rattle.std.specs.Prelude.{◌≡◌, ◌≤◌, ◌^◌};
+ghost use Rattle.pl_desk.specs.Passes.{IsOf};
+
+use crate::desks::{HARDENS, TURNS, ask, open, play};
+use pl_core::{Db, Line, Reply};
+use pl_desk::{Desk, Pass};
+use std::alloc::Global;
+use std::process::Abort;
+use std::sync::Wait;
+use std::thread;
+use std::thread::Threads;
+use transcripts::asking::request_of;
+use transcripts::line_text::push_lines;
+use transcripts::transcript::Stop;
+
+/// What one thread asks, over and over.
+#[derive(Clone, Copy, Drop)]
+struct Asked {
+    times: u64,
+    /// The words of the request. `BLOCK` stands for a block with the number of the question as its LSN
+    /// and as its byte.
+    words: &'static str,
+    /// The answers up to a change, and behind it.
+    answers: [&'static str; 2],
+}
+
+/// A row of two threads.
+#[derive(Clone, Copy, Drop)]
+struct Row {
+    audit: u64,
+    turns: u64,
+    /// What the first pass asks before the threads start.
+    before: &'static str,
+    first: Asked,
+    second: Asked,
+    /// What the first pass asks when it has met the second.
+    after: &'static str,
+}
+
+// Asks, and returns how many answers are those up to the change. All others have to be behind it.
+fn ask_over_a_change(
+    rt: &impl Wait,
+    alloc: Global,
+    desk: &Desk,
+    pass: &mut Pass,
+    asked: Asked,
+) -> Result<u64, Stop>
+    requires of { IsOf desk.now pass.old }
+    ensures of { IsOf desk.now pass.new }
+{
+    let [before, behind] = asked.answers;
+    let mut count: u64 = 0;
+    for number in 1..=asked.times {
+        let block = format!(in alloc; "{number}:{number:02x}")?;
+        let line = asked.words.replace(alloc, "BLOCK", &block)?;
+        let text = ask(rt, alloc, desk, pass, &line)?;
+        if text.trim() == before && count == number - 1 {
+            count = number;
+        } else if text.trim() != behind {
+            return Err(Stop::Changed);
+        }
+    }
+    Ok(count)
+}
+
+// The first pass takes in the second.
+fn meet(desk: &Desk, pass: &mut Pass, other: Pass)
+    requires of { IsOf desk.now pass.old }
+    requires other { IsOf desk.now other }
+    ensures of { IsOf desk.now pass.new }
+{
+    desk.meet(pass, other);
+}
+
+// Plays a row. It returns how many answers of each thread are those up to the change, and the
+// database.
+fn play_two<R: Threads + Wait + Abort + Sync>(
+    rt: &R,
+    alloc: Global,
+    row: Row,
+) -> Result<(u64, u64, Db), Stop>
+    requires some { 1 ≤ row.turns }
+    requires few { row.turns ≤ 2 ^ 62 }
+{
+    let Ok((desk, mut passes)) = Desk::new(alloc, open(alloc, row.audit)?, 2, row.turns) else {
+        return Err(Stop::NoMemory);
+    };
+    let mut q = passes.pop().ok_or(Stop::Unread)?;
+    let mut p = passes.pop().ok_or(Stop::Unread)?;
+    play(rt, alloc, &desk, &mut p, row.before)?;
+    let (first, second) = thread::join_mut(
+        rt,
+        &mut || ask_over_a_change(rt, alloc, &desk, &mut p, row.first),
+        &mut || ask_over_a_change(rt, alloc, &desk, &mut q, row.second),
+    );
+    let (first, second) = (first?, second?);
+    meet(&desk, &mut p, q);
+    play(rt, alloc, &desk, &mut p, row.after)?;
+    Ok((first, second, desk.close(p).ok_or(Stop::Unread)?))
+}
+
+// How many answers of both threads are those up to the change, and how many entries there are in the
+// end. Where memory is refused the row is played once more.
+fn ends_of<R: Threads + Wait + Abort + Sync>(
+    rt: &R,
+    alloc: Global,
+    row: Row,
+) -> Result<(u64, u64), Stop>
+    requires some { 1 ≤ row.turns }
+    requires few { row.turns ≤ 2 ^ 62 }
+{
+    let mut ends = play_two(rt, alloc, row);
+    if matches!(ends, Err(Stop::NoMemory)) {
+        ends = play_two(rt, alloc, row);
+    }
+    let (first, second, db) = ends?;
+    Ok((first.saturating_add(second), db.audit_len()))
+}
+
+const TWO_THREADS_TWO_COPIES: Row = Row {
+    audit: 65_536,
+    turns: TURNS,
+    before: "",
+    first: Asked {
+        times: 32,
+        words: "2 22 primary 1 write BLOCK 0",
+        answers: ["Done", "none"],
+    },
+    second: Asked {
+        times: 32,
+        words: "2 22 primary 1 write BLOCK 1",
+        answers: ["Done", "none"],
+    },
+    after: "\
+2 22 primary 1 report 32 = Done
+2 22 primary 1 status    = Status 1 2 32 0 32
+",
+};
+
+#[test]
+fn two_threads_two_copies(rt: HostRuntime) {
+    let ends = ends_of(&rt, rt.alloc(), TWO_THREADS_TWO_COPIES);
+    assert!(&rt; matches!(ends, Ok((64, 66))));
+}
+
+const FAILOVER_BENEATH_WRITES: Row = Row {
+    audit: 65_536,
+    turns: TURNS,
+    before: "",
+    first: Asked {
+        times: 64,
+        words: "2 22 primary 1 write BLOCK 0",
+        answers: ["Done", "Denied A2 2"],
+    },
+    second: Asked {
+        times: 1,
+        words: "1 11 operator 1 failover 5",
+        answers: ["Done", "none"],
+    },
+    after: "2 22 primary 1 status = Denied A2 2",
+};
+
+fn push_write(out: &mut String, number: u64, lsn: u64, verdict: &str) -> Result<(), Stop> {
+    Ok(write!(out, " {number}/1/2/primary/1/write/{lsn}/0/{verdict}")?)
+}
+
+// The first 65 lines of the audit list, where so many writes were allowed.
+fn push_writes(out: &mut String, allowed: u64) -> Result<(), Stop> {
+    for number in 1..=65 {
+        if number <= allowed {
+            push_write(out, number, number, "allowed")?;
+        } else if number - 1 == allowed {
+            write!(out, " {number}/2/1/operator/1/failover/5/0/allowed")?;
+        } else {
+            push_write(out, number, number - 1, "A2:2")?;
+        }
+    }
+    Ok(())
+}
+
+// Whether the lines are those.
+fn are_writes(alloc: Global, lines: &[Line], allowed: u64) -> Result<bool, Stop> {
+    let (mut listed, mut wanted) = (String::new(alloc), String::new(alloc));
+    push_lines(&mut listed, lines)?;
+    push_writes(&mut wanted, allowed)?;
+    Ok(listed == wanted)
+}
+
+// Whether the first 65 lines of the audit list are those.
+fn has_writes(alloc: Global, db: &mut Db, allowed: u64) -> Result<bool, Stop> {
+    let words = ["1", "11", "operator", "2", "audit", "1", "65"];
+    let request = request_of(alloc, 0, &words)?.ok_or(Stop::Unread)?;
+    match db.step(1, request) {
+        Reply::Entries { lines } => are_writes(alloc, lines.as_slice(), allowed),
+        _ => Err(Stop::NoMemory),
+    }
+}
+
+// Whether the audit list is as it has to be, and how many entries it has.
+fn fail_over_beneath_writes<R: Threads + Wait + Abort + Sync>(
+    rt: &R,
+    alloc: Global,
+) -> Result<(bool, u64), Stop> {
+    let (allowed, _, mut db) = play_two(rt, alloc, FAILOVER_BENEATH_WRITES)?;
+    let entries = db.audit_len();
+    Ok((has_writes(alloc, &mut db, allowed)?, entries))
+}
+
+#[test]
+fn failover_beneath_writes(rt: HostRuntime) {
+    let mut ends = fail_over_beneath_writes(&rt, rt.alloc());
+    if matches!(ends, Err(Stop::NoMemory)) {
+        ends = fail_over_beneath_writes(&rt, rt.alloc());
+    }
+    assert!(&rt; matches!(ends, Ok((true, 66))));
+}
+
+const TABLE_BENEATH_PULLS: Row = Row {
+    audit: 65_536,
+    turns: TURNS,
+    before: HARDENS,
+    first: Asked {
+        times: 64,
+        words: "3 33 secondary 1 pull 0 65535 1 16",
+        answers: ["Blocks 2 1:aa", "Denied B1 0"],
+    },
+    second: Asked {
+        times: 1,
+        words: "1 11 operator 1 set_table other",
+        answers: ["Done", "none"],
+    },
+    after: "3 33 secondary 1 pull 0 65535 1 16 = Denied B1 0",
+};
+
+#[test]
+fn table_beneath_pulls(rt: HostRuntime) {
+    let ends = ends_of(&rt, rt.alloc(), TABLE_BENEATH_PULLS);
+    assert!(&rt; matches!(ends, Ok((_, 69))));
+}
+
+const STATUSES: Asked = Asked {
+    times: 10,
+    words: "2 22 primary 1 status",
+    answers: ["Status 1 2 0 0 0", "AuditFull"],
+};
+
+const AUDIT_LIMIT_BENEATH_THREADS: Row = Row {
+    audit: 10,
+    turns: TURNS,
+    before: "",
+    first: STATUSES,
+    second: STATUSES,
+    after: "2 22 primary 1 status = AuditFull",
+};
+
+#[test]
+fn audit_limit_beneath_threads(rt: HostRuntime) {
+    let ends = ends_of(&rt, rt.alloc(), AUDIT_LIMIT_BENEATH_THREADS);
+    assert!(&rt; matches!(ends, Ok((10, 10))));
+}
+
+const STATUSES_UP_TO_SPENT: Asked = Asked {
+    times: 10,
+    words: "2 22 primary 1 status",
+    answers: ["Status 1 2 0 0 0", "Spent"],
+};
+
+const TURNS_BENEATH_THREADS: Row = Row {
+    audit: 65_536,
+    turns: 10,
+    before: "",
+    first: STATUSES_UP_TO_SPENT,
+    second: STATUSES_UP_TO_SPENT,
+    after: "2 22 primary 1 status = Spent",
+};
+
+#[test]
+fn turns_beneath_threads(rt: HostRuntime) {
+    let ends = ends_of(&rt, rt.alloc(), TURNS_BENEATH_THREADS);
+    assert!(&rt; matches!(ends, Ok((10, 10) | (11, 11))));
+}

@@ -1,0 +1,197 @@
+//! Desks: several passes of one database, in one thread.
+
+ghost use Rattle.std.specs.Prelude.{◌≡◌, ◌≤◌, ◌^◌};
+ghost use Rattle.pl_desk.specs.Passes.{IsOf};
+
+use pl_core::{Db, Limits, Reply};
+use pl_desk::{Desk, Pass};
+use std::alloc::Global;
+use std::process::Abort;
+use std::sync::Wait;
+use transcripts::asking::request_of;
+use transcripts::reply_text::push_reply;
+use transcripts::table_text::table_named;
+use transcripts::transcript::Stop;
+
+/// As many turns as a desk may have.
+pub(crate) const TURNS: u64 = 1 << 62;
+
+/// A database with the start table, primary 2 and this limit.
+pub(crate) fn open(alloc: Global, audit: u64) -> Result<Db, Stop> {
+    let limits = Limits { audit, chunks: 16 };
+    if !limits.are_valid() {
+        return Err(Stop::Unread);
+    }
+    let table = table_named(alloc, "start")?;
+    Db::new(alloc, table, 2, limits).map_err(|_| Stop::NoMemory)
+}
+
+/// The reply to the request of the line, as words. An error is that memory was refused, to the test
+/// or to the desk.
+pub(crate) fn ask(
+    rt: &impl Wait,
+    alloc: Global,
+    desk: &Desk,
+    pass: &mut Pass,
+    line: &str,
+) -> Result<String, Stop>
+    requires of { IsOf desk.now pass.old }
+    ensures of { IsOf desk.now pass.new }
+{
+    let words: Vec<&str> = line.split_whitespace().collect(alloc)?;
+    let request = request_of(alloc, 0, &words)?.ok_or(Stop::Unread)?;
+    let reply = desk.call(rt, pass, request);
+    if matches!(reply, Reply::NoMemory) {
+        return Err(Stop::NoMemory);
+    }
+    let mut text = String::new(alloc);
+    push_reply(&mut text, &reply)?;
+    Ok(text)
+}
+
+/// Each line is answered as it says.
+pub(crate) fn play<R: Wait + Abort>(
+    rt: &R,
+    alloc: Global,
+    desk: &Desk,
+    pass: &mut Pass,
+    row: &str,
+) -> Result<(), Stop>
+    requires of { IsOf desk.now pass.old }
+    ensures of { IsOf desk.now pass.new }
+{
+    for line in row.lines() {
+        let (asked, wanted) = line.split_once('=').ok_or(Stop::Unread)?;
+        let text = ask(rt, alloc, desk, pass, asked)?;
+        assert!(rt; text.trim() == wanted.trim(), "{line}, not {text}");
+    }
+    Ok(())
+}
+
+// Plays a row of one pass, and returns its number and how many entries there are in the end.
+fn play_alone<R: Wait + Abort>(
+    rt: &R,
+    alloc: Global,
+    turns: u64,
+    row: &str,
+) -> Result<(u64, u64), Stop>
+    requires some { 1 ≤ turns }
+    requires few { turns ≤ 2 ^ 62 }
+{
+    let Ok((desk, mut passes)) = Desk::new(alloc, open(alloc, 65_536)?, 1, turns) else {
+        return Err(Stop::NoMemory);
+    };
+    let mut pass = passes.pop().ok_or(Stop::Unread)?;
+    let number = Desk::number(&pass);
+    play(rt, alloc, &desk, &mut pass, row)?;
+    let db = desk.close(pass).ok_or(Stop::Unread)?;
+    Ok((number, db.audit_len()))
+}
+
+const DESK_OF_ONE_SEAT: &str = "\
+2 22 primary 1 write 1:aa 0        = Done
+2 22 primary 1 write 1:aa 1        = Done
+2 22 primary 1 report 1            = Done
+3 33 secondary 1 pull 0 65535 1 16 = Blocks 2 1:aa
+";
+
+#[test]
+fn desk_of_one_seat(rt: HostRuntime) {
+    let mut ends = play_alone(&rt, rt.alloc(), TURNS, DESK_OF_ONE_SEAT);
+    if matches!(ends, Err(Stop::NoMemory)) {
+        ends = play_alone(&rt, rt.alloc(), TURNS, DESK_OF_ONE_SEAT);
+    }
+    assert!(&rt; matches!(ends, Ok((1, 4))));
+}
+
+const TURNS_RUN_OUT: &str = "\
+2 22 primary 1 status = Status 1 2 0 0 0
+2 22 primary 1 status = Status 1 2 0 0 0
+2 22 primary 1 status = Spent
+";
+
+#[test]
+fn turns_run_out(rt: HostRuntime) {
+    let mut ends = play_alone(&rt, rt.alloc(), 2, TURNS_RUN_OUT);
+    if matches!(ends, Err(Stop::NoMemory)) {
+        ends = play_alone(&rt, rt.alloc(), 2, TURNS_RUN_OUT);
+    }
+    assert!(&rt; matches!(ends, Ok((1, 2))));
+}
+
+/// A block is hardened.
+pub(crate) const HARDENS: &str = "\
+2 22 primary 1 write 1:aa 0 = Done
+2 22 primary 1 write 1:aa 1 = Done
+2 22 primary 1 report 1     = Done
+";
+
+// Plays a row of three passes that meet, and returns how many entries there are in the end.
+fn play_three<R: Wait + Abort>(rt: &R, alloc: Global) -> Result<u64, Stop> {
+    let Ok((desk, mut passes)) = Desk::new(alloc, open(alloc, 65_536)?, 3, TURNS) else {
+        return Err(Stop::NoMemory);
+    };
+    let mut r = passes.pop().ok_or(Stop::Unread)?;
+    let mut q = passes.pop().ok_or(Stop::Unread)?;
+    let mut p = passes.pop().ok_or(Stop::Unread)?;
+    play(rt, alloc, &desk, &mut p, HARDENS)?;
+    desk.meet(&mut q, p);
+    let pulls = "3 33 secondary 1 pull 0 65535 1 16 = Blocks 2 1:aa";
+    play(rt, alloc, &desk, &mut q, pulls)?;
+    let fails_over = "1 11 operator 1 failover 5 = Done";
+    play(rt, alloc, &desk, &mut r, fails_over)?;
+    desk.meet(&mut q, r);
+    let is_late = "2 22 primary 1 status = Denied A2 2";
+    play(rt, alloc, &desk, &mut q, is_late)?;
+    Ok(desk.close(q).ok_or(Stop::Unread)?.audit_len())
+}
+
+#[test]
+fn passes_that_meet(rt: HostRuntime) {
+    let mut entries = play_three(&rt, rt.alloc());
+    if matches!(entries, Err(Stop::NoMemory)) {
+        entries = play_three(&rt, rt.alloc());
+    }
+    assert!(&rt; matches!(entries, Ok(6)));
+}
+
+// Opens a desk of the database, and closes it again. Where memory is refused, it comes back.
+fn through_a_desk(alloc: Global, db: Db) -> Result<Option<Db>, Db> {
+    let (desk, mut passes) = Desk::new(alloc, db, 2, TURNS)?;
+    match passes.pop() {
+        Some(pass) => Ok(desk.close(pass)),
+        None => Ok(None),
+    }
+}
+
+fn enter_status(alloc: Global, db: &mut Db) -> Result<(), Stop> {
+    let request = request_of(alloc, 0, &["2", "22", "primary", "1", "status"])?;
+    match db.step(1, request.ok_or(Stop::Unread)?) {
+        Reply::Status { .. } => Ok(()),
+        _ => Err(Stop::NoMemory),
+    }
+}
+
+// How many entries a database of one entry has behind a desk. It goes through another where it came
+// back from the first.
+fn entries_behind_a_desk(alloc: Global) -> Result<u64, Stop> {
+    let mut db = open(alloc, 65_536)?;
+    enter_status(alloc, &mut db)?;
+    let closed = match through_a_desk(alloc, db) {
+        Ok(closed) => closed,
+        Err(back) => through_a_desk(alloc, back).map_err(|_| Stop::NoMemory)?,
+    };
+    match closed {
+        Some(db) => Ok(db.audit_len()),
+        None => Err(Stop::Unread),
+    }
+}
+
+#[test]
+fn database_comes_back(rt: HostRuntime) {
+    let mut entries = entries_behind_a_desk(rt.alloc());
+    if matches!(entries, Err(Stop::NoMemory)) {
+        entries = entries_behind_a_desk(rt.alloc());
+    }
+    assert!(&rt; matches!(entries, Ok(1)));
+}

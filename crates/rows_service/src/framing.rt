@@ -1,0 +1,338 @@
+//! Frames, asked line by line: readers that give few bytes at once, writers that take few, and their
+//! faults.
+
+use pl_core::Reply;
+use pl_wire::{
+    BodyFault, FrameFault, ReplyFault, WriteFault, put_reply, read_body, read_frame, read_head,
+    read_reply, write_reply, write_request,
+};
+use std::alloc::Global;
+use std::io::{self, ErrorKind, Read, Write};
+use transcripts::answer::{push_bytes, push_fault, push_numbers, push_word};
+use transcripts::asking::request_of;
+use transcripts::codec::bytes_of;
+use transcripts::reply_text::{push_reply, reply_of};
+use transcripts::transcript::{Stop, Subject};
+
+/// How many bytes a reader gives at once, or a writer takes, and whether a signal interrupts each
+/// second call.
+const PIECES: [(usize, bool); 4] = [(1, false), (2, true), (3, false), (5, true)];
+
+/// How many frames of an input are read at most.
+const MOST_FRAMES: u32 = 100;
+
+/// The most bytes that a row writes.
+const ROOM: usize = 10_000;
+
+/// What stands behind the bytes that a reader gives.
+#[derive(Clone, Copy)]
+enum Behind {
+    /// The end of input.
+    End,
+    /// A read that fails.
+    Failure,
+}
+
+/// Gives its bytes, at most so many at once.
+#[derive(Drop)]
+struct Feed<'a> {
+    left: &'a [u8],
+    at_once: usize,
+    interrupts: bool,
+    interrupted: bool,
+    behind: Behind,
+}
+
+impl<'a> Feed<'a> {
+    fn new(left: &'a [u8], piece: (usize, bool), behind: Behind) -> Feed<'a> {
+        let (at_once, interrupts) = piece;
+        Feed {
+            left,
+            at_once,
+            interrupts,
+            interrupted: false,
+            behind,
+        }
+    }
+}
+
+impl Read for Feed<'_> {
+    fn read(&mut self, buf: &mut [u8]) -> io::Result<usize> {
+        self.interrupted = self.interrupts && !self.interrupted;
+        if self.interrupted {
+            return Err(io::Error::from(ErrorKind::Interrupted));
+        }
+        if self.left.is_empty() && matches!(self.behind, Behind::Failure) {
+            return Err(io::Error::from(ErrorKind::InvalidData));
+        }
+        let count = self.left.len().min(self.at_once).min(buf.len());
+        let (given, left) = self.left.split_at(count);
+        buf[..count].copy_from_slice(given);
+        self.left = left;
+        Ok(count)
+    }
+}
+
+/// Takes so many bytes in all, and at most so many at once. Behind them a write fails, or takes none.
+#[derive(Drop)]
+struct Sink {
+    held: Vec<u8>,
+    at_once: usize,
+    interrupts: bool,
+    interrupted: bool,
+    room: usize,
+    fails: bool,
+}
+
+impl Write for Sink {
+    fn write(&mut self, buf: &[u8]) -> io::Result<usize> {
+        self.interrupted = self.interrupts && !self.interrupted;
+        if self.interrupted {
+            return Err(io::Error::from(ErrorKind::Interrupted));
+        }
+        if self.room == 0 && self.fails {
+            return Err(io::Error::from(ErrorKind::BrokenPipe));
+        }
+        let count = buf.len().min(self.at_once).min(self.room);
+        self.held.extend_from_slice(&buf[..count])?;
+        self.room -= count;
+        Ok(count)
+    }
+
+    fn flush(&mut self) -> io::Result<()> {
+        Ok(())
+    }
+}
+
+fn push_frame_fault(out: &mut String, fault: FrameFault) -> Result<(), Stop> {
+    match fault {
+        FrameFault::Short => push_word(out, "Short"),
+        FrameFault::TooLong => push_word(out, "TooLong"),
+        FrameFault::Io => push_word(out, "Io"),
+        FrameFault::NoMemory => Err(Stop::NoMemory),
+    }
+}
+
+fn push_reply_fault(out: &mut String, fault: ReplyFault) -> Result<(), Stop> {
+    match fault {
+        ReplyFault::Ended => push_word(out, "Ended"),
+        ReplyFault::Frame(fault) => push_frame_fault(out, fault),
+        ReplyFault::Body(BodyFault::Malformed(fault)) => push_fault(out, fault.code()),
+        ReplyFault::Body(BodyFault::NoMemory) => Err(Stop::NoMemory),
+    }
+}
+
+fn push_body(out: &mut String, body: &[u8]) -> Result<(), Stop> {
+    if body.is_empty() {
+        return push_word(out, "empty");
+    }
+    push_bytes(out, body)
+}
+
+/// What is read of an input.
+#[derive(Clone, Copy)]
+enum Asked {
+    Head(u32),
+    Body(u32),
+    Frames(u32),
+    Replies,
+}
+
+/// Reads and writes, each on its own, and the bytes that `send` has put one behind the other.
+#[derive(Drop)]
+pub(crate) struct Frames {
+    alloc: Global,
+    sent: Vec<u8>,
+}
+
+impl Frames {
+    fn push_head(&self, limit: u32, feed: &mut Feed, out: &mut String) -> Result<(), Stop> {
+        match read_head(feed, limit) {
+            Ok(Some(len)) => push_numbers(out, &[u64::from(len)]),
+            Ok(None) => push_word(out, "end"),
+            Err(fault) => push_frame_fault(out, fault),
+        }
+    }
+
+    fn push_body_of(&self, len: u32, feed: &mut Feed, out: &mut String) -> Result<(), Stop> {
+        match read_body(self.alloc, feed, len) {
+            Ok(body) => push_body(out, &body),
+            Err(fault) => push_frame_fault(out, fault),
+        }
+    }
+
+    // Pushes the bodies of the frames, and why there are no more.
+    fn push_frames(&self, limit: u32, feed: &mut Feed, out: &mut String) -> Result<(), Stop> {
+        for _ in 0..MOST_FRAMES {
+            match read_frame(self.alloc, feed, limit) {
+                Ok(Some(body)) => push_body(out, &body)?,
+                Ok(None) => return push_word(out, "end"),
+                Err(fault) => return push_frame_fault(out, fault),
+            }
+        }
+        Err(Stop::Unread)
+    }
+
+    // Pushes the replies, and why there are no more.
+    fn push_replies(&self, feed: &mut Feed, out: &mut String) -> Result<(), Stop> {
+        for _ in 0..MOST_FRAMES {
+            match read_reply(self.alloc, feed) {
+                Ok(reply) => push_reply(out, &reply)?,
+                Err(fault) => return push_reply_fault(out, fault),
+            }
+        }
+        Err(Stop::Unread)
+    }
+
+    // What is read, and how many bytes are left unread.
+    fn read(&self, asked: Asked, mut feed: Feed) -> Result<String, Stop> {
+        let mut out = String::new(self.alloc);
+        match asked {
+            Asked::Head(limit) => self.push_head(limit, &mut feed, &mut out)?,
+            Asked::Body(len) => self.push_body_of(len, &mut feed, &mut out)?,
+            Asked::Frames(limit) => self.push_frames(limit, &mut feed, &mut out)?,
+            Asked::Replies => self.push_replies(&mut feed, &mut out)?,
+        }
+        push_numbers(&mut out, &[feed.left.len() as u64])?;
+        Ok(out)
+    }
+
+    // Pushes what is read, which is the same in any pieces.
+    fn push_read(
+        &self,
+        asked: Asked,
+        bytes: &[u8],
+        behind: Behind,
+        out: &mut String,
+    ) -> Result<(), Stop> {
+        let whole = self.read(asked, Feed::new(bytes, (usize::MAX, false), behind))?;
+        for piece in PIECES {
+            let text = self.read(asked, Feed::new(bytes, piece, behind))?;
+            if text.as_str() != whole.as_str() {
+                return Err(Stop::Changed);
+            }
+        }
+        Ok(out.push_str(&whole)?)
+    }
+
+    // What a writer holds in the end, and whether the whole frame was written.
+    fn written(&self, what: &[&str], mut sink: Sink) -> Result<(Vec<u8>, bool), Stop> {
+        let result = match what {
+            ["request", words @ ..] => {
+                let request = request_of(self.alloc, 7, words)?.ok_or(Stop::Unread)?;
+                write_request(self.alloc, &mut sink, &request)
+            }
+            ["reply", words @ ..] => {
+                let reply = reply_of(self.alloc, words)?;
+                if !reply.fits() {
+                    return Err(Stop::Unread);
+                }
+                write_reply(self.alloc, &mut sink, &reply)
+            }
+            _ => return Err(Stop::Unread),
+        };
+        match result {
+            Ok(()) => Ok((sink.held, true)),
+            Err(WriteFault::Io) => Ok((sink.held, false)),
+            Err(WriteFault::NoMemory) => Err(Stop::NoMemory),
+        }
+    }
+
+    // A writer of so much room, which takes its bytes in such pieces.
+    fn sink(&self, room: usize, piece: (usize, bool), fails: bool) -> Result<Sink, Stop> {
+        let (at_once, interrupts) = piece;
+        Ok(Sink {
+            held: Vec::with_capacity(self.alloc, ROOM)?,
+            at_once,
+            interrupts,
+            interrupted: false,
+            room,
+            fails,
+        })
+    }
+
+    // What a writer of so much room holds in the end, in any pieces, and however it stops.
+    fn held(&self, what: &[&str], room: usize) -> Result<(Vec<u8>, bool), Stop> {
+        let (held, whole) = self.written(what, self.sink(room, (usize::MAX, false), true)?)?;
+        for piece in PIECES {
+            let (again, as_whole) = self.written(what, self.sink(room, piece, piece.1)?)?;
+            if again.as_slice() != held.as_slice() || as_whole != whole {
+                return Err(Stop::Changed);
+            }
+        }
+        Ok((held, whole))
+    }
+
+    // Puts the frame of the reply behind what was sent, as it was written elsewhere.
+    fn send_reply(&mut self, reply: &Reply, frame: &[u8]) -> Result<(), Stop> {
+        if !reply.fits() {
+            return Err(Stop::Unread);
+        }
+        let mut sent = Vec::from_slice(self.alloc, &self.sent)?;
+        put_reply(&mut sent, reply)?;
+        self.sent.extend_from_slice(frame)?;
+        let same = sent.as_slice() == self.sent.as_slice();
+        if same { Ok(()) } else { Err(Stop::Changed) }
+    }
+
+    // Sends a frame, and pushes how many bytes it has.
+    fn send(&mut self, what: &[&str], out: &mut String) -> Result<(), Stop> {
+        let (frame, whole) = self.held(what, ROOM)?;
+        if !whole {
+            return Err(Stop::Changed);
+        }
+        match what {
+            ["reply", words @ ..] => {
+                let reply = reply_of(self.alloc, words)?;
+                self.send_reply(&reply, &frame)?;
+            }
+            _ => self.sent.extend_from_slice(&frame)?,
+        }
+        push_numbers(out, &[frame.len() as u64])
+    }
+
+    // Pushes what a writer of so much room holds, and whether it is the whole.
+    fn push_stopped(&self, room: usize, what: &[&str], out: &mut String) -> Result<(), Stop> {
+        let (held, whole) = self.held(what, room)?;
+        push_body(out, &held)?;
+        push_word(out, if whole { "whole" } else { "Io" })
+    }
+}
+
+impl Subject for Frames {
+    fn new(alloc: Global) -> Frames {
+        Frames {
+            alloc,
+            sent: Vec::new(alloc),
+        }
+    }
+
+    fn answer(
+        &mut self,
+        words: &[&str],
+        out: &mut String,
+        _refused: &mut bool,
+    ) -> Result<(), Stop> {
+        let (behind, words) = match words {
+            ["failing", words @ ..] => (Behind::Failure, words),
+            _ => (Behind::End, words),
+        };
+        let (asked, bytes) = match words {
+            ["send", what @ ..] => return self.send(what, out),
+            ["room", room, what @ ..] => return self.push_stopped(room.parse()?, what, out),
+            ["sent", "frames", limit] => {
+                return self.push_read(Asked::Frames(limit.parse()?), &self.sent, behind, out);
+            }
+            ["sent", "replies"] => {
+                return self.push_read(Asked::Replies, &self.sent, behind, out);
+            }
+            ["head", limit, bytes @ ..] => (Asked::Head(limit.parse()?), bytes),
+            ["body", len, bytes @ ..] => (Asked::Body(len.parse()?), bytes),
+            ["frames", limit, bytes @ ..] => (Asked::Frames(limit.parse()?), bytes),
+            ["replies", bytes @ ..] => (Asked::Replies, bytes),
+            _ => return Err(Stop::Unread),
+        };
+        let bytes = bytes_of(self.alloc, bytes)?;
+        self.push_read(asked, &bytes, behind, out)
+    }
+}
