@@ -11,7 +11,7 @@ use transcripts::block_text::push_block;
 use transcripts::codec::bytes_of;
 use transcripts::reply_text::push_reply;
 use transcripts::table_text::table_named;
-use transcripts::transcript::{Stop, Subject};
+use transcripts::transcript::{Stop, Subject, pushed};
 
 // The numbers of databases and of passes decide nothing: each request has the next of them.
 const DATABASES: [u32; 4] = [0, 1, 4_294_967_295, 7];
@@ -37,28 +37,39 @@ enum Asked<'a> {
     Status(Head),
 }
 
+// The request that the bytes spell.
+fn decoded(alloc: Global, body: &[u8]) -> Result<Request, Stop> {
+    match decode_request(alloc, body) {
+        Ok(request) => Ok(request),
+        Err(BodyFault::Malformed(_)) => Err(Stop::Unread),
+        Err(BodyFault::NoMemory) => Err(Stop::NoMemory),
+    }
+}
+
 // What is read of a database in short.
 fn short_of(db: &Db) -> (u64, (u64, u64), Epochs) {
     (db.audit_len(), db.log().counts(), db.epochs())
 }
 
-impl Database {
-    fn open(
-        &mut self,
-        table: &str,
-        primary: &str,
-        audit: &str,
-        chunks: &str,
-    ) -> Result<&'static str, Stop> {
-        let limits = Limits {
-            audit: audit.parse()?,
+fn limits_of(audit: &str, chunks: &[&str]) -> Result<Limits, Stop> {
+    let audit = audit.parse()?;
+    match chunks {
+        [] => Ok(Limits { audit, chunks: 16 }),
+        [chunks] => Ok(Limits {
+            audit,
             chunks: chunks.parse()?,
-        };
+        }),
+        _ => Err(Stop::Unread),
+    }
+}
+
+impl Database {
+    fn open(&mut self, table: &str, primary: u32, limits: Limits) -> Result<&'static str, Stop> {
         if !limits.are_valid() {
             return Err(Stop::Unread);
         }
         let table = table_named(self.alloc, table)?;
-        match Db::new(self.alloc, table, primary.parse()?, limits) {
+        match Db::new(self.alloc, table, primary, limits) {
             Ok(db) => {
                 self.db = Some(db);
                 Ok("Ok")
@@ -68,21 +79,29 @@ impl Database {
         }
     }
 
+    // Opens the database of the words, and pushes whether there is one.
+    fn push_open(&mut self, words: &[&str], out: &mut String) -> Result<(), Stop> {
+        let [table, primary, audit, chunks @ ..] = words else {
+            return Err(Stop::Unread);
+        };
+        let limits = limits_of(audit, chunks)?;
+        push_word(out, self.open(table, primary.parse()?, limits)?)
+    }
+
     fn db(&self) -> Result<&Db, Stop> {
         self.db.as_ref().ok_or(Stop::Unread)
     }
 
     fn request(&self, asked: Asked) -> Result<Request, Stop> {
-        let request = match asked {
-            Asked::Words(words) => request_of(self.alloc, DATABASES[self.asked % 4], words)?,
-            Asked::Body(body) => match decode_request(self.alloc, body) {
-                Ok(request) => Some(request),
-                Err(BodyFault::Malformed(_)) => None,
-                Err(BodyFault::NoMemory) => return Err(Stop::NoMemory),
-            },
-            Asked::Status(head) => Request::new(head, Act::Status),
-        };
-        request.ok_or(Stop::Unread)
+        match asked {
+            Asked::Words(words) => self.request_of(words),
+            Asked::Body(body) => decoded(self.alloc, body),
+            Asked::Status(head) => Request::new(head, Act::Status).ok_or(Stop::Unread),
+        }
+    }
+
+    fn request_of(&self, words: &[&str]) -> Result<Request, Stop> {
+        request_of(self.alloc, DATABASES[self.asked % 4], words)?.ok_or(Stop::Unread)
     }
 
     fn pass(&self) -> u64 {
@@ -114,26 +133,33 @@ impl Database {
         Ok(reply)
     }
 
-    // Writes to the copy, or offers, each block from the first to the last, whose byte is its number,
-    // up to one that is not done.
-    fn fill(
+    // Writes to the copy, or offers, the block of the LSN, whose byte is its number.
+    fn put(
         &mut self,
         head: [&str; 4],
-        words: [&str; 3],
+        lsn: u64,
+        copy: &str,
         refused: &mut bool,
     ) -> Result<Reply, Stop> {
         let [principal, token, role, epoch] = head;
-        let [first, last, copy] = words;
-        for lsn in first.parse::<u64>()?..=last.parse::<u64>()? {
-            let block = format!(in self.alloc; "{lsn}:{:02x}", lsn % 256)?;
-            let block = block.as_str();
-            let reply = if copy.is_empty() {
-                let offer = [principal, token, role, epoch, "offer", block];
-                self.ask(Asked::Words(&offer), refused)?
-            } else {
-                let write = [principal, token, role, epoch, "write", block, copy];
-                self.ask(Asked::Words(&write), refused)?
-            };
+        let block = format!(in self.alloc; "{lsn}:{:02x}", lsn % 256)?;
+        let write = [principal, token, role, epoch, "write", &block, copy];
+        let offer = [principal, token, role, epoch, "offer", &block];
+        let words: &[&str] = if copy.is_empty() { &offer } else { &write };
+        self.ask(Asked::Words(words), refused)
+    }
+
+    // Puts each block from the first to the last, up to one that is not done.
+    fn put_each(
+        &mut self,
+        head: [&str; 4],
+        lsns: (u64, u64),
+        copy: &str,
+        refused: &mut bool,
+    ) -> Result<Reply, Stop> {
+        let (first, last) = lsns;
+        for lsn in first..=last {
+            let reply = self.put(head, lsn, copy, refused)?;
             if !matches!(reply, Reply::Done) {
                 return Ok(reply);
             }
@@ -141,20 +167,42 @@ impl Database {
         Ok(Reply::Done)
     }
 
-    // How many lines an audit serves.
-    fn lines(
+    // The reply to the last of so many writes or offers.
+    fn fill(
+        &mut self,
+        head: [&str; 4],
+        words: [&str; 3],
+        refused: &mut bool,
+    ) -> Result<Reply, Stop> {
+        let [first, last, copy] = words;
+        self.put_each(head, (first.parse()?, last.parse()?), copy, refused)
+    }
+
+    // Pushes how many lines an audit serves.
+    fn push_served(
         &mut self,
         head: [&str; 4],
         words: [&str; 2],
+        out: &mut String,
         refused: &mut bool,
-    ) -> Result<u64, Stop> {
+    ) -> Result<(), Stop> {
         let [principal, token, role, epoch] = head;
         let [first, max] = words;
         let audit = [principal, token, role, epoch, "audit", first, max];
-        match self.ask(Asked::Words(&audit), refused)? {
-            Reply::Entries { lines } => Ok(lines.as_slice().len() as u64),
-            _ => Err(Stop::Unread),
-        }
+        let reply = self.ask(Asked::Words(&audit), refused)?;
+        push_numbers(out, &[lines_in(&reply)?])
+    }
+
+    // Pushes how many of the statuses are answered.
+    fn push_statuses(
+        &mut self,
+        head: [&str; 4],
+        count: &str,
+        out: &mut String,
+        refused: &mut bool,
+    ) -> Result<(), Stop> {
+        let head = head_of(0, head)?;
+        push_numbers(out, &[self.statuses(head, count.parse()?, refused)?])
     }
 
     // How many of the statuses are answered, up to one that is not.
@@ -168,12 +216,13 @@ impl Database {
         Ok(count)
     }
 
-    fn queue(&mut self, words: &[&str]) -> Result<usize, Stop> {
-        let request = self.request(Asked::Words(words))?;
+    // Puts the request into the queue, and pushes how many there are.
+    fn queue(&mut self, words: &[&str], out: &mut String) -> Result<(), Stop> {
+        let request = self.request_of(words)?;
         let pass = self.pass();
         self.queue.push((pass, request))?;
         self.asked = self.asked.wrapping_add(1);
-        Ok(self.queue.len())
+        push_numbers(out, &[self.queue.len() as u64])
     }
 
     // Pushes the replies to the requests of the queue, in one run. Where memory is refused to the run,
@@ -186,14 +235,7 @@ impl Database {
             let same = short_of(db) == before;
             return Err(if same { Stop::NoMemory } else { Stop::Changed });
         };
-        for reply in &replies {
-            if matches!(reply, Reply::NoMemory) && !*refused {
-                return Err(Stop::NoMemory);
-            }
-            push_reply(out, reply)?;
-            out.push(';')?;
-        }
-        Ok(())
+        push_replies(out, &replies, *refused)
     }
 
     // Pushes the bytes of the reply to the request that the bytes spell.
@@ -219,10 +261,7 @@ impl Database {
         match words {
             ["audit"] => push_numbers(out, &[db.audit_len()]),
             ["hard"] => push_numbers(out, &[db.hard()]),
-            ["epochs"] => {
-                let Epochs { epoch, primary } = db.epochs();
-                push_numbers(out, &[u64::from(epoch), u64::from(primary)])
-            }
+            ["epochs"] => push_epochs(out, db.epochs()),
             ["log"] => push_log(out, db.log()),
             ["in_broker"] => push_numbers(out, &[db.log().in_broker() as u64]),
             ["applied", partition] => {
@@ -233,23 +272,63 @@ impl Database {
         }
     }
 
-    // Pushes the reply to the request of the words, or to the first of those that they stand for.
-    fn reply(&mut self, words: &[&str], out: &mut String, refused: &mut bool) -> Result<(), Stop> {
-        let reply = match words {
-            [principal, token, role, epoch, "fill", first, last, copy] => {
-                self.fill(
-                    [principal, token, role, epoch],
-                    [first, last, copy],
-                    refused,
-                )?
-            }
-            [principal, token, role, epoch, "offers", first, last] => {
-                self.fill([principal, token, role, epoch], [first, last, ""], refused)?
-            }
-            _ => self.ask(Asked::Words(words), refused)?,
-        };
-        push_reply(out, &reply)
+    // The reply to the request of the words, or to the last of those that they stand for.
+    fn reply(
+        &mut self,
+        head: [&str; 4],
+        act: &[&str],
+        words: &[&str],
+        refused: &mut bool,
+    ) -> Result<Reply, Stop> {
+        match act {
+            ["fill", first, last, copy] => self.fill(head, [first, last, copy], refused),
+            ["offers", first, last] => self.fill(head, [first, last, ""], refused),
+            _ => self.ask(Asked::Words(words), refused),
+        }
     }
+
+    // Pushes the answer to a line that begins with the head of a request.
+    fn push_answer(
+        &mut self,
+        words: &[&str],
+        out: &mut String,
+        refused: &mut bool,
+    ) -> Result<(), Stop> {
+        let [principal, token, role, epoch, act @ ..] = words else {
+            return Err(Stop::Unread);
+        };
+        let head = [*principal, *token, *role, *epoch];
+        match act {
+            ["statuses", count] => self.push_statuses(head, count, out, refused),
+            ["lines", first, max] => self.push_served(head, [first, max], out, refused),
+            _ => push_reply(out, &self.reply(head, act, words, refused)?),
+        }
+    }
+}
+
+// How many lines the reply serves.
+fn lines_in(reply: &Reply) -> Result<u64, Stop> {
+    match reply {
+        Reply::Entries { lines } => Ok(lines.as_slice().len() as u64),
+        _ => Err(Stop::Unread),
+    }
+}
+
+// Pushes the replies of a run. The first of no memory asks for the row to be played again.
+fn push_replies(out: &mut String, replies: &[Reply], refused: bool) -> Result<(), Stop> {
+    for reply in replies {
+        if matches!(reply, Reply::NoMemory) && !refused {
+            return Err(Stop::NoMemory);
+        }
+        push_reply(out, reply)?;
+        pushed(out.push(';'))?;
+    }
+    Ok(())
+}
+
+fn push_epochs(out: &mut String, epochs: Epochs) -> Result<(), Stop> {
+    let Epochs { epoch, primary } = epochs;
+    push_numbers(out, &[u64::from(epoch), u64::from(primary)])
 }
 
 // Pushes the hardened end, the copies, and how many blocks came from where.
@@ -273,28 +352,12 @@ impl Subject for Database {
 
     fn answer(&mut self, words: &[&str], out: &mut String, refused: &mut bool) -> Result<(), Stop> {
         match words {
-            ["open", table, primary, audit] => {
-                push_word(out, self.open(table, primary, audit, "16")?)
-            }
-            ["open", table, primary, audit, chunks] => {
-                push_word(out, self.open(table, primary, audit, chunks)?)
-            }
-            [
-                "audit" | "hard" | "epochs" | "log" | "in_broker" | "applied" | "annulled",
-                ..
-            ] => { self.state(words, out) }
-            ["queue", request @ ..] => push_numbers(out, &[self.queue(request)? as u64]),
+            ["open", words @ ..] => self.push_open(words, out),
+            ["queue", request @ ..] => self.queue(request, out),
             ["run"] => self.run(out, refused),
             ["bytes", body @ ..] => self.bytes(body, out, refused),
-            [principal, token, role, epoch, "statuses", count] => {
-                let head = head_of(0, [principal, token, role, epoch])?;
-                push_numbers(out, &[self.statuses(head, count.parse()?, refused)?])
-            }
-            [principal, token, role, epoch, "lines", first, max] => {
-                let head = [*principal, *token, *role, *epoch];
-                push_numbers(out, &[self.lines(head, [first, max], refused)?])
-            }
-            _ => self.reply(words, out, refused),
+            [_, _, _, _, _, ..] => self.push_answer(words, out, refused),
+            _ => self.state(words, out),
         }
     }
 }

@@ -199,20 +199,25 @@ fn pages_outgrow_arena(rt: HostRuntime) -> Result<(), Fail> {
     plays::<Database>(&rt, rt.alloc(), PAGES_OUTGROW_ARENA)
 }
 
-// Whether each of 200 versions is right, of which 64 have a frame at a time; and the first again.
-fn outgrows_arena(alloc: Global) -> Result<bool, AllocError> {
-    let mut served = open(alloc, 1)?;
-    for byte in 1..=200 {
+// Hardens so many blocks of page 0, and tells whether each version is right.
+fn has_versions(served: &mut Served, count: u8) -> Result<bool, AllocError> {
+    for byte in 1..=count {
         if !served.harden(0, byte)? {
             return Ok(false);
         }
     }
-    for lsn in 1..=200 {
+    for lsn in 1..=u64::from(count) {
         if !served.gives(0, lsn, true, lsn)? {
             return Ok(false);
         }
     }
-    served.gives(0, 1, true, 1)
+    Ok(true)
+}
+
+// Whether each of 200 versions is right, of which 64 have a frame at a time; and the first again.
+fn outgrows_arena(alloc: Global) -> Result<bool, AllocError> {
+    let mut served = open(alloc, 1)?;
+    Ok(has_versions(&mut served, 200)? && served.gives(0, 1, true, 1)?)
 }
 
 #[test]
@@ -242,21 +247,33 @@ const GETS: &[Get] = &[
     (2, 20, true, 20),
 ];
 
-// Whether each get is right, of 20 blocks that change two pages, of which 18 are applied.
-fn gives_each(alloc: Global, gets: &[Get]) -> Result<bool, AllocError> {
-    let mut served = open(alloc, 1)?;
+// Hardens 20 blocks that change two pages. Whether the log took them.
+fn harden_two_pages(served: &mut Served) -> Result<bool, AllocError> {
     for byte in 1..=20 {
         if !served.harden(u32::from(byte / 16), byte)? {
             return Ok(false);
         }
     }
-    served.advance(18)?;
+    Ok(true)
+}
+
+fn gives_all(served: &mut Served, gets: &[Get]) -> Result<bool, AllocError> {
     for (page, lsn, exact, at) in gets {
         if !served.gives(*page, *lsn, *exact, *at)? {
             return Ok(false);
         }
     }
     Ok(true)
+}
+
+// Whether each get is right, of 20 blocks that change two pages, of which 18 are applied.
+fn gives_each(alloc: Global, gets: &[Get]) -> Result<bool, AllocError> {
+    let mut served = open(alloc, 1)?;
+    if !harden_two_pages(&mut served)? {
+        return Ok(false);
+    }
+    served.advance(18)?;
+    gives_all(&mut served, gets)
 }
 
 #[test]

@@ -50,38 +50,71 @@ fn run(zone: &Landing, hard: u64) -> Result<usize, Stop> {
     Ok(zone.quorum_run(hard))
 }
 
+// The block of the LSN is put into the copy.
+fn land_block(alloc: Global, zone: &mut Landing, lsn: u64, copy: u8) -> Result<(), Stop> {
+    land(zone, copy, block(alloc, lsn, Size::Short)?)
+}
+
+fn has_run(zone: &Landing, hard: u64, len: usize) -> Result<(), Stop> {
+    wants(run(zone, hard)? == len, "the length of the run")
+}
+
+fn has_copies(zone: &Landing, lsn: u64, copies: u8) -> Result<(), Stop> {
+    wants(zone.copies_of(lsn) == copies, "the number of copies")
+}
+
+// Nothing comes out at the front.
+fn has_no_front(zone: &mut Landing, hard: u64) -> Result<(), Stop> {
+    wants(front(zone, hard)?.is_none(), "no content at the front")
+}
+
+// Whether the block comes out at the front, and is not there any more.
+fn gives(zone: &mut Landing, hard: u64, wanted: &Block) -> Result<bool, Stop> {
+    let taken = front(zone, hard)?;
+    Ok(match taken {
+        Some(content) => content.same(wanted) && zone.content(content.lsn()).is_none(),
+        None => false,
+    })
+}
+
 // The contents of the LSNs behind `hard` come out at the front, one by one, and the others stay.
 fn take_fronts(alloc: Global, zone: &mut Landing, hard: u64, count: u64) -> Result<(), Stop> {
     for before in hard..hard.saturating_add(count) {
         let wanted = block(alloc, before.saturating_add(1), Size::Short)?;
-        let Some(content) = front(zone, before)? else {
-            return Err(Stop::Wrong("no content at the front"));
-        };
-        wants(content.same(&wanted), "the content at the front")?;
-        wants(zone.content(content.lsn()).is_none(), "it is taken out")?;
+        let given = gives(zone, before, &wanted)?;
+        wants(given, "the content at the front, taken out")?;
     }
     Ok(())
 }
 
-// The 64 LSNs behind 100 are put into two copies, and those behind the tenth are put twice.
-fn fill_landing(alloc: Global, refused: &mut bool) -> Result<(), Stop> {
-    let mut zone = new_landing(alloc, refused)?;
+// The 64 LSNs behind 100 are put into two copies.
+fn fill_landing(alloc: Global, zone: &mut Landing) -> Result<(), Stop> {
     for lsn in 101..165u64 {
-        land(&mut zone, 0, block(alloc, lsn, Size::Short)?)?;
-        land(&mut zone, 2, block(alloc, lsn, Size::Short)?)?;
+        land_block(alloc, zone, lsn, 0)?;
+        land_block(alloc, zone, lsn, 2)?;
     }
     wants(!zone.is_near(165), "the 65th is too far")?;
-    wants(run(&zone, 100)? == 64, "64 in a quorum")?;
-    wants(run(&zone, 101)? == 63, "63 behind the first")?;
-    take_fronts(alloc, &mut zone, 100, 10)?;
+    has_run(zone, 100, 64)?;
+    has_run(zone, 101, 63)
+}
+
+// Ten LSNs more are put into a copy.
+fn fill_again(alloc: Global, zone: &mut Landing) -> Result<(), Stop> {
     for lsn in 165..175u64 {
-        wants(zone.copies_of(lsn) == 0, "in no copy")?;
-        land(&mut zone, 1, block(alloc, lsn, Size::Short)?)?;
-        wants(zone.copies_of(lsn) == 1, "in one copy")?;
+        has_copies(zone, lsn, 0)?;
+        land_block(alloc, zone, lsn, 1)?;
+        has_copies(zone, lsn, 1)?;
     }
-    wants(run(&zone, 110)? == 54, "54 in a quorum")?;
-    take_fronts(alloc, &mut zone, 110, 64)?;
-    wants(front(&mut zone, 174)?.is_none(), "nothing is left")
+    has_run(zone, 110, 54)
+}
+
+// The zone is filled, ten are taken out, it is filled again, and all are taken out.
+fn fill_and_empty(alloc: Global, zone: &mut Landing) -> Result<(), Stop> {
+    fill_landing(alloc, zone)?;
+    take_fronts(alloc, zone, 100, 10)?;
+    fill_again(alloc, zone)?;
+    take_fronts(alloc, zone, 110, 64)?;
+    has_no_front(zone, 174)
 }
 
 // What is put into each copy, of LSNs 1 to 6.
@@ -100,22 +133,40 @@ const LANDED: [(u64, u8); 12] = [
     (4, 1),
 ];
 
+// In how many copies each of them is then.
+const COPIES: [(u64, u8); 6] = [(1, 2), (2, 2), (3, 3), (4, 1), (5, 0), (6, 2)];
+
+fn land_each(alloc: Global, zone: &mut Landing, landed: &[(u64, u8)]) -> Result<(), Stop> {
+    for (lsn, copy) in landed {
+        land_block(alloc, zone, *lsn, *copy)?;
+    }
+    Ok(())
+}
+
+fn have_copies(zone: &Landing, wanted: &[(u64, u8)]) -> Result<(), Stop> {
+    for (lsn, copies) in wanted {
+        has_copies(zone, *lsn, *copies)?;
+        let same = zone.in_quorum(*lsn) == (2 <= *copies);
+        wants(same, "whether in a quorum")?;
+    }
+    Ok(())
+}
+
+// There is a run of three, none behind it, and a run of one behind the gap.
+fn have_runs(zone: &Landing) -> Result<(), Stop> {
+    has_run(zone, 0, 3)?;
+    has_run(zone, 3, 0)?;
+    has_run(zone, 5, 1)
+}
+
 // A copy counts once, and the run ends at the first LSN that is in too few.
-fn run_to_a_gap(alloc: Global, refused: &mut bool) -> Result<(), Stop> {
-    let mut zone = new_landing(alloc, refused)?;
-    for (lsn, copy) in LANDED {
-        land(&mut zone, copy, block(alloc, lsn, Size::Short)?)?;
-    }
-    for (lsn, copies) in [(1, 2), (2, 2), (3, 3), (4, 1), (5, 0), (6, 2)] {
-        wants(zone.copies_of(lsn) == copies, "the number of copies")?;
-        wants(zone.in_quorum(lsn) == (2 <= copies), "whether in a quorum")?;
-    }
-    wants(run(&zone, 0)? == 3, "a run of three")?;
-    wants(run(&zone, 3)? == 0, "no run")?;
-    wants(run(&zone, 5)? == 1, "a run of one")?;
-    wants(front(&mut zone, 4)?.is_none(), "5 has no content")?;
-    take_fronts(alloc, &mut zone, 0, 4)?;
-    wants(zone.copies_of(6) == 2, "6 stays")
+fn run_to_a_gap(alloc: Global, zone: &mut Landing) -> Result<(), Stop> {
+    land_each(alloc, zone, &LANDED)?;
+    have_copies(zone, &COPIES)?;
+    have_runs(zone)?;
+    has_no_front(zone, 4)?;
+    take_fronts(alloc, zone, 0, 4)?;
+    has_copies(zone, 6, 2)
 }
 
 #[derive(Clone, Copy, Debug)]
@@ -126,9 +177,10 @@ enum LandingRow {
 
 impl Row for LandingRow {
     fn play(self, alloc: Global, refused: &mut bool) -> Result<(), Stop> {
+        let mut zone = new_landing(alloc, refused)?;
         match self {
-            LandingRow::Fills => fill_landing(alloc, refused),
-            LandingRow::RunToAGap => run_to_a_gap(alloc, refused),
+            LandingRow::Fills => fill_and_empty(alloc, &mut zone),
+            LandingRow::RunToAGap => run_to_a_gap(alloc, &mut zone),
         }
     }
 }

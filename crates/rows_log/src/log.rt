@@ -98,6 +98,19 @@ impl Driven {
         self.report(lsn, refused)
     }
 
+    fn harden_each(
+        &mut self,
+        alloc: Global,
+        first: u64,
+        last: u64,
+        refused: &mut bool,
+    ) -> Result<(), Stop> {
+        for lsn in first..=last {
+            self.harden(alloc, lsn, refused)?;
+        }
+        Ok(())
+    }
+
     // Leaves the newest blocks in the broker.
     fn tidy(&mut self, refused: &mut bool) -> Result<(), Stop> {
         let before = self.short();
@@ -134,10 +147,11 @@ impl Driven {
         push_block(out, &block)
     }
 
-    fn pull(&mut self, out: &mut String, asked: [&str; 5]) -> Result<(), Stop> {
-        let [lo, hi, from, max, reach] = asked;
-        let max = max.parse()?;
-        let reach = reach.parse()?;
+    fn pull(&mut self, out: &mut String, asked: &[&str]) -> Result<(), Stop> {
+        let [lo, hi, from, max, reach] = asked else {
+            return Err(Stop::Unread);
+        };
+        let (max, reach) = (max.parse()?, reach.parse()?);
         if max < 1 || self.log.hard() < reach {
             return Err(Stop::Unread);
         }
@@ -168,55 +182,79 @@ fn meets_refusal(refused: &mut bool, same: bool) -> Result<(), Stop> {
     Ok(())
 }
 
-impl Log {
-    fn change(&mut self, words: &[&str], out: &mut String, refused: &mut bool) -> Result<(), Stop> {
-        let driven = self.driven.as_mut().ok_or(Stop::Unread)?;
+impl Driven {
+    // Makes the change of the words.
+    fn change(&mut self, alloc: Global, words: &[&str], refused: &mut bool) -> Result<(), Stop> {
         match words {
-            ["write", block, copy] => {
-                driven.write(self.alloc, block, copy.parse()?)?;
-                push_word(out, "Ok")
-            }
-            ["offer", block] => {
-                driven.offer(self.alloc, block, refused)?;
-                push_word(out, "Ok")
-            }
-            ["report", lsn] => {
-                driven.report(lsn.parse()?, refused)?;
-                push_word(out, "Ok")
-            }
+            ["write", block, copy] => self.write(alloc, block, copy.parse()?),
+            ["offer", block] => self.offer(alloc, block, refused),
+            ["report", lsn] => self.report(lsn.parse()?, refused),
             ["harden", first, last] => {
-                for lsn in first.parse::<u64>()?..=last.parse::<u64>()? {
-                    driven.harden(self.alloc, lsn, refused)?;
-                }
-                push_word(out, "Ok")
+                self.harden_each(alloc, first.parse()?, last.parse()?, refused)
             }
-            ["tidy"] => {
-                driven.tidy(refused)?;
-                push_word(out, "Ok")
-            }
-            ["recover"] => push_numbers(out, &[driven.recover(refused)?]),
-            ["read", lsn] => driven.read(out, lsn.parse()?),
-            ["pull", lo, hi, from, max, reach] => driven.pull(out, [lo, hi, from, max, reach]),
+            ["tidy"] => self.tidy(refused),
             _ => Err(Stop::Unread),
         }
     }
 
-    fn state(&self, words: &[&str], out: &mut String) -> Result<(), Stop> {
-        let driven = self.driven.as_ref().ok_or(Stop::Unread)?;
-        let log = &driven.log;
+    // Pushes what is taken out of the log, or made of it.
+    fn push_read(
+        &mut self,
+        words: &[&str],
+        out: &mut String,
+        refused: &mut bool,
+    ) -> Result<(), Stop> {
         match words {
-            ["hard"] => push_numbers(out, &[log.hard()]),
-            ["copies"] => push_numbers(out, &[u64::from(log.copies())]),
-            ["counts"] => {
-                let (pending, landing) = log.counts();
-                push_numbers(out, &[pending, landing])
-            }
-            ["in_broker"] => push_numbers(out, &[log.in_broker() as u64]),
-            ["in_window", lsn] => push_truth(out, log.in_window(lsn.parse()?)),
-            ["can_harden", lsn] => push_truth(out, log.can_harden(lsn.parse()?)),
-            ["agrees", block] => push_truth(out, log.agrees(&block_of(self.alloc, block)?)),
-            ["annulled", epoch, lsn] => driven.annulled(out, epoch, lsn),
+            ["recover"] => push_numbers(out, &[self.recover(refused)?]),
+            ["read", lsn] => self.read(out, lsn.parse()?),
+            ["pull", asked @ ..] => self.pull(out, asked),
             _ => Err(Stop::Unread),
+        }
+    }
+
+    fn push_state(&self, alloc: Global, words: &[&str], out: &mut String) -> Result<(), Stop> {
+        match words {
+            ["hard"] => push_numbers(out, &[self.log.hard()]),
+            ["copies"] => push_numbers(out, &[u64::from(self.log.copies())]),
+            ["counts"] => push_counts(out, self.log.counts()),
+            ["in_broker"] => push_numbers(out, &[self.log.in_broker() as u64]),
+            ["annulled", epoch, lsn] => self.annulled(out, epoch, lsn),
+            _ => push_truth(out, self.holds(alloc, words)?),
+        }
+    }
+
+    fn holds(&self, alloc: Global, words: &[&str]) -> Result<bool, Stop> {
+        match words {
+            ["in_window", lsn] => Ok(self.log.in_window(lsn.parse()?)),
+            ["can_harden", lsn] => Ok(self.log.can_harden(lsn.parse()?)),
+            ["agrees", block] => Ok(self.log.agrees(&block_of(alloc, block)?)),
+            _ => Err(Stop::Unread),
+        }
+    }
+}
+
+fn push_counts(out: &mut String, counts: (u64, u64)) -> Result<(), Stop> {
+    let (pending, landing) = counts;
+    push_numbers(out, &[pending, landing])
+}
+
+impl Log {
+    fn open(&mut self, copies: &str, quorum: &str) -> Result<(), Stop> {
+        self.driven = Some(open(self.alloc, copies.parse()?, quorum.parse()?)?);
+        Ok(())
+    }
+
+    // Pushes the answer of the log that is open.
+    fn ask(&mut self, words: &[&str], out: &mut String, refused: &mut bool) -> Result<(), Stop> {
+        let alloc = self.alloc;
+        let driven = self.driven.as_mut().ok_or(Stop::Unread)?;
+        match words {
+            ["recover" | "read" | "pull", ..] => driven.push_read(words, out, refused),
+            ["write" | "offer" | "report" | "harden" | "tidy", ..] => {
+                driven.change(alloc, words, refused)?;
+                push_word(out, "Ok")
+            }
+            _ => driven.push_state(alloc, words, out),
         }
     }
 }
@@ -230,16 +268,10 @@ impl Subject for Log {
     }
 
     fn answer(&mut self, words: &[&str], out: &mut String, refused: &mut bool) -> Result<(), Stop> {
-        match words {
-            ["log", copies, quorum] => {
-                self.driven = Some(open(self.alloc, copies.parse()?, quorum.parse()?)?);
-                push_word(out, "Ok")
-            }
-            [
-                "write" | "offer" | "report" | "harden" | "tidy" | "recover" | "read" | "pull",
-                ..
-            ] => { self.change(words, out, refused) }
-            _ => self.state(words, out),
-        }
+        let ["log", copies, quorum] = words else {
+            return self.ask(words, out, refused);
+        };
+        self.open(copies, quorum)?;
+        push_word(out, "Ok")
     }
 }

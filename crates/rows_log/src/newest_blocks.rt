@@ -6,6 +6,7 @@ use crate::stores::{Row, Size, Stop, block, meets_refusal, plays, wants};
 use pl_block::Block;
 use pl_broker::{Broker, ROOM};
 use std::alloc::Global;
+use std::ops::Range;
 
 /// A broker, and the LSN of its oldest block.
 #[derive(Drop)]
@@ -61,27 +62,48 @@ fn new_broker(alloc: Global, refused: &mut bool) -> Result<Newest, Stop> {
     Ok(Newest { first, broker })
 }
 
-// The broker fills, gives up its ten oldest blocks, and takes ten more.
-fn fill_broker(alloc: Global, refused: &mut bool) -> Result<(), Stop> {
-    let mut newest = new_broker(alloc, refused)?;
-    for lsn in 7..263u64 {
+fn push_each(alloc: Global, newest: &mut Newest, lsns: Range<u64>) -> Result<(), Stop> {
+    for lsn in lsns {
         newest.push(block(alloc, lsn, Size::Short)?)?;
-    }
-    wants(newest.broker.len() == 256, "256 blocks")?;
-    for lsn in 7..17u64 {
-        let wanted = block(alloc, lsn, Size::Short)?;
-        wants(newest.oldest()?.same(&wanted), "the oldest block")?;
-        wants(newest.pop()?.same(&wanted), "the oldest block, taken out")?;
-    }
-    wants(newest.broker.len() == 246, "246 blocks")?;
-    for lsn in 263..273u64 {
-        newest.push(block(alloc, lsn, Size::Short)?)?;
-    }
-    for lsn in 17..273u64 {
-        let wanted = block(alloc, lsn, Size::Short)?;
-        wants(newest.get(lsn)?.same(&wanted), "the block of the LSN")?;
     }
     Ok(())
+}
+
+// The oldest block is that one, and is taken out.
+fn pops(newest: &mut Newest, wanted: &Block) -> Result<(), Stop> {
+    wants(newest.oldest()?.same(wanted), "the oldest block")?;
+    wants(newest.pop()?.same(wanted), "the oldest block, taken out")
+}
+
+fn pop_each(alloc: Global, newest: &mut Newest, lsns: Range<u64>) -> Result<(), Stop> {
+    for lsn in lsns {
+        let wanted = block(alloc, lsn, Size::Short)?;
+        pops(newest, &wanted)?;
+    }
+    Ok(())
+}
+
+fn gives(newest: &Newest, wanted: &Block) -> Result<(), Stop> {
+    let found = newest.get(wanted.lsn())?;
+    wants(found.same(wanted), "the block of the LSN")
+}
+
+fn get_each(alloc: Global, newest: &Newest, lsns: Range<u64>) -> Result<(), Stop> {
+    for lsn in lsns {
+        let wanted = block(alloc, lsn, Size::Short)?;
+        gives(newest, &wanted)?;
+    }
+    Ok(())
+}
+
+// The broker fills, gives up its ten oldest blocks, and takes ten more.
+fn fill_broker(alloc: Global, newest: &mut Newest) -> Result<(), Stop> {
+    push_each(alloc, newest, 7..263)?;
+    wants(newest.broker.len() == 256, "256 blocks")?;
+    pop_each(alloc, newest, 7..17)?;
+    wants(newest.broker.len() == 246, "246 blocks")?;
+    push_each(alloc, newest, 263..273)?;
+    get_each(alloc, newest, 17..273)
 }
 
 #[derive(Clone, Copy, Debug)]
@@ -92,7 +114,10 @@ enum BrokerRow {
 impl Row for BrokerRow {
     fn play(self, alloc: Global, refused: &mut bool) -> Result<(), Stop> {
         match self {
-            BrokerRow::Fills => fill_broker(alloc, refused),
+            BrokerRow::Fills => {
+                let mut newest = new_broker(alloc, refused)?;
+                fill_broker(alloc, &mut newest)
+            }
         }
     }
 }

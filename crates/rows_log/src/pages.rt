@@ -58,6 +58,22 @@ impl Served {
         Ok(self.pages.advance(&mut self.log, partition, steps)?)
     }
 
+    // Hardens the block, which is written to two copies.
+    fn harden(&mut self, alloc: Global, block: &str, lsn: u64) -> Result<(), Stop> {
+        self.write(alloc, block, 0)?;
+        self.write(alloc, block, 1)?;
+        self.report(lsn)
+    }
+
+    // Makes the change of the words.
+    fn change(&mut self, alloc: Global, words: &[&str]) -> Result<(), Stop> {
+        match words {
+            ["harden", lsn, block] => self.harden(alloc, block, lsn.parse()?),
+            ["advance", partition, steps] => self.advance(partition.parse()?, steps.parse()?),
+            _ => Err(Stop::Unread),
+        }
+    }
+
     // The LSN that is answered, and the first and the last byte of the page.
     fn get(&mut self, page: u32, lsn: u64, exact: bool) -> Result<[u64; 3], Stop> {
         if self.log.hard() < lsn {
@@ -65,6 +81,37 @@ impl Served {
         }
         let (at, bytes) = self.pages.get(&mut self.log, page, lsn, exact)?;
         Ok([at, u64::from(bytes[0]), u64::from(bytes[8_191])])
+    }
+
+    // Pushes what is read of the pages.
+    fn push_state(&mut self, words: &[&str], out: &mut String) -> Result<(), Stop> {
+        match words {
+            ["applied", partition] => {
+                push_numbers(out, &[self.pages.applied(partition.parse()?)])
+            }
+            ["get", page, lsn] => {
+                push_numbers(out, &self.get(page.parse()?, lsn.parse()?, false)?)
+            }
+            ["get", page, lsn, "exact"] => {
+                push_numbers(out, &self.get(page.parse()?, lsn.parse()?, true)?)
+            }
+            _ => Err(Stop::Unread),
+        }
+    }
+}
+
+impl Replayed {
+    // Pushes the answer of the pages that are open.
+    fn ask(&mut self, words: &[&str], out: &mut String) -> Result<(), Stop> {
+        let alloc = self.alloc;
+        let served = self.served.as_mut().ok_or(Stop::Unread)?;
+        match words {
+            ["harden" | "advance", ..] => {
+                served.change(alloc, words)?;
+                push_word(out, "Ok")
+            }
+            _ => served.push_state(words, out),
+        }
     }
 }
 
@@ -82,35 +129,11 @@ impl Subject for Replayed {
         out: &mut String,
         _refused: &mut bool,
     ) -> Result<(), Stop> {
-        if let ["pages"] = words {
-            self.served = Some(open(self.alloc)?);
-            return push_word(out, "Ok");
-        }
-        let served = self.served.as_mut().ok_or(Stop::Unread)?;
-        match words {
-            ["harden", lsn, block] => {
-                served.write(self.alloc, block, 0)?;
-                served.write(self.alloc, block, 1)?;
-                served.report(lsn.parse()?)?;
-                push_word(out, "Ok")
-            }
-            ["advance", partition, steps] => {
-                served.advance(partition.parse()?, steps.parse()?)?;
-                push_word(out, "Ok")
-            }
-            ["applied", partition] => push_numbers(
-                out,
-                &[served.pages.applied(partition.parse()?)],
-            ),
-            ["get", page, lsn] => push_numbers(
-                out,
-                &served.get(page.parse()?, lsn.parse()?, false)?,
-            ),
-            ["get", page, lsn, "exact"] => {
-                push_numbers(out, &served.get(page.parse()?, lsn.parse()?, true)?)
-            }
-            _ => Err(Stop::Unread),
-        }
+        let ["pages"] = words else {
+            return self.ask(words, out);
+        };
+        self.served = Some(open(self.alloc)?);
+        push_word(out, "Ok")
     }
 }
 

@@ -6,7 +6,7 @@ ghost use Rattle.pl_conn.specs.Desks.{AreOf};
 
 use crate::conversations::{FRAMES, REPLIES, check, open};
 use pl_conn::{Desks, Gate, Passes, Served, Solo, SoloPass, Stop as Stopped, serve};
-use pl_core::Reply;
+use pl_core::{Db, Reply};
 use pl_table::{Act, Request};
 use std::alloc::Global;
 use std::io::{Read, Write};
@@ -180,6 +180,42 @@ where
     Ok((served, (of_first, of_second)))
 }
 
+// The database of the desk.
+fn one_db(alloc: Global) -> Result<Vec<Db>, Stop> {
+    let mut dbs = Vec::with_capacity(alloc, 1)?;
+    dbs.push_reserved(open(alloc)?);
+    Ok(dbs)
+}
+
+// Serves two clients of these frames over the desk of one database.
+fn serve_frames<R>(
+    rt: &R,
+    alloc: Global,
+    frames: &[u8],
+    is_cut: bool,
+) -> Result<(Served<Passes>, Answers), Stop>
+where
+    R: Net<Listener = TcpListener, Stream = TcpStream> + Threads + Wait + Sync + Copy + Drop,
+{
+    let (first, second) = frames.split_at(160.min(frames.len()));
+    let count = if is_cut { 10 } else { 48 };
+    let (second, _) = second.split_at(count.min(second.len()));
+    let (desks, passes) = Desks::new(alloc, *rt, one_db(alloc)?, 1, TURNS)?;
+    serve_two(rt, alloc, &desks, passes, (first, second), is_cut)
+}
+
+fn check_served(served: &Served<Passes>, is_cut: bool) -> Result<(), Stop> {
+    check(served.accepted == 2 && served.stop == Stopped::Limit && served.passes.len() == 1)?;
+    check(served.faults == if is_cut { 1 } else { 0 })
+}
+
+fn check_answers(answers: Answers, replies: &[u8], is_cut: bool) -> Result<(), Stop> {
+    let (of_first, of_second) = answers;
+    let (wanted_first, wanted_second) = replies.split_at(15.min(replies.len()));
+    check(of_first.as_slice() == wanted_first)?;
+    check(is_cut || of_second.as_slice() == wanted_second)
+}
+
 // Serves two clients with one worker, over the desk of one database. The second sends its whole frame
 // and reads the reply, or 10 bytes of it, which is a fault.
 fn serve_in_turn<R>(rt: &R, alloc: Global, is_cut: bool) -> Result<(), Stop>
@@ -187,20 +223,10 @@ where
     R: Net<Listener = TcpListener, Stream = TcpStream> + Threads + Wait + Sync + Copy + Drop,
 {
     let frames = hex::decode(alloc, FRAMES)?;
+    let (served, answers) = serve_frames(rt, alloc, &frames, is_cut)?;
+    check_served(&served, is_cut)?;
     let replies = hex::decode(alloc, REPLIES)?;
-    let mut dbs = Vec::with_capacity(alloc, 1)?;
-    dbs.push_reserved(open(alloc)?);
-    let (desks, passes) = Desks::new(alloc, *rt, dbs, 1, TURNS)?;
-    let (first, second) = frames.split_at(160.min(frames.len()));
-    let count = if is_cut { 10 } else { 48 };
-    let (second, _) = second.split_at(count.min(second.len()));
-    let (served, answers) = serve_two(rt, alloc, &desks, passes, (first, second), is_cut)?;
-    let (of_first, of_second) = answers;
-    check(served.accepted == 2 && served.stop == Stopped::Limit && served.passes.len() == 1)?;
-    check(served.faults == if is_cut { 1 } else { 0 })?;
-    let (wanted_first, wanted_second) = replies.split_at(15.min(replies.len()));
-    check(of_first.as_slice() == wanted_first)?;
-    check(is_cut || of_second.as_slice() == wanted_second)
+    check_answers(answers, &replies, is_cut)
 }
 
 #[test]

@@ -1,9 +1,10 @@
 //! Desks that two threads call at once: what is so in the end whatever the schedule.
 
-ghost use Rattle.std.specs.Prelude.{◌≡◌, ◌≤◌, ◌^◌};
+ghost use Rattle.std.specs.Prelude.{◌≡◌, ◌≤◌, ◌^◌, IfOk};
+ghost use Rattle.std.specs.List.{All};
 ghost use Rattle.pl_desk.specs.Passes.{IsOf};
 
-use crate::desks::{HARDENS, TURNS, ask, open, play};
+use crate::desks::{HARDENS, TURNS, ask, last_of, open, play};
 use pl_core::{Db, Line, Reply};
 use pl_desk::{Desk, Pass};
 use std::alloc::Global;
@@ -74,6 +75,31 @@ fn meet(desk: &Desk, pass: &mut Pass, other: Pass)
     desk.meet(pass, other);
 }
 
+// Plays a row with the two passes. It returns the first of them, which has met the second.
+fn play_passes<R: Threads + Wait + Abort + Sync>(
+    rt: &R,
+    alloc: Global,
+    desk: &Desk,
+    mut passes: Vec<Pass>,
+    row: Row,
+) -> Result<(u64, u64, Pass), Stop>
+    requires of { All (IsOf desk.now) passes.items }
+    ensures of { IfOk result (λ ends. IsOf desk.now ends.1.1) }
+{
+    let mut q = last_of(desk, &mut passes)?;
+    let mut p = last_of(desk, &mut passes)?;
+    play(rt, alloc, desk, &mut p, row.before)?;
+    let (first, second) = thread::join_mut(
+        rt,
+        &mut || ask_over_a_change(rt, alloc, desk, &mut p, row.first),
+        &mut || ask_over_a_change(rt, alloc, desk, &mut q, row.second),
+    );
+    let (first, second) = (first?, second?);
+    meet(desk, &mut p, q);
+    play(rt, alloc, desk, &mut p, row.after)?;
+    Ok((first, second, p))
+}
+
 // Plays a row. It returns how many answers of each thread are those up to the change, and the
 // database.
 fn play_two<R: Threads + Wait + Abort + Sync>(
@@ -84,21 +110,11 @@ fn play_two<R: Threads + Wait + Abort + Sync>(
     requires some { 1 ≤ row.turns }
     requires few { row.turns ≤ 2 ^ 62 }
 {
-    let Ok((desk, mut passes)) = Desk::new(alloc, open(alloc, row.audit)?, 2, row.turns) else {
+    let Ok((desk, passes)) = Desk::new(alloc, open(alloc, row.audit)?, 2, row.turns) else {
         return Err(Stop::NoMemory);
     };
-    let mut q = passes.pop().ok_or(Stop::Unread)?;
-    let mut p = passes.pop().ok_or(Stop::Unread)?;
-    play(rt, alloc, &desk, &mut p, row.before)?;
-    let (first, second) = thread::join_mut(
-        rt,
-        &mut || ask_over_a_change(rt, alloc, &desk, &mut p, row.first),
-        &mut || ask_over_a_change(rt, alloc, &desk, &mut q, row.second),
-    );
-    let (first, second) = (first?, second?);
-    meet(&desk, &mut p, q);
-    play(rt, alloc, &desk, &mut p, row.after)?;
-    Ok((first, second, desk.close(p).ok_or(Stop::Unread)?))
+    let (first, second, pass) = play_passes(rt, alloc, &desk, passes, row)?;
+    Ok((first, second, desk.close(pass).ok_or(Stop::Unread)?))
 }
 
 // How many answers of both threads are those up to the change, and how many entries there are in the

@@ -1,6 +1,7 @@
 //! Desks: several passes of one database, in one thread.
 
-ghost use Rattle.std.specs.Prelude.{◌≡◌, ◌≤◌, ◌^◌};
+ghost use Rattle.std.specs.Prelude.{◌≡◌, ◌≤◌, ◌^◌, IfOk};
+ghost use Rattle.std.specs.List.{All};
 ghost use Rattle.pl_desk.specs.Passes.{IsOf};
 
 use pl_core::{Db, Limits, Reply};
@@ -68,6 +69,32 @@ pub(crate) fn play<R: Wait + Abort>(
     Ok(())
 }
 
+/// The last of the passes.
+pub(crate) fn last_of(desk: &Desk, passes: &mut Vec<Pass>) -> Result<Pass, Stop>
+    requires of { All (IsOf desk.now) passes.old.items }
+    ensures last { IfOk result (λ pass. IsOf desk.now pass) }
+    ensures of { All (IsOf desk.now) passes.new.items }
+{
+    passes.pop().ok_or(Stop::Unread)
+}
+
+// Plays a row of the last pass, and returns its number and the pass.
+fn play_last<R: Wait + Abort>(
+    rt: &R,
+    alloc: Global,
+    desk: &Desk,
+    mut passes: Vec<Pass>,
+    row: &str,
+) -> Result<(u64, Pass), Stop>
+    requires of { All (IsOf desk.now) passes.items }
+    ensures of { IfOk result (λ ends. IsOf desk.now ends.1) }
+{
+    let mut pass = last_of(desk, &mut passes)?;
+    let number = Desk::number(&pass);
+    play(rt, alloc, desk, &mut pass, row)?;
+    Ok((number, pass))
+}
+
 // Plays a row of one pass, and returns its number and how many entries there are in the end.
 fn play_alone<R: Wait + Abort>(
     rt: &R,
@@ -78,12 +105,10 @@ fn play_alone<R: Wait + Abort>(
     requires some { 1 ≤ turns }
     requires few { turns ≤ 2 ^ 62 }
 {
-    let Ok((desk, mut passes)) = Desk::new(alloc, open(alloc, 65_536)?, 1, turns) else {
+    let Ok((desk, passes)) = Desk::new(alloc, open(alloc, 65_536)?, 1, turns) else {
         return Err(Stop::NoMemory);
     };
-    let mut pass = passes.pop().ok_or(Stop::Unread)?;
-    let number = Desk::number(&pass);
-    play(rt, alloc, &desk, &mut pass, row)?;
+    let (number, pass) = play_last(rt, alloc, &desk, passes, row)?;
     let db = desk.close(pass).ok_or(Stop::Unread)?;
     Ok((number, db.audit_len()))
 }
@@ -126,24 +151,56 @@ pub(crate) const HARDENS: &str = "\
 2 22 primary 1 report 1     = Done
 ";
 
+const PULLS: &str = "3 33 secondary 1 pull 0 65535 1 16 = Blocks 2 1:aa";
+
+const FAILS_OVER: &str = "1 11 operator 1 failover 5 = Done";
+
+const IS_LATE: &str = "2 22 primary 1 status = Denied A2 2";
+
+// Plays a row of one pass, and one of another that has met it.
+fn play_before<R: Wait + Abort>(
+    rt: &R,
+    alloc: Global,
+    desk: &Desk,
+    mut first: Pass,
+    rows: [&str; 2],
+    pass: &mut Pass,
+) -> Result<(), Stop>
+    requires first { IsOf desk.now first }
+    requires of { IsOf desk.now pass.old }
+    ensures of { IsOf desk.now pass.new }
+{
+    let [before, after] = rows;
+    play(rt, alloc, desk, &mut first, before)?;
+    desk.meet(pass, first);
+    play(rt, alloc, desk, pass, after)
+}
+
+// Plays the rows of three passes, of which one meets the two others.
+fn play_passes<R: Wait + Abort>(
+    rt: &R,
+    alloc: Global,
+    desk: &Desk,
+    mut passes: Vec<Pass>,
+) -> Result<Pass, Stop>
+    requires of { All (IsOf desk.now) passes.items }
+    ensures of { IfOk result (λ pass. IsOf desk.now pass) }
+{
+    let last = last_of(desk, &mut passes)?;
+    let mut pass = last_of(desk, &mut passes)?;
+    let first = last_of(desk, &mut passes)?;
+    play_before(rt, alloc, desk, first, [HARDENS, PULLS], &mut pass)?;
+    play_before(rt, alloc, desk, last, [FAILS_OVER, IS_LATE], &mut pass)?;
+    Ok(pass)
+}
+
 // Plays a row of three passes that meet, and returns how many entries there are in the end.
 fn play_three<R: Wait + Abort>(rt: &R, alloc: Global) -> Result<u64, Stop> {
-    let Ok((desk, mut passes)) = Desk::new(alloc, open(alloc, 65_536)?, 3, TURNS) else {
+    let Ok((desk, passes)) = Desk::new(alloc, open(alloc, 65_536)?, 3, TURNS) else {
         return Err(Stop::NoMemory);
     };
-    let mut r = passes.pop().ok_or(Stop::Unread)?;
-    let mut q = passes.pop().ok_or(Stop::Unread)?;
-    let mut p = passes.pop().ok_or(Stop::Unread)?;
-    play(rt, alloc, &desk, &mut p, HARDENS)?;
-    desk.meet(&mut q, p);
-    let pulls = "3 33 secondary 1 pull 0 65535 1 16 = Blocks 2 1:aa";
-    play(rt, alloc, &desk, &mut q, pulls)?;
-    let fails_over = "1 11 operator 1 failover 5 = Done";
-    play(rt, alloc, &desk, &mut r, fails_over)?;
-    desk.meet(&mut q, r);
-    let is_late = "2 22 primary 1 status = Denied A2 2";
-    play(rt, alloc, &desk, &mut q, is_late)?;
-    Ok(desk.close(q).ok_or(Stop::Unread)?.audit_len())
+    let pass = play_passes(rt, alloc, &desk, passes)?;
+    Ok(desk.close(pass).ok_or(Stop::Unread)?.audit_len())
 }
 
 #[test]

@@ -122,6 +122,15 @@ fn push_reply_fault(out: &mut String, fault: ReplyFault) -> Result<(), Stop> {
     }
 }
 
+// Whether the whole frame was written.
+fn is_whole(written: Result<(), WriteFault>) -> Result<bool, Stop> {
+    match written {
+        Ok(()) => Ok(true),
+        Err(WriteFault::Io) => Ok(false),
+        Err(WriteFault::NoMemory) => Err(Stop::NoMemory),
+    }
+}
+
 fn push_body(out: &mut String, body: &[u8]) -> Result<(), Stop> {
     if body.is_empty() {
         return push_word(out, "empty");
@@ -215,27 +224,27 @@ impl Frames {
         Ok(out.push_str(&whole)?)
     }
 
+    fn write_request(&self, words: &[&str], sink: &mut Sink) -> Result<bool, Stop> {
+        let request = request_of(self.alloc, 7, words)?.ok_or(Stop::Unread)?;
+        is_whole(write_request(self.alloc, sink, &request))
+    }
+
+    fn write_reply(&self, words: &[&str], sink: &mut Sink) -> Result<bool, Stop> {
+        let reply = reply_of(self.alloc, words)?;
+        if !reply.fits() {
+            return Err(Stop::Unread);
+        }
+        is_whole(write_reply(self.alloc, sink, &reply))
+    }
+
     // What a writer holds in the end, and whether the whole frame was written.
     fn written(&self, what: &[&str], mut sink: Sink) -> Result<(Vec<u8>, bool), Stop> {
-        let result = match what {
-            ["request", words @ ..] => {
-                let request = request_of(self.alloc, 7, words)?.ok_or(Stop::Unread)?;
-                write_request(self.alloc, &mut sink, &request)
-            }
-            ["reply", words @ ..] => {
-                let reply = reply_of(self.alloc, words)?;
-                if !reply.fits() {
-                    return Err(Stop::Unread);
-                }
-                write_reply(self.alloc, &mut sink, &reply)
-            }
+        let whole = match what {
+            ["request", words @ ..] => self.write_request(words, &mut sink)?,
+            ["reply", words @ ..] => self.write_reply(words, &mut sink)?,
             _ => return Err(Stop::Unread),
         };
-        match result {
-            Ok(()) => Ok((sink.held, true)),
-            Err(WriteFault::Io) => Ok((sink.held, false)),
-            Err(WriteFault::NoMemory) => Err(Stop::NoMemory),
-        }
+        Ok((sink.held, whole))
     }
 
     // A writer of so much room, which takes its bytes in such pieces.
@@ -299,6 +308,38 @@ impl Frames {
     }
 }
 
+impl Frames {
+    // Pushes what is read of the input that the words spell.
+    fn push_input(&self, words: &[&str], behind: Behind, out: &mut String) -> Result<(), Stop> {
+        if let ["sent", words @ ..] = words {
+            return self.push_sent(words, behind, out);
+        }
+        let (asked, bytes) = asked_in(words)?;
+        let bytes = bytes_of(self.alloc, bytes)?;
+        self.push_read(asked, &bytes, behind, out)
+    }
+
+    // Pushes what is read of the bytes that were sent.
+    fn push_sent(&self, words: &[&str], behind: Behind, out: &mut String) -> Result<(), Stop> {
+        let (asked, bytes) = asked_in(words)?;
+        if !bytes.is_empty() {
+            return Err(Stop::Unread);
+        }
+        self.push_read(asked, &self.sent, behind, out)
+    }
+}
+
+// What the words ask to be read, and the words of the input.
+fn asked_in<'a, 'b>(words: &'a [&'b str]) -> Result<(Asked, &'a [&'b str]), Stop> {
+    match words {
+        ["head", limit, bytes @ ..] => Ok((Asked::Head(limit.parse()?), bytes)),
+        ["body", len, bytes @ ..] => Ok((Asked::Body(len.parse()?), bytes)),
+        ["frames", limit, bytes @ ..] => Ok((Asked::Frames(limit.parse()?), bytes)),
+        ["replies", bytes @ ..] => Ok((Asked::Replies, bytes)),
+        _ => Err(Stop::Unread),
+    }
+}
+
 impl Subject for Frames {
     fn new(alloc: Global) -> Frames {
         Frames {
@@ -313,26 +354,11 @@ impl Subject for Frames {
         out: &mut String,
         _refused: &mut bool,
     ) -> Result<(), Stop> {
-        let (behind, words) = match words {
-            ["failing", words @ ..] => (Behind::Failure, words),
-            _ => (Behind::End, words),
-        };
-        let (asked, bytes) = match words {
-            ["send", what @ ..] => return self.send(what, out),
-            ["room", room, what @ ..] => return self.push_stopped(room.parse()?, what, out),
-            ["sent", "frames", limit] => {
-                return self.push_read(Asked::Frames(limit.parse()?), &self.sent, behind, out);
-            }
-            ["sent", "replies"] => {
-                return self.push_read(Asked::Replies, &self.sent, behind, out);
-            }
-            ["head", limit, bytes @ ..] => (Asked::Head(limit.parse()?), bytes),
-            ["body", len, bytes @ ..] => (Asked::Body(len.parse()?), bytes),
-            ["frames", limit, bytes @ ..] => (Asked::Frames(limit.parse()?), bytes),
-            ["replies", bytes @ ..] => (Asked::Replies, bytes),
-            _ => return Err(Stop::Unread),
-        };
-        let bytes = bytes_of(self.alloc, bytes)?;
-        self.push_read(asked, &bytes, behind, out)
+        match words {
+            ["send", what @ ..] => self.send(what, out),
+            ["room", room, what @ ..] => self.push_stopped(room.parse()?, what, out),
+            ["failing", words @ ..] => self.push_input(words, Behind::Failure, out),
+            _ => self.push_input(words, Behind::End, out),
+        }
     }
 }

@@ -150,20 +150,32 @@ impl Rules {
         }
     }
 
-    // Sets what the name and the words tell.
-    fn set(&mut self, name: &str, words: &[&str]) -> Result<(), Stop> {
-        match name {
-            "epochs" => self.epochs = epochs_of(words)?,
-            "view" => self.view = view_of(words)?,
-            "copy" => {
-                let copy = self.table()?.clone_table()?;
-                self.put(copy);
-            }
+    // Pushes whether there is such a request.
+    fn push_made(&self, words: &[&str], out: &mut String) -> Result<(), Stop> {
+        let made = self.request(words)?.is_some();
+        push_word(out, if made { "made" } else { "out of range" })
+    }
+
+    fn push_part(&self, words: &[&str], out: &mut String) -> Result<(), Stop> {
+        push_part(out, self.table()?, words)
+    }
+
+    // The table of the words, which is a copy of the one in force, or has a name.
+    fn table_of(&self, words: &[&str]) -> Result<Table, Stop> {
+        match words {
+            ["copy"] => Ok(self.table()?.clone_table()?),
+            ["table", name] => table_named(self.alloc, name),
+            _ => Err(Stop::Unread),
+        }
+    }
+
+    // Sets what the words tell.
+    fn set(&mut self, words: &[&str]) -> Result<(), Stop> {
+        match words {
+            ["epochs", words @ ..] => self.epochs = epochs_of(words)?,
+            ["view", words @ ..] => self.view = view_of(words)?,
             _ => {
-                let [name] = words else {
-                    return Err(Stop::Unread);
-                };
-                let table = table_named(self.alloc, name)?;
+                let table = self.table_of(words)?;
                 self.put(table);
             }
         }
@@ -226,17 +238,14 @@ impl Subject for Rules {
         _refused: &mut bool,
     ) -> Result<(), Stop> {
         match words {
-            [name @ ("table" | "copy" | "epochs" | "view"), words @ ..] => {
-                self.set(name, words)?;
+            ["table" | "copy" | "epochs" | "view", ..] => {
+                self.set(words)?;
                 push_word(out, "Ok")
             }
-            ["principals" | "token" | "rows" | "row", ..] => push_part(out, self.table()?, words),
+            ["principals" | "token" | "rows" | "row", ..] => self.push_part(words, out),
             ["text", name] => self.take_text(name, out),
             ["first", request @ ..] => self.push_first(request, out),
-            ["request", request @ ..] => {
-                let made = self.request(request)?.is_some();
-                push_word(out, if made { "made" } else { "out of range" })
-            }
+            ["request", request @ ..] => self.push_made(request, out),
             _ => self.push_decision(words, out),
         }
     }

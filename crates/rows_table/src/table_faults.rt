@@ -49,21 +49,31 @@ fn code_kept(kept: &TableText, text: &[u8]) -> Option<u8> {
     }
 }
 
-// The code that a database denies with where it is asked to put the text in force.
-fn code_denied(alloc: Global, text: TableText) -> Result<u64, Stop> {
+// A database with the start table and room for one entry.
+fn open(alloc: Global) -> Result<Db, Stop> {
     let limits = Limits {
         audit: 1,
         chunks: 1,
     };
     let table = table_named(alloc, "start")?;
-    let mut db = Db::new(alloc, table, 2, limits).map_err(|_| Stop::NoMemory)?;
-    let request = Request::new(OPERATOR, Act::SetTable { text }).ok_or(Stop::Unread)?;
-    match db.step(1, request) {
+    Db::new(alloc, table, 2, limits).map_err(|_| Stop::NoMemory)
+}
+
+// The code of the reply to a text.
+fn code_in(reply: &Reply) -> Result<u64, Stop> {
+    match reply {
         Reply::Done => Ok(0),
-        Reply::Denied { row: 7, value, .. } => Ok(value),
+        Reply::Denied { row: 7, value, .. } => Ok(*value),
         Reply::NoMemory => Err(Stop::NoMemory),
         _ => Err(Stop::Unread),
     }
+}
+
+// The code that a database denies with where it is asked to put the text in force.
+fn code_denied(alloc: Global, text: TableText) -> Result<u64, Stop> {
+    let request = Request::new(OPERATOR, Act::SetTable { text }).ok_or(Stop::Unread)?;
+    let mut db = open(alloc)?;
+    code_in(&db.step(1, request))
 }
 
 // The code that a text gives up with its reading.
@@ -74,13 +84,20 @@ fn code_given(alloc: Global, text: &[u8]) -> Result<u8, Stop> {
     }
 }
 
-// Whether each way gives the code.
-fn has_code(alloc: Global, text: Vec<u8>, code: u8) -> Result<bool, Stop> {
-    let by_itself = code_read(alloc, &text)? == code && code_given(alloc, &text)? == code;
+// The code that the text keeps, and the one that a database denies it with.
+fn codes_kept(alloc: Global, text: &[u8]) -> Result<(Option<u8>, u64), Stop> {
     let kept = TableText::new(alloc, text.to_vec(alloc)?)?;
-    let as_kept = code_kept(&kept, &text) == Some(code);
-    let denied = code_denied(alloc, kept)? == u64::from(code);
-    Ok(by_itself && as_kept && denied)
+    let code = code_kept(&kept, text);
+    Ok((code, code_denied(alloc, kept)?))
+}
+
+// Whether each way gives the code.
+fn has_code(alloc: Global, text: &[u8], code: u8) -> Result<bool, Stop> {
+    let read = code_read(alloc, text)?;
+    let given = code_given(alloc, text)?;
+    let (kept, denied) = codes_kept(alloc, text)?;
+    let by_itself = read == code && given == code;
+    Ok(by_itself && kept == Some(code) && denied == u64::from(code))
 }
 
 fn append(text: &mut Vec<u8>, pieces: &[&str]) -> Result<(), Stop> {
@@ -104,7 +121,7 @@ fn walk_once(rt: &impl Abort, alloc: Global, groups: &[Group]) -> Result<(), Sto
     for (before, cases, after) in groups {
         for (case, pieces, code) in *cases {
             let text = text_of(alloc, [before, pieces, after])?;
-            let same = has_code(alloc, text, *code)?;
+            let same = has_code(alloc, &text, *code)?;
             assert!(rt; same, "{case}");
         }
     }
@@ -275,7 +292,7 @@ fn text_of_many(alloc: Global, principals: u8, token: &str, rows: u16) -> Result
 fn walk_many(rt: &impl Abort, alloc: Global, cases: &[Many]) -> Result<(), Stop> {
     for (case, principals, token, rows, code) in cases {
         let text = text_of_many(alloc, *principals, token, *rows)?;
-        let same = has_code(alloc, text, *code)?;
+        let same = has_code(alloc, &text, *code)?;
         assert!(rt; same, "{case}");
     }
     Ok(())

@@ -90,20 +90,23 @@ fn start_db(alloc: Global) -> Option<Db> {
     Db::new(alloc, table_of(alloc, START)?, 2, limits).ok()
 }
 
+/// Denied since no row matches.
+const NO_ROW: Verdict = Verdict::Denied {
+    section: Section::B,
+    row: 0,
+    value: 0,
+};
+
 // By the start table principal 4 may pull the partitions 0 to 3, of which none has a hardened block.
 fn denial_of(partition: u16) -> Verdict {
     if partition < 4 {
-        denied(Section::C, 1)
+        Verdict::Denied {
+            section: Section::C,
+            row: 1,
+            value: 0,
+        }
     } else {
-        denied(Section::B, 0)
-    }
-}
-
-fn denied(section: Section, row: u16) -> Verdict {
-    Verdict::Denied {
-        section,
-        row,
-        value: 0,
+        NO_ROW
     }
 }
 
@@ -138,18 +141,43 @@ fn first_wrong(db: &mut Db) -> Option<u16> {
     None
 }
 
+// Puts the table of other rows in force.
+fn set_other(alloc: Global, db: &mut Db) -> Result<(), AllocError> {
+    if let Some(request) = set_table(alloc, OTHER_ROWS)? {
+        let _done = db.step(1, request);
+    }
+    Ok(())
+}
+
+// What is wrong with the verdicts of the database, by the start table and by the other.
+fn wrong_of_db(alloc: Global, db: &mut Db) -> Result<Option<&'static str>, AllocError> {
+    if first_wrong(db).is_some() {
+        return Ok(Some("a pull"));
+    }
+    if first_wrong(db).is_some() {
+        return Ok(Some("a pull that is asked again"));
+    }
+    set_other(alloc, db)?;
+    Ok(wrong_by_other(db))
+}
+
+fn wrong_by_other(db: &mut Db) -> Option<&'static str> {
+    if db.audit_len() != 4_097 {
+        return Some("the number of entries");
+    }
+    if answer_of(db, 0) != Some(NO_ROW) {
+        return Some("a pull, by the other table");
+    }
+    None
+}
+
 #[test]
 fn many_verdicts(rt: HostRuntime) -> Result<(), Fail> {
     let Some(mut db) = start_db(rt.alloc()) else {
         return Err(Fail::new("no database"));
     };
-    assert_eq!(rt; first_wrong(&mut db), None);
-    assert_eq!(rt; first_wrong(&mut db), None);
-    if let Some(request) = set_table(rt.alloc(), OTHER_ROWS)? {
-        let _done = db.step(1, request);
-    }
-    assert_eq!(rt; db.audit_len(), 4_097);
-    assert_eq!(rt; answer_of(&mut db, 0), Some(denied(Section::B, 0)));
+    let wrong = wrong_of_db(rt.alloc(), &mut db)?;
+    assert_eq!(rt; wrong, None);
     Ok(())
 }
 
@@ -176,48 +204,103 @@ fn first_decided_wrong(decider: &mut Decider, table: &Table) -> Option<u16> {
     None
 }
 
+// What is wrong with the verdicts of a decider that has cached none.
+fn wrong_of_decider(decider: &mut Decider, start: &Table) -> Option<&'static str> {
+    if decider.cached() != 0 {
+        return Some("cached at first");
+    }
+    if first_decided_wrong(decider, start).is_some() {
+        return Some("a pull");
+    }
+    if decider.cached() != 1_024 {
+        return Some("the number of cached verdicts");
+    }
+    decider.new_table();
+    if decider.cached() != 0 {
+        return Some("cached, with a new table");
+    }
+    None
+}
+
 #[test]
 fn many_verdicts_of_a_decider(rt: HostRuntime) -> Result<(), Fail> {
     let mut decider = Decider::new(rt.alloc())?;
     let Some(start) = table_of(rt.alloc(), START) else {
         return Err(Fail::new("no table"));
     };
-    assert_eq!(rt; decider.cached(), 0);
-    assert_eq!(rt; first_decided_wrong(&mut decider, &start), None);
-    assert_eq!(rt; decider.cached(), 1_024);
-    decider.new_table();
-    assert_eq!(rt; decider.cached(), 0);
+    let wrong = wrong_of_decider(&mut decider, &start);
+    assert_eq!(rt; wrong, None);
     Ok(())
 }
 
 // No row of the start table matches a pull by principal 3 as page server; by the other rows, the pull
 // of partition 5 is denied by row 1, and that of partition 6 is not.
+const BY_START: [(u16, Verdict); 3] = [(5, NO_ROW), (5, NO_ROW), (6, NO_ROW)];
+
+const BY_OTHER: [(u16, Verdict); 2] = [
+    (
+        5,
+        Verdict::Denied {
+            section: Section::B,
+            row: 1,
+            value: 0,
+        },
+    ),
+    (
+        6,
+        Verdict::Denied {
+            section: Section::C,
+            row: 1,
+            value: 0,
+        },
+    ),
+];
+
+// What is decided on the pull of the partition by principal 3.
+fn decided_on(decider: &mut Decider, table: &Table, partition: u16) -> Option<Verdict> {
+    decided(decider, table, &pull_of(3, 0x33, partition)?)
+}
+
+// Whether each verdict is that one.
+fn decides_each(decider: &mut Decider, table: &Table, pulls: &[(u16, Verdict)]) -> bool {
+    for (partition, verdict) in pulls {
+        if decided_on(decider, table, *partition) != Some(*verdict) {
+            return false;
+        }
+    }
+    true
+}
+
+// What is wrong with the verdicts of a decider that is asked by two tables.
+fn wrong_of_two(decider: &mut Decider, start: &Table, other: &Table) -> Option<&'static str> {
+    if !decides_each(decider, start, &BY_START) {
+        return Some("a pull");
+    }
+    if decider.cached() != 2 {
+        return Some("the number of cached verdicts");
+    }
+    if decided_on(decider, other, 5).is_some() {
+        return Some("what is cached, by the other table");
+    }
+    decider.new_table();
+    if !decides_each(decider, other, &BY_OTHER) {
+        return Some("a pull, by the other table");
+    }
+    None
+}
+
+fn both_tables(alloc: Global) -> Option<(Table, Table)> {
+    let start = table_of(alloc, START)?;
+    Some((start, table_of(alloc, OTHER_ROWS)?))
+}
+
 #[test]
 fn asked_again_by_another_table(rt: HostRuntime) -> Result<(), Fail> {
     let mut decider = Decider::new(rt.alloc())?;
-    let (Some(start), Some(other)) = (
-        table_of(rt.alloc(), START),
-        table_of(rt.alloc(), OTHER_ROWS),
-    ) else {
+    let Some((start, other)) = both_tables(rt.alloc()) else {
         return Err(Fail::new("no table"));
     };
-    let (Some(five), Some(six)) = (pull_of(3, 0x33, 5), pull_of(3, 0x33, 6)) else {
-        return Err(Fail::new("no request"));
-    };
-    let no_row = Some(denied(Section::B, 0));
-    assert_eq!(rt; decided(&mut decider, &start, &five), no_row);
-    assert_eq!(rt; decided(&mut decider, &start, &five), no_row);
-    assert_eq!(rt; decided(&mut decider, &start, &six), no_row);
-    assert_eq!(rt; decider.cached(), 2);
-    assert_eq!(rt; decided(&mut decider, &other, &five), None);
-    decider.new_table();
-    assert_eq!(rt;
-        decided(&mut decider, &other, &five),
-        Some(denied(Section::B, 1))
-    );
-    assert_eq!(rt;
-        decided(&mut decider, &other, &six),
-        Some(denied(Section::C, 1))
-    );
+    let wrong = wrong_of_two(&mut decider, &start, &other);
+    assert_eq!(rt; wrong, None);
     Ok(())
 }

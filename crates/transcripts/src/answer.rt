@@ -1,15 +1,16 @@
 //! Answers: words, each with a space in front of it.
 
-use crate::transcript::Stop;
+use crate::transcript::{Stop, pushed};
 
 /// The least run of equal bytes that is one word.
 const LONG_RUN: usize = 64;
 
+/// Pushes the word.
 pub fn push_word(out: &mut String, word: &str) -> Result<(), Stop> {
-    out.push(' ')?;
-    Ok(out.push_str(word)?)
+    pushed(write!(out, " {word}"))
 }
 
+/// Pushes each number.
 pub fn push_numbers(out: &mut String, numbers: &[u64]) -> Result<(), Stop> {
     for number in numbers {
         write!(out, " {number}")?;
@@ -17,19 +18,20 @@ pub fn push_numbers(out: &mut String, numbers: &[u64]) -> Result<(), Stop> {
     Ok(())
 }
 
+/// Pushes `true` or `false`.
 pub fn push_truth(out: &mut String, truth: bool) -> Result<(), Stop> {
     push_word(out, if truth { "true" } else { "false" })
 }
 
+/// Pushes a fault's code, as `fault 1`.
 pub fn push_fault(out: &mut String, code: u8) -> Result<(), Stop> {
-    push_word(out, "fault")?;
-    push_numbers(out, &[u64::from(code)])
+    pushed(write!(out, " fault {code}"))
 }
 
 // Pushes so many equal bytes.
 fn push_run(out: &mut String, byte: u8, count: usize) -> Result<(), Stop> {
     if LONG_RUN <= count {
-        return Ok(write!(out, " {count}*{byte:02x} ")?);
+        return pushed(write!(out, " {count}*{byte:02x} "));
     }
     for _ in 0..count {
         write!(out, "{byte:02x}")?;

@@ -28,8 +28,8 @@ pub fn head_of(database: u32, words: [&str; 4]) -> Result<Head, Stop> {
     })
 }
 
-/// The act of the words.
-pub fn act_of(alloc: Global, words: &[&str]) -> Result<Act, Stop> {
+// The act of the words.
+fn act_of(alloc: Global, words: &[&str]) -> Result<Act, Stop> {
     let [name, arguments @ ..] = words else {
         return Err(Stop::Unread);
     };

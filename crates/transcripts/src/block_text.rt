@@ -3,21 +3,35 @@
 //! A Put is its bytes in hexadecimal, or `COUNT*BYTE`, and `@PAGE` or `@PAGE+OFFSET` behind them
 //! where they do not stand at the beginning of page 0. A Zero is `zero`, and `@PAGE` likewise.
 
-use crate::answer::push_numbers;
-use crate::transcript::Stop;
+use crate::transcript::{Stop, pushed};
 use bytes::Bytes;
 use pl_block::{Block, Record};
 use std::alloc::Global;
 
+// So many equal bytes.
+fn run_of(alloc: Global, count: &str, byte: &str) -> Result<Vec<u8>, Stop> {
+    let byte = u8::from_str_radix(byte, 16)?;
+    Ok(vec![in alloc; byte; count.parse()?]?)
+}
+
 /// The bytes of the word: hexadecimal digits, or `COUNT*BYTE`.
-pub fn bytes_in(alloc: Global, text: &str) -> Result<Vec<u8>, Stop> {
+pub(crate) fn bytes_in(alloc: Global, text: &str) -> Result<Vec<u8>, Stop> {
     match text.split_once('*') {
-        Some((count, byte)) => {
-            let byte = u8::from_str_radix(byte, 16)?;
-            Ok(vec![in alloc; byte; count.parse()?]?)
-        }
+        Some((count, byte)) => run_of(alloc, count, byte),
         None => Ok(hex::decode(alloc, text)?),
     }
+}
+
+// A Put of the bytes at the place, `PAGE` or `PAGE+OFFSET`.
+fn put_of(alloc: Global, bytes: &str, place: &str) -> Result<Record, Stop> {
+    let (page, offset) = place.split_once('+').unwrap_or((place, "0"));
+    let (page, offset) = (page.parse()?, offset.parse()?);
+    let bytes = Bytes::from_vec(bytes_in(alloc, bytes)?)?;
+    Ok(Record::Put {
+        page,
+        offset,
+        bytes,
+    })
 }
 
 fn record_of(alloc: Global, text: &str) -> Result<Record, Stop> {
@@ -27,25 +41,24 @@ fn record_of(alloc: Global, text: &str) -> Result<Record, Stop> {
             page: place.parse()?,
         });
     }
-    let (page, offset) = place.split_once('+').unwrap_or((place, "0"));
-    Ok(Record::Put {
-        page: page.parse()?,
-        offset: offset.parse()?,
-        bytes: Bytes::from_vec(bytes_in(alloc, bytes)?)?,
-    })
+    put_of(alloc, bytes, place)
 }
 
-/// The number and the records of the word.
-pub fn parts_of(alloc: Global, word: &str) -> Result<(u64, Vec<Record>), Stop> {
-    let (lsn, entries) = word.split_once(':').ok_or(Stop::Unread)?;
-    let lsn = lsn.parse()?;
+// The records of the words, with commas in between.
+fn records_of(alloc: Global, entries: &str) -> Result<Vec<Record>, Stop> {
     let mut records = Vec::new(alloc);
     for entry in entries.split(',') {
         if !entry.is_empty() {
             records.push(record_of(alloc, entry)?)?;
         }
     }
-    Ok((lsn, records))
+    Ok(records)
+}
+
+/// The number and the records of the word.
+pub(crate) fn parts_of(alloc: Global, word: &str) -> Result<(u64, Vec<Record>), Stop> {
+    let (lsn, entries) = word.split_once(':').ok_or(Stop::Unread)?;
+    Ok((lsn.parse()?, records_of(alloc, entries)?))
 }
 
 /// The block of the word.
@@ -55,11 +68,16 @@ pub fn block_of(alloc: Global, word: &str) -> Result<Block, Stop> {
 }
 
 fn push_place(out: &mut String, page: u32, offset: u16) -> Result<(), Stop> {
-    if page != 0 || offset != 0 {
-        write!(out, "@{page}")?;
+    match (page, offset) {
+        (0, 0) => Ok(()),
+        (page, 0) => pushed(write!(out, "@{page}")),
+        (page, offset) => pushed(write!(out, "@{page}+{offset}")),
     }
-    if offset != 0 {
-        write!(out, "+{offset}")?;
+}
+
+fn push_digits(out: &mut String, bytes: &[u8]) -> Result<(), Stop> {
+    for byte in bytes {
+        write!(out, "{byte:02x}")?;
     }
     Ok(())
 }
@@ -71,31 +89,30 @@ fn push_record(out: &mut String, entry: &Record) -> Result<(), Stop> {
             offset,
             bytes,
         } => {
-            for byte in bytes.as_slice() {
-                write!(out, "{byte:02x}")?;
-            }
+            push_digits(out, bytes.as_slice())?;
             push_place(out, *page, *offset)
         }
         Record::Zero { page } => {
-            out.push_str("zero")?;
+            pushed(out.push_str("zero"))?;
             push_place(out, *page, 0)
         }
     }
 }
 
-/// Pushes the block's word.
-pub fn push_block(out: &mut String, block: &Block) -> Result<(), Stop> {
-    push_numbers(out, &[block.lsn()])?;
-    let mut mark = ':';
-    if block.records().is_empty() {
-        out.push(mark)?;
-    }
-    for entry in block.records() {
-        out.push(mark)?;
+fn push_records(out: &mut String, records: &[Record]) -> Result<(), Stop> {
+    let mut mark = "";
+    for entry in records {
+        pushed(out.push_str(mark))?;
         push_record(out, entry)?;
-        mark = ',';
+        mark = ",";
     }
     Ok(())
+}
+
+/// Pushes the block's word.
+pub fn push_block(out: &mut String, block: &Block) -> Result<(), Stop> {
+    pushed(write!(out, " {}:", block.lsn()))?;
+    push_records(out, block.records())
 }
 
 /// Pushes each block's word.

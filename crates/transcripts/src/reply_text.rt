@@ -3,13 +3,13 @@
 use crate::answer::{push_numbers, push_word};
 use crate::block_text::{block_of, push_blocks};
 use crate::line_text::{line_of, push_lines, section_of};
-use crate::transcript::Stop;
+use crate::transcript::{Stop, pushed};
 use pl_core::{Blocks, Lines, PageBytes, Reply};
 use pl_table::{Section, Verdict};
 use std::alloc::Global;
 
 /// The letter of a section.
-pub fn letter(section: Section) -> char {
+pub(crate) fn letter(section: Section) -> char {
     match section {
         Section::A => 'A',
         Section::B => 'B',
@@ -19,9 +19,8 @@ pub fn letter(section: Section) -> char {
 
 // Pushes a denial, as `Denied C1 0`.
 fn push_denial(out: &mut String, section: Section, row: u16, value: u64) -> Result<(), Stop> {
-    push_word(out, "Denied ")?;
-    out.push(letter(section))?;
-    Ok(write!(out, "{row} {value}")?)
+    let letter = letter(section);
+    pushed(write!(out, " Denied {letter}{row} {value}"))
 }
 
 /// Pushes the verdict.
@@ -38,8 +37,7 @@ pub fn push_verdict(out: &mut String, verdict: Verdict) -> Result<(), Stop> {
 
 // Pushes the LSN of the page, and each byte that is not 0 with its offset, as `Page 2 aa+0 ee+8191`.
 fn push_page(out: &mut String, at: u64, bytes: &[u8]) -> Result<(), Stop> {
-    push_word(out, "Page")?;
-    push_numbers(out, &[at])?;
+    pushed(write!(out, " Page {at}"))?;
     for (offset, byte) in bytes.iter().enumerate() {
         if *byte != 0 {
             write!(out, " {byte:02x}+{offset}")?;
@@ -53,8 +51,7 @@ pub fn push_reply(out: &mut String, reply: &Reply) -> Result<(), Stop> {
     match reply {
         Reply::Done => push_word(out, "Done"),
         Reply::Blocks { next, blocks } => {
-            push_word(out, "Blocks")?;
-            push_numbers(out, &[*next])?;
+            pushed(write!(out, " Blocks {next}"))?;
             push_blocks(out, blocks.as_slice())
         }
         Reply::Page { at, bytes } => push_page(out, *at, bytes.as_slice()),
@@ -70,9 +67,8 @@ pub fn push_reply(out: &mut String, reply: &Reply) -> Result<(), Stop> {
             landing,
         } => {
             push_word(out, "Status")?;
-            let epochs = [u64::from(*epoch), u64::from(*primary)];
-            push_numbers(out, &epochs)?;
-            push_numbers(out, &[*hard, *pending, *landing])
+            let (epoch, primary) = (u64::from(*epoch), u64::from(*primary));
+            push_numbers(out, &[epoch, primary, *hard, *pending, *landing])
         }
         Reply::Denied {
             section,
@@ -83,10 +79,7 @@ pub fn push_reply(out: &mut String, reply: &Reply) -> Result<(), Stop> {
         Reply::AuditFull => push_word(out, "AuditFull"),
         Reply::Spent => push_word(out, "Spent"),
         Reply::NoDatabase => push_word(out, "NoDatabase"),
-        Reply::Malformed { code } => {
-            push_word(out, "Malformed")?;
-            push_numbers(out, &[u64::from(*code)])
-        }
+        Reply::Malformed { code } => { pushed(write!(out, " Malformed {code}")) }
     }
 }
 

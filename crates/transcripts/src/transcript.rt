@@ -66,6 +66,14 @@ impl From<FromHexError> for Stop {
     }
 }
 
+/// What a push into a text ended with.
+pub fn pushed(end: Result<(), AllocError>) -> Result<(), Stop> {
+    match end {
+        Ok(()) => Ok(()),
+        Err(_) => Err(Stop::NoMemory),
+    }
+}
+
 impl Stop {
     fn text(&self) -> &'static str {
         match self {
