@@ -16,7 +16,7 @@ audit                                 = 3
 
 #[test]
 fn audit_of_a_denial(rt: HostRuntime) -> Result<(), Fail> {
-    plays::<Database>(&rt, rt.alloc(), AUDIT_OF_A_DENIAL)
+    plays::<Database>(rt.alloc(), AUDIT_OF_A_DENIAL)
 }
 
 // The same as bytes, under pass 1.
@@ -32,7 +32,7 @@ bytes 00000001 11111111111111111111111111111111 04 00000000 00000001 0a 00000000
 
 #[test]
 fn audit_of_a_denial_as_bytes(rt: HostRuntime) -> Result<(), Fail> {
-    plays::<Database>(&rt, rt.alloc(), AUDIT_OF_A_DENIAL_AS_BYTES)
+    plays::<Database>(rt.alloc(), AUDIT_OF_A_DENIAL_AS_BYTES)
 }
 
 const LINES_OF_EACH_OPERATION: &str = "\
@@ -70,7 +70,7 @@ open start 2 65536                    = Ok
 
 #[test]
 fn lines_of_each_operation(rt: HostRuntime) -> Result<(), Fail> {
-    plays::<Database>(&rt, rt.alloc(), LINES_OF_EACH_OPERATION)
+    plays::<Database>(rt.alloc(), LINES_OF_EACH_OPERATION)
 }
 
 // An unknown principal makes no entry. Reading the list makes one.
@@ -89,7 +89,7 @@ epochs                                = 1 2
 
 #[test]
 fn audits_are_entered(rt: HostRuntime) -> Result<(), Fail> {
-    plays::<Database>(&rt, rt.alloc(), AUDITS_ARE_ENTERED)
+    plays::<Database>(rt.alloc(), AUDITS_ARE_ENTERED)
 }
 
 const AUDIT_OF_1024_LINES: &str = "\
@@ -105,5 +105,5 @@ open start 2 65536                    = Ok
 
 #[test]
 fn audit_of_1024_lines(rt: HostRuntime) -> Result<(), Fail> {
-    plays::<Database>(&rt, rt.alloc(), AUDIT_OF_1024_LINES)
+    plays::<Database>(rt.alloc(), AUDIT_OF_1024_LINES)
 }

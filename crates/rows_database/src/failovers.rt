@@ -30,7 +30,7 @@ annulled 2 3                       = none
 
 #[test]
 fn failover_hardens_quorum_run(rt: HostRuntime) -> Result<(), Fail> {
-    plays::<Database>(&rt, rt.alloc(), FAILOVER_HARDENS_QUORUM_RUN)
+    plays::<Database>(rt.alloc(), FAILOVER_HARDENS_QUORUM_RUN)
 }
 
 const FAILOVER_STOPS_AT_GAP: &str = "\
@@ -54,7 +54,7 @@ annulled 1 3                       = 3:03
 
 #[test]
 fn failover_stops_at_gap(rt: HostRuntime) -> Result<(), Fail> {
-    plays::<Database>(&rt, rt.alloc(), FAILOVER_STOPS_AT_GAP)
+    plays::<Database>(rt.alloc(), FAILOVER_STOPS_AT_GAP)
 }
 
 // What was written before a failover and not hardened is annulled, even where it is written anew:
@@ -74,7 +74,7 @@ annulled 2 1                = 1:01
 
 #[test]
 fn old_copies_count_no_more(rt: HostRuntime) -> Result<(), Fail> {
-    plays::<Database>(&rt, rt.alloc(), OLD_COPIES_COUNT_NO_MORE)
+    plays::<Database>(rt.alloc(), OLD_COPIES_COUNT_NO_MORE)
 }
 
 // Ten contents stand in two copies, and twenty in one, which are annulled.
@@ -99,5 +99,5 @@ annulled 1 31                       = none
 
 #[test]
 fn failover_over_thirty_contents(rt: HostRuntime) -> Result<(), Fail> {
-    plays::<Database>(&rt, rt.alloc(), FAILOVER_OVER_THIRTY_CONTENTS)
+    plays::<Database>(rt.alloc(), FAILOVER_OVER_THIRTY_CONTENTS)
 }

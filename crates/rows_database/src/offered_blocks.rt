@@ -19,7 +19,7 @@ log                                   = 2 3 1 1
 
 #[test]
 fn offered_and_landed(rt: HostRuntime) -> Result<(), Fail> {
-    plays::<Database>(&rt, rt.alloc(), OFFERED_AND_LANDED)
+    plays::<Database>(rt.alloc(), OFFERED_AND_LANDED)
 }
 
 const OFFERS_END_WITH_EPOCH: &str = "\
@@ -39,7 +39,7 @@ annulled 1 1                          = 1:02
 
 #[test]
 fn offers_end_with_epoch(rt: HostRuntime) -> Result<(), Fail> {
-    plays::<Database>(&rt, rt.alloc(), OFFERS_END_WITH_EPOCH)
+    plays::<Database>(rt.alloc(), OFFERS_END_WITH_EPOCH)
 }
 
 const OFFERED_THEN_RECOVERED: &str = "\
@@ -54,7 +54,7 @@ annulled 1 1                          = none
 
 #[test]
 fn offered_then_recovered(rt: HostRuntime) -> Result<(), Fail> {
-    plays::<Database>(&rt, rt.alloc(), OFFERED_THEN_RECOVERED)
+    plays::<Database>(rt.alloc(), OFFERED_THEN_RECOVERED)
 }
 
 const OFFERS_FIX_THE_CONTENT: &str = "\
@@ -81,7 +81,7 @@ open start 2 65536                    = Ok
 
 #[test]
 fn offers_fix_the_content(rt: HostRuntime) -> Result<(), Fail> {
-    plays::<Database>(&rt, rt.alloc(), OFFERS_FIX_THE_CONTENT)
+    plays::<Database>(rt.alloc(), OFFERS_FIX_THE_CONTENT)
 }
 
 // A write that is denied leaves no content behind.
@@ -97,7 +97,7 @@ open start 2 65536                    = Ok
 
 #[test]
 fn denied_offers_leave_nothing(rt: HostRuntime) -> Result<(), Fail> {
-    plays::<Database>(&rt, rt.alloc(), DENIED_OFFERS_LEAVE_NOTHING)
+    plays::<Database>(rt.alloc(), DENIED_OFFERS_LEAVE_NOTHING)
 }
 
 // 64 blocks are offered. Of these ten are hardened by a report, twenty by a failover, and the others
@@ -122,5 +122,5 @@ annulled 1 64                         = 64:40
 
 #[test]
 fn window_of_offers(rt: HostRuntime) -> Result<(), Fail> {
-    plays::<Database>(&rt, rt.alloc(), WINDOW_OF_OFFERS)
+    plays::<Database>(rt.alloc(), WINDOW_OF_OFFERS)
 }

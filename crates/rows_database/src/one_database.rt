@@ -21,7 +21,7 @@ log                                = 1 3 0 1
 
 #[test]
 fn write_harden_pull(rt: HostRuntime) -> Result<(), Fail> {
-    plays::<Database>(&rt, rt.alloc(), WRITE_HARDEN_PULL)
+    plays::<Database>(rt.alloc(), WRITE_HARDEN_PULL)
 }
 
 // The bytes of `write_harden_pull`: the bodies of its requests, and behind `=` those of the replies.
@@ -42,7 +42,7 @@ bytes 00000003 33333333333333333333333333333333 02 00000000 00000001 05 \
 
 #[test]
 fn stored_run(rt: HostRuntime) -> Result<(), Fail> {
-    plays::<Database>(&rt, rt.alloc(), STORED_RUN)
+    plays::<Database>(rt.alloc(), STORED_RUN)
 }
 
 const PULL_FROM_EMPTY_LOG: &str = "\
@@ -53,7 +53,7 @@ audit                              = 1
 
 #[test]
 fn pull_from_empty_log(rt: HostRuntime) -> Result<(), Fail> {
-    plays::<Database>(&rt, rt.alloc(), PULL_FROM_EMPTY_LOG)
+    plays::<Database>(rt.alloc(), PULL_FROM_EMPTY_LOG)
 }
 
 const REPORT_BELOW_QUORUM: &str = "\
@@ -65,7 +65,7 @@ hard                        = 0
 
 #[test]
 fn report_below_quorum(rt: HostRuntime) -> Result<(), Fail> {
-    plays::<Database>(&rt, rt.alloc(), REPORT_BELOW_QUORUM)
+    plays::<Database>(rt.alloc(), REPORT_BELOW_QUORUM)
 }
 
 const BLOCKS_IN_ANY_ORDER: &str = "\
@@ -81,7 +81,7 @@ hard                        = 2
 
 #[test]
 fn blocks_in_any_order(rt: HostRuntime) -> Result<(), Fail> {
-    plays::<Database>(&rt, rt.alloc(), BLOCKS_IN_ANY_ORDER)
+    plays::<Database>(rt.alloc(), BLOCKS_IN_ANY_ORDER)
 }
 
 const WINDOW_OF_SIXTY_FOUR: &str = "\
@@ -92,7 +92,7 @@ open start 2 65536           = Ok
 
 #[test]
 fn window_of_sixty_four(rt: HostRuntime) -> Result<(), Fail> {
-    plays::<Database>(&rt, rt.alloc(), WINDOW_OF_SIXTY_FOUR)
+    plays::<Database>(rt.alloc(), WINDOW_OF_SIXTY_FOUR)
 }
 
 const CONTENT_IS_FIXED: &str = "\
@@ -105,7 +105,7 @@ open start 2 65536          = Ok
 
 #[test]
 fn content_is_fixed(rt: HostRuntime) -> Result<(), Fail> {
-    plays::<Database>(&rt, rt.alloc(), CONTENT_IS_FIXED)
+    plays::<Database>(rt.alloc(), CONTENT_IS_FIXED)
 }
 
 const TOKEN_THEN_EPOCH: &str = "\
@@ -123,7 +123,7 @@ audit                 = 2
 
 #[test]
 fn token_then_epoch(rt: HostRuntime) -> Result<(), Fail> {
-    plays::<Database>(&rt, rt.alloc(), TOKEN_THEN_EPOCH)
+    plays::<Database>(rt.alloc(), TOKEN_THEN_EPOCH)
 }
 
 const NO_ROW_MATCHES: &str = "\
@@ -133,7 +133,7 @@ open start 2 65536               = Ok
 
 #[test]
 fn no_row_matches(rt: HostRuntime) -> Result<(), Fail> {
-    plays::<Database>(&rt, rt.alloc(), NO_ROW_MATCHES)
+    plays::<Database>(rt.alloc(), NO_ROW_MATCHES)
 }
 
 const PULL_IN_PARTS: &str = "\
@@ -153,7 +153,7 @@ hard                                = 20
 
 #[test]
 fn pull_in_parts(rt: HostRuntime) -> Result<(), Fail> {
-    plays::<Database>(&rt, rt.alloc(), PULL_IN_PARTS)
+    plays::<Database>(rt.alloc(), PULL_IN_PARTS)
 }
 
 const BLOCK_WITHOUT_RECORDS: &str = "\
@@ -166,7 +166,7 @@ open start 2 65536                 = Ok
 
 #[test]
 fn block_without_records(rt: HostRuntime) -> Result<(), Fail> {
-    plays::<Database>(&rt, rt.alloc(), BLOCK_WITHOUT_RECORDS)
+    plays::<Database>(rt.alloc(), BLOCK_WITHOUT_RECORDS)
 }
 
 const ROLES_AND_PRIMARIES: &str = "\
@@ -188,7 +188,7 @@ epochs                             = 1 2
 
 #[test]
 fn roles_and_primaries(rt: HostRuntime) -> Result<(), Fail> {
-    plays::<Database>(&rt, rt.alloc(), ROLES_AND_PRIMARIES)
+    plays::<Database>(rt.alloc(), ROLES_AND_PRIMARIES)
 }
 
 const AUDIT_LIST_FILLS: &str = "\
@@ -208,7 +208,7 @@ audit                           = 2
 
 #[test]
 fn audit_list_fills(rt: HostRuntime) -> Result<(), Fail> {
-    plays::<Database>(&rt, rt.alloc(), AUDIT_LIST_FILLS)
+    plays::<Database>(rt.alloc(), AUDIT_LIST_FILLS)
 }
 
 const PRIMARY_NOT_LISTED: &str = "\
@@ -219,7 +219,7 @@ epochs             = 1 5
 
 #[test]
 fn primary_not_listed(rt: HostRuntime) -> Result<(), Fail> {
-    plays::<Database>(&rt, rt.alloc(), PRIMARY_NOT_LISTED)
+    plays::<Database>(rt.alloc(), PRIMARY_NOT_LISTED)
 }
 
 const REPORTS_ABOVE_THE_WINDOW: &str = "\
@@ -232,5 +232,5 @@ hard                                  = 0
 
 #[test]
 fn reports_above_the_window(rt: HostRuntime) -> Result<(), Fail> {
-    plays::<Database>(&rt, rt.alloc(), REPORTS_ABOVE_THE_WINDOW)
+    plays::<Database>(rt.alloc(), REPORTS_ABOVE_THE_WINDOW)
 }

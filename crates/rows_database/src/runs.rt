@@ -15,7 +15,7 @@ hard                              = 0
 
 #[test]
 fn run_of_two(rt: HostRuntime) -> Result<(), Fail> {
-    plays::<Database>(&rt, rt.alloc(), RUN_OF_TWO)
+    plays::<Database>(rt.alloc(), RUN_OF_TWO)
 }
 
 const RUN_OF_NONE: &str = "\
@@ -26,7 +26,7 @@ audit              = 0
 
 #[test]
 fn run_of_none(rt: HostRuntime) -> Result<(), Fail> {
-    plays::<Database>(&rt, rt.alloc(), RUN_OF_NONE)
+    plays::<Database>(rt.alloc(), RUN_OF_NONE)
 }
 
 const RUN_OF_THREE: &str = "\
@@ -45,7 +45,7 @@ audit                               = 5
 
 #[test]
 fn run_of_three(rt: HostRuntime) -> Result<(), Fail> {
-    plays::<Database>(&rt, rt.alloc(), RUN_OF_THREE)
+    plays::<Database>(rt.alloc(), RUN_OF_THREE)
 }
 
 const RUN_OF_THIRTY: &str = "\
@@ -90,5 +90,5 @@ hard                               = 13
 
 #[test]
 fn run_of_thirty(rt: HostRuntime) -> Result<(), Fail> {
-    plays::<Database>(&rt, rt.alloc(), RUN_OF_THIRTY)
+    plays::<Database>(rt.alloc(), RUN_OF_THIRTY)
 }

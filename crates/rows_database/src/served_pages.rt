@@ -17,7 +17,7 @@ audit                                 = 4
 
 #[test]
 fn page_of_empty_log(rt: HostRuntime) -> Result<(), Fail> {
-    plays::<Database>(&rt, rt.alloc(), PAGE_OF_EMPTY_LOG)
+    plays::<Database>(rt.alloc(), PAGE_OF_EMPTY_LOG)
 }
 
 // Page 458752 is the first of partition 7, which row 3 of the table denies to 3.
@@ -35,7 +35,7 @@ open start 2 65536                    = Ok
 
 #[test]
 fn table_before_number(rt: HostRuntime) -> Result<(), Fail> {
-    plays::<Database>(&rt, rt.alloc(), TABLE_BEFORE_NUMBER)
+    plays::<Database>(rt.alloc(), TABLE_BEFORE_NUMBER)
 }
 
 const ADVANCE_THEN_GET: &str = "\
@@ -55,7 +55,7 @@ applied 0                             = 5
 
 #[test]
 fn advance_then_get(rt: HostRuntime) -> Result<(), Fail> {
-    plays::<Database>(&rt, rt.alloc(), ADVANCE_THEN_GET)
+    plays::<Database>(rt.alloc(), ADVANCE_THEN_GET)
 }
 
 const RECORDS_OF_TWO_PARTITIONS: &str = "\
@@ -75,7 +75,7 @@ open start 2 65536                              = Ok
 
 #[test]
 fn records_of_two_partitions(rt: HostRuntime) -> Result<(), Fail> {
-    plays::<Database>(&rt, rt.alloc(), RECORDS_OF_TWO_PARTITIONS)
+    plays::<Database>(rt.alloc(), RECORDS_OF_TWO_PARTITIONS)
 }
 
 const GET_AT_APPLIED_NUMBER: &str = "\
@@ -100,7 +100,7 @@ applied 4                             = 0
 
 #[test]
 fn get_at_applied_number(rt: HostRuntime) -> Result<(), Fail> {
-    plays::<Database>(&rt, rt.alloc(), GET_AT_APPLIED_NUMBER)
+    plays::<Database>(rt.alloc(), GET_AT_APPLIED_NUMBER)
 }
 
 // The blocks 3 to 5 stand in one copy: the failover annuls them, and no page has shown them.
@@ -127,5 +127,5 @@ applied 0                             = 1
 
 #[test]
 fn pages_of_hardened_blocks(rt: HostRuntime) -> Result<(), Fail> {
-    plays::<Database>(&rt, rt.alloc(), PAGES_OF_HARDENED_BLOCKS)
+    plays::<Database>(rt.alloc(), PAGES_OF_HARDENED_BLOCKS)
 }

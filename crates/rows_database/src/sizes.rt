@@ -43,7 +43,7 @@ in_broker                            = 64
 
 #[test]
 fn three_hundred_blocks(rt: HostRuntime) -> Result<(), Fail> {
-    plays::<Database>(&rt, rt.alloc(), THREE_HUNDRED_BLOCKS)
+    plays::<Database>(rt.alloc(), THREE_HUNDRED_BLOCKS)
 }
 
 const WINDOW_FILLED_THREE_TIMES: &str = "\
@@ -68,7 +68,7 @@ audit                         = 390
 
 #[test]
 fn window_filled_three_times(rt: HostRuntime) -> Result<(), Fail> {
-    plays::<Database>(&rt, rt.alloc(), WINDOW_FILLED_THREE_TIMES)
+    plays::<Database>(rt.alloc(), WINDOW_FILLED_THREE_TIMES)
 }
 
 const AUDIT_LIST_OF_65536: &str = "\
@@ -82,5 +82,5 @@ audit                         = 65536
 
 #[test]
 fn audit_list_of_65536(rt: HostRuntime) -> Result<(), Fail> {
-    plays::<Database>(&rt, rt.alloc(), AUDIT_LIST_OF_65536)
+    plays::<Database>(rt.alloc(), AUDIT_LIST_OF_65536)
 }

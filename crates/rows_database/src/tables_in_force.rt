@@ -18,7 +18,7 @@ audit                              = 7
 
 #[test]
 fn new_table_in_force(rt: HostRuntime) -> Result<(), Fail> {
-    plays::<Database>(&rt, rt.alloc(), NEW_TABLE_IN_FORCE)
+    plays::<Database>(rt.alloc(), NEW_TABLE_IN_FORCE)
 }
 
 const FIRST_TABLE_SET_AGAIN: &str = "\
@@ -36,7 +36,7 @@ open start 2 65536                 = Ok
 
 #[test]
 fn first_table_set_again(rt: HostRuntime) -> Result<(), Fail> {
-    plays::<Database>(&rt, rt.alloc(), FIRST_TABLE_SET_AGAIN)
+    plays::<Database>(rt.alloc(), FIRST_TABLE_SET_AGAIN)
 }
 
 const TOKEN_OF_A_NEW_TABLE: &str = "\
@@ -56,7 +56,7 @@ audit                                   = 6
 
 #[test]
 fn token_of_a_new_table(rt: HostRuntime) -> Result<(), Fail> {
-    plays::<Database>(&rt, rt.alloc(), TOKEN_OF_A_NEW_TABLE)
+    plays::<Database>(rt.alloc(), TOKEN_OF_A_NEW_TABLE)
 }
 
 const FAULTY_TABLES_CHANGE_NOTHING: &str = "\
@@ -78,7 +78,7 @@ audit                                      = 12
 
 #[test]
 fn faulty_tables_change_nothing(rt: HostRuntime) -> Result<(), Fail> {
-    plays::<Database>(&rt, rt.alloc(), FAULTY_TABLES_CHANGE_NOTHING)
+    plays::<Database>(rt.alloc(), FAULTY_TABLES_CHANGE_NOTHING)
 }
 
 // Rows of new tables that deny writes of partition 2, and pulls of partition 6. Page 131072 is the
@@ -104,5 +104,5 @@ open start 2 65536                      = Ok
 
 #[test]
 fn partitions_of_a_new_table(rt: HostRuntime) -> Result<(), Fail> {
-    plays::<Database>(&rt, rt.alloc(), PARTITIONS_OF_A_NEW_TABLE)
+    plays::<Database>(rt.alloc(), PARTITIONS_OF_A_NEW_TABLE)
 }

@@ -196,7 +196,7 @@ open start 2 65536 1            = Ok
 
 #[test]
 fn pages_outgrow_arena(rt: HostRuntime) -> Result<(), Fail> {
-    plays::<Database>(&rt, rt.alloc(), PAGES_OUTGROW_ARENA)
+    plays::<Database>(rt.alloc(), PAGES_OUTGROW_ARENA)
 }
 
 // Hardens so many blocks of page 0, and tells whether each version is right.

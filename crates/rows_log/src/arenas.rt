@@ -189,7 +189,7 @@ takes 5          = 0
 
 #[test]
 fn arena_fills(rt: HostRuntime) -> Result<(), Fail> {
-    plays::<Framed>(&rt, rt.alloc(), ARENA_FILLS)
+    plays::<Framed>(rt.alloc(), ARENA_FILLS)
 }
 
 const FRAMES_ARE_APART: &str = "\
@@ -215,7 +215,7 @@ bytes 129        = 33+4
 
 #[test]
 fn frames_are_apart(rt: HostRuntime) -> Result<(), Fail> {
-    plays::<Framed>(&rt, rt.alloc(), FRAMES_ARE_APART)
+    plays::<Framed>(rt.alloc(), FRAMES_ARE_APART)
 }
 
 // Takes so many frames of an arena, gives back the last, and lets the arena go.

@@ -35,7 +35,7 @@ decode zeros 32768                                                      = fault 
 
 #[test]
 fn each_fault_has_its_code(rt: HostRuntime) -> Result<(), Fail> {
-    plays::<Codec>(&rt, rt.alloc(), EACH_FAULT_HAS_ITS_CODE)
+    plays::<Codec>(rt.alloc(), EACH_FAULT_HAS_ITS_CODE)
 }
 
 const FIRST_FAULT_IS_TOLD: &str = "\
@@ -57,7 +57,7 @@ decode 0000000000000001 0001 0000 0000 00                               = fault 
 
 #[test]
 fn first_fault_is_told(rt: HostRuntime) -> Result<(), Fail> {
-    plays::<Codec>(&rt, rt.alloc(), FIRST_FAULT_IS_TOLD)
+    plays::<Codec>(rt.alloc(), FIRST_FAULT_IS_TOLD)
 }
 
 const PUT_AT_PAGE_END: &str = "\
@@ -68,7 +68,7 @@ decode 0000000000000001 0001 0000 0001 01 00000000 1fff 0000            = fault 
 
 #[test]
 fn put_at_page_end(rt: HostRuntime) -> Result<(), Fail> {
-    plays::<Codec>(&rt, rt.alloc(), PUT_AT_PAGE_END)
+    plays::<Codec>(rt.alloc(), PUT_AT_PAGE_END)
 }
 
 const READS_AND_WRITES_THE_BYTES: &str = "\
@@ -90,7 +90,7 @@ encode 2:zero@4294967295,aa@1,zero@1 \
 
 #[test]
 fn reads_and_writes_the_bytes(rt: HostRuntime) -> Result<(), Fail> {
-    plays::<Codec>(&rt, rt.alloc(), READS_AND_WRITES_THE_BYTES)
+    plays::<Codec>(rt.alloc(), READS_AND_WRITES_THE_BYTES)
 }
 
 const WRITES_BEHIND_WHAT_STANDS: &str = "\
@@ -103,7 +103,7 @@ onto 1:aa                     = 000000000000000100000000\
 
 #[test]
 fn writes_behind_what_stands(rt: HostRuntime) -> Result<(), Fail> {
-    plays::<Codec>(&rt, rt.alloc(), WRITES_BEHIND_WHAT_STANDS)
+    plays::<Codec>(rt.alloc(), WRITES_BEHIND_WHAT_STANDS)
 }
 
 const MAKING_TELLS_THE_FIRST_FAULT: &str = "\
@@ -120,7 +120,7 @@ block 1:zero,zero@4294967295                     = 26 bytes
 
 #[test]
 fn making_tells_the_first_fault(rt: HostRuntime) -> Result<(), Fail> {
-    plays::<Codec>(&rt, rt.alloc(), MAKING_TELLS_THE_FIRST_FAULT)
+    plays::<Codec>(rt.alloc(), MAKING_TELLS_THE_FIRST_FAULT)
 }
 
 const LARGEST_BLOCK: &str = "\
@@ -130,7 +130,7 @@ block 1:8192*aa,8192*aa,8192*aa,8143*aa          = fault 9
 
 #[test]
 fn largest_block(rt: HostRuntime) -> Result<(), Fail> {
-    plays::<Codec>(&rt, rt.alloc(), LARGEST_BLOCK)
+    plays::<Codec>(rt.alloc(), LARGEST_BLOCK)
 }
 
 const BLOCK_OF_20000_BYTES: &str = "\
@@ -139,7 +139,7 @@ block 5:8192*01,8192*02@70000,3571*03@4294967295 = 20000 bytes
 
 #[test]
 fn block_of_20000_bytes(rt: HostRuntime) -> Result<(), Fail> {
-    plays::<Codec>(&rt, rt.alloc(), BLOCK_OF_20000_BYTES)
+    plays::<Codec>(rt.alloc(), BLOCK_OF_20000_BYTES)
 }
 
 // 12 bytes, 2 for the one partition, and 10 for each record.
@@ -151,7 +151,7 @@ records 3276                                     = fault 9
 
 #[test]
 fn block_of_2700_records(rt: HostRuntime) -> Result<(), Fail> {
-    plays::<Codec>(&rt, rt.alloc(), BLOCK_OF_2700_RECORDS)
+    plays::<Codec>(rt.alloc(), BLOCK_OF_2700_RECORDS)
 }
 
 const TELLS_ITS_PARTITIONS: &str = "\
@@ -174,5 +174,5 @@ same 7:zero 7:00                                 = false
 
 #[test]
 fn tells_its_partitions(rt: HostRuntime) -> Result<(), Fail> {
-    plays::<Codec>(&rt, rt.alloc(), TELLS_ITS_PARTITIONS)
+    plays::<Codec>(rt.alloc(), TELLS_ITS_PARTITIONS)
 }

@@ -31,7 +31,7 @@ counts           = 0 1
 
 #[test]
 fn written_hardened_read(rt: HostRuntime) -> Result<(), Fail> {
-    plays::<Log>(&rt, rt.alloc(), WRITTEN_HARDENED_READ)
+    plays::<Log>(rt.alloc(), WRITTEN_HARDENED_READ)
 }
 
 const WINDOW_OF_SIXTY_FOUR: &str = "\
@@ -57,7 +57,7 @@ in_window 66     = false
 
 #[test]
 fn window_of_sixty_four(rt: HostRuntime) -> Result<(), Fail> {
-    plays::<Log>(&rt, rt.alloc(), WINDOW_OF_SIXTY_FOUR)
+    plays::<Log>(rt.alloc(), WINDOW_OF_SIXTY_FOUR)
 }
 
 const CONTENT_IS_FIXED: &str = "\
@@ -70,7 +70,7 @@ agrees 2:ab      = true
 
 #[test]
 fn content_is_fixed(rt: HostRuntime) -> Result<(), Fail> {
-    plays::<Log>(&rt, rt.alloc(), CONTENT_IS_FIXED)
+    plays::<Log>(rt.alloc(), CONTENT_IS_FIXED)
 }
 
 const FAILOVER_HARDENS_QUORUM_RUN: &str = "\
@@ -101,7 +101,7 @@ can_harden 3     = false
 
 #[test]
 fn failover_hardens_quorum_run(rt: HostRuntime) -> Result<(), Fail> {
-    plays::<Log>(&rt, rt.alloc(), FAILOVER_HARDENS_QUORUM_RUN)
+    plays::<Log>(rt.alloc(), FAILOVER_HARDENS_QUORUM_RUN)
 }
 
 const FAILOVER_STOPS_AT_GAP: &str = "\
@@ -128,7 +128,7 @@ annulled 1 3     = 3:03
 
 #[test]
 fn failover_stops_at_gap(rt: HostRuntime) -> Result<(), Fail> {
-    plays::<Log>(&rt, rt.alloc(), FAILOVER_STOPS_AT_GAP)
+    plays::<Log>(rt.alloc(), FAILOVER_STOPS_AT_GAP)
 }
 
 const TWO_FAILOVERS: &str = "\
@@ -155,7 +155,7 @@ annulled 0 1     = none
 
 #[test]
 fn two_failovers(rt: HostRuntime) -> Result<(), Fail> {
-    plays::<Log>(&rt, rt.alloc(), TWO_FAILOVERS)
+    plays::<Log>(rt.alloc(), TWO_FAILOVERS)
 }
 
 // 1 and 3 are offered, 1 before it is written and 3 behind it; 5 is in no copy.
@@ -200,7 +200,7 @@ annulled 2 5     = none
 
 #[test]
 fn offers_are_counted(rt: HostRuntime) -> Result<(), Fail> {
-    plays::<Log>(&rt, rt.alloc(), OFFERS_ARE_COUNTED)
+    plays::<Log>(rt.alloc(), OFFERS_ARE_COUNTED)
 }
 
 // Partition 0, partition 7, partition 0, none, partitions 7 and 0; then lo, hi, from, max and reach.
@@ -233,7 +233,7 @@ pull 0 65535 1 16 0      = 1
 
 #[test]
 fn pull_in_parts(rt: HostRuntime) -> Result<(), Fail> {
-    plays::<Log>(&rt, rt.alloc(), PULL_IN_PARTS)
+    plays::<Log>(rt.alloc(), PULL_IN_PARTS)
 }
 
 const OTHER_COPIES_AND_QUORUMS: &str = "\
@@ -253,7 +253,7 @@ annulled 1 1     = 1:aa
 
 #[test]
 fn other_copies_and_quorums(rt: HostRuntime) -> Result<(), Fail> {
-    plays::<Log>(&rt, rt.alloc(), OTHER_COPIES_AND_QUORUMS)
+    plays::<Log>(rt.alloc(), OTHER_COPIES_AND_QUORUMS)
 }
 
 const EACH_GROWTH_ALONE: &str = "\
@@ -276,7 +276,7 @@ read 1           = 1:
 
 #[test]
 fn each_growth_alone(rt: HostRuntime) -> Result<(), Fail> {
-    plays::<Log>(&rt, rt.alloc(), EACH_GROWTH_ALONE)
+    plays::<Log>(rt.alloc(), EACH_GROWTH_ALONE)
 }
 
 const READ_FROM_BOTH_STORES: &str = "\
@@ -321,5 +321,5 @@ annulled 1 304         = 304:bb
 
 #[test]
 fn read_from_both_stores(rt: HostRuntime) -> Result<(), Fail> {
-    plays::<Log>(&rt, rt.alloc(), READ_FROM_BOTH_STORES)
+    plays::<Log>(rt.alloc(), READ_FROM_BOTH_STORES)
 }

@@ -74,5 +74,5 @@ get 3       = 3:dd
 
 #[test]
 fn offered_blocks_are_found_by_lsn(rt: HostRuntime) -> Result<(), Fail> {
-    plays::<Area>(&rt, rt.alloc(), OFFERED_BLOCKS_ARE_FOUND_BY_LSN)
+    plays::<Area>(rt.alloc(), OFFERED_BLOCKS_ARE_FOUND_BY_LSN)
 }

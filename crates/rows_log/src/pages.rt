@@ -172,5 +172,5 @@ get 0 4                       = 4 4 0
 
 #[test]
 fn pages_at_each_lsn(rt: HostRuntime) -> Result<(), Fail> {
-    plays::<Replayed>(&rt, rt.alloc(), PAGES_AT_EACH_LSN)
+    plays::<Replayed>(rt.alloc(), PAGES_AT_EACH_LSN)
 }

@@ -68,7 +68,7 @@ act 4 11                                           = tidy
 
 #[test]
 fn faults_of_the_body(rt: HostRuntime) -> Result<(), Fail> {
-    plays::<Wire>(&rt, rt.alloc(), FAULTS_OF_THE_BODY)
+    plays::<Wire>(rt.alloc(), FAULTS_OF_THE_BODY)
 }
 
 // The first byte is the copy.
@@ -100,7 +100,7 @@ act 1 1 ff 0000000000000001 0000 0000                   = write 1: 255
 
 #[test]
 fn faults_of_the_block(rt: HostRuntime) -> Result<(), Fail> {
-    plays::<Wire>(&rt, rt.alloc(), FAULTS_OF_THE_BLOCK)
+    plays::<Wire>(rt.alloc(), FAULTS_OF_THE_BLOCK)
 }
 
 const LEAST_CODE_IS_TOLD: &str = "\
@@ -118,7 +118,7 @@ act 1 1 00 0000000000000000 00                          = fault 8
 
 #[test]
 fn least_code_is_told(rt: HostRuntime) -> Result<(), Fail> {
-    plays::<Wire>(&rt, rt.alloc(), LEAST_CODE_IS_TOLD)
+    plays::<Wire>(rt.alloc(), LEAST_CODE_IS_TOLD)
 }
 
 // Principal, token, role, database, epoch and operation; partitions, number and at most.
@@ -131,7 +131,7 @@ pull 53714 57826 266025777296886 7
 
 #[test]
 fn fields_at_their_places(rt: HostRuntime) -> Result<(), Fail> {
-    plays::<Wire>(&rt, rt.alloc(), FIELDS_AT_THEIR_PLACES)
+    plays::<Wire>(rt.alloc(), FIELDS_AT_THEIR_PLACES)
 }
 
 // Block 1 in two copies, hardened, and pulled by another principal; each also cut by its last byte.
@@ -159,7 +159,7 @@ body 00000003 33333333333333333333333333333333 02 00000000 00000001 05 \
 
 #[test]
 fn run_is_read(rt: HostRuntime) -> Result<(), Fail> {
-    plays::<Wire>(&rt, rt.alloc(), RUN_IS_READ)
+    plays::<Wire>(rt.alloc(), RUN_IS_READ)
 }
 
 const OFFER_HAS_ITS_BLOCK: &str = "\
@@ -171,7 +171,7 @@ act 1 2 0001000000000000 0000 0000                      = offer 281474976710656:
 
 #[test]
 fn offer_has_its_block(rt: HostRuntime) -> Result<(), Fail> {
-    plays::<Wire>(&rt, rt.alloc(), OFFER_HAS_ITS_BLOCK)
+    plays::<Wire>(rt.alloc(), OFFER_HAS_ITS_BLOCK)
 }
 
 // Of database 7: principal, token, role, database, epoch, operation, and the arguments.
@@ -202,7 +202,7 @@ request 1 11 operator 2 tidy = 0000000111111111111111111111111111111111040000000
 
 #[test]
 fn requests_as_bytes(rt: HostRuntime) -> Result<(), Fail> {
-    plays::<Wire>(&rt, rt.alloc(), REQUESTS_AS_BYTES)
+    plays::<Wire>(rt.alloc(), REQUESTS_AS_BYTES)
 }
 
 const WRITE_HAS_ITS_COPY_AND_BLOCK: &str = "\
@@ -212,7 +212,7 @@ act 1 1 00 0000000000000007 0001 0001 0001 01 00010002 0003 0002 0a0b = write 7:
 
 #[test]
 fn write_has_its_copy_and_block(rt: HostRuntime) -> Result<(), Fail> {
-    plays::<Wire>(&rt, rt.alloc(), WRITE_HAS_ITS_COPY_AND_BLOCK)
+    plays::<Wire>(rt.alloc(), WRITE_HAS_ITS_COPY_AND_BLOCK)
 }
 
 // A text is kept as it came, here its length, with the table that it writes down, here the count of
@@ -226,7 +226,7 @@ act 4 9 text without_operator   = set_table 609 fault 12
 
 #[test]
 fn texts_are_read(rt: HostRuntime) -> Result<(), Fail> {
-    plays::<Wire>(&rt, rt.alloc(), TEXTS_ARE_READ)
+    plays::<Wire>(rt.alloc(), TEXTS_ARE_READ)
 }
 
 // A frame holds at most 65,536 bytes, of which the head takes 30.
@@ -237,7 +237,7 @@ act 4 9 fill 20 65507           = fault 6
 
 #[test]
 fn longest_text(rt: HostRuntime) -> Result<(), Fail> {
-    plays::<Wire>(&rt, rt.alloc(), LONGEST_TEXT)
+    plays::<Wire>(rt.alloc(), LONGEST_TEXT)
 }
 
 // No UTF-8: a byte that is none, a wrong second byte, and half of a character.
@@ -250,7 +250,7 @@ act 4 9 2320 c3a9 0a            = set_table 5 fault 3
 
 #[test]
 fn bytes_that_are_no_text(rt: HostRuntime) -> Result<(), Fail> {
-    plays::<Wire>(&rt, rt.alloc(), BYTES_THAT_ARE_NO_TEXT)
+    plays::<Wire>(rt.alloc(), BYTES_THAT_ARE_NO_TEXT)
 }
 
 // The head that a request lends is the one that it gives up.
@@ -262,5 +262,5 @@ body 00000003 00000000000000000000000000000000 02 00000000 00000001 05 \
 
 #[test]
 fn parts_of_a_request(rt: HostRuntime) -> Result<(), Fail> {
-    plays::<Wire>(&rt, rt.alloc(), PARTS_OF_A_REQUEST)
+    plays::<Wire>(rt.alloc(), PARTS_OF_A_REQUEST)
 }

@@ -19,7 +19,7 @@ body 0 01                               = empty 1
 
 #[test]
 fn frames_in_any_pieces(rt: HostRuntime) -> Result<(), Fail> {
-    plays::<Frames>(&rt, rt.alloc(), FRAMES_IN_ANY_PIECES)
+    plays::<Frames>(rt.alloc(), FRAMES_IN_ANY_PIECES)
 }
 
 const FAULTS_OF_FRAMES: &str = "\
@@ -50,7 +50,7 @@ failing body 0                          = empty 0
 
 #[test]
 fn faults_of_frames(rt: HostRuntime) -> Result<(), Fail> {
-    plays::<Frames>(&rt, rt.alloc(), FAULTS_OF_FRAMES)
+    plays::<Frames>(rt.alloc(), FAULTS_OF_FRAMES)
 }
 
 const LONGEST_FRAMES: &str = "\
@@ -61,7 +61,7 @@ body 65536 65536*ab                     = 65536*ab  0
 
 #[test]
 fn longest_frames(rt: HostRuntime) -> Result<(), Fail> {
-    plays::<Frames>(&rt, rt.alloc(), LONGEST_FRAMES)
+    plays::<Frames>(rt.alloc(), LONGEST_FRAMES)
 }
 
 const WRITTEN_FRAMES_ARE_READ_AGAIN: &str = "\
@@ -79,7 +79,7 @@ failing sent replies                    = \
 
 #[test]
 fn written_frames_are_read_again(rt: HostRuntime) -> Result<(), Fail> {
-    plays::<Frames>(&rt, rt.alloc(), WRITTEN_FRAMES_ARE_READ_AGAIN)
+    plays::<Frames>(rt.alloc(), WRITTEN_FRAMES_ARE_READ_AGAIN)
 }
 
 const REQUESTS_IN_FRAMES: &str = "\
@@ -92,7 +92,7 @@ sent frames 65536                       = \
 
 #[test]
 fn requests_in_frames(rt: HostRuntime) -> Result<(), Fail> {
-    plays::<Frames>(&rt, rt.alloc(), REQUESTS_IN_FRAMES)
+    plays::<Frames>(rt.alloc(), REQUESTS_IN_FRAMES)
 }
 
 const REPLIES_FROM_FRAMES: &str = "\
@@ -111,7 +111,7 @@ replies 000000020a10 01                 = fault 6 1
 
 #[test]
 fn replies_from_frames(rt: HostRuntime) -> Result<(), Fail> {
-    plays::<Frames>(&rt, rt.alloc(), REPLIES_FROM_FRAMES)
+    plays::<Frames>(rt.alloc(), REPLIES_FROM_FRAMES)
 }
 
 const WRITERS_THAT_STOP: &str = "\
@@ -129,5 +129,5 @@ room 33 request 2 22 primary 1 status   = 0000001e000000022222222222222222222222
 
 #[test]
 fn writers_that_stop(rt: HostRuntime) -> Result<(), Fail> {
-    plays::<Frames>(&rt, rt.alloc(), WRITERS_THAT_STOP)
+    plays::<Frames>(rt.alloc(), WRITERS_THAT_STOP)
 }

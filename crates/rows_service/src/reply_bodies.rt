@@ -23,7 +23,7 @@ reply Malformed 16                           = does not fit
 
 #[test]
 fn replies_as_bytes(rt: HostRuntime) -> Result<(), Fail> {
-    plays::<Wire>(&rt, rt.alloc(), REPLIES_AS_BYTES)
+    plays::<Wire>(rt.alloc(), REPLIES_AS_BYTES)
 }
 
 // The LSN, and 8,192 bytes.
@@ -40,7 +40,7 @@ size Page 5 of 0                             = does not fit
 
 #[test]
 fn pages_as_bytes(rt: HostRuntime) -> Result<(), Fail> {
-    plays::<Wire>(&rt, rt.alloc(), PAGES_AS_BYTES)
+    plays::<Wire>(rt.alloc(), PAGES_AS_BYTES)
 }
 
 // A count; of each line number, pass, principal, role, epoch, operation, a, b, section, row and value.
@@ -62,7 +62,7 @@ size Entries times 1025 1/1/2/primary/0/status/0/0/A2:1 = does not fit
 
 #[test]
 fn entries_as_bytes(rt: HostRuntime) -> Result<(), Fail> {
-    plays::<Wire>(&rt, rt.alloc(), ENTRIES_AS_BYTES)
+    plays::<Wire>(rt.alloc(), ENTRIES_AS_BYTES)
 }
 
 // Next and count; then each block's length and its bytes.
@@ -77,7 +77,7 @@ reply Blocks 3 2:                            = 0100000000000000030001\
 
 #[test]
 fn blocks_as_bytes(rt: HostRuntime) -> Result<(), Fail> {
-    plays::<Wire>(&rt, rt.alloc(), BLOCKS_AS_BYTES)
+    plays::<Wire>(rt.alloc(), BLOCKS_AS_BYTES)
 }
 
 // 11 bytes, and 28 for each block.
@@ -107,5 +107,5 @@ reply Blocks 18 1:01 2:02 3:03 4:04 5:05 6:06 7:07 8:08 \
 
 #[test]
 fn reply_of_sixteen_blocks(rt: HostRuntime) -> Result<(), Fail> {
-    plays::<Wire>(&rt, rt.alloc(), REPLY_OF_SIXTEEN_BLOCKS)
+    plays::<Wire>(rt.alloc(), REPLY_OF_SIXTEEN_BLOCKS)
 }

@@ -30,7 +30,7 @@ answer 0a 0f                                            = Malformed 15
 
 #[test]
 fn replies_are_read(rt: HostRuntime) -> Result<(), Fail> {
-    plays::<Wire>(&rt, rt.alloc(), REPLIES_ARE_READ)
+    plays::<Wire>(rt.alloc(), REPLIES_ARE_READ)
 }
 
 const FAULTS_OF_REPLIES: &str = "\
@@ -61,7 +61,7 @@ answer 0a 10 00                                         = fault 6
 
 #[test]
 fn faults_of_replies(rt: HostRuntime) -> Result<(), Fail> {
-    plays::<Wire>(&rt, rt.alloc(), FAULTS_OF_REPLIES)
+    plays::<Wire>(rt.alloc(), FAULTS_OF_REPLIES)
 }
 
 const FAULTS_OF_SERVED_BLOCKS: &str = "\
@@ -83,7 +83,7 @@ answer 01 0000000000000002 0002 0000000c 0000000000000001 0000 0000 = fault 4
 
 #[test]
 fn faults_of_served_blocks(rt: HostRuntime) -> Result<(), Fail> {
-    plays::<Wire>(&rt, rt.alloc(), FAULTS_OF_SERVED_BLOCKS)
+    plays::<Wire>(rt.alloc(), FAULTS_OF_SERVED_BLOCKS)
 }
 
 // A field's fault comes before what follows is missed, that of a verdict once its value is whole.
@@ -106,5 +106,5 @@ answer 03 0001 0000000000000001 0000000000000001 00000002 04 ffffffff 0b 16*00 0
 
 #[test]
 fn faults_of_lines(rt: HostRuntime) -> Result<(), Fail> {
-    plays::<Wire>(&rt, rt.alloc(), FAULTS_OF_LINES)
+    plays::<Wire>(rt.alloc(), FAULTS_OF_LINES)
 }

@@ -18,7 +18,7 @@ table start                                                 = Ok
 
 #[test]
 fn known_by_id_and_token(rt: HostRuntime) -> Result<(), Fail> {
-    plays::<Rules>(&rt, rt.alloc(), KNOWN_BY_ID_AND_TOKEN)
+    plays::<Rules>(rt.alloc(), KNOWN_BY_ID_AND_TOKEN)
 }
 
 const ROWS_OF_SECTION_A: &str = "\
@@ -35,7 +35,7 @@ table start                        = Ok
 
 #[test]
 fn rows_of_section_a(rt: HostRuntime) -> Result<(), Fail> {
-    plays::<Rules>(&rt, rt.alloc(), ROWS_OF_SECTION_A)
+    plays::<Rules>(rt.alloc(), ROWS_OF_SECTION_A)
 }
 
 const ROWS_OF_THE_TABLE: &str = "\
@@ -48,7 +48,7 @@ table start                        = Ok
 
 #[test]
 fn rows_of_the_table(rt: HostRuntime) -> Result<(), Fail> {
-    plays::<Rules>(&rt, rt.alloc(), ROWS_OF_THE_TABLE)
+    plays::<Rules>(rt.alloc(), ROWS_OF_THE_TABLE)
 }
 
 const LAST_EPOCH: &str = "\
@@ -62,7 +62,7 @@ epochs 4294967294 2                  = Ok
 
 #[test]
 fn last_epoch(rt: HostRuntime) -> Result<(), Fail> {
-    plays::<Rules>(&rt, rt.alloc(), LAST_EPOCH)
+    plays::<Rules>(rt.alloc(), LAST_EPOCH)
 }
 
 // A view tells how many blocks are hardened, whether a write agrees with the content of its number,
@@ -95,7 +95,7 @@ view 5 true 3 true                     = Ok
 
 #[test]
 fn rows_of_section_c(rt: HostRuntime) -> Result<(), Fail> {
-    plays::<Rules>(&rt, rt.alloc(), ROWS_OF_SECTION_C)
+    plays::<Rules>(rt.alloc(), ROWS_OF_SECTION_C)
 }
 
 // C2 to C4 are asked of a write and of an offer, C5 of a write alone; C1 of a pull and of a get.
@@ -132,7 +132,7 @@ view 5 true 0 false                    = Ok
 
 #[test]
 fn rows_of_reads_and_offers(rt: HostRuntime) -> Result<(), Fail> {
-    plays::<Rules>(&rt, rt.alloc(), ROWS_OF_READS_AND_OFFERS)
+    plays::<Rules>(rt.alloc(), ROWS_OF_READS_AND_OFFERS)
 }
 
 const ANOTHER_TABLE: &str = "\
@@ -149,5 +149,5 @@ table two_principals                   = Ok
 
 #[test]
 fn another_table(rt: HostRuntime) -> Result<(), Fail> {
-    plays::<Rules>(&rt, rt.alloc(), ANOTHER_TABLE)
+    plays::<Rules>(rt.alloc(), ANOTHER_TABLE)
 }

@@ -104,7 +104,7 @@ list 1 0                                              =
 
 #[test]
 fn entries_up_to_a_limit(rt: HostRuntime) -> Result<(), Fail> {
-    plays::<Listed>(&rt, rt.alloc(), ENTRIES_UP_TO_A_LIMIT)
+    plays::<Listed>(rt.alloc(), ENTRIES_UP_TO_A_LIMIT)
 }
 
 const TABLE_OF_THE_NEWEST_ENTRY: &str = "\
@@ -121,5 +121,5 @@ len                                                   = 4
 
 #[test]
 fn table_of_the_newest_entry(rt: HostRuntime) -> Result<(), Fail> {
-    plays::<Listed>(&rt, rt.alloc(), TABLE_OF_THE_NEWEST_ENTRY)
+    plays::<Listed>(rt.alloc(), TABLE_OF_THE_NEWEST_ENTRY)
 }

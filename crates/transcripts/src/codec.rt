@@ -77,19 +77,24 @@ impl Codec {
     }
 
     // Puts the block behind what stands. Where memory is refused, it has what it had.
+    fn put_behind(&mut self, block: &Block) -> Result<(), Stop> {
+        let before = self.out.to_vec(self.alloc)?;
+        match encode_onto(&mut self.out, block) {
+            Ok(()) => Ok(()),
+            Err(_) if self.out.as_slice() == before.as_slice() => Err(Stop::NoMemory),
+            Err(_) => Err(Stop::Changed),
+        }
+    }
+
+    // The same, and once more where memory is refused.
     fn onto(&mut self, word: &str, out: &mut String, refused: &mut bool) -> Result<(), Stop> {
         let block = block_of(self.alloc, word)?;
-        let before = self.out.to_vec(self.alloc)?;
-        if encode_onto(&mut self.out, &block).is_err() {
-            if self.out.as_slice() != before.as_slice() {
-                return Err(Stop::Changed);
-            }
-            if *refused {
-                return Err(Stop::NoMemory);
-            }
+        let mut end = self.put_behind(&block);
+        if matches!(end, Err(Stop::NoMemory)) && !*refused {
             *refused = true;
-            encode_onto(&mut self.out, &block)?;
+            end = self.put_behind(&block);
         }
+        end?;
         push_bytes(out, &self.out)
     }
 
@@ -101,18 +106,61 @@ impl Codec {
         push_made(out, decode(self.alloc, Bytes::from_vec(bytes)?))
     }
 
-    fn partitions(&self, word: &str, out: &mut String) -> Result<(), Stop> {
-        let block = block_of(self.alloc, word)?;
-        for partition in block.partitions() {
-            push_numbers(out, &[u64::from(*partition)])?;
-        }
-        Ok(())
-    }
-
     // Whether a share of the first block is the second.
     fn same(&self, one: &str, other: &str, out: &mut String) -> Result<(), Stop> {
         let one = block_of(self.alloc, one)?.share()?;
         push_truth(out, one.same(&block_of(self.alloc, other)?))
+    }
+}
+
+impl Codec {
+    fn round_of(&self, word: &str, out: &mut String) -> Result<(), Stop> {
+        let (lsn, records) = parts_of(self.alloc, word)?;
+        self.round(lsn, records, out)
+    }
+
+    fn round_of_many(&self, count: &str, out: &mut String) -> Result<(), Stop> {
+        let records = many_records(self.alloc, count.parse()?)?;
+        self.round(1, records, out)
+    }
+
+    // Pushes what is read of the block.
+    fn push_read(
+        &self,
+        name: &str,
+        word: &str,
+        words: &[&str],
+        out: &mut String,
+    ) -> Result<(), Stop> {
+        let block = block_of(self.alloc, word)?;
+        push_read_of(self.alloc, &block, name, words, out)
+    }
+}
+
+// Pushes the bytes of the block.
+fn push_encoded(alloc: Global, block: &Block, out: &mut String) -> Result<(), Stop> {
+    push_bytes(out, &encode(alloc, block)?)
+}
+
+fn push_partitions(block: &Block, out: &mut String) -> Result<(), Stop> {
+    for partition in block.partitions() {
+        push_numbers(out, &[u64::from(*partition)])?;
+    }
+    Ok(())
+}
+
+fn push_read_of(
+    alloc: Global,
+    block: &Block,
+    name: &str,
+    words: &[&str],
+    out: &mut String,
+) -> Result<(), Stop> {
+    match (name, words) {
+        ("encode", []) => push_encoded(alloc, block, out),
+        ("partitions", []) => push_partitions(block, out),
+        ("touches", [partition]) => push_truth(out, block.touches(partition.parse()?)),
+        _ => Err(Stop::Unread),
     }
 }
 
@@ -125,22 +173,13 @@ impl Subject for Codec {
     }
 
     fn answer(&mut self, words: &[&str], out: &mut String, refused: &mut bool) -> Result<(), Stop> {
-        let alloc = self.alloc;
         match words {
             ["decode", bytes @ ..] => self.decode(bytes, out),
-            ["encode", block] => push_bytes(out, &encode(alloc, &block_of(alloc, block)?)?),
             ["onto", block] => self.onto(block, out, refused),
-            ["block", word] => {
-                let (lsn, records) = parts_of(alloc, word)?;
-                self.round(lsn, records, out)
-            }
-            ["records", count] => self.round(1, many_records(alloc, count.parse()?)?, out),
-            ["partitions", block] => self.partitions(block, out),
-            ["touches", block, partition] => {
-                let block = block_of(alloc, block)?;
-                push_truth(out, block.touches(partition.parse()?))
-            }
+            ["block", word] => self.round_of(word, out),
+            ["records", count] => self.round_of_many(count, out),
             ["same", one, other] => self.same(one, other, out),
+            [name, word, words @ ..] => self.push_read(name, word, words, out),
             _ => Err(Stop::Unread),
         }
     }

@@ -4,7 +4,6 @@ use hex::FromHexError;
 use pl_block::BlockFault;
 use std::alloc::{AllocError, AllocFailed, Global};
 use std::num::ParseIntError;
-use std::process::Abort;
 use std::test::Fail;
 
 /// What a transcript speaks to.
@@ -109,6 +108,12 @@ impl<S: Subject> Player<S> {
         }
     }
 
+    // The line, and what it was answered.
+    fn told(&self, line: &str) -> Result<String, AllocError> {
+        let shown = self.shown();
+        format!(in self.alloc; "{line}, not {shown}")
+    }
+
     fn asks(&mut self, asked: &str, refused: &mut bool) -> Result<String, Stop> {
         let words: Vec<&str> = asked.split_whitespace().collect(self.alloc)?;
         let mut out = String::new(self.alloc);
@@ -135,29 +140,41 @@ impl<S: Subject> Player<S> {
     }
 }
 
-// Plays the lines, up to an allocation of the test's own that fails.
+// Plays the lines up to the first that does not hold, which it tells with its answer. An error is that
+// an allocation of the test's own failed.
 fn play<S: Subject>(
-    rt: &impl Abort,
     alloc: Global,
     row: &str,
     refused: &mut bool,
-) -> Result<(), AllocError> {
+) -> Result<Option<String>, AllocError> {
     let mut player: Player<S> = Player::new(alloc);
     for line in row.lines() {
-        let holds = player.holds(line, refused)?;
-        assert!(rt; holds, "{line}, not {}", player.shown());
+        if !player.holds(line, refused)? {
+            return Ok(Some(player.told(line)?));
+        }
     }
-    Ok(())
+    Ok(None)
+}
+
+// Plays the lines, and from the beginning, once, where an allocation of the test's own failed.
+fn play_again<S: Subject>(alloc: Global, row: &str) -> Result<Option<String>, AllocError> {
+    let mut refused = false;
+    if let Ok(wrong) = play::<S>(alloc, row, &mut refused) {
+        return Ok(wrong);
+    }
+    if refused {
+        return Err(AllocError);
+    }
+    refused = true;
+    play::<S>(alloc, row, &mut refused)
 }
 
 /// Plays the transcript of a subject. Where an allocation of the test's own fails it is played from
 /// its beginning, once, since a test may meet one refused allocation and no more.
-pub fn plays<S: Subject>(rt: &impl Abort, alloc: Global, row: &str) -> Result<(), Fail> {
-    let mut refused = false;
-    if play::<S>(rt, alloc, row, &mut refused).is_err() {
-        assert!(rt; !refused, "out of memory twice");
-        refused = true;
-        play::<S>(rt, alloc, row, &mut refused)?;
+pub fn plays<S: Subject>(alloc: Global, row: &str) -> Result<(), Fail> {
+    match play_again::<S>(alloc, row) {
+        Ok(None) => Ok(()),
+        Ok(Some(wrong)) => Err(Fail::new(wrong)),
+        Err(_) => Err(Fail::new("out of memory twice")),
     }
-    Ok(())
 }
