@@ -40,6 +40,23 @@ struct Row {
     after: &'static str,
 }
 
+// The answer to the words, with the block of the number.
+fn ask_once(
+    rt: &impl Wait,
+    alloc: Global,
+    desk: &Desk,
+    pass: &mut Pass,
+    words: &str,
+    number: u64,
+) -> Result<String, Stop>
+    requires of { IsOf desk.now pass.old }
+    ensures of { IsOf desk.now pass.new }
+{
+    let block = format!(in alloc; "{number}:{number:02x}")?;
+    let line = words.replace(alloc, "BLOCK", &block)?;
+    ask(rt, alloc, desk, pass, &line)
+}
+
 // Asks, and returns how many answers are those up to the change. All others have to be behind it.
 fn ask_over_a_change(
     rt: &impl Wait,
@@ -54,9 +71,7 @@ fn ask_over_a_change(
     let [before, behind] = asked.answers;
     let mut count: u64 = 0;
     for number in 1..=asked.times {
-        let block = format!(in alloc; "{number}:{number:02x}")?;
-        let line = asked.words.replace(alloc, "BLOCK", &block)?;
-        let text = ask(rt, alloc, desk, pass, &line)?;
+        let text = ask_once(rt, alloc, desk, pass, asked.words, number)?;
         if text.trim() == before && count == number - 1 {
             count = number;
         } else if text.trim() != behind {
@@ -84,7 +99,7 @@ fn play_passes<R: Threads + Wait + Abort + Sync>(
     row: Row,
 ) -> Result<(u64, u64, Pass), Stop>
     requires of { All (IsOf desk.now) passes.items }
-    ensures of { IfOk result (λ ends. IsOf desk.now ends.1.1) }
+    ensures of { IfOk result (λ ends. IsOf desk.now ends.2) }
 {
     let mut q = last_of(desk, &mut passes)?;
     let mut p = last_of(desk, &mut passes)?;
