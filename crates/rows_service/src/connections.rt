@@ -1,6 +1,6 @@
 //! Connections: clients over the loopback, two at once and one after the other.
 
-ghost use Rattle.std.specs.Prelude.{⊤};
+ghost use Rattle.std.specs.Prelude.{◌≡◌, ⊤, vec_len, IfOk};
 ghost use Rattle.std.specs.List.{All};
 ghost use Rattle.pl_conn.specs.Desks.{AreOf};
 
@@ -181,7 +181,9 @@ where
 }
 
 // The database of the desk.
-fn one_db(alloc: Global) -> Result<Vec<Db>, Stop> {
+fn one_db(alloc: Global) -> Result<Vec<Db>, Stop>
+    ensures one { IfOk result (λ dbs. vec_len dbs ≡ 1) }
+{
     let mut dbs = Vec::with_capacity(alloc, 1)?;
     dbs.push_reserved(open(alloc)?);
     Ok(dbs)

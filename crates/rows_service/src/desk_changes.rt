@@ -4,7 +4,7 @@ ghost use Rattle.std.specs.Prelude.{◌≡◌, ◌≤◌, ◌^◌, IfOk};
 ghost use Rattle.std.specs.List.{All};
 ghost use Rattle.pl_desk.specs.Passes.{IsOf};
 
-use crate::desks::{HARDENS, TURNS, ask, last_of, open, play};
+use crate::desks::{HARDENS, TURNS, ask, desk_of, last_of, play};
 use pl_core::{Db, Line, Reply};
 use pl_desk::{Desk, Pass};
 use std::alloc::Global;
@@ -125,9 +125,7 @@ fn play_two<R: Threads + Wait + Abort + Sync>(
     requires some { 1 ≤ row.turns }
     requires few { row.turns ≤ 2 ^ 62 }
 {
-    let Ok((desk, passes)) = Desk::new(alloc, open(alloc, row.audit)?, 2, row.turns) else {
-        return Err(Stop::NoMemory);
-    };
+    let (desk, passes) = desk_of(alloc, row.audit, 2, row.turns)?;
     let (first, second, pass) = play_passes(rt, alloc, &desk, passes, row)?;
     Ok((first, second, desk.close(pass).ok_or(Stop::Unread)?))
 }

@@ -27,6 +27,46 @@ pub(crate) fn open(alloc: Global, audit: u64) -> Result<Db, Stop> {
     Db::new(alloc, table, 2, limits).map_err(|_| Stop::NoMemory)
 }
 
+/// A desk of such a database, with so many passes and turns.
+pub(crate) fn desk_of(
+    alloc: Global,
+    audit: u64,
+    seats: u32,
+    turns: u64,
+) -> Result<(Desk, Vec<Pass>), Stop>
+    requires seats { 1 ≤ seats }
+    requires some { 1 ≤ turns }
+    requires few { turns ≤ 2 ^ 62 }
+    ensures of { IfOk result (λ opened. All (IsOf opened.0) opened.1.items) }
+{
+    match Desk::new(alloc, open(alloc, audit)?, seats, turns) {
+        Ok(opened) => Ok(opened),
+        Err(_) => Err(Stop::NoMemory),
+    }
+}
+
+// The reply to the request of the line. An error is that memory was refused.
+fn reply_to(
+    rt: &impl Wait,
+    alloc: Global,
+    desk: &Desk,
+    pass: &mut Pass,
+    line: &str,
+) -> Result<Reply, Stop>
+    requires of { IsOf desk.now pass.old }
+    ensures of { IsOf desk.now pass.new }
+{
+    let words: Vec<&str> = line.split_whitespace().collect(alloc)?;
+    let request = request_of(alloc, 0, &words)?.ok_or(Stop::Unread)?;
+    Ok(desk.call(rt, pass, request))
+}
+
+fn text_of(alloc: Global, reply: &Reply) -> Result<String, Stop> {
+    let mut text = String::new(alloc);
+    push_reply(&mut text, reply)?;
+    Ok(text)
+}
+
 /// The reply to the request of the line, as words. An error is that memory was refused, to the test
 /// or to the desk.
 pub(crate) fn ask(
@@ -39,15 +79,11 @@ pub(crate) fn ask(
     requires of { IsOf desk.now pass.old }
     ensures of { IsOf desk.now pass.new }
 {
-    let words: Vec<&str> = line.split_whitespace().collect(alloc)?;
-    let request = request_of(alloc, 0, &words)?.ok_or(Stop::Unread)?;
-    let reply = desk.call(rt, pass, request);
+    let reply = reply_to(rt, alloc, desk, pass, line)?;
     if matches!(reply, Reply::NoMemory) {
         return Err(Stop::NoMemory);
     }
-    let mut text = String::new(alloc);
-    push_reply(&mut text, &reply)?;
-    Ok(text)
+    text_of(alloc, &reply)
 }
 
 /// Each line is answered as it says.
@@ -105,9 +141,7 @@ fn play_alone<R: Wait + Abort>(
     requires some { 1 ≤ turns }
     requires few { turns ≤ 2 ^ 62 }
 {
-    let Ok((desk, passes)) = Desk::new(alloc, open(alloc, 65_536)?, 1, turns) else {
-        return Err(Stop::NoMemory);
-    };
+    let (desk, passes) = desk_of(alloc, 65_536, 1, turns)?;
     let (number, pass) = play_last(rt, alloc, &desk, passes, row)?;
     let db = desk.close(pass).ok_or(Stop::Unread)?;
     Ok((number, db.audit_len()))
@@ -196,9 +230,7 @@ fn play_passes<R: Wait + Abort>(
 
 // Plays a row of three passes that meet, and returns how many entries there are in the end.
 fn play_three<R: Wait + Abort>(rt: &R, alloc: Global) -> Result<u64, Stop> {
-    let Ok((desk, passes)) = Desk::new(alloc, open(alloc, 65_536)?, 3, TURNS) else {
-        return Err(Stop::NoMemory);
-    };
+    let (desk, passes) = desk_of(alloc, 65_536, 3, TURNS)?;
     let pass = play_passes(rt, alloc, &desk, passes)?;
     Ok(desk.close(pass).ok_or(Stop::Unread)?.audit_len())
 }
