@@ -1,7 +1,6 @@
 pub mod Spans
 pub mod Tokens
-pub mod Marks
-pub mod Marked
+pub mod Listed
 pub mod FirstMatch
 pub mod Trees
 pub mod Listings

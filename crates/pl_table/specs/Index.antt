@@ -1,17 +1,14 @@
 -- The index of a table: which rows can match, by the principal that asks and by the operation.
-use Rattle.std.specs.Prelude.{◌≡◌, ℕ, ◌<◌, ◌≤◌, ◌==◌, nat_eq, Bool, false, List, [], ◌∷◌, length, take, drop, map, find, slice_get, Option, Some, None, IfSome}
-use Rattle.std.specs.Int.{bit_at}
-use Rattle.std.specs.Simd.Lanes.{mask_l}
+use Rattle.std.specs.Prelude.{◌≡◌, ℕ, ◌+◌, ◌==◌, ◌&&◌, nat_eq, Bool, false, List, [], ◌∷◌, map, find, Option, Some, None, IfSome, if◌then◌else◌}
 use Rattle.std.specs.List.{All, Contains}
 use Rattle.std.specs.List.Sorted.{IsStrictlyIncreasing}
-use Rattle.pl_table.specs.declared.index.RowBlock.{RowBlock}
+use Rattle.pl_table.specs.declared.index.OpLists.{OpLists}
 use Rattle.pl_table.specs.declared.index.RowIndex.{RowIndex}
 use Rattle.pl_table.specs.declared.op.Op.{Op}
 use Rattle.pl_table.specs.declared.row.Row.{Row}
 use Rattle.pl_table.specs.Ops.{lists_op, all_ops}
 use Rattle.pl_table.specs.Absent.{part_matches}
-use Rattle.pl_table.specs.Request.{Query}
-use Rattle.pl_table.specs.Row.{row_matches}
+use Rattle.pl_table.specs.Request.{Query, op_of}
 
 -- the askers that the index tells apart: each id that rows name, and one that none names
 abbrev pub askers : List ℕ → List (Option ℕ)
@@ -35,28 +32,30 @@ can_be_of asker row = part_matches (is_asker asker) row.who
 abbrev pub can_be_for : Op → Row → Bool
 can_be_for op row = part_matches (lists_op op) row.op
 
--- the rows that pass a test, as binary digits: the lowest is the first row's
-abbrev pub marks : (Row → Bool) → List Row → ℕ
-marks test rows = mask_l (map test rows)
+-- the row can match a request of the asker for the operation
+abbrev pub can_be : Option ℕ → Op → Row → Bool
+can_be asker op row = can_be_of asker row && can_be_for op row
 
--- a block marks, of at most 64 rows, those that can match: for each asker, and for each operation
-pub record IsBlockOf (names : List ℕ) (rows : List Row) (block : RowBlock) : Type 0 where
-  pub few : length rows ≤ 64
-  pub by_asker : block.by_asker.items ≡ map (λ asker. marks (can_be_of asker) rows) (askers names)
-  pub by_op : block.by_op.items ≡ map (λ op. marks (can_be_for op) rows) all_ops
+-- the row can match the request: it names nobody or its principal, and lists no operation or its own
+abbrev pub can_match : Query → Row → Bool
+can_match q row = part_matches (λ who. who == q.head.principal) row.who && can_be_for (op_of q.act) row
 
--- the blocks are those of the rows, 64 by 64, up to the rows that are left
-abbrev pub AreBlocksOf : List ℕ → List Row → List RowBlock → List Row → Type 0
-AreBlocksOf names rows [] rest = rows ≡ rest
-AreBlocksOf names rows (block ∷ blocks) rest = IsBlockOf names (take 64 rows) block × AreBlocksOf names (drop 64 rows) blocks rest
+-- the places of the rows that pass a test, rising, where the first of the list has the place k
+abbrev pub places_from : ℕ → (Row → Bool) → List Row → List ℕ
+places_from k test [] = []
+places_from k test (row ∷ rows) = if test row then k ∷ places_from (k + 1) test rows else places_from (k + 1) test rows
 
--- an index has the ids that rows name, rising, each once, and the blocks of all rows
+-- for each operation, the places of the rows that can match a request of the asker
+abbrev pub places_by_op : List Row → Option ℕ → List (List ℕ)
+places_by_op rows asker = map (λ op. places_from 0 (can_be asker op) rows) all_ops
+
+-- the lists that are kept for an asker
+abbrev pub lists_of : OpLists → List (List ℕ)
+lists_of lists = map (λ list. list.items) lists.by_op.items
+
+-- An index has the ids that rows name, rising, each once. For each asker and each operation it lists
+-- the rows that can match.
 pub record IsIndexOf (rows : List Row) (index : RowIndex) : Type 0 where
   pub rise : IsStrictlyIncreasing index.names.items
   pub named : All (λ row. IfSome row.who (Contains index.names.items)) rows
-  pub blocks : AreBlocksOf index.names.items rows index.blocks.items []
-
--- a word marks rows, and of these all that match the request
-pub record AreMarked (rows : List Row) (q : Query) (word : ℕ) : Type 0 where
-  pub within : (i : ℕ) → bit_at word i ≡ 1 → i < length rows
-  pub unmarked : (i : ℕ) → bit_at word i ≡ 0 → IfSome (slice_get rows i) (λ row. row_matches row q ≡ false)
+  pub lists : map lists_of index.by_asker.items ≡ map (places_by_op rows) (askers index.names.items)

@@ -1,11 +1,11 @@
 //! A row of the table.
 
-ghost use Rattle.std.specs.Prelude.{◌≡◌, ◌==◌, ◌&&◌, IfOk};
+ghost use Rattle.std.specs.Prelude.{◌≡◌, ◌==◌, ◌&&◌, IfOk, IsTrue};
 ghost use Rattle.pl_block.specs.Block.{touched};
 ghost use Rattle.pl_table.specs.Request.{InRange};
 ghost use Rattle.pl_table.specs.Acts.{partitions_of};
 ghost use Rattle.pl_table.specs.Absent.{part_matches};
-ghost use Rattle.pl_table.specs.Index.{is_asker, can_be_of, can_be_for};
+ghost use Rattle.pl_table.specs.Index.{is_asker, can_be, can_match};
 ghost use Rattle.pl_table.specs.Row.{range_matches, row_matches};
 ghost use Rattle.pl_table.specs.Ops.{same_role, lists_op};
 
@@ -116,18 +116,21 @@ impl Row {
         })
     }
 
-    // Whether the row can match a request of this principal; of one that no row names, for `None`.
-    pub(crate) fn can_be_of(&self, asker: Option<u32>) -> bool
-        ensures value { result ≡ can_be_of asker self.now }
+    // Whether the row matches the request, where it can match by its principal and its operations.
+    pub(crate) fn matches_listed(&self, request: &Request) -> bool
+        requires listed { IsTrue (can_match request.now self.now) }
+        ensures value { result ≡ row_matches self.now request.now }
     {
-        matches_asker(self.who, asker)
+        matches_role(self.role, request.head().role)
+            && matches_range(self.allows, self.range, request.act())
     }
 
-    // Whether the row can match a request for the operation.
-    pub(crate) fn can_be_for(&self, op: Op) -> bool
-        ensures value { result ≡ can_be_for op self.now }
+    // Whether the row can match a request for the operation by this principal; by one that no row
+    // names, for `None`.
+    pub(crate) fn can_be(&self, asker: Option<u32>, op: Op) -> bool
+        ensures value { result ≡ can_be asker op self.now }
     {
-        matches_op(&self.op, op)
+        matches_asker(self.who, asker) && matches_op(&self.op, op)
     }
 
     // Whether the row matches a request of the principal, in the role, for an operation that names no

@@ -1,6 +1,6 @@
 use Rattle.std.proofs.lemmas.List.Filters.{dedup_is}
 use Rattle.std.proofs.lemmas.Map.Keys.{IsStrictlyIncreasing-dedup}
-use Rattle.pl_table.proofs.Marked.{each-named}
+use Rattle.pl_table.proofs.Listed.{each-named}
 use Rattle.pl_table.proofs.index.names_in.Goals as goal
 
 pub returns-clause-rise : goal.returns-clause-rise

@@ -1,4 +1,4 @@
-use Rattle.pl_table.proofs.Marked.{searched-names, place-found, place-got, place-none}
+use Rattle.pl_table.proofs.Listed.{searched-names, place-found, place-got, place-none}
 use Rattle.pl_table.proofs.index.place_of.Goals as goal
 
 pub returns-in-Some : goal.returns-in-Some
