@@ -35,13 +35,13 @@ pub fn known(table: &Table, head: &Head) -> bool
 /// The most verdicts that a decider keeps.
 const MOST_CACHED: usize = 1024;
 
-// What one of so many rows at the head of the table decides is not cached.
-const NEAR_ROWS: u16 = 8;
+// What was found among so many rows is not cached: to look it up costs as much.
+const FEW_ROWS: usize = 16;
 
 /// Decides on requests, one after the other. What was asked before makes no difference.
 ///
-/// It keeps what the rows of the table said of up to 1,024 keys, those used last, where the walk over
-/// the rows was long.
+/// It keeps what the rows of the table said of up to 1,024 keys, those used last, where many rows were
+/// looked at or none matched.
 #[derive(Debug, Drop)]
 pub struct Decider {
     verdicts: LruCache<VerdictKey, Found>,
@@ -189,7 +189,7 @@ impl Decider {
             return found;
         }
         let found = table.first_match(request);
-        if is_far(found) {
+        if is_far(found, table.candidates(request)) {
             self.cache(table, request, key, found);
         }
         found
@@ -214,10 +214,11 @@ impl Decider {
     }
 }
 
-// Whether it took a long walk over the rows to find.
-fn is_far(found: Found) -> bool {
+// Whether it is to be cached: where no row matches, and where the one that does stands behind many of
+// the rows that can.
+fn is_far(found: Found, candidates: usize) -> bool {
     match found {
-        Some((row, _)) => row > NEAR_ROWS,
+        Some((row, _)) => candidates.min(usize::from(row)) > FEW_ROWS,
         None => true,
     }
 }

@@ -1,5 +1,5 @@
 -- Rows that are listed, and rows that can match.
-use Rattle.std.proofs.Common.{◌≡◌, ℕ, zero, suc, ◌+◌, ◌-◌, ◌<◌, ◌≤◌, Bool, true, false, ◌&&◌, cond, eqb, List, [], ◌∷◌, ◌++◌, length, map, drop, Option, Some, None, All, IfSome, Contains, refl, sym, ap, ◌∙◌, inl, inr, arith, slice_get, option_map, get_or, Result, MatchResult, if◌then◌else◌}
+use Rattle.std.proofs.Common.{◌≡◌, ℕ, zero, suc, ◌+◌, ◌-◌, ◌<◌, ◌≤◌, Bool, true, false, ◌&&◌, cond, eqb, List, [], ◌∷◌, ◌++◌, length, map, filter, drop, Option, Some, None, All, IfSome, Contains, refl, sym, ap, ◌∙◌, inl, inr, arith, slice_get, option_map, get_or, Result, MatchResult, if◌then◌else◌}
 use Rattle.std.specs.Cmp.{nat_eq_equiv}
 use Rattle.std.specs.Ordering.{nat_cmp}
 use Rattle.std.specs.List.Sorted.{IsStrictlyIncreasing, IsBinarySearchResult, IsPermutation}
@@ -238,3 +238,13 @@ named_within (row ∷ rows) names into =
 pub each-named : (rows : List Row) (ids sorted names : List ℕ) → ids ≡ filter_map (λ row. row.who) rows → IsPermutation ids sorted → names ≡ dedup eqb sorted → All (Named names) rows
 each-named rows ids sorted names are moved is =
     All-from_recursion (Named names) rows (named_within rows names (λ x w. rw is (Contains-dedup_nat sorted x (Contains-permutation ids sorted x moved (rw are w)))))
+
+-- ---- a list is as long as there are rows that can match
+
+pub length-places : (k : ℕ) (test : Row → Bool) (rows : List Row) → length (places_from k test rows) ≡ length (filter test rows)
+length-places k test [] = refl
+length-places k test (row ∷ rows) =
+    elim (cases_Bool (test row)) [
+      | inl holds ↦ rw holds (ap suc (length-places (k + 1) test rows))
+      | inr fails ↦ rw fails (length-places (k + 1) test rows)
+    ]

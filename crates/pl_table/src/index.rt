@@ -1,6 +1,6 @@
 //! The index of a table: which rows can match, by the principal that asks and by the operation.
 
-ghost use Rattle.std.specs.Prelude.{◌≡◌, ◌≤◌, IfOk, IfSome, Some, length, map, slice_get, All};
+ghost use Rattle.std.specs.Prelude.{◌≡◌, ◌≤◌, IfOk, IfSome, List, Some, filter, length, map, slice_get, All};
 ghost use Rattle.pl_table.specs.Index.{askers, asker_of, can_be, can_match, lists_of, places_by_op, places_from, IsIndexOf};
 ghost use Rattle.std.specs.List.{Contains, filter_map};
 ghost use Rattle.std.specs.List.Sorted.{IsStrictlyIncreasing};
@@ -47,10 +47,27 @@ impl RowIndex {
         requires index { IsIndexOf rows.now self.now }
         ensures value { result ≡ first_match_from 1 rows.now request.now }
     {
+        first_listed(self.listed(request), rows, request)
+    }
+
+    // How many rows can match.
+    pub(crate) fn count(&self, request: &Request) -> usize
+        requires index { (rows : List Row) × IsIndexOf rows self.now }
+        ensures value { (rows : List Row) → IsIndexOf rows self.now →
+            result ≡ length (filter (can_match request.now) rows) }
+    {
+        self.listed(request).len()
+    }
+
+    // The places of the rows that can match, rising.
+    fn listed(&self, request: &Request) -> &[u8]
+        requires index { (rows : List Row) × IsIndexOf rows self.now }
+        ensures list { (rows : List Row) → IsIndexOf rows self.now →
+            result.now ≡ places_from 0 (can_match request.now) rows }
+    {
         let place = place_of(&self.names, request.head().principal);
         let lists = &self.by_asker[place].by_op;
-        let list = &lists[usize::from(request.act().op().number()) - 1];
-        first_listed(list, rows, request)
+        &lists[usize::from(request.act().op().number()) - 1]
     }
 }
 

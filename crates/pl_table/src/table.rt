@@ -1,7 +1,8 @@
 //! The written table.
 
-ghost use Rattle.std.specs.Prelude.{◌≡◌, ◌↔◌, All, Contains, IfNone, IfOk, IfSome, IsSome, false, map};
+ghost use Rattle.std.specs.Prelude.{◌≡◌, ◌↔◌, All, Contains, IfNone, IfOk, IfSome, IsSome, false, filter, length, map};
 ghost use Rattle.pl_table.specs.FirstMatch.{IsFirstMatch, first_match_from};
+ghost use Rattle.pl_table.specs.Index.{can_match};
 ghost use Rattle.pl_table.specs.Row.{row_matches};
 ghost use Rattle.pl_table.specs.Table.{IsTable, token_of};
 
@@ -120,6 +121,14 @@ impl Table {
         ensures valid { IsTable self.now }
     {
         self.index.first_in(&self.rows, request)
+    }
+
+    /// How many rows can match the request: those that name nobody or its principal, and list no operation
+    /// or its own. [`Table::first_match`] tests no others. It costs as much as finding their list does.
+    pub fn candidates(&self, request: &Request) -> usize
+        ensures value { result ≡ length (filter (can_match request.now) self.now.rows) }
+    {
+        self.index.count(request)
     }
 
     /// The token listed for the id, or `None` where the id is not listed.

@@ -126,6 +126,12 @@ impl Rules {
         }
     }
 
+    // How many rows can match the request.
+    fn push_candidates(&self, words: &[&str], out: &mut String) -> Result<(), Stop> {
+        let request = self.request(words)?.ok_or(Stop::Unread)?;
+        push_numbers(out, &[self.table()?.candidates(&request) as u64])
+    }
+
     fn push_decision(&self, words: &[&str], out: &mut String) -> Result<(), Stop> {
         let request = self.request(words)?.ok_or(Stop::Unread)?;
         push_verdict(out, self.decide(&request)?)
@@ -245,6 +251,7 @@ impl Subject for Rules {
             ["principals" | "token" | "rows" | "row", ..] => self.push_part(words, out),
             ["text", name] => self.take_text(name, out),
             ["first", request @ ..] => self.push_first(request, out),
+            ["candidates", request @ ..] => self.push_candidates(request, out),
             ["request", request @ ..] => self.push_made(request, out),
             _ => self.push_decision(words, out),
         }

@@ -110,6 +110,11 @@ first 5 00 primary     1 report 0            = 6 allow
 first 5 00 secondary   1 report 0            = none
 # 2 writes a block of partition 7 as primary.
 first 2 00 primary     1 write 1:aa@458752 0 = 2 allow
+# Row 3 lists get alone.
+candidates 3 00 page_server 1 get 7 0        = 2
+candidates 3 00 secondary 1 pull 7 7 1 16    = 1
+candidates 2 00 operator  1 status           = 1
+candidates 9 00 operator  1 status           = 0
 ";
 
 #[test]
