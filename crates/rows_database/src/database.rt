@@ -143,10 +143,14 @@ impl Database {
     ) -> Result<Reply, Stop> {
         let [principal, token, role, epoch] = head;
         let block = format!(in self.alloc; "{lsn}:{:02x}", lsn % 256)?;
-        let write = [principal, token, role, epoch, "write", &block, copy];
-        let offer = [principal, token, role, epoch, "offer", &block];
-        let words: &[&str] = if copy.is_empty() { &offer } else { &write };
-        self.ask(Asked::Words(words), refused)
+        let block = block.as_str();
+        if copy.is_empty() {
+            let offer = [principal, token, role, epoch, "offer", block];
+            self.ask(Asked::Words(&offer), refused)
+        } else {
+            let write = [principal, token, role, epoch, "write", block, copy];
+            self.ask(Asked::Words(&write), refused)
+        }
     }
 
     // Puts each block from the first to the last, up to one that is not done.
