@@ -1,4 +1,4 @@
-//! The landing zone: it fills, and its run ends at a gap.
+//! The landing zone: it fills, its run ends at a gap, and its contents come out at its end.
 
 ghost use Rattle.std.specs.Prelude.{◌≡◌};
 ghost use Rattle.pl_landing.specs.Landing.{content_of, is_open_to};
@@ -169,10 +169,50 @@ fn run_to_a_gap(alloc: Global, zone: &mut Landing) -> Result<(), Stop> {
     has_copies(zone, 6, 2)
 }
 
+// What is put into each copy, of LSNs on both sides of a multiple of 64, out of order.
+const SCATTERED: [(u64, u8); 10] = [
+    (65, 0),
+    (61, 2),
+    (68, 1),
+    (63, 0),
+    (64, 2),
+    (60, 1),
+    (67, 0),
+    (62, 1),
+    (65, 2),
+    (66, 0),
+];
+
+// The contents are the blocks of the LSNs from the first on, in their order.
+fn are_blocks_from(alloc: Global, contents: &[Block], first: u64) -> Result<(), Stop> {
+    let mut next = first;
+    for content in contents {
+        let wanted = block(alloc, next, Size::Short)?;
+        wants(content.same(&wanted), "the content of the next LSN")?;
+        next = next.saturating_add(1);
+    }
+    Ok(())
+}
+
+// All contents but those that were taken at the front come out, in the order of their LSNs.
+fn end_with_contents(alloc: Global, mut zone: Landing) -> Result<(), Stop> {
+    land_each(alloc, &mut zone, &SCATTERED)?;
+    take_fronts(alloc, &mut zone, 59, 2)?;
+    let contents = zone.annul();
+    wants(contents.len() == 7, "seven contents are left")?;
+    are_blocks_from(alloc, &contents, 62)
+}
+
+fn end_without_contents(zone: Landing) -> Result<(), Stop> {
+    wants(zone.annul().is_empty(), "no contents of an empty zone")
+}
+
 #[derive(Clone, Copy, Debug)]
 enum LandingRow {
     Fills,
     RunToAGap,
+    EndsWithContents,
+    EndsEmpty,
 }
 
 impl Row for LandingRow {
@@ -181,6 +221,8 @@ impl Row for LandingRow {
         match self {
             LandingRow::Fills => fill_and_empty(alloc, &mut zone),
             LandingRow::RunToAGap => run_to_a_gap(alloc, &mut zone),
+            LandingRow::EndsWithContents => end_with_contents(alloc, zone),
+            LandingRow::EndsEmpty => end_without_contents(zone),
         }
     }
 }
@@ -193,4 +235,14 @@ fn landing_zone_fills(rt: HostRuntime) {
 #[test]
 fn run_ends_at_a_gap(rt: HostRuntime) {
     plays(&rt, rt.alloc(), LandingRow::RunToAGap)
+}
+
+#[test]
+fn zone_gives_its_contents(rt: HostRuntime) {
+    plays(&rt, rt.alloc(), LandingRow::EndsWithContents)
+}
+
+#[test]
+fn empty_zone_gives_nothing(rt: HostRuntime) {
+    plays(&rt, rt.alloc(), LandingRow::EndsEmpty)
 }

@@ -9,6 +9,8 @@ mod arenas;
 #[cfg(test)]
 mod blocks;
 #[cfg(test)]
+mod both_logs;
+#[cfg(test)]
 mod destaged_blocks;
 #[cfg(test)]
 mod landing_zone;
@@ -22,5 +24,7 @@ mod newest_blocks;
 mod offers;
 #[cfg(test)]
 mod pages;
+#[cfg(test)]
+mod plain;
 #[cfg(test)]
 mod stores;

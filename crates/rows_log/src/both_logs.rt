@@ -1,0 +1,365 @@
+//! The log beside a plain one: steps that are drawn from a seed are taken in both, and each answer is
+//! the same.
+
+ghost use Rattle.std.specs.Prelude.{◌<◌, ◌≤◌};
+ghost use Rattle.pl_log.specs.Change.{ArePast};
+
+use crate::plain::PlainLog;
+use crate::stores::{Row, Size, Stop, block, meets_refusal, plays, wants};
+use pl_block::Block;
+use pl_log::DbLog;
+use pl_log::laws::failovers_harden_the_longest_run;
+use rand_core::utils::NextWord;
+use rand_pcg::Pcg32;
+use std::alloc::Global;
+
+/// The numbers that steps are drawn from.
+#[derive(Drop)]
+struct Draws {
+    words: Pcg32,
+}
+
+impl Draws {
+    fn new(seed: u64) -> Draws {
+        Draws {
+            words: Pcg32::new(seed, 1),
+        }
+    }
+
+    // A number from 0 on, below this one.
+    fn below(&mut self, bound: u16) -> u16
+        ensures below { 1 ≤ bound → result < bound }
+    {
+        (self.words.next_word() % u32::from(bound.max(1))) as u16
+    }
+
+    // An LSN of the window above these hardened ones, or close to it.
+    fn lsn_near(&mut self, hard: u64) -> u64 {
+        let first = hard.saturating_sub(1).max(1);
+        first.saturating_add(u64::from(self.below(70)))
+    }
+
+    // A hardened LSN, or the one behind them.
+    fn lsn_to(&mut self, hard: u64) -> u64 {
+        let bound = u16::try_from(hard).unwrap_or(u16::MAX);
+        u64::from(self.below(bound)).saturating_add(1)
+    }
+
+    // One block in eight is long, and so not the same as a short one.
+    fn size(&mut self) -> Size {
+        if self.below(8) == 0 {
+            Size::Long
+        } else {
+            Size::Short
+        }
+    }
+}
+
+/// What is asked of a pull.
+#[derive(Clone, Copy, Debug)]
+struct Asked {
+    lo: u16,
+    hi: u16,
+    from: u64,
+    max: u16,
+    reach: u64,
+}
+
+impl Asked {
+    // The blocks touch the partitions 0 to 6 and 100 to 102.
+    fn drawn(draws: &mut Draws, hard: u64) -> Asked {
+        let lo = if draws.below(2) == 0 { 0 } else { 97 };
+        let lo = draws.below(9).saturating_add(lo);
+        let reach = draws.lsn_to(hard);
+        Asked {
+            lo,
+            hi: lo.saturating_add(draws.below(4)),
+            from: reach.saturating_sub(u64::from(draws.below(40))),
+            max: draws.below(20).saturating_add(1),
+            reach,
+        }
+    }
+}
+
+/// A log and a plain one, in the same epoch.
+#[derive(Drop)]
+struct Both {
+    alloc: Global,
+    epoch: u32,
+    log: DbLog,
+    plain: PlainLog,
+    ghost past: { ArePast epoch log.annulled },
+}
+
+fn new_log(alloc: Global, refused: &mut bool) -> Result<Both, Stop> {
+    let plain = PlainLog::new(alloc);
+    let epoch = 1;
+    if let Ok(log) = DbLog::new(alloc, 3, 2) {
+        return Ok(Both {
+            alloc,
+            epoch,
+            log,
+            plain,
+        });
+    }
+    meets_refusal(refused)?;
+    let log = DbLog::new(alloc, 3, 2)?;
+    Ok(Both {
+        alloc,
+        epoch,
+        log,
+        plain,
+    })
+}
+
+fn same_blocks(some: &[Block], others: &[Block]) -> bool {
+    some.len() == others.len()
+        && some
+            .iter()
+            .zip(others.iter())
+            .all(|(one, other)| one.same(other))
+}
+
+fn same_block(one: Option<&Block>, other: Option<&Block>) -> bool {
+    match (one, other) {
+        (Some(one), Some(other)) => one.same(other),
+        (None, None) => true,
+        _ => false,
+    }
+}
+
+impl Both {
+    // What is read of the logs in short is the same.
+    fn compare(&self) -> Result<(), Stop> {
+        wants(self.log.hard() == self.plain.hard(), "hard")?;
+        wants(self.log.counts() == self.plain.counts(), "counts")
+    }
+
+    // A refused allocation has changed nothing.
+    fn meets_refusal(&self, refused: &mut bool) -> Result<(), Stop> {
+        self.compare()?;
+        meets_refusal(refused)
+    }
+
+    // Whether the block may be written and offered is the same.
+    fn compare_openness(&self, block: &Block) -> Result<(), Stop> {
+        let lsn = block.lsn();
+        let windows = self.log.in_window(lsn) == self.plain.in_window(lsn);
+        wants(windows, "in_window")?;
+        wants(self.log.agrees(block) == self.plain.agrees(block), "agrees")
+    }
+
+    // Writes the block, where it may be written.
+    fn write(&mut self, copy: u8, block: Block) -> Result<(), Stop> {
+        self.compare_openness(&block)?;
+        let may = self.log.in_window(block.lsn()) && self.log.agrees(&block);
+        if !may || self.log.copies() <= copy {
+            return Ok(());
+        }
+        self.plain.write(copy, block.share()?)?;
+        Ok(self.log.write(copy, block)?)
+    }
+
+    // Offers the block, where it may be offered.
+    fn offer(&mut self, block: Block, refused: &mut bool) -> Result<(), Stop> {
+        self.compare_openness(&block)?;
+        if !self.log.in_window(block.lsn()) || !self.log.agrees(&block) {
+            return Ok(());
+        }
+        self.plain.offer(block.share()?)?;
+        let again = block.share()?;
+        if self.log.offer(block).is_ok() {
+            return Ok(());
+        }
+        self.meets_refusal(refused)?;
+        if !self.log.in_window(again.lsn()) || !self.log.agrees(&again) {
+            return Err(Stop::Wrong("still open after a refusal"));
+        }
+        Ok(self.log.offer(again)?)
+    }
+
+    // Hardens up to the LSN, where that may be hardened.
+    fn report(&mut self, lsn: u64, refused: &mut bool) -> Result<(), Stop> {
+        let can = self.log.can_harden(lsn) == self.plain.can_harden(lsn);
+        wants(can, "can_harden")?;
+        if !self.log.can_harden(lsn) {
+            return Ok(());
+        }
+        if self.log.report(lsn).is_err() {
+            self.meets_refusal(refused)?;
+            if !self.log.can_harden(lsn) {
+                return Err(Stop::Wrong("hardened after a refusal"));
+            }
+            self.log.report(lsn)?;
+        }
+        Ok(self.plain.report(lsn)?)
+    }
+
+    // Ends the epoch of the log.
+    fn end_epoch(&mut self) -> Result<u64, Stop> {
+        failovers_harden_the_longest_run();
+        if 1_000 <= self.epoch {
+            return Err(Stop::Wrong("too many epochs"));
+        }
+        let run = self.log.recover(self.epoch)?;
+        self.epoch += 1;
+        Ok(run)
+    }
+
+    // Ends the epoch of both.
+    fn recover(&mut self, refused: &mut bool) -> Result<(), Stop> {
+        let epoch = self.epoch;
+        let run = match self.end_epoch() {
+            Ok(run) => run,
+            Err(Stop::NoMemory) => {
+                self.meets_refusal(refused)?;
+                self.end_epoch()?
+            }
+            Err(stop) => return Err(stop),
+        };
+        let plain = self.plain.recover(epoch)?;
+        wants(run == plain, "the length of the run")
+    }
+
+    fn tidy(&mut self, refused: &mut bool) -> Result<(), Stop> {
+        if self.log.tidy().is_err() {
+            self.meets_refusal(refused)?;
+            self.log.tidy()?;
+        }
+        Ok(())
+    }
+
+    fn read(&mut self, lsn: u64, refused: &mut bool) -> Result<(), Stop> {
+        if lsn < 1 || self.log.hard() < lsn {
+            return Ok(());
+        }
+        let block = match self.log.read(lsn) {
+            Ok(block) => block,
+            Err(_) => {
+                self.meets_refusal(refused)?;
+                self.log.read(lsn)?
+            }
+        };
+        let same = same_block(Some(&block), self.plain.read(lsn));
+        wants(same, "the block of an LSN")
+    }
+
+    fn pull(&mut self, asked: Asked, refused: &mut bool) -> Result<(), Stop> {
+        let Asked {
+            lo,
+            hi,
+            from,
+            max,
+            reach,
+        } = asked;
+        if self.log.hard() < reach {
+            return Ok(());
+        }
+        let (next, blocks) = match self.log.pull(lo, hi, from, max, reach) {
+            Ok(found) => found,
+            Err(_) => {
+                self.meets_refusal(refused)?;
+                self.log.pull(lo, hi, from, max, reach)?
+            }
+        };
+        let (plain_next, plain_blocks) = self.plain.pull(lo, hi, from, max, reach)?;
+        wants(next == plain_next, "where the next pull goes on")?;
+        wants(same_blocks(&blocks, &plain_blocks), "the blocks of a pull")
+    }
+
+    fn annulled(&self, epoch: u32, lsn: u64) -> Result<(), Stop> {
+        let (found, plain) = (
+            self.log.annulled(epoch, lsn),
+            self.plain.annulled(epoch, lsn),
+        );
+        wants(same_block(found, plain), "an annulled block")
+    }
+
+    // Writes the next LSNs to two copies, where that may be, and hardens them.
+    fn harden(&mut self, count: u16, refused: &mut bool) -> Result<(), Stop> {
+        let hard = self.log.hard();
+        let last = hard.saturating_add(u64::from(count));
+        for lsn in hard..last {
+            let next = block(self.alloc, lsn.saturating_add(1), Size::Short)?;
+            self.write(0, next.share()?)?;
+            self.write(2, next)?;
+        }
+        self.report(last, refused)
+    }
+}
+
+impl Both {
+    // Takes a step that is drawn.
+    fn step(&mut self, draws: &mut Draws, refused: &mut bool) -> Result<(), Stop> {
+        let hard = self.log.hard();
+        match draws.below(20) {
+            0..6 => self.write_drawn(draws),
+            6..9 => self.offer_drawn(draws, refused),
+            9..13 => self.harden(draws.below(20), refused),
+            13 => self.report(draws.lsn_near(hard), refused),
+            14 | 15 => self.pull(Asked::drawn(draws, hard), refused),
+            16 | 17 => self.read(draws.lsn_to(hard), refused),
+            18 => self.annulled(u32::from(draws.below(20)), draws.lsn_near(hard)),
+            _ => self.end_or_tidy(draws, refused),
+        }
+    }
+
+    fn write_drawn(&mut self, draws: &mut Draws) -> Result<(), Stop> {
+        let lsn = draws.lsn_near(self.log.hard());
+        let size = draws.size();
+        self.write(draws.below(3) as u8, block(self.alloc, lsn, size)?)
+    }
+
+    fn offer_drawn(&mut self, draws: &mut Draws, refused: &mut bool) -> Result<(), Stop> {
+        let lsn = draws.lsn_near(self.log.hard());
+        let size = draws.size();
+        self.offer(block(self.alloc, lsn, size)?, refused)
+    }
+
+    fn end_or_tidy(&mut self, draws: &mut Draws, refused: &mut bool) -> Result<(), Stop> {
+        match draws.below(4) {
+            0 => self.tidy(refused),
+            _ => self.recover(refused),
+        }
+    }
+
+    // Each hardened and each annulled block is the same.
+    fn compare_all(&mut self, refused: &mut bool) -> Result<(), Stop> {
+        let last = self.log.hard().saturating_add(70);
+        for lsn in 1..last {
+            self.read(lsn, refused)?;
+            for epoch in 0..self.epoch {
+                self.annulled(epoch, lsn)?;
+            }
+        }
+        Ok(())
+    }
+}
+
+/// Steps of a seed, that end with more hardened blocks than a broker has.
+#[derive(Clone, Copy, Debug)]
+struct Steps {
+    seed: u64,
+    count: usize,
+}
+
+impl Row for Steps {
+    fn play(self, alloc: Global, refused: &mut bool) -> Result<(), Stop> {
+        let mut both = new_log(alloc, refused)?;
+        let mut draws = Draws::new(self.seed);
+        for _ in 0..self.count {
+            both.step(&mut draws, refused)?;
+            both.compare()?;
+        }
+        both.compare_all(refused)?;
+        wants(300 < both.log.hard(), "more than 300 hardened blocks")?;
+        wants(5 < both.epoch, "more than five epochs")
+    }
+}
+
+#[test]
+fn stores_answer_as_lists(rt: HostRuntime) {
+    for seed in 0..4 {
+        plays(&rt, rt.alloc(), Steps { seed, count: 1_000 });
+    }
+}
