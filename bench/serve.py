@@ -6,9 +6,10 @@ For each of a 100-byte write (the same block again and again), a report, a pull 
 trips a second at 1, 8 and 64 connections with one request each at a time, and with 64 requests in flight on one
 connection. All are asked by the same client, bench/frames.c, and so is the echo, which answers each frame by one as
 long as the service's, in a write of its own. Beside it stands, with requests in flight, an echo that gathers what it
-answers as the service does: it reads and writes whole batches and looks at nothing. Redis is asked for XADD of 100 bytes, XRANGE of one entry and GET of 8,192 bytes. Each number is
-the best of three runs. Beside them stand the processor time that the service took for a request, and the most memory
-that it held until then, which grows with its audit list.
+answers as the service does: it reads and writes whole batches and looks at nothing. Redis is asked for XADD of 100
+bytes, XRANGE of one entry and GET of 8,192 bytes. Each number is the best of five rounds, in each of which all are
+asked in turn. Beside them stand the processor time that the service took for a request, and the most memory that it
+held until then, which grows with its audit list.
 
 Where etcd is installed, a client in Python asks the service and one node of etcd, which syncs nothing to its disk, one
 request at a time on one connection: a 100-byte write beside a put, and a pull of one block beside a range of one key.
@@ -33,7 +34,7 @@ import wire  # noqa: E402
 
 CRATE = ROOT / "crates" / "pagelog"
 SHARE = float(sys.argv[1]) if len(sys.argv) > 1 else 1.0
-RUNS = 3
+RUNS = 5
 # Connections, requests in flight on each, and requests of each connection.
 SHAPES = ((1, 1, 20000), (8, 1, 10000), (64, 1, 2000), (1, 64, 100000))
 TICKS = os.sysconf("SC_CLK_TCK")
@@ -139,36 +140,42 @@ def first_bytes(port, request):
         return data
 
 
-def rate(port, shape, request, reply):
-    """Round trips a second, the best of the runs."""
+def seconds(port, shape, request, reply):
+    """How long it takes until all round trips are done."""
     connections, flight, count = shape
-    count = max(1, int(count * SHARE))
     with tempfile.NamedTemporaryFile() as file:
         file.write(request)
         file.flush()
         words = [FRAMES, "ask", port, connections, flight, count, reply, file.name]
-        took = [float(subprocess.run([str(word) for word in words], stdout=subprocess.PIPE, text=True,
-                                     check=True).stdout.split()[0]) for _ in range(RUNS)]
-    return connections * count / min(took)
+        return float(subprocess.run([str(word) for word in words], stdout=subprocess.PIPE, text=True, check=True).stdout.split()[0])
+
+
+def rates(shape, asked):
+    """Round trips a second of each of those that are asked, the best of the rounds."""
+    connections, _, count = shape
+    took = [[seconds(port, shape, request, reply) for port, request, reply in asked] for _ in range(RUNS)]
+    return [connections * count / min(each) for each in zip(*took)]
 
 
 def times(case, ours, bare, gathering, other):
     name, request, reply, command = case
     length = len(first_bytes(ours.port, request))
     assert length == reply, f"{name}: a reply of {length} bytes"
-    for shape in SHAPES:
-        connections, flight, count = shape
-        before = ours.seconds()
-        own = rate(ours.port, shape, request, reply)
-        spent = (ours.seconds() - before) / (RUNS * connections * max(1, int(count * SHARE)))
-        plain = rate(bare.port, shape, request, reply)
-        most = rate(gathering.port, shape, request, reply) if flight > 1 else None
-        together = f"{most:9,.0f} {own / most:6.2f}" if most else f"{'':>9} {'':>6}"
-        beside = f"{'':>9} {'':>6}"
+    for connections, flight, count in SHAPES:
+        count = max(1, int(count * SHARE))
+        asked = [(ours.port, request, reply), (bare.port, request, reply)]
+        if flight > 1:
+            asked.append((gathering.port, request, reply))
         if other and command:
             wanted = "+2" if command[0] == "XADD" else len(first_bytes(other.port, spelled(command)))
-            theirs = rate(other.port, shape, spelled(command), wanted)
-            beside = f"{theirs:9,.0f} {own / theirs:6.2f}"
+            asked.append((other.port, spelled(command), wanted))
+        before = ours.seconds()
+        own, plain, *others = rates((connections, flight, count), asked)
+        spent = (ours.seconds() - before) / (RUNS * connections * count)
+        most = others.pop(0) if flight > 1 else None
+        theirs = others.pop(0) if others else None
+        together = f"{most:9,.0f} {own / most:6.2f}" if most else f"{'':>9} {'':>6}"
+        beside = f"{theirs:9,.0f} {own / theirs:6.2f}" if theirs else f"{'':>9} {'':>6}"
         print(f"{name:18} {connections:4} x {flight:2} {own:9,.0f} {plain:9,.0f} {own / plain:6.2f} {together} {beside}"
               f" {spent * 1e6:8.2f} {ours.peak():8.1f}", flush=True)
 
