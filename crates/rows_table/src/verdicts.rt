@@ -1,4 +1,5 @@
-//! Verdicts of a table's rows that are asked again: by the same table, and by another.
+//! Verdicts of a table's rows that are asked again: by the same table, and by another. Each row is
+//! played once more, from its beginning, where an allocation was refused.
 
 use pl_core::{Db, Limits, Reply};
 use pl_decide::{Decider, Epochs, View};
@@ -75,19 +76,21 @@ fn set_table(alloc: Global, text: &str) -> Result<Option<Request>, AllocError> {
     Ok(Request::new(head, Act::SetTable { text }))
 }
 
-fn table_of(alloc: Global, text: &str) -> Option<Table> {
-    read_table(alloc, text.as_bytes()).ok()
+// The texts are tables, so that nothing but memory can be missing.
+fn table_of(alloc: Global, text: &str) -> Result<Table, AllocError> {
+    read_table(alloc, text.as_bytes()).map_err(|_| AllocError)
 }
 
-fn start_db(alloc: Global) -> Option<Db> {
+// A database of the table, in which principal 2 is listed.
+fn db_of(alloc: Global, table: Table) -> Result<Db, AllocError> {
     let limits = Limits {
         audit: 65_536,
         chunks: 16,
     };
     if !limits.are_valid() {
-        return None;
+        return Err(AllocError);
     }
-    Db::new(alloc, table_of(alloc, START)?, 2, limits).ok()
+    Db::new(alloc, table, 2, limits).map_err(|_| AllocError)
 }
 
 /// Denied since no row matches.
@@ -110,73 +113,90 @@ fn denial_of(partition: u16) -> Verdict {
     }
 }
 
-fn verdict_in(reply: &Reply) -> Option<Verdict> {
+fn verdict_in(reply: &Reply) -> Result<Option<Verdict>, AllocError> {
     match reply {
         Reply::Denied {
             section,
             row,
             value,
-        } => Some(Verdict::Denied {
+        } => Ok(Some(Verdict::Denied {
             section: *section,
             row: *row,
             value: *value,
-        }),
-        _ => None,
+        })),
+        Reply::NoMemory => Err(AllocError),
+        _ => Ok(None),
     }
 }
 
 // What the database answers principal 4 who pulls the partition.
-fn answer_of(db: &mut Db, partition: u16) -> Option<Verdict> {
-    let reply = db.step(1, pull_of(4, 0x44, partition)?);
-    verdict_in(&reply)
+fn answer_of(db: &mut Db, partition: u16) -> Result<Option<Verdict>, AllocError> {
+    match pull_of(4, 0x44, partition) {
+        Some(request) => verdict_in(&db.step(1, request)),
+        None => Ok(None),
+    }
 }
 
 // The first of 2,048 partitions whose pull is answered otherwise.
-fn first_wrong(db: &mut Db) -> Option<u16> {
+fn first_wrong(db: &mut Db) -> Result<Option<u16>, AllocError> {
     for partition in 0..2048_u16 {
-        if answer_of(db, partition) != Some(denial_of(partition)) {
-            return Some(partition);
+        if answer_of(db, partition)? != Some(denial_of(partition)) {
+            return Ok(Some(partition));
         }
     }
-    None
+    Ok(None)
 }
 
 // Puts the table of other rows in force.
 fn set_other(alloc: Global, db: &mut Db) -> Result<(), AllocError> {
     if let Some(request) = set_table(alloc, OTHER_ROWS)? {
-        let _done = db.step(1, request);
+        verdict_in(&db.step(1, request))?;
     }
     Ok(())
 }
 
-// What is wrong with the verdicts of the database, by the start table and by the other.
-fn wrong_of_db(alloc: Global, db: &mut Db) -> Result<Option<&'static str>, AllocError> {
-    if first_wrong(db).is_some() {
+// What is wrong with the verdicts of the start table.
+fn wrong_by_start(db: &mut Db) -> Result<Option<&'static str>, AllocError> {
+    if first_wrong(db)?.is_some() {
         return Ok(Some("a pull"));
     }
-    if first_wrong(db).is_some() {
+    if first_wrong(db)?.is_some() {
         return Ok(Some("a pull that is asked again"));
     }
-    set_other(alloc, db)?;
-    Ok(wrong_by_other(db))
+    Ok(None)
 }
 
-fn wrong_by_other(db: &mut Db) -> Option<&'static str> {
+// What is wrong with those of the other.
+fn wrong_by_other(db: &mut Db) -> Result<Option<&'static str>, AllocError> {
     if db.audit_len() != 4_097 {
-        return Some("the number of entries");
+        return Ok(Some("the number of entries"));
     }
-    if answer_of(db, 0) != Some(NO_ROW) {
-        return Some("a pull, by the other table");
+    if answer_of(db, 0)? != Some(NO_ROW) {
+        return Ok(Some("a pull, by the other table"));
     }
-    None
+    Ok(None)
+}
+
+// What is wrong with the verdicts of the database, by the start table and by the other.
+fn wrong_by_both(alloc: Global, db: &mut Db) -> Result<Option<&'static str>, AllocError> {
+    if let Some(wrong) = wrong_by_start(db)? {
+        return Ok(Some(wrong));
+    }
+    set_other(alloc, db)?;
+    wrong_by_other(db)
+}
+
+fn wrong_of_db(alloc: Global) -> Result<Option<&'static str>, AllocError> {
+    let mut db = db_of(alloc, table_of(alloc, START)?)?;
+    wrong_by_both(alloc, &mut db)
 }
 
 #[test]
 fn many_verdicts(rt: HostRuntime) -> Result<(), Fail> {
-    let Some(mut db) = start_db(rt.alloc()) else {
-        return Err(Fail::new("no database"));
+    let wrong = match wrong_of_db(rt.alloc()) {
+        Ok(wrong) => wrong,
+        Err(_) => wrong_of_db(rt.alloc())?,
     };
-    let wrong = wrong_of_db(rt.alloc(), &mut db)?;
     assert_eq!(rt; wrong, None);
     Ok(())
 }
@@ -222,20 +242,26 @@ fn wrong_of_decider(decider: &mut Decider, start: &Table) -> Option<&'static str
     None
 }
 
+fn wrong_of_start(alloc: Global) -> Result<Option<&'static str>, AllocError> {
+    let start = table_of(alloc, START)?;
+    let mut decider = Decider::new(alloc)?;
+    Ok(wrong_of_decider(&mut decider, &start))
+}
+
 #[test]
 fn many_verdicts_of_a_decider(rt: HostRuntime) -> Result<(), Fail> {
-    let mut decider = Decider::new(rt.alloc())?;
-    let Some(start) = table_of(rt.alloc(), START) else {
-        return Err(Fail::new("no table"));
+    let wrong = match wrong_of_start(rt.alloc()) {
+        Ok(wrong) => wrong,
+        Err(_) => wrong_of_start(rt.alloc())?,
     };
-    let wrong = wrong_of_decider(&mut decider, &start);
     assert_eq!(rt; wrong, None);
     Ok(())
 }
 
 // No row of the start table matches a pull by principal 3 as page server; by the other rows, the pull
-// of partition 5 is denied by row 1, and that of partition 6 is not.
-const BY_START: [(u16, Verdict); 3] = [(5, NO_ROW), (5, NO_ROW), (6, NO_ROW)];
+// of partition 5 is denied by row 1, and that of partition 6 is not. Each is asked twice, so that it is
+// cached though an allocation was refused.
+const BY_START: [(u16, Verdict); 4] = [(5, NO_ROW), (5, NO_ROW), (6, NO_ROW), (6, NO_ROW)];
 
 const BY_OTHER: [(u16, Verdict); 2] = [
     (
@@ -289,18 +315,26 @@ fn wrong_of_two(decider: &mut Decider, start: &Table, other: &Table) -> Option<&
     None
 }
 
-fn both_tables(alloc: Global) -> Option<(Table, Table)> {
+fn wrong_of_tables(
+    alloc: Global,
+    start: &Table,
+    other: &Table,
+) -> Result<Option<&'static str>, AllocError> {
+    let mut decider = Decider::new(alloc)?;
+    Ok(wrong_of_two(&mut decider, start, other))
+}
+
+fn wrong_of_both(alloc: Global) -> Result<Option<&'static str>, AllocError> {
     let start = table_of(alloc, START)?;
-    Some((start, table_of(alloc, OTHER_ROWS)?))
+    wrong_of_tables(alloc, &start, &table_of(alloc, OTHER_ROWS)?)
 }
 
 #[test]
 fn asked_again_by_another_table(rt: HostRuntime) -> Result<(), Fail> {
-    let mut decider = Decider::new(rt.alloc())?;
-    let Some((start, other)) = both_tables(rt.alloc()) else {
-        return Err(Fail::new("no table"));
+    let wrong = match wrong_of_both(rt.alloc()) {
+        Ok(wrong) => wrong,
+        Err(_) => wrong_of_both(rt.alloc())?,
     };
-    let wrong = wrong_of_two(&mut decider, &start, &other);
     assert_eq!(rt; wrong, None);
     Ok(())
 }
