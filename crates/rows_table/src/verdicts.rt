@@ -259,9 +259,8 @@ fn many_verdicts_of_a_decider(rt: HostRuntime) -> Result<(), Fail> {
 }
 
 // No row of the start table matches a pull by principal 3 as page server; by the other rows, the pull
-// of partition 5 is denied by row 1, and that of partition 6 is not. Each is asked twice, so that it is
-// cached though an allocation was refused.
-const BY_START: [(u16, Verdict); 4] = [(5, NO_ROW), (5, NO_ROW), (6, NO_ROW), (6, NO_ROW)];
+// of partition 5 is denied by row 1, and that of partition 6 is not.
+const BY_START: [(u16, Verdict); 3] = [(5, NO_ROW), (5, NO_ROW), (6, NO_ROW)];
 
 const BY_OTHER: [(u16, Verdict); 2] = [
     (
