@@ -1,8 +1,0 @@
-use Rattle.pagelog.specs.Admin.{bytes_of}
-use Rattle.pagelog.proofs.admin.act_of_two.Goals as goal
-
--- src/admin.rt:85:1
-pub returns-in-failover : goal.returns-in-failover
-returns-in-failover c = record {
-  exact = c.failover_to.ensures.exact c.args.word.now (bytes_of c.args.text) c.in-failover.is;
-}

@@ -1,0 +1,13 @@
+use Rattle.std.proofs.Common.{◌≡◌, ap, sym, subst, ◌∙◌, ℕ, Ok, List, ◌+◌}
+use Rattle.std.proofs.lemmas.List.Elements.{All-push}
+use Rattle.std.specs.List.{All}
+use Rattle.pl_core.specs.History.{History}
+use Rattle.pl_program.specs.Start.{start_of}
+use Rattle.pl_program.proofs.serving.databases_of.Goals as goal
+
+pub loop-preserved : goal.loop-preserved
+loop-preserved c = (
+  c.in-Ok.ensures.len ∙ ap (λ (n : ℕ). n + 1) c.loop.invariant.0,
+  subst (λ (dbs : List History). All (λ db. start_of c.args.text.now c.args.primary c.args.audit ≡ Ok db) dbs) (sym c.in-Ok.ensures.items)
+      (All-push (λ db. start_of c.args.text.now c.args.primary c.args.audit ≡ Ok db) c.loop.dbs.items c.in_ok-db.db c.loop.invariant.1 c.in_ok-db.ensures.ok),
+)

@@ -1,0 +1,196 @@
+//! What the program does: what the arguments ask for is read, done and shown. The parts are contracts;
+//! these functions join them to the input and output of a process.
+
+ghost use Rattle.std.specs.Prelude.{◌≤◌, vec_len};
+
+use crate::arguments::{arguments_of, asked};
+use crate::asking::{credentials_of, exchange, file_of};
+use crate::command_line::CommandLine;
+use crate::ending::{Ending, Failure};
+use crate::fault::PlayFault;
+use crate::operator_words::{Credentials, admin};
+use crate::player::play;
+use crate::reply_text::answer_text;
+use crate::run_fault::RunFault;
+use crate::service::{Pager, serve_databases};
+use crate::serving::{Tally, databases_of, result_of, token_of};
+use crate::start::{StartFault, file_fault_of, read_text, start_db};
+use pl_core::{Db, Reply};
+use pl_table::Request;
+use std::alloc::AllocGlobal;
+use std::io::{self, BufReader, ErrorKind};
+use std::net::{Net, TcpListener, TcpStream};
+use std::rt::{Env, Files};
+use std::sync::Wait;
+use std::thread::Threads;
+use std::{fmt, fs};
+
+/// How many entries the audit list of `play` holds.
+const AUDIT_OF_PLAY: u64 = 65_536;
+
+/// Does what the arguments of the process ask for, and tells how the program ends.
+///
+/// `play` answers the lines of the standard input on the standard output; `serve` accepts connections
+/// until so many were accepted, and then writes their number; `ask` sends a request and writes the
+/// reply; help writes its text. `Done` comes where all of that was done, and `Refused` where `ask` was
+/// answered by no Done, Status or Entries, and its reply was written all the same.
+///
+/// A failure is `Command` where the arguments ask for nothing, or memory ran out while they were read;
+/// `Start` where the file of the table cannot be read or is too long, its text is no table, a
+/// principal is not listed or memory ran out: until then nothing was answered, written or listened
+/// to, and with `ask` nothing sent. It is `Play` where `play` stopped at a line, with the answers to the
+/// lines before it written, and `Run` where a text could not be written, an address could not be
+/// listened at or reached, a thread could not be started, or what `ask` asks or gets is faulty.
+pub fn run<R>(rt: &R) -> Result<Ending, Failure>
+where
+    R: Env + Files + Input + Print + AllocGlobal + Threads + Wait + Sync + Copy + Drop,
+    R: Net<Listener = TcpListener, Stream = TcpStream>,
+{
+    match asked(rt.alloc(), arguments_of(rt))? {
+        CommandLine::Help { text } => {
+            show(rt, &text)?;
+            Ok(Ending::Done)
+        }
+        CommandLine::Play { table, primary } => {
+            let text = text_of_file(rt, table.as_str())?;
+            let mut db = start_db(rt.alloc(), text.as_slice(), primary, AUDIT_OF_PLAY)?;
+            play_all(rt, &mut db)?;
+            Ok(Ending::Done)
+        }
+        CommandLine::Serve {
+            listen,
+            table,
+            primary,
+            dbs,
+            workers,
+            connections,
+            audit,
+            pager,
+            partition,
+            rounds,
+        } => {
+            let text = text_of_file(rt, table.as_str())?;
+            let dbs = databases_of(rt.alloc(), text.as_slice(), primary, audit, dbs)?;
+            let pager = if rounds == 0 {
+                None
+            } else {
+                Some(Pager {
+                    principal: pager,
+                    token: token_of(rt.alloc(), text.as_slice(), pager)?,
+                    partition,
+                    rounds,
+                })
+            };
+            serve_all(rt, listen.as_str(), dbs, workers, connections, pager)?;
+            Ok(Ending::Done)
+        }
+        CommandLine::Ask {
+            to,
+            id,
+            token,
+            db,
+            epoch,
+            words,
+        } => {
+            let credentials = credentials_of(id, token.as_str(), db, epoch)?;
+            ask(rt, to.as_str(), credentials, words.as_slice())
+        }
+    }
+}
+
+/// Writes a text to the standard output.
+fn show(rt: &impl Print, text: &impl fmt::Display) -> Result<(), RunFault> {
+    rt.print(text).map_err(|_| RunFault::Write)
+}
+
+/// The text of a table's file.
+fn text_of_file(rt: &(impl Files + AllocGlobal), file: &str) -> Result<Vec<u8>, StartFault> {
+    match fs::open(rt, file) {
+        Ok(file) => Ok(read_text(rt.alloc(), file)?),
+        Err(error) => Err(StartFault::from(file_fault_of(&error))),
+    }
+}
+
+/// Answers the lines of the standard input on the standard output.
+fn play_all(rt: &(impl Input + Print + AllocGlobal), db: &mut Db) -> Result<u64, PlayFault> {
+    let alloc = rt.alloc();
+    let Ok(mut reader) = BufReader::new(alloc, rt.reader()) else {
+        return Err(PlayFault::NoMemory);
+    };
+    // The writer has no buffer, so that each answer is out before the next line is read.
+    let mut writer = io::writer(rt);
+    play(alloc, &mut reader, &mut writer, db)
+}
+
+/// Why nothing listens at the address, or nobody answers there.
+fn address_fault(error: &io::Error) -> RunFault {
+    if error.kind() == ErrorKind::OutOfMemory {
+        return RunFault::NoMemory;
+    }
+    RunFault::Address
+}
+
+/// Serves the databases at the address until so many connections were accepted.
+fn serve_all<R>(
+    rt: &R,
+    listen: &str,
+    dbs: Vec<Db>,
+    workers: u32,
+    connections: u32,
+    pager: Option<Pager>,
+) -> Result<(), RunFault>
+where
+    R: Print + AllocGlobal + Threads + Wait + Sync + Copy + Drop,
+    R: Net<Listener = TcpListener, Stream = TcpStream>,
+    requires some { 1 ≤ vec_len dbs }
+    requires few { vec_len dbs ≤ 16 }
+    requires workers { workers ≤ 64 }
+{
+    let listener = match TcpListener::bind(rt, listen) {
+        Ok(listener) => listener,
+        Err(error) => return Err(address_fault(&error)),
+    };
+    let Ok(address) = listener.local_addr() else {
+        return Err(RunFault::Address);
+    };
+    println!(rt; "listening {address}").map_err(|_| RunFault::Write)?;
+    let alloc = rt.alloc();
+    let served = serve_databases(rt, alloc, &listener, dbs, workers, connections, pager)?;
+    result_of(served.stop)?;
+    let tally = Tally {
+        connections: served.accepted,
+        faults: served.faults,
+    };
+    show(rt, &tally)
+}
+
+/// Sends the request that the words ask for, and shows the reply.
+fn ask<R>(rt: &R, to: &str, credentials: Credentials, words: &[String]) -> Result<Ending, Failure>
+where
+    R: Files + Print + AllocGlobal + Net<Stream = TcpStream>,
+{
+    let alloc = rt.alloc();
+    let text = match file_of(words) {
+        Some(file) => Some(text_of_file(rt, file)?),
+        None => None,
+    };
+    let request = admin(alloc, credentials, words, text).map_err(RunFault::from)?;
+    let reply = ask_at(rt, to, &request)?;
+    let text = answer_text(alloc, &reply).map_err(RunFault::from)?;
+    show(rt, &text)?;
+    Ok(Ending::of_reply(&reply))
+}
+
+/// Sends the request to this address, and reads the reply.
+fn ask_at<R>(rt: &R, to: &str, request: &Request) -> Result<Reply, RunFault>
+where
+    R: AllocGlobal + Net<Stream = TcpStream>,
+{
+    let stream = match TcpStream::connect(rt, to) {
+        Ok(stream) => stream,
+        Err(error) => return Err(address_fault(&error)),
+    };
+    let mut reader = &stream;
+    let mut writer = &stream;
+    exchange(rt.alloc(), &mut reader, &mut writer, request)
+}
