@@ -90,11 +90,13 @@ impl Desk {
         let board = &self.table.shared;
         self.door.enter(rt, board);
         if ask(board, &mut pass.chair) >= self.turns {
+            self.door.leave();
             return Reply::Spent;
         }
         let ticket = draw(board, &mut pass.chair);
         wait(rt, board, &self.bells, &mut pass.chair, ticket);
         let reply = take_turn(board, &mut pass.chair, pass.number, request);
+        self.door.leave();
         self.bells.ring(ticket.wrapping_add(1));
         reply
     }

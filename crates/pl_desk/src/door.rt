@@ -5,22 +5,25 @@ ghost use Rattle.std.specs.Prelude.{◌≡◌};
 
 use crate::bells::Bell;
 use crate::steps::{Board, NEXT, SERVING};
-use crossbeam_utils::Backoff;
 use std::sync::Wait;
 use std::sync::atomic::AtomicU64;
 use std::sync::atomic::Ordering::SeqCst;
 use std::time::Duration;
+use std::{hint, thread};
 
 /// How often a thread looks before it lines up.
-const LOOKS: u32 = 10;
+const LOOKS: u32 = 40;
 
-/// How many threads in a row may get in by looking again and again, before the next one lines up.
-const MOST_SPINS: u64 = 8;
+/// From which look on it lets other threads run in between: the one inside may have lost its processor.
+const PATIENT_LOOKS: u32 = 30;
 
-/// How many microseconds the first in line sleeps, where a ticket is out when it comes to be the first.
+/// How many times the processor pauses between two looks, where it does not let others run.
+const PAUSES: u32 = 4;
+
+/// How many microseconds the first in line sleeps, where somebody is inside when it comes to be the first.
 const PATIENCE: u64 = 50;
 
-/// That nobody is the first in line.
+/// That nobody is inside, or the first in line.
 const VACANT: u64 = 0;
 
 /// That somebody is.
@@ -36,56 +39,76 @@ fn is_free(board: &Board) -> bool
     board.peek(NEXT) == board.peek(SERVING)
 }
 
-// Looks again and again for a moment, and says whether no ticket was out once.
-fn spins(board: &Board) -> bool
-    requires board { board.now.table_id.words ≡ 3 }
-{
-    let backoff = Backoff::new();
-    for _ in 0..LOOKS {
-        backoff.snooze();
-        if is_free(board) {
-            return true;
-        }
+// Lets the processor pause.
+fn pause() {
+    for _ in 0..PAUSES {
+        hint::spin_loop();
     }
-    false
 }
 
-/// The line at the door.
+/// The door, and the line before it.
 ///
-/// The first in line sleeps for a while and goes in, whoever is inside. All others sleep until the
-/// first has gone in, which wakes one of them. So whoever gives a turn on wakes nobody here: a thread
-/// that keeps calling keeps the database in its cache meanwhile.
+/// One thread is inside at a time. Who finds somebody there looks for a moment and goes in as soon as
+/// nobody is, whoever came first: a thread that runs does not wait for one that has lost its processor.
+/// Then it lines up. The first in line sleeps for a while and goes in, even if somebody is inside, and
+/// then waits for its ticket alone. All others sleep until the first has gone in, which wakes one of
+/// them. So whoever leaves wakes nobody here: a thread that keeps calling keeps the database in its
+/// cache meanwhile.
 #[derive(Drop)]
 pub(crate) struct Door {
-    /// How many threads got in by looking again and again, since one found the desk free.
-    spins: AtomicU64,
+    inside: AtomicU64,
     first: AtomicU64,
     others: Bell,
 }
 
 impl Door {
-    /// A door with nobody in line.
+    /// A door with nobody inside or in line.
     pub(crate) const fn new() -> Door {
         Door {
-            spins: AtomicU64::new(0),
+            inside: AtomicU64::new(VACANT),
             first: AtomicU64::new(VACANT),
             others: Bell::new(),
         }
     }
 
-    /// Returns at once where no ticket is out, else soon after, or when it was the caller's turn in line.
+    // Goes in where nobody is inside and no ticket is out, and says whether it did.
+    fn goes_in(&self, board: &Board) -> bool
+        requires board { board.now.table_id.words ≡ 3 }
+    {
+        self.inside.load(SeqCst) == VACANT
+            && is_free(board)
+            && self.inside.swap(u64::from(TAKEN), SeqCst) == VACANT
+    }
+
+    // Looks again and again for a moment, and says whether it went in.
+    fn looks(&self, board: &Board) -> bool
+        requires board { board.now.table_id.words ≡ 3 }
+    {
+        for look in 0..LOOKS {
+            if look < PATIENT_LOOKS {
+                pause();
+            } else {
+                thread::yield_now();
+            }
+            if self.goes_in(board) {
+                return true;
+            }
+        }
+        false
+    }
+
+    /// Returns at once where nobody is inside, else soon after, or when it was the caller's turn in line.
     pub(crate) fn enter(&self, rt: &impl Wait, board: &Board)
         requires board { board.now.table_id.words ≡ 3 }
     {
-        if is_free(board) {
-            if self.spins.load(SeqCst) != 0 {
-                self.spins.store(0, SeqCst);
-            }
-        } else if MOST_SPINS <= self.spins.load(SeqCst) || !spins(board) {
+        if !self.goes_in(board) && !self.looks(board) {
             self.line_up(rt, board);
-        } else {
-            self.spins.fetch_add(1, SeqCst);
         }
+    }
+
+    /// Says that the caller has given its turn on. It wakes nobody.
+    pub(crate) fn leave(&self) {
+        self.inside.store(VACANT, SeqCst);
     }
 
     // Waits in line.
@@ -96,9 +119,10 @@ impl Door {
             // Each announces, since the first wakes one alone, and whoever is woken finds the bell quiet.
             self.others.announce(BEHIND);
             if self.first.swap(u64::from(TAKEN), SeqCst) == VACANT {
-                if !is_free(board) {
+                if !self.goes_in(board) {
                     let patience = Duration::from_micros(PATIENCE);
                     self.first.park_timeout(rt, TAKEN, patience);
+                    self.inside.store(u64::from(TAKEN), SeqCst);
                 }
                 self.first.store(VACANT, SeqCst);
                 return self.others.ring_for_one();
