@@ -28,19 +28,22 @@ use std::{fmt, fs};
 /// How many entries the audit list of `play` holds.
 const AUDIT_OF_PLAY: u64 = 65_536;
 
-/// Does what the arguments of the process ask for, and tells how the program ends.
+/// Does what the arguments of the process ask for, and tells how the program ends. Help is written;
+/// `play` answers the lines of the standard input on the standard output; `serve` writes its address,
+/// answers connections until so many were accepted, and writes how many; `ask` sends one request and
+/// writes the text of the reply.
 ///
-/// `play` answers the lines of the standard input on the standard output; `serve` accepts connections
-/// until so many were accepted, and then writes their number; `ask` sends a request and writes the
-/// reply; help writes its text. `Done` comes where all of that was done, and `Refused` where `ask` was
-/// answered by no Done, Status or Entries, and its reply was written all the same.
+/// `Refused` comes where the reply to `ask`, which is written too, is no Done, Status or Entries. Where
+/// all else is done, `Done` comes.
 ///
-/// A failure is `Command` where the arguments ask for nothing, or memory ran out while they were read;
-/// `Start` where the file of the table cannot be read or is too long, its text is no table, a
-/// principal is not listed or memory ran out: until then nothing was answered, written or listened
-/// to, and with `ask` nothing sent. It is `Play` where `play` stopped at a line, with the answers to the
-/// lines before it written, and `Run` where a text could not be written, an address could not be
-/// listened at or reached, a thread could not be started, or what `ask` asks or gets is faulty.
+/// - `Command`: the arguments name nothing to do, or memory ran out while they were read.
+/// - `Start`: a file could not be read or is too long, its text is no table, the table does not list the
+///   primary or the page server, or memory ran out. Until then nothing was read from the standard input,
+///   written, listened at or sent.
+/// - `Play`: `play` stopped before the end of its input. The answers to the lines before stay written.
+/// - `Run`: a text could not be written; an address could not be listened at or reached; a connection
+///   could not be accepted, or a thread not be started; the token or the words of `ask` are none; what
+///   came back is no reply; or memory ran out. What was answered or sent until then stays so.
 pub fn run<R>(rt: &R) -> Result<Ending, Failure>
 where
     R: Env + Files + Input + Print + AllocGlobal + Threads + Wait + Sync + Copy + Drop,

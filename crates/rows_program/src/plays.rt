@@ -1,4 +1,4 @@
-//! A run of `play` over a reader and a writer, and one whose first allocations fail.
+//! A run of `play` over a reader, and one with a refused allocation.
 
 use pl_core::Db;
 use pl_program::{PlayFault, StartFault, play, start_db};
@@ -14,7 +14,7 @@ token = \"22222222222222222222222222222222\"
 verdict = \"allow\"
 ";
 
-// A database of which nothing was asked, with primary 2.
+/// A database of which nothing was asked, with primary 2.
 pub(crate) fn fresh(alloc: Global) -> Result<Db, StartFault> {
     start_db(alloc, TABLE.as_bytes(), 2, 65_536)
 }
@@ -26,6 +26,7 @@ pub(crate) struct Outcome {
     pub(crate) output: Vec<u8>,
 }
 
+/// Plays the lines of the reader on such a database.
 pub(crate) fn run<R: BufRead>(alloc: Global, reader: &mut R) -> Result<Outcome, StartFault> {
     let mut db = fresh(alloc)?;
     let mut output = Vec::new(alloc);
