@@ -11,6 +11,7 @@ mod desks;
 mod gate;
 mod materialising;
 mod outbox;
+mod polled;
 mod serving;
 mod solo;
 mod source;
