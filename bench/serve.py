@@ -7,9 +7,11 @@ trips a second at 1, 8 and 64 connections with one request each at a time, and w
 connection. All are asked by the same client, bench/frames.c, and so is the echo, which answers each frame by one as
 long as the service's, in a write of its own. Beside it stands, with requests in flight, an echo that gathers what it
 answers as the service does: it reads and writes whole batches and looks at nothing. Redis is asked for XADD of 100
-bytes, XRANGE of one entry and GET of 8,192 bytes. Each number is the best of five rounds, in each of which all are
-asked in turn. Beside them stand the processor time that the service took for a request, and the most memory that it
-held until then, which grows with its audit list.
+bytes, XRANGE of one entry and GET of 8,192 bytes. Each number is the best of 25 short rounds, in each of which all are
+asked in turn: where the machine is shared with others some rounds are disturbed, and a long one is rarely spared. Behind
+each other server's number stands what the service's best round is of its best, and the median of the service's rounds of
+the median of its rounds. Last come the processor time that the service took for a request, over all rounds, and the most
+memory that it held until then, which grows with its audit list.
 
 Where etcd is installed, a client in Python asks the service and one node of etcd, which syncs nothing to its disk, one
 request at a time on one connection: a 100-byte write beside a put, and a pull of one block beside a range of one key.
@@ -22,6 +24,7 @@ import os
 import pathlib
 import shutil
 import socket
+import statistics
 import subprocess
 import sys
 import tempfile
@@ -34,9 +37,9 @@ import wire  # noqa: E402
 
 CRATE = ROOT / "crates" / "pagelog"
 SHARE = float(sys.argv[1]) if len(sys.argv) > 1 else 1.0
-RUNS = 5
-# Connections, requests in flight on each, and requests of each connection.
-SHAPES = ((1, 1, 20000), (8, 1, 10000), (64, 1, 2000), (1, 64, 100000))
+ROUNDS = 25
+# Connections, requests in flight on each, and requests of each connection in a round.
+SHAPES = ((1, 1, 4000), (8, 1, 2000), (64, 1, 400), (1, 64, 20000))
 TICKS = os.sysconf("SC_CLK_TCK")
 
 
@@ -151,10 +154,18 @@ def seconds(port, shape, request, reply):
 
 
 def rates(shape, asked):
-    """Round trips a second of each of those that are asked, the best of the rounds."""
+    """Round trips a second of each of those that are asked, in each round."""
     connections, _, count = shape
-    took = [[seconds(port, shape, request, reply) for port, request, reply in asked] for _ in range(RUNS)]
-    return [connections * count / min(each) for each in zip(*took)]
+    took = [[seconds(port, shape, request, reply) for port, request, reply in asked] for _ in range(ROUNDS)]
+    return [[connections * count / each for each in times] for times in zip(*took)]
+
+
+def beside(own, other):
+    """The best of the other's rounds, and what of the other's best and of its median is ours."""
+    if not other:
+        return f"{'':9} {'':6} {'':6}"
+    best, middle = max(own) / max(other), statistics.median(own) / statistics.median(other)
+    return f"{max(other):9,.0f} {best:6.2f} {middle:6.2f}"
 
 
 def times(case, ours, bare, gathering, other):
@@ -171,12 +182,10 @@ def times(case, ours, bare, gathering, other):
             asked.append((other.port, spelled(command), wanted))
         before = ours.seconds()
         own, plain, *others = rates((connections, flight, count), asked)
-        spent = (ours.seconds() - before) / (RUNS * connections * count)
+        spent = (ours.seconds() - before) / (ROUNDS * connections * count)
         most = others.pop(0) if flight > 1 else None
         theirs = others.pop(0) if others else None
-        together = f"{most:9,.0f} {own / most:6.2f}" if most else f"{'':>9} {'':>6}"
-        beside = f"{theirs:9,.0f} {own / theirs:6.2f}" if theirs else f"{'':>9} {'':>6}"
-        print(f"{name:18} {connections:4} x {flight:2} {own:9,.0f} {plain:9,.0f} {own / plain:6.2f} {together} {beside}"
+        print(f"{name:18} {connections:4} x {flight:2} {max(own):9,.0f} {beside(own, plain)} {beside(own, most)} {beside(own, theirs)}"
               f" {spent * 1e6:8.2f} {ours.peak():8.1f}", flush=True)
 
 
@@ -201,9 +210,9 @@ def etcd(work):
 
 
 def rate_by_python(count, ask):
-    """Round trips a second, the best of the runs."""
+    """Round trips a second, the best of five rounds."""
     best = None
-    for _ in range(RUNS):
+    for _ in range(5):
         start = time.perf_counter()
         for _ in range(count):
             ask()
@@ -245,8 +254,8 @@ def beside_etcd(work):
 
 
 def main():
-    print(f"{'':18} {'':9} {'pagelog':>9} {'echo':>9} {'ratio':>6} {'gathered':>9} {'ratio':>6} {'redis':>9}"
-          f" {'ratio':>6} {'us each':>8} {'MiB':>8}")
+    heads = " ".join(f"{head:>9} {'best':>6} {'median':>6}" for head in ("echo", "gathered", "redis"))
+    print(f"{'':18} {'':9} {'pagelog':>9} {heads} {'us each':>8} {'MiB':>8}")
     other = redis() if shutil.which("redis-server") else None
     for case in CASES:
         ours, bare, gathering = service(), echo(case[2]), echo(case[2], "gather")

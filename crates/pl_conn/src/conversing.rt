@@ -26,12 +26,19 @@ const MOST_FRAMES: u64 = 1 << 32;
 /// The bytes of a frame's length.
 const LENGTH_BYTES: usize = 4;
 
-// The request that the body spells. A block keeps the bytes of the body, where the count of their
-// owners finds memory, and else a copy.
+/// The most bytes of a body that is not shared. Most requests keep none of theirs, and a count of owners
+/// is an allocation.
+const SHORT_BODY: usize = 64;
+
+// The request that the body spells. A block keeps the bytes of the body, where they are many and the
+// count of their owners finds memory, and else a copy.
 fn request_in(alloc: Global, body: Vec<u8>) -> Result<Request, BodyFault>
     ensures exact { Returns result (request_reading body.items) }
     ensures no_memory { result ≡ Err NoMemory → MayLackMemory body.items }
 {
+    if body.len() <= SHORT_BODY {
+        return decode_request(alloc, &body);
+    }
     match Bytes::from_vec(body) {
         Ok(body) => decode_request_shared(alloc, body),
         Err(refused) => decode_request(alloc, &refused.value),

@@ -85,6 +85,7 @@ fn check_size(bytes: &[u8], size: usize) -> Result<(), WireFault>
 }
 
 // A write, whose block keeps the bytes.
+#[inline(never)]
 fn write_in(alloc: Global, arguments: Bytes) -> Result<Act, BodyFault>
     ensures exact { Returns result (write_reading arguments) }
     ensures no_memory { result ≡ Err NoMemory → 1 ≤ length arguments }
@@ -99,6 +100,7 @@ fn write_in(alloc: Global, arguments: Bytes) -> Result<Act, BodyFault>
 }
 
 // A write, whose block keeps a copy of the bytes.
+#[inline(never)]
 fn write_of(alloc: Global, arguments: &[u8]) -> Result<Act, BodyFault>
     ensures exact { Returns result (write_reading arguments.now) }
     ensures no_memory { result ≡ Err NoMemory → 1 ≤ length arguments.now }
@@ -110,6 +112,7 @@ fn write_of(alloc: Global, arguments: &[u8]) -> Result<Act, BodyFault>
 }
 
 // An offer, whose block keeps the bytes.
+#[inline(never)]
 fn offer_in(alloc: Global, arguments: Bytes) -> Result<Act, BodyFault>
     ensures exact { Returns result (offer_reading arguments) }
 {
@@ -118,12 +121,14 @@ fn offer_in(alloc: Global, arguments: Bytes) -> Result<Act, BodyFault>
 }
 
 // An offer, whose block keeps a copy of the bytes.
+#[inline(never)]
 fn offer_of(alloc: Global, arguments: &[u8]) -> Result<Act, BodyFault>
     ensures exact { Returns result (offer_reading arguments.now) }
 {
     offer_in(alloc, Bytes::copy_from_slice(alloc, arguments)?)
 }
 
+#[inline(never)]
 fn report_of(arguments: &[u8]) -> Result<Act, WireFault>
     ensures value { result ≡ report_reading arguments.now }
 {
@@ -143,6 +148,7 @@ fn flag_of(number: u8) -> Option<bool>
     }
 }
 
+#[inline(never)]
 fn get_of(arguments: &[u8]) -> Result<Act, WireFault>
     ensures value { result ≡ get_reading arguments.now }
 {
@@ -155,6 +161,7 @@ fn get_of(arguments: &[u8]) -> Result<Act, WireFault>
     })
 }
 
+#[inline(never)]
 fn pull_of(arguments: &[u8]) -> Result<Act, WireFault>
     ensures value { result ≡ pull_reading arguments.now }
 {
@@ -167,6 +174,7 @@ fn pull_of(arguments: &[u8]) -> Result<Act, WireFault>
     })
 }
 
+#[inline(never)]
 fn advance_of(arguments: &[u8]) -> Result<Act, WireFault>
     ensures value { result ≡ advance_reading arguments.now }
 {
@@ -178,6 +186,7 @@ fn advance_of(arguments: &[u8]) -> Result<Act, WireFault>
 }
 
 // An act that has no arguments.
+#[inline(never)]
 fn bare(arguments: &[u8], act: Act) -> Result<Act, WireFault>
     ensures value { result ≡ sized 0 arguments.now act }
 {
@@ -185,6 +194,7 @@ fn bare(arguments: &[u8], act: Act) -> Result<Act, WireFault>
     Ok(act)
 }
 
+#[inline(never)]
 fn failover_of(arguments: &[u8]) -> Result<Act, WireFault>
     ensures value { result ≡ failover_reading arguments.now }
 {
@@ -195,6 +205,7 @@ fn failover_of(arguments: &[u8]) -> Result<Act, WireFault>
 }
 
 // Reads the table of the text too, once.
+#[inline(never)]
 fn set_table_of(alloc: Global, text: &[u8]) -> Result<Act, BodyFault>
     ensures exact { Returns result (act_reading Op.SetTable text.now) }
 {
@@ -202,6 +213,7 @@ fn set_table_of(alloc: Global, text: &[u8]) -> Result<Act, BodyFault>
     Ok(Act::SetTable { text })
 }
 
+#[inline(never)]
 fn audit_of(arguments: &[u8]) -> Result<Act, WireFault>
     ensures value { result ≡ audit_reading arguments.now }
 {
@@ -212,23 +224,25 @@ fn audit_of(arguments: &[u8]) -> Result<Act, WireFault>
     })
 }
 
+// The readers of arguments are not inlined: the room of all of them would be cleared at each call.
 fn act_of(alloc: Global, op: Op, arguments: &[u8]) -> Result<Act, BodyFault>
     ensures exact { Returns result (act_reading op arguments.now) }
     ensures no_memory { result ≡ Err NoMemory → AsksMemory op arguments.now }
 {
-    match op {
-        Op::Write => write_of(alloc, arguments),
-        Op::Offer => offer_of(alloc, arguments),
-        Op::Report => Ok(report_of(arguments)?),
-        Op::Get => Ok(get_of(arguments)?),
-        Op::Pull => Ok(pull_of(arguments)?),
-        Op::Advance => Ok(advance_of(arguments)?),
-        Op::Status => Ok(bare(arguments, Act::Status)?),
-        Op::Failover => Ok(failover_of(arguments)?),
-        Op::SetTable => set_table_of(alloc, arguments),
-        Op::Audit => Ok(audit_of(arguments)?),
-        Op::Tidy => Ok(bare(arguments, Act::Tidy)?),
-    }
+    let read = match op {
+        Op::Write => return write_of(alloc, arguments),
+        Op::Offer => return offer_of(alloc, arguments),
+        Op::SetTable => return set_table_of(alloc, arguments),
+        Op::Report => report_of(arguments),
+        Op::Get => get_of(arguments),
+        Op::Pull => pull_of(arguments),
+        Op::Advance => advance_of(arguments),
+        Op::Status => bare(arguments, Act::Status),
+        Op::Failover => failover_of(arguments),
+        Op::Audit => audit_of(arguments),
+        Op::Tidy => bare(arguments, Act::Tidy),
+    };
+    Ok(read?)
 }
 
 fn act_in(alloc: Global, op: Op, arguments: Bytes) -> Result<Act, BodyFault>
