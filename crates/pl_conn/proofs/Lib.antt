@@ -8,3 +8,4 @@ pub mod Dealing
 pub mod Meeting
 pub mod Calling
 pub mod Rounds
+pub mod Reading

@@ -1,10 +1,18 @@
 -- Replies that were given and are not yet written.
 use Rattle.std.specs.Prelude.{◌≡◌, ℕ, zero, suc, ◌+◌, ◌-◌, ◌^◌, ◌<◌, ◌≤◌, ◌⊎◌, Bool, true, false, List, [], ◌∷◌, ◌++◌, length, map, take, Option, Result, Ok, Err, nat_lt, if◌then◌else◌}
 use Rattle.std.specs.Io.KnownBytes.{Appends, Consumes, IsAtEnd}
+use Rattle.pl_block.specs.Faults.{Returns}
+use Rattle.pl_block.specs.declared.fault.Failed.{Failed}
+use Rattle.pl_block.specs.declared.fault.Failed.TheVariants.{Malformed, NoMemory}
+use Rattle.pl_table.specs.Request.{Query}
 use Rattle.pl_core.specs.declared.reply.Reply.{Reply}
+use Rattle.pl_core.specs.declared.reply.Reply.TheVariants as replies
+use Rattle.pl_wire.specs.Codes.{code_of}
 use Rattle.pl_wire.specs.FrameReading.{IsCut, StopsFrame}
 use Rattle.pl_wire.specs.Frames.{frame, longest_request}
 use Rattle.pl_wire.specs.FrameWriting.{reply_frame}
+use Rattle.pl_wire.specs.Reading.{MayLackMemory, request_reading}
+use Rattle.pl_wire.specs.declared.fault.WireFault.{WireFault}
 use Rattle.pl_wire.specs.declared.frame_reading.FrameFault.TheVariants as frame_faults
 use Rattle.pl_conn.specs.Conversation.{AnswersBody, Calls, IsToldInPart, IsTooLong, Scene, Talk, Talks, text_of}
 use Rattle.pl_conn.specs.declared.cause.Cause.{Cause}
@@ -40,6 +48,20 @@ Sends old before new after (Err cause) = (cause ≡ causes.Write) × ((k : ℕ) 
 abbrev pub MaySend : Option (List ℕ) → Box → Option (List ℕ) → Box → Result Unit Cause → Type 0
 MaySend old before new after (Ok done) = ((new ≡ old) × (after ≡ before)) ⊎ Sends old before new after (Ok done)
 MaySend old before new after (Err cause) = Sends old before new after (Err cause)
+
+-- a frame was read, and what its body spells, unless that asked for memory and there was none
+pub record ReadsBody (old new : Option (List ℕ)) (read : Result Query (Failed WireFault)) : Type 0 where
+  pub body : List ℕ
+  pub short : length body ≤ longest_request
+  pub taken : Consumes old new (frame body)
+  pub exact : Returns read (request_reading body)
+  pub no_memory : read ≡ Err NoMemory → MayLackMemory body
+
+-- a request is called; a fault, or that there was no memory, is replied without a call
+abbrev pub AnswersRead : {P : Type 0} → Calls P → Result Query (Failed WireFault) → P → Reply → P → Type 0
+AnswersRead calls (Ok request) before reply after = calls before request reply after
+AnswersRead calls (Err (Malformed fault)) before reply after = (reply ≡ replies.Malformed (code_of fault)) × (after ≡ before)
+AnswersRead calls (Err NoMemory) before reply after = (reply ≡ replies.NoMemory) × (after ≡ before)
 
 -- what a reader has left, a pass, and the replies that wait
 pub record Intake (P : Type 0) : Type 0 where

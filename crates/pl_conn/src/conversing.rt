@@ -1,13 +1,15 @@
 //! A conversation: the frames of requests in, the frames of their replies out.
 
-ghost use Rattle.std.specs.Prelude.{◌≡◌, ◌+◌, ◌≤◌, ◌^◌, ◌↔◌, IsTrue, length};
-ghost use Rattle.std.specs.Int.{w32};
+ghost use Rattle.std.specs.Prelude.{◌≡◌, ◌+◌, ◌≤◌, ◌^◌, [], IfErr, IfNone, IfOk, IfSome, length, take};
+ghost use Rattle.std.specs.Io.KnownBytes.{Consumes, IsAtEnd};
 ghost use Rattle.pl_block.specs.declared.fault.Failed.TheVariants.{NoMemory};
 ghost use Rattle.pl_block.specs.Faults.{Returns};
 ghost use Rattle.pl_core.specs.Reply.{FitsReply};
-ghost use Rattle.pl_wire.specs.Reading.{MayLackMemory, number_in, request_reading};
-ghost use Rattle.pl_conn.specs.Conversation.{AnswersBody, Converses, scene};
-ghost use Rattle.pl_conn.specs.Gathering.{MaySend, Stops, Takes, Turns, emptied, ended, intake};
+ghost use Rattle.pl_wire.specs.FrameReading.{StopsFrame};
+ghost use Rattle.pl_wire.specs.Frames.{frame, longest_request};
+ghost use Rattle.pl_wire.specs.Reading.{MayLackMemory, request_reading};
+ghost use Rattle.pl_conn.specs.Conversation.{Converses, scene};
+ghost use Rattle.pl_conn.specs.Gathering.{AnswersRead, MaySend, ReadsBody, Stops, Takes, Turns, emptied, ended, intake};
 
 use crate::cause::{Cause, ConnFault, cause_of};
 use crate::gate::Gate;
@@ -16,9 +18,11 @@ use crate::source::Source;
 use bytes::{Buf, Bytes};
 use pl_core::Reply;
 use pl_table::Request;
-use pl_wire::{BodyFault, LONGEST_REQUEST, decode_request, decode_request_shared, read_frame};
+use pl_wire::{
+    BodyFault, FrameFault, LONGEST_REQUEST, decode_request, decode_request_shared, read_frame,
+};
 use std::alloc::Global;
-use std::io::{Read, Write};
+use std::io::Write;
 
 /// The most frames that one conversation answers.
 const MOST_FRAMES: u64 = 1 << 32;
@@ -26,33 +30,70 @@ const MOST_FRAMES: u64 = 1 << 32;
 /// The bytes of a frame's length.
 const LENGTH_BYTES: usize = 4;
 
-/// The most bytes of a body that is not shared. Most requests keep none of theirs, and a count of owners
-/// is an allocation.
-const SHORT_BODY: usize = 64;
+// The body of the frame that the bytes begin with, where all of it is there.
+fn body_in(bytes: &[u8]) -> Option<&[u8]>
+    ensures whole { IfSome result (λ body. (4 + length body.now ≤ length bytes.now)
+        × (take (4 + length body.now) bytes.now ≡ frame body.now)) }
+    ensures short { IfSome result (λ body. length body.now ≤ longest_request) }
+{
+    if bytes.len() < LENGTH_BYTES {
+        return None;
+    }
+    let (mut head, rest) = bytes.split_at(LENGTH_BYTES);
+    let len = head.get_u32();
+    if len > LONGEST_REQUEST || rest.len() < len as usize {
+        return None;
+    }
+    let (body, _) = rest.split_at(len as usize);
+    Some(body)
+}
 
-// The request that the body spells. A block keeps the bytes of the body, where they are many and the
-// count of their owners finds memory, and else a copy.
+// The request that the body spells. A block keeps the bytes of the body, where the count of their
+// owners finds memory, and else a copy.
 fn request_in(alloc: Global, body: Vec<u8>) -> Result<Request, BodyFault>
     ensures exact { Returns result (request_reading body.items) }
     ensures no_memory { result ≡ Err NoMemory → MayLackMemory body.items }
 {
-    if body.len() <= SHORT_BODY {
-        return decode_request(alloc, &body);
-    }
     match Bytes::from_vec(body) {
         Ok(body) => decode_request_shared(alloc, body),
         Err(refused) => decode_request(alloc, &refused.value),
     }
 }
 
-// The reply to a body.
-fn answer<G: Gate>(alloc: Global, body: Vec<u8>, gate: &G, pass: &mut G::Pass) -> Reply
+// Reads the next frame, and what its body spells: where it lies, if all of it is at hand. `None` at
+// the end of input.
+fn next_request<R: Source>(
+    alloc: Global,
+    reader: &mut R,
+) -> Result<Option<Result<Request, BodyFault>>, FrameFault>
+    ensures some { IfOk result (λ next. IfSome next (λ read.
+        ReadsBody (R.remaining reader.old) (R.remaining reader.new) read)) }
+    ensures none { IfOk result (λ next. IfNone next (
+        Consumes (R.remaining reader.old) (R.remaining reader.new) []
+        × IsAtEnd (R.remaining reader.new))) }
+    ensures err { IfErr result (λ fault.
+        StopsFrame longest_request (R.remaining reader.old) (R.remaining reader.new) fault) }
+{
+    if let Some(body) = body_in(reader.at_hand()) {
+        let read = decode_request(alloc, body);
+        let count = LENGTH_BYTES + body.len();
+        reader.consume(count);
+        return Ok(Some(read));
+    }
+    let Some(body) = read_frame(alloc, reader, LONGEST_REQUEST)? else {
+        return Ok(None);
+    };
+    Ok(Some(request_in(alloc, body)))
+}
+
+// The reply to what a body spells.
+fn answer<G: Gate>(read: Result<Request, BodyFault>, gate: &G, pass: &mut G::Pass) -> Reply
     requires own { G.owns gate.now pass.old }
     ensures own { G.owns gate.now pass.new }
     ensures fits { FitsReply result }
-    ensures answers { AnswersBody (G.calls gate.now) pass.old body.items result pass.new }
+    ensures answers { AnswersRead (G.calls gate.now) read pass.old result pass.new }
 {
-    match request_in(alloc, body) {
+    match read {
         Ok(request) => gate.call(pass, request),
         Err(BodyFault::Malformed(fault)) => Reply::Malformed { code: fault.code() },
         Err(BodyFault::NoMemory) => Reply::NoMemory,
@@ -60,7 +101,8 @@ fn answer<G: Gate>(alloc: Global, body: Vec<u8>, gate: &G, pass: &mut G::Pass) -
 }
 
 // Reads a frame and answers it. False at the end of input.
-fn take_next<R: Read, G: Gate>(
+#[tactic(auto, using(crate::proofs::Reading::answers_body))]
+fn take_next<R: Source, G: Gate>(
     alloc: Global,
     reader: &mut R,
     gate: &G,
@@ -73,9 +115,9 @@ fn take_next<R: Read, G: Gate>(
         (intake (R.remaining reader.old) pass.old outbox.old)
         (intake (R.remaining reader.new) pass.new outbox.new) result }
 {
-    match read_frame(alloc, reader, LONGEST_REQUEST) {
-        Ok(Some(body)) => {
-            let reply = answer(alloc, body, gate, pass);
+    match next_request(alloc, reader) {
+        Ok(Some(read)) => {
+            let reply = answer(read, gate, pass);
             match outbox.put(&reply) {
                 Ok(()) => Ok(true),
                 Err(_) => Err(Cause::NoMemory),
@@ -84,18 +126,6 @@ fn take_next<R: Read, G: Gate>(
         Ok(None) => Ok(false),
         Err(fault) => Err(cause_of(fault)),
     }
-}
-
-// Whether the bytes begin with a whole frame.
-fn has_frame(bytes: &[u8]) -> bool
-    ensures exact { IsTrue result ↔ ((4 ≤ length bytes.now) ×
-        (4 + number_in w32 0 bytes.now ≤ length bytes.now)) }
-{
-    if bytes.len() < LENGTH_BYTES {
-        return false;
-    }
-    let (mut head, body) = bytes.split_at(LENGTH_BYTES);
-    head.get_u32() as usize <= body.len()
 }
 
 // Writes what waits, unless the next frame is at hand as a whole and there is not too much.
@@ -107,7 +137,7 @@ fn write_before_wait<R: Source, W: Write>(
     requires few { outbox.old.whole + length outbox.old.lens ≤ 2 ^ 32 }
     ensures sends { MaySend (W.contents writer.old) outbox.old (W.contents writer.new) outbox.new result }
 {
-    if outbox.is_large() || !has_frame(reader.at_hand()) {
+    if outbox.is_large() || body_in(reader.at_hand()).is_none() {
         outbox.write_out(writer)
     } else {
         Ok(())

@@ -11,7 +11,6 @@ mod desks;
 mod gate;
 mod materialising;
 mod outbox;
-mod polled;
 mod serving;
 mod solo;
 mod source;

@@ -8,7 +8,6 @@ ghost use Rattle.pl_conn.specs.Workers.{AllOf, each_of};
 use crate::cause::{Cause, ConnFault};
 use crate::conversing::converse;
 use crate::gate::Gate;
-use crate::polled::PolledSocket;
 use crossbeam_channel::{Receiver, Sender};
 use std::alloc::Global;
 use std::io::BufReader;
@@ -90,8 +89,7 @@ fn talk<G: Gate>(
     ensures reaches { Reaches (G.calls gate.now) pass.old pass.new }
 {
     let _is_set = socket.set_nodelay(true);
-    let Ok(mut reader) = BufReader::with_capacity(alloc, READ_AHEAD, PolledSocket::new(socket))
-    else {
+    let Ok(mut reader) = BufReader::with_capacity(alloc, READ_AHEAD, socket) else {
         return Err(ConnFault {
             cause: Cause::NoMemory,
             answered: 0,

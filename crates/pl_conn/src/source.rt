@@ -1,23 +1,54 @@
 //! Readers that tell what they have at hand.
 
-use std::alloc::Allocator;
-use std::io::{BufReader, Read};
+ghost use Rattle.std.specs.Prelude.{◌≡◌, ◌≤◌, ℕ, List, IfSome, length, take};
+ghost use Rattle.std.specs.Io.{StartsWith};
+ghost use Rattle.std.specs.Io.Buffered.{reader_buffer};
+ghost use Rattle.std.specs.Io.KnownBytes.{Consumes};
 
-/// A reader that tells which bytes can be read without waiting. No promise rests on what it tells, but
-/// that replies go out before a wait.
+use std::alloc::Allocator;
+use std::io::{BufRead, BufReader, Read};
+
+/// A reader that tells which bytes can be read without waiting, and lends them.
+///
+/// No promise rests on how many it tells, but that replies go out before a wait.
 pub trait Source: Read {
+    // The bytes that are at hand.
+    ghost hand: { Self → List ℕ };
+
     /// The bytes that come next and are at hand. There may be more.
-    fn at_hand(&self) -> &[u8];
+    fn at_hand(&self) -> &[u8]
+        ensures value { result.now ≡ hand self.now }
+        ensures next { IfSome (Self.remaining self.now) (λ bytes. StartsWith bytes (hand self.now)) };
+
+    /// Takes so many of the bytes at hand, as reads of them would.
+    fn consume(&mut self, count: usize)
+        requires few { count ≤ length (hand self.old) }
+        ensures taken { Consumes (Self.remaining self.old) (Self.remaining self.new)
+            (take count (hand self.old)) };
 }
 
 impl<R: Read, A: Allocator> Source for BufReader<R, A> {
+    ghost hand = { reader_buffer };
+
     fn at_hand(&self) -> &[u8] {
         self.buffer()
+    }
+
+    fn consume(&mut self, count: usize) {
+        BufRead::consume(self, count);
     }
 }
 
 impl Source for &[u8] {
+    ghost use Rattle.std.specs.Prelude.{List, ℕ};
+
+    ghost hand = { λ bytes. bytes.now };
+
     fn at_hand(&self) -> &[u8] {
         self
+    }
+
+    fn consume(&mut self, count: usize) {
+        *self = &self[count..];
     }
 }

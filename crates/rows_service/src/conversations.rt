@@ -1,12 +1,12 @@
 //! Conversations over memory: whole, cut anywhere, and with frames that are none.
 
-ghost use Rattle.std.specs.Prelude.{IfOk};
+ghost use Rattle.std.specs.Prelude.{IfOk, take};
 ghost use Rattle.pl_conn.specs.Solo.{HasDatabases};
 
 use pl_conn::{Cause, ConnFault, Solo, SoloPass, Source, converse};
 use pl_core::{Db, Limits};
 use std::alloc::Global;
-use std::io::{self, ErrorKind, Read, Write};
+use std::io::{self, BufReader, ErrorKind, Read, Write};
 use transcripts::table_text::table_named;
 use transcripts::transcript::Stop;
 
@@ -78,9 +78,16 @@ impl Read for Input<'_> {
 }
 
 impl Source for Input<'_> {
+    ghost hand = { λ input. take input.at_once input.left.now };
+
     fn at_hand(&self) -> &[u8] {
         let (now, _) = self.left.split_at(self.at_once.min(self.left.len()));
         now
+    }
+
+    fn consume(&mut self, count: usize) {
+        let (_, later) = self.left.split_at(count);
+        self.left = later;
     }
 }
 
@@ -199,6 +206,76 @@ fn converse_over_broken_frames(rt: HostRuntime) {
     let mut done = broken_frames(rt.alloc());
     if done.is_err() {
         done = broken_frames(rt.alloc());
+    }
+    assert!(&rt; done.is_ok());
+}
+
+// A frame whose body is so many zeros, with this length before it.
+fn zeros_behind(alloc: Global, length: [u8; 4], count: usize) -> Result<Vec<u8>, Stop> {
+    let mut frame = Vec::with_capacity(alloc, 4 + count.min(100_000))?;
+    frame.extend_from_slice(&length)?;
+    for _ in 0..count {
+        frame.push(0)?;
+    }
+    Ok(frame)
+}
+
+// The longest body is read where all of it is at hand, and one byte more is too long there.
+fn longest_body(alloc: Global) -> Result<(), Stop> {
+    let frame = zeros_behind(alloc, [0, 1, 0, 0], 65_536)?;
+    let input = Input {
+        left: &frame,
+        at_once: 70_000,
+        fails: false,
+    };
+    let talked = talk(alloc, input, 1_000, 1_000)?;
+    check(matches!(talked.end, Ok(1)))?;
+    check(talked.output.as_slice() == [0, 0, 0, 2, 10, 2].as_slice() && talked.entries == 0)?;
+    let frame = zeros_behind(alloc, [0, 1, 0, 1], 65_537)?;
+    let input = Input {
+        left: &frame,
+        at_once: 70_000,
+        fails: false,
+    };
+    let talked = talk(alloc, input, 1_000, 1_000)?;
+    let wanted = ConnFault {
+        cause: Cause::TooLong,
+        answered: 0,
+    };
+    check(matches!(talked.end, Err(fault) if fault == wanted) && talked.output.is_empty())
+}
+
+#[test]
+fn longest_body_at_hand(rt: HostRuntime) {
+    let mut done = longest_body(rt.alloc());
+    if done.is_err() {
+        done = longest_body(rt.alloc());
+    }
+    assert!(&rt; done.is_ok());
+}
+
+// What is at hand at a buffered reader comes next, and is gone once it is taken.
+fn takes_at_hand(alloc: Global) -> Result<(), Stop> {
+    let bytes = [1, 2, 3, 4, 5, 6, 7];
+    let Ok(mut reader) = BufReader::with_capacity(alloc, 4, bytes.as_slice()) else {
+        return Err(Stop::NoMemory);
+    };
+    check(reader.at_hand().is_empty())?;
+    let mut one = [0];
+    check(matches!(reader.read(&mut one), Ok(1)) && one == [1])?;
+    check(reader.at_hand() == [2, 3, 4].as_slice())?;
+    Source::consume(&mut reader, 2);
+    check(reader.at_hand() == [4].as_slice())?;
+    let mut rest = Vec::new(alloc);
+    check(matches!(reader.read_to_end(&mut rest), Ok(4)))?;
+    check(rest.as_slice() == [4, 5, 6, 7].as_slice() && reader.at_hand().is_empty())
+}
+
+#[test]
+fn bytes_at_hand_are_taken(rt: HostRuntime) {
+    let mut done = takes_at_hand(rt.alloc());
+    if done.is_err() {
+        done = takes_at_hand(rt.alloc());
     }
     assert!(&rt; done.is_ok());
 }
