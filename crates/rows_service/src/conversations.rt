@@ -254,6 +254,15 @@ fn longest_body_at_hand(rt: HostRuntime) {
     assert!(&rt; done.is_ok());
 }
 
+// Takes two of the bytes at hand, if there are two.
+fn took_two<R: Source>(reader: &mut R) -> bool {
+    if reader.at_hand().len() < 2 {
+        return false;
+    }
+    reader.consume(2);
+    true
+}
+
 // What is at hand at a buffered reader comes next, and is gone once it is taken.
 fn takes_at_hand(alloc: Global) -> Result<(), Stop> {
     let bytes = [1, 2, 3, 4, 5, 6, 7];
@@ -264,8 +273,7 @@ fn takes_at_hand(alloc: Global) -> Result<(), Stop> {
     let mut one = [0];
     check(matches!(reader.read(&mut one), Ok(1)) && one == [1])?;
     check(reader.at_hand() == [2, 3, 4].as_slice())?;
-    Source::consume(&mut reader, 2);
-    check(reader.at_hand() == [4].as_slice())?;
+    check(took_two(&mut reader) && reader.at_hand() == [4].as_slice())?;
     let mut rest = Vec::new(alloc);
     check(matches!(reader.read_to_end(&mut rest), Ok(4)))?;
     check(rest.as_slice() == [4, 5, 6, 7].as_slice() && reader.at_hand().is_empty())
