@@ -14,11 +14,11 @@ pub enum Cause {
     TooLong,
     /// A read failed.
     Read,
-    /// A write failed, or took no byte. Some frames behind the answered ones, at least one, were read
-    /// and handed to the gate, and a beginning of the next reply may be written.
+    /// A write failed, or took no byte. Some frames behind the answered ones, at least one, were read,
+    /// and their requests handed to the gate; a beginning of the next reply may be written.
     Write,
     /// An allocation failed, for a body or for a reply. Where it was for a reply, one frame behind the
-    /// answered ones was read and handed to the gate.
+    /// answered ones was read, and its request, if it is one, handed to the gate.
     NoMemory,
 }
 

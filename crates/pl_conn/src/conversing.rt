@@ -210,13 +210,14 @@ fn ended(end: Result<(), Cause>, sent: Result<(), Cause>, answered: u64) -> Resu
 /// Reads frames until the end of input, or 2^32 of them, hands each body that is a request to the gate
 /// once, and writes the frames of the replies in the same order. It returns how many frames it answered.
 ///
-/// A body that is no request is answered `Malformed` with its code, and one for which memory runs out
-/// as it is read `NoMemory`, both without the gate; the conversation goes on. What is answered is
-/// written before the next wait for bytes, and before the conversation ends for whatever cause. Replies
-/// to frames that are at hand go out together, in one write where the writer takes it at once.
+/// A body that is no request is answered `Malformed` with its code, and one whose block or text finds
+/// no memory `NoMemory`, both without the gate; the conversation goes on. Where the bytes of a body, or
+/// a reply, find no memory, it ends. What is answered is written before the next wait for bytes, and
+/// before the conversation ends for whatever cause. Replies to frames that are at hand go out together,
+/// in one write where the writer takes it at once.
 ///
 /// Beside what a request and its reply need, it keeps the replies that wait, at most 256 KiB and one
-/// reply more.
+/// reply more, and eight bytes for each.
 pub fn converse<R: Source, W: Write, G: Gate>(
     alloc: Global,
     reader: &mut R,

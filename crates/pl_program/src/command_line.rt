@@ -273,15 +273,15 @@ fn play_of(alloc: Global, found: &ArgMatches<'_>) -> Result<Option<CommandLine>,
 
 /// The numbers among the options of `serve`.
 #[derive(Clone, Copy)]
-struct ServeNumbers {
-    primary: u32,
-    dbs: u32,
-    workers: u32,
-    connections: u32,
-    audit: u32,
-    pager: u32,
-    partition: u16,
-    rounds: u32,
+pub(crate) struct ServeNumbers {
+    pub(crate) primary: u32,
+    pub(crate) dbs: u32,
+    pub(crate) workers: u32,
+    pub(crate) connections: u32,
+    pub(crate) audit: u32,
+    pub(crate) pager: u32,
+    pub(crate) partition: u16,
+    pub(crate) rounds: u32,
 }
 
 fn serve_numbers(found: &ArgMatches<'_>) -> Option<ServeNumbers>

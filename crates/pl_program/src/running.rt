@@ -5,7 +5,7 @@ ghost use Rattle.std.specs.Prelude.{◌≤◌, vec_len};
 
 use crate::arguments::{arguments_of, asked};
 use crate::asking::{credentials_of, exchange, file_of};
-use crate::command_line::CommandLine;
+use crate::command_line::{CommandLine, ServeNumbers};
 use crate::ending::{Ending, Failure};
 use crate::fault::PlayFault;
 use crate::operator_words::{Credentials, admin};
@@ -17,7 +17,7 @@ use crate::serving::{Tally, databases_of, result_of, token_of};
 use crate::start::{StartFault, file_fault_of, read_text, start_db};
 use pl_core::{Db, Reply};
 use pl_table::Request;
-use std::alloc::AllocGlobal;
+use std::alloc::{AllocGlobal, Global};
 use std::io::{self, BufReader, ErrorKind};
 use std::net::{Net, TcpListener, TcpStream};
 use std::rt::{Env, Files};
@@ -50,16 +50,8 @@ where
     R: Net<Listener = TcpListener, Stream = TcpStream>,
 {
     match asked(rt.alloc(), arguments_of(rt))? {
-        CommandLine::Help { text } => {
-            show(rt, &text)?;
-            Ok(Ending::Done)
-        }
-        CommandLine::Play { table, primary } => {
-            let text = text_of_file(rt, table.as_str())?;
-            let mut db = start_db(rt.alloc(), text.as_slice(), primary, AUDIT_OF_PLAY)?;
-            play_all(rt, &mut db)?;
-            Ok(Ending::Done)
-        }
+        CommandLine::Help { text } => help(rt, &text),
+        CommandLine::Play { table, primary } => play_with(rt, table.as_str(), primary),
         CommandLine::Serve {
             listen,
             table,
@@ -72,20 +64,17 @@ where
             partition,
             rounds,
         } => {
-            let text = text_of_file(rt, table.as_str())?;
-            let dbs = databases_of(rt.alloc(), text.as_slice(), primary, audit, dbs)?;
-            let pager = if rounds == 0 {
-                None
-            } else {
-                Some(Pager {
-                    principal: pager,
-                    token: token_of(rt.alloc(), text.as_slice(), pager)?,
-                    partition,
-                    rounds,
-                })
+            let numbers = ServeNumbers {
+                primary,
+                dbs,
+                workers,
+                connections,
+                audit,
+                pager,
+                partition,
+                rounds,
             };
-            serve_all(rt, listen.as_str(), dbs, workers, connections, pager)?;
-            Ok(Ending::Done)
+            serve_with(rt, listen.as_str(), table.as_str(), numbers)
         }
         CommandLine::Ask {
             to,
@@ -106,12 +95,29 @@ fn show(rt: &impl Print, text: &impl fmt::Display) -> Result<(), RunFault> {
     rt.print(text).map_err(|_| RunFault::Write)
 }
 
+/// Shows the text of `help`.
+fn help(rt: &impl Print, text: &impl fmt::Display) -> Result<Ending, Failure> {
+    show(rt, text)?;
+    Ok(Ending::Done)
+}
+
 /// The text of a table's file.
 fn text_of_file(rt: &(impl Files + AllocGlobal), file: &str) -> Result<Vec<u8>, StartFault> {
     match fs::open(rt, file) {
         Ok(file) => Ok(read_text(rt.alloc(), file)?),
         Err(error) => Err(StartFault::from(file_fault_of(&error))),
     }
+}
+
+/// Answers the lines of the standard input, over a database with the table of this file.
+fn play_with<R>(rt: &R, table: &str, primary: u32) -> Result<Ending, Failure>
+where
+    R: Files + Input + Print + AllocGlobal,
+{
+    let text = text_of_file(rt, table)?;
+    let mut db = start_db(rt.alloc(), text.as_slice(), primary, AUDIT_OF_PLAY)?;
+    play_all(rt, &mut db)?;
+    Ok(Ending::Done)
 }
 
 /// Answers the lines of the standard input on the standard output.
@@ -131,6 +137,51 @@ fn address_fault(error: &io::Error) -> RunFault {
         return RunFault::NoMemory;
     }
     RunFault::Address
+}
+
+/// The page server of a service with this table, where it has one.
+fn pager_of(
+    alloc: Global,
+    text: &[u8],
+    numbers: ServeNumbers,
+) -> Result<Option<Pager>, StartFault> {
+    if numbers.rounds == 0 {
+        return Ok(None);
+    }
+    Ok(Some(Pager {
+        principal: numbers.pager,
+        token: token_of(alloc, text, numbers.pager)?,
+        partition: numbers.partition,
+        rounds: numbers.rounds,
+    }))
+}
+
+/// Serves databases with the table of this file.
+fn serve_with<R>(
+    rt: &R,
+    listen: &str,
+    table: &str,
+    numbers: ServeNumbers,
+) -> Result<Ending, Failure>
+where
+    R: Files + Print + AllocGlobal + Threads + Wait + Sync + Copy + Drop,
+    R: Net<Listener = TcpListener, Stream = TcpStream>,
+    requires some { 1 ≤ numbers.dbs }
+    requires few { numbers.dbs ≤ 16 }
+    requires workers { numbers.workers ≤ 64 }
+    requires audit { 1 ≤ numbers.audit }
+{
+    let ServeNumbers {
+        primary,
+        audit,
+        dbs,
+        ..
+    } = numbers;
+    let text = text_of_file(rt, table)?;
+    let dbs = databases_of(rt.alloc(), text.as_slice(), primary, audit, dbs)?;
+    let pager = pager_of(rt.alloc(), text.as_slice(), numbers)?;
+    serve_all(rt, listen, dbs, numbers.workers, numbers.connections, pager)?;
+    Ok(Ending::Done)
 }
 
 /// Serves the databases at the address until so many connections were accepted.

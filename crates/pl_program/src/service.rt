@@ -1,4 +1,4 @@
-//! A service: databases behind their desks, a worker for each connection, and a page server.
+//! A service: databases behind their desks, workers that serve connections, and a page server.
 
 ghost use Rattle.std.specs.Prelude.{◌≡◌, ◌+◌, ◌≤◌, ℕ, IfOk, IfSome, length, take, vec_len};
 ghost use Rattle.std.specs.List.{All};

@@ -1,4 +1,4 @@
-//! The database that `play` begins with.
+//! A database that `play` or `serve` begins with.
 
 ghost use Rattle.std.specs.Prelude.{◌≡◌, ◌≢◌, ◌↔◌, ◌≤◌, ◌<◌, ◌⊎◌, Err, IfErr, IfOk, IsErrAnd, IsOk, OnOk, Some, length};
 ghost use Rattle.std.specs.IoError.{error_kind};

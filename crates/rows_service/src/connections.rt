@@ -27,6 +27,16 @@ struct Holds {
     answered: AtomicU64,
 }
 
+impl Holds {
+    // Such a gate, of which nothing was asked.
+    fn new() -> Holds {
+        Holds {
+            entered: AtomicU64::new(0),
+            answered: AtomicU64::new(0),
+        }
+    }
+}
+
 // Whether the word becomes 1, within many turns.
 fn comes(word: &AtomicU64) -> bool {
     for _ in 0..1_000_000 {
@@ -95,10 +105,7 @@ fn serve_both<R: Net<Listener = TcpListener, Stream = TcpStream> + Threads + Wai
     rt: &R,
     alloc: Global,
 ) -> Option<bool> {
-    let gate = Holds {
-        entered: AtomicU64::new(0),
-        answered: AtomicU64::new(0),
-    };
+    let gate = Holds::new();
     let listener = TcpListener::bind(rt, "127.0.0.1:0").ok()?;
     let addr = listener.local_addr().ok()?;
     let passes = Vec::from_array(alloc, [5_u64, 8]).ok()?;
@@ -124,6 +131,29 @@ fn two_connections_at_once(rt: HostRuntime) {
     let mut is_done = serve_both(&rt, rt.alloc());
     if is_done != Some(true) {
         is_done = serve_both(&rt, rt.alloc());
+    }
+    assert!(&rt; is_done == Some(true));
+}
+
+// Two workers, at a listener that does not wait for a connection, so that its first accept fails.
+// Whether the passes come back as they were.
+fn accept_none<R: Net<Listener = TcpListener, Stream = TcpStream> + Threads + Wait + Sync>(
+    rt: &R,
+    alloc: Global,
+) -> Option<bool> {
+    let listener = TcpListener::bind(rt, "127.0.0.1:0").ok()?;
+    listener.set_nonblocking(true).ok()?;
+    let passes = Vec::from_array(alloc, [5_u64, 8]).ok()?;
+    let served = serve(rt, alloc, &listener, &Holds::new(), passes, 3);
+    let is_stopped = served.accepted == 0 && served.faults == 0 && served.stop == Stopped::Accept;
+    Some(is_stopped && served.passes.as_slice() == [5, 8].as_slice())
+}
+
+#[test]
+fn a_failed_accept_ends_it(rt: HostRuntime) {
+    let mut is_done = accept_none(&rt, rt.alloc());
+    if is_done != Some(true) {
+        is_done = accept_none(&rt, rt.alloc());
     }
     assert!(&rt; is_done == Some(true));
 }
