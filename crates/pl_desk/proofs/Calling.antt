@@ -13,7 +13,8 @@ use Rattle.atomic_table.specs.Seated.{TableId}
 use Rattle.pl_desk.specs.declared.rule.Stage.TheVariants.{Idle}
 use Rattle.pl_desk.specs.declared.rule.View.{View}
 use Rattle.pl_desk.specs.Rule.{IsSound, IsAhead, HasBoth}
-use Rattle.pl_desk.specs.Steps.{IsStep, at_stage, longer, meeting}
+use Rattle.pl_core.specs.Step.{IsStep}
+use Rattle.pl_desk.specs.Steps.{at_stage, longer, meeting}
 use Rattle.pl_desk.specs.Passes.{Knowledge, knowledge_of, entries_made, HadTurn, WasCalled, HasMet}
 use Rattle.pl_desk.proofs.Histories.{goes_on-refl, goes_on-trans, goes_on-grown, own-with}
 
@@ -37,7 +38,7 @@ after-own k request found reply es own =
     ]
 
 pub had_turn : (p : Knowledge) (request : Query) (reply : Reply) (found now : History) (drawn : ℕ) → 1 ≤ p.number → p.number ≤ p.terms.seats
-    → IsAhead p.terms p.number p.seen found → IsStep request p.number found reply now → IsLegal now → drawn < p.terms.turns
+    → IsAhead p.terms p.number p.seen found → IsStep p.number request found reply now → IsLegal now → drawn < p.terms.turns
     → HadTurn p request reply record { desk = p.desk; terms = p.terms; number = p.number; seen = now; drawn = drawn }
 had_turn p request reply found now drawn some few ahead step legal less =
     let on : GoesOn p.terms.seats found now = subst (GoesOn p.terms.seats found) (sym step.grows) (after-goes_on p.terms.seats p.number request found reply some few) in
@@ -52,7 +53,7 @@ had_turn p request reply found now drawn some few ahead step legal less =
     }
 
 pub called : (p : Knowledge) (request : Query) (reply : Reply) (found now : History) (drawn : ℕ) → 1 ≤ p.number → p.number ≤ p.terms.seats
-    → p.drawn ≤ drawn → IsSound p.terms p.seen → IsAhead p.terms p.number p.seen found → IsStep request p.number found reply now → IsLegal now
+    → p.drawn ≤ drawn → IsSound p.terms p.seen → IsAhead p.terms p.number p.seen found → IsStep p.number request found reply now → IsLegal now
     → reply ≢ replies.Spent → drawn < p.terms.turns
     → WasCalled p request reply record { desk = p.desk; terms = p.terms; number = p.number; seen = now; drawn = drawn }
 called p request reply found now drawn some few more sound ahead step legal decided less = record {

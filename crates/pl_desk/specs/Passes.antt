@@ -8,12 +8,12 @@ use Rattle.pl_core.specs.declared.reply.Reply.TheVariants as replies
 use Rattle.pl_core.specs.History.{Entry, History, entry_of}
 use Rattle.pl_core.specs.Verdict.{verdict_of}
 use Rattle.pl_core.specs.Answer.{makes_entry}
+use Rattle.pl_core.specs.Step.{IsStep}
 use Rattle.pl_desk.specs.declared.rule.Opening.{Opening}
 use Rattle.pl_desk.specs.declared.rule.Terms.{Terms}
 use Rattle.pl_desk.specs.declared.rule.View.{View}
 use Rattle.pl_desk.specs.Growth.{GoesOn, own_entries}
 use Rattle.pl_desk.specs.Rule.{terms_of, IsSound, IsAhead}
-use Rattle.pl_desk.specs.Steps.{IsStep}
 
 -- what a pass knows: its desk, what that was made with, its number, the history that it has seen,
 -- and the greatest ticket word that it has read
@@ -66,7 +66,7 @@ entries_made request number found reply =
 pub record HadTurn (before : Knowledge) (request : Query) (reply : Reply) (after : Knowledge) : Type 0 where
   pub found : History
   pub ahead : IsAhead before.terms before.number before.seen found
-  pub step : IsStep request before.number found reply after.seen
+  pub step : IsStep before.number request found reply after.seen
   pub sound : IsSound before.terms after.seen
   pub onward : GoesOn before.terms.seats before.seen after.seen
   pub own : own_entries after.seen before.number

@@ -1,9 +1,6 @@
 -- The atomic steps of a desk: what each tells the pass that makes it, and the view that it leaves.
 use Rattle.std.specs.Prelude.{◌≡◌, ◌≢◌, ℕ, ◌+◌, ◌<◌, ◌≤◌, Bool, true, false, nat_lt, [], ◌∷◌, length, Option, Some, if◌then◌else◌}
 use Rattle.atomic_table.specs.Table.{Step, Me, rest}
-use Rattle.pl_table.specs.Request.{Query}
-use Rattle.pl_core.specs.declared.reply.Reply.{Reply}
-use Rattle.pl_core.specs.Answer.{MayReply, history_after}
 use Rattle.pl_core.specs.History.{Entry, History, grown}
 use Rattle.pl_core.specs.Legal.{IsLegal}
 use Rattle.pl_desk.specs.declared.rule.Stage.{Stage}
@@ -143,11 +140,6 @@ meets_then st me found after = (after ≡ (at_stage Idle me.0, me.1))
     → HasBoth me.0.terms me.0.number other first second me.0.seen)
 
 -- ---- a turn
-
--- what a step of the database says of the reply, and of the history before and after it
-pub record IsStep (request : Query) (number : ℕ) (found : History) (reply : Reply) (now : History) : Type 0 where
-  pub answer : MayReply request found reply
-  pub grows : now ≡ history_after request number found reply
 
 -- one entry more, or the same history
 abbrev pub Grows : Bool → ℕ → History → History → Type 0

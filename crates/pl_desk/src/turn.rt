@@ -4,9 +4,10 @@ ghost use Rattle.std.specs.Prelude.{◌≡◌, ◌≢◌, ℕ, [], ◌∷◌, So
 ghost use Rattle.pl_core.specs.History.{History};
 ghost use Rattle.pl_core.specs.Legal.{IsLegal};
 ghost use Rattle.pl_core.specs.Reply.{FitsReply};
+ghost use Rattle.pl_core.specs.Step.{IsStep};
 ghost use Rattle.pl_desk.specs.declared.rule.Stage.TheVariants.{Waiting, InTurn};
 ghost use Rattle.pl_desk.specs.Rule.{IsAhead};
-ghost use Rattle.pl_desk.specs.Steps.{at_stage, counted, Grows, IsStep, settled};
+ghost use Rattle.pl_desk.specs.Steps.{at_stage, counted, Grows, settled};
 
 use crate::bells::Bells;
 use crate::boxed::BoxedDb;
@@ -61,7 +62,7 @@ fn take_out(board: &Board, chair: &mut Chair) -> BoxedDb
 
 // Makes one step of the database. It says whether an entry was made.
 fn step_of(db: &mut BoxedDb, number: u64, request: Request) -> (Reply, bool)
-    ensures step { IsStep request number db.old result.0 db.new }
+    ensures step { IsStep number request db.old result.0 db.new }
     ensures grows { Grows result.1 number db.old db.new }
     ensures legal { IsLegal db.new }
     ensures decided { result.0 ≢ Reply.Spent }
@@ -82,7 +83,7 @@ fn step(board: &Board, chair: &mut Chair, number: u64, request: Request) -> (Rep
     ensures same { (chair.new.table_id ≡ chair.old.table_id) × (chair.new.id ≡ chair.old.id) }
     ensures out { (o : Option History) × (chair.new.me ≡ (chair.old.me.0, (0, o) ∷ [])) }
     ensures stepped { (h : History) → chair.old.me.1 ≡ (0, Some h) ∷ [] →
-        IsStep request number h result.0 result.2 × Grows result.1 number h result.2 }
+        IsStep number request h result.0 result.2 × Grows result.1 number h result.2 }
     ensures legal { IsLegal result.2 }
     ensures decided { result.0 ≢ Reply.Spent }
     ensures fits { FitsReply result.0 }
@@ -129,7 +130,7 @@ pub(crate) fn take_turn(board: &Board, chair: &mut Chair, number: u64, request: 
     requires number { number ≡ chair.old.me.0.number }
     ensures same { (chair.new.table_id ≡ chair.old.table_id) × (chair.new.id ≡ chair.old.id) }
     ensures stepped { (h : History) → chair.old.me.1 ≡ (0, Some h) ∷ [] → (g : History) ×
-        (chair.new.me ≡ (settled g chair.old.me.0, [])) × IsStep request number h result g ×
+        (chair.new.me ≡ (settled g chair.old.me.0, [])) × IsStep number request h result g ×
         IsLegal g }
     ensures decided { result ≢ Reply.Spent }
     ensures fits { FitsReply result }

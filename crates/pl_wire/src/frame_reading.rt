@@ -16,7 +16,7 @@ use crate::reply_reading::decode_reply;
 use pl_block::seen::each_is_byte;
 use pl_core::Reply;
 use std::alloc::Global;
-use std::io::{ErrorKind, Read};
+use std::io::Read;
 
 /// The most bytes of a request's body.
 pub const LONGEST_REQUEST: u32 = 65_536;
@@ -34,7 +34,8 @@ pub enum FrameFault {
     Short,
     /// The length is above the limit. It is read, and nothing behind it.
     TooLong,
-    /// A read failed inside the frame, or before it. What was read before is lost.
+    /// A read failed inside the frame, or before it, whatever made it fail: an interruption too. What
+    /// was read before is lost.
     Io,
     /// There is no memory for the body. The length is read, and nothing behind it.
     NoMemory,
@@ -52,8 +53,8 @@ pub enum ReplyFault {
 }
 
 // Fills the buffer from the reader. `Ok` says how many bytes came, fewer than the buffer has only
-// at the end of input; `Err`, how many came before a read failed. A read that a signal interrupted
-// is tried again.
+// at the end of input; `Err`, how many came before a read failed, whatever made it fail. Each read but
+// the last brings a byte at least.
 fn fill<R: Read>(reader: &mut R, buffer: &mut [u8]) -> Result<usize, usize>
     ensures len { length buffer.new ≡ length buffer.old }
     ensures ok { IfOk result (λ count. (count ≤ length buffer.new)
@@ -63,22 +64,14 @@ fn fill<R: Read>(reader: &mut R, buffer: &mut [u8]) -> Result<usize, usize>
         × Consumes (R.remaining reader.old) (R.remaining reader.new) (take count buffer.new)) }
 {
     let mut count = 0;
-    for _ in 0..u64::MAX {
-        if count >= buffer.len() {
-            return Ok(count);
-        }
+    while count < buffer.len() {
         match reader.read(&mut buffer[count..]) {
             Ok(0) => return Ok(count),
             Ok(more) => count += more,
-            Err(error) if error.kind() == ErrorKind::Interrupted => {}
             Err(_) => return Err(count),
         }
     }
-    if count < buffer.len() {
-        Err(count)
-    } else {
-        Ok(count)
-    }
+    Ok(count)
 }
 
 /// Reads the length that a frame begins with: four bytes, the high one first. `None` at the end of
@@ -143,8 +136,8 @@ pub fn read_body<R: Read>(alloc: Global, reader: &mut R, len: u32) -> Result<Vec
 /// Reads a frame, and gives its body. `None` at the end of input before the frame's first byte. What
 /// stands behind the frame is left unread.
 ///
-/// A length is tested before any memory is asked for. `Short` where the input ends inside the frame,
-/// `TooLong` where its length is above the limit, `Io` where a read failed, and `NoMemory` where there
+/// The reader is read at most once for each byte of the frame, and once more. A length is tested
+/// before any memory is asked for. `Short` where the input ends inside the frame, `TooLong` where its length is above the limit, `Io` where a read failed, and `NoMemory` where there
 /// is no memory for the body: then the length is read and the body is not.
 pub fn read_frame<R: Read>(
     alloc: Global,

@@ -13,7 +13,7 @@ use bytes::BufMut;
 use pl_core::Reply;
 use pl_table::Request;
 use std::alloc::{AllocError, Global};
-use std::io::{ErrorKind, Write};
+use std::io::Write;
 
 /// Why a frame was not written.
 #[derive(Clone, Copy, Debug, PartialEq, Eq)]
@@ -29,30 +29,22 @@ const LENGTH_BYTES: usize = 4;
 
 /// Writes all of the bytes, in one write where the writer takes them at once.
 ///
-/// `Err` says how many were written, fewer than there are, before a write failed or took none. A
-/// write that a signal interrupted is tried again.
+/// `Err` says how many were written, fewer than there are, before a write took none or failed,
+/// whatever made it fail: an interruption too. There is at most one write for each byte.
 pub fn write_bytes<W: Write>(writer: &mut W, bytes: &[u8]) -> Result<(), usize>
     ensures ok { OnOk result (Appends (W.contents writer.old) (W.contents writer.new) bytes.now) }
     ensures err { IfErr result (λ count. (count < length bytes.now)
         × Appends (W.contents writer.old) (W.contents writer.new) (take count bytes.now)) }
 {
     let mut count = 0;
-    for _ in 0..u64::MAX {
-        if count >= bytes.len() {
-            return Ok(());
-        }
+    while count < bytes.len() {
         match writer.write(&bytes[count..]) {
             Ok(0) => return Err(count),
             Ok(more) => count += more,
-            Err(error) if error.kind() == ErrorKind::Interrupted => {}
             Err(_) => return Err(count),
         }
     }
-    if count < bytes.len() {
-        Err(count)
-    } else {
-        Ok(())
-    }
+    Ok(())
 }
 
 // A length, and the body of the reply, in the room that `out` has for them.
