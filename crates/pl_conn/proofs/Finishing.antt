@@ -89,6 +89,7 @@ converses calls before now out box left (Err causes.Write) (Ok told) few stops s
       short = t.short;
       read = t.read;
       chain = t.chain;
+      fits = t.fits;
       written = subst (λ (l : List ℕ). Appends before.output out l) (ap (λ (l : List ℕ). (text_of talk.whole ++ talk.cut) ++ l) none ∙ append-nil (text_of talk.whole ++ talk.cut))
           (Appends-trans before.output now.output out (text_of talk.whole ++ talk.cut) box.text t.written sends.0);
     } in

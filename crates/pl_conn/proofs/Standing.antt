@@ -7,14 +7,15 @@ use Rattle.std.specs.Int.{w32, to_be_bytes}
 use Rattle.std.proofs.lemmas.List.{length-append, length-map}
 use Rattle.std.proofs.lemmas.Grind.{flat_map-append}
 use Rattle.pl_core.specs.declared.reply.Reply.{Reply}
+use Rattle.pl_core.specs.Reply.{FitsReply}
 use Rattle.pl_wire.specs.Frames.{frame, frames_of, longest_request}
 use Rattle.pl_wire.specs.FrameWriting.{reply_frame}
-use Rattle.pl_conn.specs.Conversation.{Answered, AnswersBody, Calls, IsTold, IsToldInPart, Scene, Talk, Talks, scene, text_of}
+use Rattle.pl_conn.specs.Conversation.{Answered, AnswersBody, Calls, IsTold, IsToldInPart, MayWait, Scene, Talk, Talks, scene, text_of}
 use Rattle.pl_conn.specs.Gathering.{Box, FailsToSend, Intake, MaySend, Stands, Stops, Takes, TakesFrame, TakesNone, Turns, emptied, gathered, intake, whole_in}
 use Rattle.pl_conn.specs.declared.cause.Cause.{Cause}
 use Rattle.pl_conn.specs.declared.cause.Cause.TheVariants as causes
 use Rattle.pl_wire.specs.FrameReading.{IsCut}
-use Rattle.pl_conn.proofs.Talking.{all_more, answered_more, cut_text, joined, lens_of, map_more, whole_few}
+use Rattle.pl_conn.proofs.Talking.{all_but_last, fewer_behind, all_more, answered_more, cut_text, joined, lens_of, map_more, whole_few}
 
 -- at the start nothing was read
 pub stands_start : {P : Type 0} (calls : Calls P) (input output : Option (List ℕ)) (pass : P)
@@ -23,10 +24,11 @@ stands_start calls input output pass = record {
   bodies = [];
   written = [];
   waiting = [];
-  talks = record { short = tt; read = Consumes-nil input; chain = refl; written = Appends-nil output };
+  talks = record { short = tt; read = Consumes-nil input; chain = refl; fits = tt; written = Appends-nil output };
   number = refl;
   text = refl;
   lens = refl;
+  few = omega arith;
 }
 
 module _ {P : Type 0} (calls : Calls P) (before : Scene P) (input output : Option (List ℕ)) (pass : P) (box : Box) where
@@ -42,56 +44,71 @@ module _ {P : Type 0} (calls : Calls P) (before : Scene P) (input output : Optio
       read = subst (λ (l : List ℕ). Consumes before.input left (l ++ bytes)) (append-nil (frames_of s.bodies))
           (Consumes-trans before.input input left _ bytes s.talks.read reads);
       chain = s.talks.chain;
+      fits = s.talks.fits;
       written = s.talks.written;
     };
     number = s.number;
     text = s.text;
     lens = s.lens;
+    few = s.few;
   }
+
+  -- the replies so far, and one more
+  one_more : (s : Stands calls before (scene input output pass) box [] []) (reply : Reply) (others : List Reply) → others ≡ s.waiting ++ reply ∷ []
+      → (s.written ++ (s.waiting ++ [])) ++ reply ∷ [] ≡ s.written ++ others
+  one_more s reply others is =
+      append_assoc s.written (s.waiting ++ []) (reply ∷ []) ∙ ap (λ (l : List Reply). s.written ++ (l ++ reply ∷ [])) (append-nil s.waiting)
+      ∙ ap (λ (l : List Reply). s.written ++ l) (sym is)
+
+  -- what waits is little, and may be one reply more
+  few_more : (s : Stands calls before (scene input output pass) box [] []) (reply : Reply) → length box.text < 262144 → MayWait (s.waiting ++ reply ∷ [])
+  few_more s reply less = subst (λ (l : List ℕ). length l < 262144) (s.text ∙ ap text_of (sym (all_but_last s.waiting reply))) less
 
   -- the next frame is read and answered
   taken_on : (s : Stands calls before (scene input output pass) box [] []) (after : Intake P) (body : List ℕ) (reply : Reply) (waiting lost : List Reply)
-      → length body ≤ longest_request → Consumes input after.input (frame body) → AnswersBody calls pass body reply after.pass
+      → length body ≤ longest_request → Consumes input after.input (frame body) → AnswersBody calls pass body reply after.pass → FitsReply reply
       → waiting ++ lost ≡ s.waiting ++ reply ∷ []
       → Talks calls before (scene after.input output after.pass)
       (record { bodies = s.bodies ++ body ∷ []; whole = s.written; others = waiting ++ lost; part = []; cut = [] })
-  taken_on s after body reply waiting lost short reads answers others = record {
+  taken_on s after body reply waiting lost short reads answers fits others = record {
     short = all_more (λ b. length b ≤ longest_request) s.bodies body s.talks.short short;
     read = subst (λ (l : List ℕ). Consumes before.input after.input l)
         (ap (λ (l : List ℕ). l ++ frame body) (append-nil (frames_of s.bodies)) ∙ sym (joined frame s.bodies body) ∙ sym (append-nil (frames_of (s.bodies ++ body ∷ []))))
         (Consumes-trans before.input input after.input _ (frame body) s.talks.read reads);
-    chain = subst (λ (rs : List Reply). Answered calls before.pass (s.bodies ++ body ∷ []) rs after.pass)
-        (append_assoc s.written (s.waiting ++ []) (reply ∷ []) ∙ ap (λ (l : List Reply). s.written ++ (l ++ reply ∷ [])) (append-nil s.waiting) ∙ ap (λ (l : List Reply). s.written ++ l) (sym others))
+    chain = subst (λ (rs : List Reply). Answered calls before.pass (s.bodies ++ body ∷ []) rs after.pass) (one_more s reply (waiting ++ lost) others)
         (answered_more calls before.pass pass after.pass s.bodies (s.written ++ (s.waiting ++ [])) body reply s.talks.chain answers);
+    fits = subst (AllByRecursion FitsReply) (one_more s reply (waiting ++ lost) others) (all_more FitsReply (s.written ++ (s.waiting ++ [])) reply s.talks.fits fits);
     written = s.talks.written;
   }
 
   -- a frame is answered, and its reply waits
-  pub takes_one : (after : Intake P) → Stands calls before (scene input output pass) box [] [] → TakesFrame calls (intake input pass box) after (λ reply. gathered box reply)
+  pub takes_one : (after : Intake P) → length box.text < 262144 → Stands calls before (scene input output pass) box [] [] → TakesFrame calls (intake input pass box) after (λ reply. gathered box reply)
       → Stands calls before (scene after.input output after.pass) after.box [] []
-  takes_one after s t = subst (λ (b : Box). Stands calls before (scene after.input output after.pass) b [] []) (sym t.waits) (record {
+  takes_one after less s t = subst (λ (b : Box). Stands calls before (scene after.input output after.pass) b [] []) (sym t.waits) (record {
     bodies = s.bodies ++ t.body ∷ [];
     written = s.written;
     waiting = s.waiting ++ t.reply ∷ [];
-    talks = taken_on s after t.body t.reply (s.waiting ++ t.reply ∷ []) [] t.short t.read t.answers (append-nil (s.waiting ++ t.reply ∷ []));
+    talks = taken_on s after t.body t.reply (s.waiting ++ t.reply ∷ []) [] t.short t.read t.answers t.fits (append-nil (s.waiting ++ t.reply ∷ []));
     number = s.number;
     text = ap (λ (l : List ℕ). l ++ reply_frame t.reply) s.text ∙ sym (joined reply_frame s.waiting t.reply);
     lens = ap (λ (l : List ℕ). l ++ length (reply_frame t.reply) ∷ []) s.lens ∙ sym (map_more (λ r. length (reply_frame r)) s.waiting t.reply);
+    few = subst MayWait (sym (append-nil (s.waiting ++ t.reply ∷ []))) (few_more s t.reply less);
   })
 
   -- a frame is answered, and there is no memory for its reply
-  pub takes_last : (after : Intake P) → Stands calls before (scene input output pass) box [] [] → TakesFrame calls (intake input pass box) after (λ reply. box)
+  pub takes_last : (after : Intake P) → length box.text < 262144 → Stands calls before (scene input output pass) box [] [] → TakesFrame calls (intake input pass box) after (λ reply. box)
       → (last : Reply) × Stands calls before (scene after.input output after.pass) after.box [] (last ∷ [])
-  takes_last after s t = (
+  takes_last after less s t = (
     t.reply,
     subst (λ (b : Box). Stands calls before (scene after.input output after.pass) b [] (t.reply ∷ [])) (sym t.waits) (record {
       bodies = s.bodies ++ t.body ∷ [];
       written = s.written;
       waiting = s.waiting;
-      talks = taken_on s after t.body t.reply s.waiting (t.reply ∷ []) t.short t.read t.answers refl;
+      talks = taken_on s after t.body t.reply s.waiting (t.reply ∷ []) t.short t.read t.answers t.fits refl;
       number = s.number;
       text = s.text;
       lens = s.lens;
+      few = few_more s t.reply less;
     }),
   )
 
@@ -110,6 +127,7 @@ module _ {P : Type 0} (calls : Calls P) (before : Scene P) (input output : Optio
       short = s.talks.short;
       read = s.talks.read;
       chain = subst (λ (rs : List Reply). Answered calls before.pass s.bodies rs pass) (sym (append_assoc s.written s.waiting lost)) s.talks.chain;
+      fits = subst (AllByRecursion FitsReply) (sym (append_assoc s.written s.waiting lost)) s.talks.fits;
       written = subst (λ (l : List ℕ). Appends before.output out l)
           (ap₂ (λ (k l : List ℕ). k ++ l) (append-nil (text_of s.written)) s.text ∙ sym (flat_map-append reply_frame s.written s.waiting) ∙ sym (append-nil (text_of (s.written ++ s.waiting))))
           (Appends-trans before.output output out _ box.text s.talks.written writes);
@@ -117,6 +135,7 @@ module _ {P : Type 0} (calls : Calls P) (before : Scene P) (input output : Optio
     number = given part lost s;
     text = refl;
     lens = refl;
+    few = fewer_behind s.waiting lost s.few;
   }
 
   -- a beginning of what waits is written
@@ -125,15 +144,16 @@ module _ {P : Type 0} (calls : Calls P) (before : Scene P) (input output : Optio
       → (talk : Talk) × Talks calls before (scene input out pass) talk × (length talk.whole ≡ box.whole + whole_in box.lens n)
       × IsToldInPart talk × (talk.part ≡ part)
   sends_part part lost out n s less writes =
-      let c = cut_text s.waiting n (subst (λ (l : List ℕ). n < length l) s.text less) in (
+      let c = cut_text s.waiting n (subst (λ (l : List ℕ). n < length l) s.text less) in
+      let parts : s.waiting ++ lost ≡ c.whole ++ (c.next ∷ (c.more ++ lost)) = ap (λ (l : List Reply). l ++ lost) c.parts ∙ append_assoc c.whole (c.next ∷ c.more) lost in
+      let all : s.written ++ (s.waiting ++ lost) ≡ (s.written ++ c.whole) ++ (c.next ∷ (c.more ++ lost)) =
+      ap (λ (l : List Reply). s.written ++ l) parts ∙ sym (append_assoc s.written c.whole (c.next ∷ (c.more ++ lost))) in (
         record { bodies = s.bodies; whole = s.written ++ c.whole; others = c.next ∷ (c.more ++ lost); part = part; cut = take c.k (reply_frame c.next) },
         record {
           short = s.talks.short;
           read = s.talks.read;
-          chain = subst (λ (rs : List Reply). Answered calls before.pass s.bodies rs pass)
-              (ap (λ (l : List Reply). s.written ++ (l ++ lost)) c.parts ∙ ap (λ (l : List Reply). s.written ++ l) (append_assoc c.whole (c.next ∷ c.more) lost)
-              ∙ sym (append_assoc s.written c.whole (c.next ∷ (c.more ++ lost))))
-              s.talks.chain;
+          chain = subst (λ (rs : List Reply). Answered calls before.pass s.bodies rs pass) all s.talks.chain;
+          fits = subst (AllByRecursion FitsReply) all s.talks.fits;
           written = subst (λ (l : List ℕ). Appends before.output out l)
               (ap₂ (λ (k l : List ℕ). k ++ l) (append-nil (text_of s.written)) (ap (λ (l : List ℕ). take n l) s.text ∙ c.text)
               ∙ sym (append_assoc (text_of s.written) (text_of c.whole) (take c.k (reply_frame c.next)))
@@ -141,7 +161,7 @@ module _ {P : Type 0} (calls : Calls P) (before : Scene P) (input output : Optio
               (Appends-trans before.output output out _ (take n box.text) s.talks.written writes);
         },
         (length-append s.written c.whole ∙ ap₂ (λ (a b : ℕ). a + b) s.number (c.number ∙ ap (λ (l : List ℕ). whole_in l n) (sym s.lens))),
-        (c.next, c.more ++ lost, c.k, refl, c.less, refl),
+        (c.next, c.more ++ lost, c.k, refl, c.less, refl, fewer_behind c.whole (c.next ∷ (c.more ++ lost)) (subst MayWait parts s.few)),
         refl,
       )
 
@@ -188,32 +208,32 @@ module _ {P : Type 0} (calls : Calls P) (before : Scene P) (input output : Optio
 
   -- a frame is taken in
   pub take_ends : (count : ℕ) (after : Intake P) (r : Result Bool Cause) → box.whole + length box.lens ≡ count → Stands calls before (scene input output pass) box [] []
-      → Takes calls (intake input pass box) after r → AfterTurn count (scene after.input output after.pass) after.box r
-  take_ends count after (Ok true) is s t = (
-    takes_one after s t,
+      → length box.text < 262144 → Takes calls (intake input pass box) after r → AfterTurn count (scene after.input output after.pass) after.box r
+  take_ends count after (Ok true) is s few t = (
+    takes_one after few s t,
     (ap (λ (b : Box). b.whole + length b.lens) t.waits ∙ omega (arith, is, length-append box.lens (length (reply_frame t.reply) ∷ []))),
   )
-  take_ends count after (Ok false) is s t = ((none_on after [] s t.0 t.1, t.2), omega (arith, is, same_count after t.0))
-  take_ends count after (Err causes.Short) is s t =
+  take_ends count after (Ok false) is s few t = ((none_on after [] s t.0 t.1, t.2), omega (arith, is, same_count after t.0))
+  take_ends count after (Err causes.Short) is s few t =
       let b = t.1.0 in ((b, none_on after b s t.0 t.1.3, t.1.1, t.1.2, t.1.4), omega (arith, is, same_count after t.0))
-  take_ends count after (Err causes.TooLong) is s t =
+  take_ends count after (Err causes.TooLong) is s few t =
       let n = t.1.0 in ((to_be_bytes w32 n, none_on after (to_be_bytes w32 n) s t.0 t.1.3, (n, t.1.1, t.1.2, refl)), omega (arith, is, same_count after t.0))
-  take_ends count after (Err causes.Read) is s t =
+  take_ends count after (Err causes.Read) is s few t =
       let b = t.1.0 in ((b, none_on after b s t.0 t.1.2, t.1.1), omega (arith, is, same_count after t.0))
-  take_ends count after (Err causes.Write) is s t = absurd t
-  take_ends count after (Err causes.NoMemory) is s (inl t) =
+  take_ends count after (Err causes.Write) is s few t = absurd t
+  take_ends count after (Err causes.NoMemory) is s few (inl t) =
       let n = t.1.0 in
       let cut : IsCut longest_request (to_be_bytes w32 n) = inr (n, [], t.1.2, t.1.1, sym (append-nil (to_be_bytes w32 n))) in
       (inl (to_be_bytes w32 n, none_on after (to_be_bytes w32 n) s t.0 t.1.3, cut), omega (arith, is, same_count after t.0))
-  take_ends count after (Err causes.NoMemory) is s (inr t) =
-      (inr (takes_last after s t), (le_of_eq (ap (λ (b : Box). b.whole + length b.lens) t.waits ∙ is)))
+  take_ends count after (Err causes.NoMemory) is s few (inr t) =
+      (inr (takes_last after few s t), (le_of_eq (ap (λ (b : Box). b.whole + length b.lens) t.waits ∙ is)))
 
 -- what a turn leaves
 pub turn_ends : {P : Type 0} (calls : Calls P) (before now after : Scene P) (box left : Box) (count : ℕ) (r : Result Bool Cause) → box.whole + length box.lens ≡ count → Stands calls before now box [] []
     → Turns calls now box after left r → AfterTurn calls before now.input now.output now.pass box count after left r
 turn_ends calls before now after box left count r is s (inl t) =
     let m = sent_on calls before now.input now.output now.pass box after.output t.middle s t.sent in
-    take_ends calls before now.input after.output now.pass t.middle count (intake after.input after.pass left) r (m.1 ∙ is) m.0 t.takes
+    take_ends calls before now.input after.output now.pass t.middle count (intake after.input after.pass left) r (m.1 ∙ is) m.0 t.few t.takes
 turn_ends calls before now after box left count r is s (inr f) =
     subst (λ (x : Result Bool Cause). AfterTurn calls before now.input now.output now.pass box count after left x) (sym f.0) (
       write_stops calls before now.input now.output now.pass box after left s f.1,

@@ -1,5 +1,6 @@
 -- Lists of bodies and replies: one more of each, and a text that is cut.
 use Rattle.std.proofs.Common.{◌≡◌, ℕ, suc, ◌+◌, ◌-◌, ◌<◌, ◌≤◌, Bool, true, false, ltb, List, [], ◌∷◌, ◌++◌, length, map, take, drop, slice_index, if◌then◌else◌, add-one, refl, sym, ap, subst, ◌∙◌, append_assoc, append-nil, arith}
+use Rattle.std.proofs.Math.Seq.{take-append_seam}
 use lib.Seq.{take-append-le, take-append-add, drop-cons}
 use Rattle.std.specs.List.{AllByRecursion, flat_map}
 use Rattle.std.proofs.lemmas.Bool.{ltb-false, ltb-true, le-ltb, lt-ltb}
@@ -7,7 +8,7 @@ use Rattle.std.proofs.lemmas.List.{length-append, drop_all}
 use Rattle.std.proofs.lemmas.Grind.{flat_map-append}
 use Rattle.pl_core.specs.declared.reply.Reply.{Reply}
 use Rattle.pl_wire.specs.FrameWriting.{reply_frame}
-use Rattle.pl_conn.specs.Conversation.{AnswersBody, Answered, Calls, text_of}
+use Rattle.pl_conn.specs.Conversation.{AnswersBody, Answered, Calls, MayWait, text_of}
 use Rattle.pl_conn.specs.Gathering.{whole_in}
 
 -- the chain goes one further
@@ -31,6 +32,23 @@ joined f xs x = flat_map-append f xs (x ∷ []) ∙ ap (λ l. flat_map f xs ++ l
 pub map_more : {X A : Type 0} (f : X → A) (xs : List X) (x : X) → map f (xs ++ x ∷ []) ≡ map f xs ++ f x ∷ []
 map_more f [] x = refl
 map_more f (y ∷ ys) x = ap (λ l. f y ∷ l) (map_more f ys x)
+
+-- all but the last
+pub all_but_last : {X : Type 0} (xs : List X) (x : X) → take (length (xs ++ x ∷ []) - 1) (xs ++ x ∷ []) ≡ xs
+all_but_last xs x =
+    let count : length (xs ++ x ∷ []) - 1 ≡ length xs = omega (arith, length-append xs (x ∷ [])) in
+    ap (λ (n : ℕ). take n (xs ++ x ∷ [])) count ∙ take-append_seam xs (x ∷ [])
+
+-- those behind some that may wait may wait
+pub fewer_behind : (front back : List Reply) → MayWait (front ++ back) → MayWait back
+fewer_behind front [] few = omega arith
+fewer_behind front (r ∷ rs) few =
+    let count : length (front ++ (r ∷ rs)) - 1 ≡ length front + length rs = omega (arith, length-append front (r ∷ rs)) in
+    let all : text_of (take (length (front ++ (r ∷ rs)) - 1) (front ++ (r ∷ rs))) ≡ text_of front ++ text_of (take (length rs) (r ∷ rs)) =
+    ap (λ (n : ℕ). text_of (take n (front ++ (r ∷ rs)))) count ∙ (ap text_of (take-append-add front (r ∷ rs) (length rs))
+    ∙ flat_map-append reply_frame front (take (length rs) (r ∷ rs))) in
+    let one : length (r ∷ rs) - 1 ≡ length rs = omega arith in
+    rw one (omega (arith, few, ap length all, length-append (text_of front) (text_of (take (length rs) (r ∷ rs)))))
 
 -- a text of replies that is cut: some are whole, and the next one is not
 pub record Cut (waiting : List Reply) (count : ℕ) (bytes : List ℕ) : Type 0 where

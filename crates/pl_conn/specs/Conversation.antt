@@ -1,11 +1,12 @@
 -- What a connection's output is.
-use Rattle.std.specs.Prelude.{◌≡◌, ℕ, ◌+◌, ◌^◌, ◌<◌, ◌≤◌, ◌⊎◌, List, [], ◌∷◌, ◌++◌, length, take, Option, Result, Ok, Err}
+use Rattle.std.specs.Prelude.{◌≡◌, ℕ, ◌+◌, ◌-◌, ◌^◌, ◌<◌, ◌≤◌, ◌⊎◌, List, [], ◌∷◌, ◌++◌, length, take, Option, Result, Ok, Err}
 use Rattle.std.specs.Int.{w32, to_be_bytes}
 use Rattle.std.specs.Io.KnownBytes.{Appends, Consumes, IsAtEnd}
 use Rattle.std.specs.List.{AllByRecursion, flat_map}
 use Rattle.pl_table.specs.Request.{Query}
 use Rattle.pl_core.specs.declared.reply.Reply.{Reply}
 use Rattle.pl_core.specs.declared.reply.Reply.TheVariants as replies
+use Rattle.pl_core.specs.Reply.{FitsReply}
 use Rattle.pl_wire.specs.Codes.{code_of}
 use Rattle.pl_wire.specs.FrameReading.{IsCut}
 use Rattle.pl_wire.specs.Frames.{frames_of, longest_request}
@@ -71,6 +72,7 @@ pub record Talks {P : Type 0} (calls : Calls P) (before after : Scene P) (talk :
   pub short : AllByRecursion (λ body. length body ≤ longest_request) talk.bodies
   pub read : Consumes before.input after.input (frames_of talk.bodies ++ talk.part)
   pub chain : Answered calls before.pass talk.bodies (talk.whole ++ talk.others) after.pass
+  pub fits : AllByRecursion FitsReply (talk.whole ++ talk.others)
   pub written : Appends before.output after.output (text_of talk.whole ++ talk.cut)
 
 -- all replies are written
@@ -81,10 +83,14 @@ IsTold talk = (talk.others ≡ []) × (talk.cut ≡ [])
 abbrev pub IsTooLong : List ℕ → Type 0
 IsTooLong bytes = (len : ℕ) × (longest_request < len) × (len < 2 ^ 32) × (bytes ≡ to_be_bytes w32 len)
 
--- some reply is not written whole: a beginning of it may be
+-- these replies may wait together: the frames of all but the last take less than 256 KiB
+abbrev pub MayWait : List Reply → Type 0
+MayWait replies = length (text_of (take (length replies - 1) replies)) < 262144
+
+-- some reply is not written whole, though a beginning of it may be; it and those behind it waited together
 abbrev pub IsToldInPart : Talk → Type 0
 IsToldInPart talk = (next : Reply) × (more : List Reply) × (k : ℕ) × (talk.others ≡ next ∷ more)
-    × (k < length (reply_frame next)) × (talk.cut ≡ take k (reply_frame next))
+    × (k < length (reply_frame next)) × (talk.cut ≡ take k (reply_frame next)) × MayWait talk.others
 
 -- all replies but the last are written
 abbrev pub IsToldButLast : Talk → Type 0

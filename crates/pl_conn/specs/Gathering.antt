@@ -7,6 +7,7 @@ use Rattle.pl_block.specs.declared.fault.Failed.TheVariants.{Malformed, NoMemory
 use Rattle.pl_table.specs.Request.{Query}
 use Rattle.pl_core.specs.declared.reply.Reply.{Reply}
 use Rattle.pl_core.specs.declared.reply.Reply.TheVariants as replies
+use Rattle.pl_core.specs.Reply.{FitsReply}
 use Rattle.pl_wire.specs.Codes.{code_of}
 use Rattle.pl_wire.specs.FrameReading.{IsCut, StopsFrame}
 use Rattle.pl_wire.specs.Frames.{frame, longest_request}
@@ -14,7 +15,7 @@ use Rattle.pl_wire.specs.FrameWriting.{reply_frame}
 use Rattle.pl_wire.specs.Reading.{MayLackMemory, request_reading}
 use Rattle.pl_wire.specs.declared.fault.WireFault.{WireFault}
 use Rattle.pl_wire.specs.declared.frame_reading.FrameFault.TheVariants as frame_faults
-use Rattle.pl_conn.specs.Conversation.{AnswersBody, Calls, IsToldInPart, IsTooLong, Scene, Talk, Talks, text_of}
+use Rattle.pl_conn.specs.Conversation.{AnswersBody, Calls, IsToldInPart, IsTooLong, MayWait, Scene, Talk, Talks, text_of}
 use Rattle.pl_conn.specs.declared.cause.Cause.{Cause}
 use Rattle.pl_conn.specs.declared.cause.Cause.TheVariants as causes
 use Rattle.pl_conn.specs.declared.cause.ConnFault.{ConnFault}
@@ -79,6 +80,7 @@ pub record TakesFrame {P : Type 0} (calls : Calls P) (before after : Intake P) (
   pub short : length body ≤ longest_request
   pub read : Consumes before.input after.input (frame body)
   pub answers : AnswersBody calls before.pass body reply after.pass
+  pub fits : FitsReply reply
   pub waits : after.box ≡ box reply
 
 -- no frame is answered
@@ -102,6 +104,7 @@ Takes calls before after (Err causes.NoMemory) = (TakesNone before after × Stop
 pub record TakesNext {P : Type 0} (calls : Calls P) (before : Scene P) (box : Box) (after : Scene P) (left : Box) (result : Result Bool Cause) : Type 0 where
   pub middle : Box
   pub sent : MaySend before.output box after.output middle (Ok tt)
+  pub few : length middle.text < 262144
   pub takes : Takes calls (intake before.input before.pass middle) (intake after.input after.pass left) result
 
 pub record FailsToSend {P : Type 0} (before : Scene P) (box : Box) (after : Scene P) (left : Box) : Type 0 where
@@ -124,6 +127,7 @@ pub record Stands {P : Type 0} (calls : Calls P) (before now : Scene P) (box : B
   pub number : length written ≡ box.whole
   pub text : box.text ≡ text_of waiting
   pub lens : box.lens ≡ map (λ reply. length (reply_frame reply)) waiting
+  pub few : MayWait (waiting ++ lost)
 
 -- where the frames end, before what waits is written
 abbrev pub Stops : {P : Type 0} → Calls P → Scene P → Scene P → Box → Result Unit Cause → Type 0

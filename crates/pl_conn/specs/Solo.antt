@@ -1,8 +1,8 @@
 -- The calls of one caller, who holds the databases.
 use Rattle.std.specs.Prelude.{◌≡◌, ℕ, ◌≤◌, List, length, slice_get, slice_set, Option, Some, None}
 use Rattle.pl_table.specs.Request.{Query}
-use Rattle.pl_core.specs.Answer.{MayReply, IsChosen, history_after}
 use Rattle.pl_core.specs.History.{History}
+use Rattle.pl_core.specs.Step.{IsStep}
 use Rattle.pl_core.specs.declared.reply.Reply.{Reply}
 use Rattle.pl_core.specs.declared.reply.Reply.TheVariants as replies
 
@@ -15,12 +15,6 @@ pub record Holding : Type 0 where
 pub record HasDatabases (pass : Holding) : Type 0 where
   pub some : 1 ≤ length pass.dbs
   pub few : length pass.dbs ≤ 16
-
--- one step of a database: its reply, and the history after it
-pub record IsStep (number : ℕ) (q : Query) (found : History) (reply : Reply) (now : History) : Type 0 where
-  pub answer : MayReply q found reply
-  pub chosen : IsChosen q found reply
-  pub grows : now ≡ history_after q number found reply
 
 -- The call, where this is the history of the database that is named. The reply is that of one step, and
 -- the other databases stay; where there is no database of that number, NoDatabase, and all stays.

@@ -12,10 +12,11 @@ pub enum Cause {
     Short,
     /// The length of a frame is above 65,536.
     TooLong,
-    /// A read failed.
+    /// A read failed, whatever made it fail: an interruption too.
     Read,
-    /// A write failed, or took no byte. Some frames behind the answered ones, at least one, were read,
-    /// and their requests handed to the gate; a beginning of the next reply may be written.
+    /// A write failed, whatever made it fail, or took no byte. Some frames behind the answered ones, at
+    /// least one, were read, and their requests handed to the gate: those whose replies waited together,
+    /// less than 256 KiB and one reply more. A beginning of the next reply may be written.
     Write,
     /// An allocation failed, for a body or for a reply. Where it was for a reply, one frame behind the
     /// answered ones was read, and its request, if it is one, handed to the gate.

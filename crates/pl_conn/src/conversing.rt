@@ -1,6 +1,6 @@
 //! A conversation: the frames of requests in, the frames of their replies out.
 
-ghost use Rattle.std.specs.Prelude.{◌≡◌, ◌+◌, ◌≤◌, ◌^◌, [], IfErr, IfNone, IfOk, IfSome, length, take};
+ghost use Rattle.std.specs.Prelude.{◌≡◌, ◌+◌, ◌<◌, ◌≤◌, ◌^◌, [], IfErr, IfNone, IfOk, IfSome, OnOk, length, take};
 ghost use Rattle.std.specs.Io.KnownBytes.{Consumes, IsAtEnd};
 ghost use Rattle.pl_block.specs.declared.fault.Failed.TheVariants.{NoMemory};
 ghost use Rattle.pl_block.specs.Faults.{Returns};
@@ -136,6 +136,7 @@ fn write_before_wait<R: Source, W: Write>(
 ) -> Result<(), Cause>
     requires few { outbox.old.whole + length outbox.old.lens ≤ 2 ^ 32 }
     ensures sends { MaySend (W.contents writer.old) outbox.old (W.contents writer.new) outbox.new result }
+    ensures few { OnOk result (length outbox.new.text < 262144) }
 {
     if outbox.is_large() || body_in(reader.at_hand()).is_none() {
         outbox.write_out(writer)

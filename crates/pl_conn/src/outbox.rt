@@ -1,6 +1,6 @@
 //! Replies that were given and are not yet written.
 
-ghost use Rattle.std.specs.Prelude.{◌≡◌, ◌+◌, ◌<◌, ◌≤◌, ◌^◌, length, OnErr, OnOk};
+ghost use Rattle.std.specs.Prelude.{◌≡◌, ◌+◌, ◌<◌, ◌≤◌, ◌^◌, ◌↔◌, IsTrue, length, OnErr, OnOk};
 ghost use Rattle.pl_core.specs.Reply.{FitsReply};
 ghost use Rattle.pl_conn.specs.Gathering.{Sends, emptied, gathered, whole_in};
 
@@ -69,7 +69,9 @@ impl Outbox {
     }
 
     /// Whether there is so much to be written that it is not to wait.
-    pub(crate) fn is_large(&self) -> bool {
+    pub(crate) fn is_large(&self) -> bool
+        ensures exact { IsTrue result ↔ 262144 ≤ length self.now.text }
+    {
         self.text.len() >= MANY_BYTES
     }
 

@@ -2,7 +2,8 @@
 
 ghost use Rattle.std.specs.Prelude.{◌≡◌, ◌≤◌, length};
 ghost use Rattle.pl_core.specs.Reply.{FitsReply};
-ghost use Rattle.pl_conn.specs.Solo.{HasDatabases, IsStep, SoloCall};
+ghost use Rattle.pl_core.specs.Step.{IsStep};
+ghost use Rattle.pl_conn.specs.Solo.{HasDatabases, SoloCall};
 
 use crate::gate::Gate;
 use pl_core::{Db, Reply};

@@ -16,8 +16,8 @@ use Rattle.pl_core.specs.Laws.{OlderEpochsAreFenced}
 use Rattle.pl_desk.specs.declared.rule.Terms.{Terms}
 use Rattle.pl_desk.specs.Growth.{GoesOn}
 use Rattle.pl_desk.specs.Passes.{Knowledge, WasCalled}
-use Rattle.pl_desk.specs.Laws.{CallsForgetNothing, MeetingsForgetNothing, IsFenced, OlderEpochsStayFenced, IsTableSince, TablesOnlyGetNewer}
-use Rattle.pl_desk.proofs.Histories.{goes_on-refl, goes_on-trans}
+use Rattle.pl_desk.specs.Laws.{CallsForgetNothing, MeetingsForgetNothing, IsFenced, OlderEpochsStayFenced, PassesThatMeetSawOneHistory, IsTableSince, TablesOnlyGetNewer}
+use Rattle.pl_desk.proofs.Histories.{goes_on-refl, goes_on-shorter, goes_on-trans}
 
 -- ---- what was seen stays seen
 
@@ -45,6 +45,14 @@ meetings_forget_nothing p other q h terms same met (inl seen) =
 meetings_forget_nothing p other q h terms same met (inr seen) =
     let seen' : GoesOn p.terms.seats h other.seen = subst (λ (t : Terms). GoesOn t.seats h other.seen) terms seen in
     subst (λ (t : Terms). GoesOn t.seats h q.seen) (sym same.terms) (goes_on-trans p.terms.seats h other.seen q.seen seen' met.right)
+
+-- both are beginnings of what the first has seen then, so the shorter is a beginning of the longer
+pub passes_that_meet_saw_one_history : PassesThatMeetSawOneHistory
+passes_that_meet_saw_one_history p other q met =
+    elim (cases_lt (length p.seen.entries) (length other.seen.entries)) [
+      | inl less ↦ inl (goes_on-shorter p.terms.seats p.seen other.seen q.seen met.left met.right (omega (arith, less)))
+      | inr more ↦ inr (goes_on-shorter p.terms.seats other.seen p.seen q.seen met.right met.left more)
+    ]
 
 -- ---- older epochs
 

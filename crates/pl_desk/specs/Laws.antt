@@ -24,6 +24,11 @@ MeetingsForgetNothing = (p other q : Knowledge) (h : History)
     → other.terms ≡ p.terms → IsSamePass p q → HasMet p other q
     → (HasSeen p h ⊎ HasSeen other h) → HasSeen q h
 
+-- of two passes that meet, one had seen a beginning of what the other had seen
+abbrev pub PassesThatMeetSawOneHistory : Type 0
+PassesThatMeetSawOneHistory = (p other q : Knowledge) → HasMet p other q
+    → GoesOn p.terms.seats p.seen other.seen ⊎ GoesOn p.terms.seats other.seen p.seen
+
 -- the reply is a denial for an older epoch than one that is at least this one; or the request was not
 -- decided: turns, places of the audit list or memory were missing, or the principal is not known
 abbrev pub IsFenced : ℕ → Reply → Type 0

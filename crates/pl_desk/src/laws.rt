@@ -1,7 +1,7 @@
 //! What follows from the definitions, for the crates above. The function is a law: its clauses hold
 //! of all passes and histories, and its body does nothing but call a law of the crate below.
 
-ghost use Rattle.pl_desk.specs.Laws.{CallsForgetNothing, MeetingsForgetNothing, OlderEpochsStayFenced, TablesOnlyGetNewer};
+ghost use Rattle.pl_desk.specs.Laws.{CallsForgetNothing, MeetingsForgetNothing, OlderEpochsStayFenced, PassesThatMeetSawOneHistory, TablesOnlyGetNewer};
 
 use pl_core::laws::older_epochs_are_fenced;
 
@@ -17,3 +17,8 @@ pub fn meetings_bind_later_calls()
 {
     older_epochs_are_fenced();
 }
+
+/// All passes see one history: of two that meet, one had seen a beginning of what the other had seen.
+pub fn passes_that_meet_saw_one_history()
+    ensures history { PassesThatMeetSawOneHistory }
+{}

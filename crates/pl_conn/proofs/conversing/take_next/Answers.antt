@@ -14,5 +14,6 @@ returns-in-Ok-Some-clause-takes g c =
       read = taken.taken;
       answers = answers_body (g.G.Gate.calls c.args.gate.now) taken.body c.in-Ok-Some.read c.args.pass.now c.answer-reply.new.pass c.answer-reply.result
           taken.exact taken.no_memory c.answer-reply.ensures.answers;
+      fits = c.answer-reply.ensures.fits;
       waits = c.in-Err-put.ensures.err;
     })
