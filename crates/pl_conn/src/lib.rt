@@ -5,6 +5,7 @@
 //! [`Desks`] from databases that many threads call. [`materialise`] applies the log to a partition.
 #![tactic(auto)]
 
+mod accepting;
 mod cause;
 mod conversing;
 mod desks;

@@ -5,6 +5,7 @@ ghost use Rattle.std.specs.List.{All};
 ghost use Rattle.pl_conn.specs.Serving.{Reaches, Returned, Serves};
 ghost use Rattle.pl_conn.specs.Workers.{AllOf, each_of};
 
+use crate::accepting::accept;
 use crate::cause::{Cause, ConnFault};
 use crate::conversing::converse;
 use crate::gate::Gate;
@@ -28,7 +29,8 @@ const READ_AHEAD: usize = 65_540;
 pub enum Stop {
     /// All that were asked for are accepted.
     Limit,
-    /// The listener failed.
+    /// The listener failed, and would fail again. A failure that passes is waited out: no free descriptor,
+    /// no memory in the kernel, a connection that was gone before it was accepted.
     Accept,
     /// No worker could be started, or there was no pass.
     Start,
@@ -162,7 +164,7 @@ fn accept_all<R: Wait>(
     ensures started { result.1 ≢ Stop.Start }
 {
     for accepted in 0..connections {
-        let Ok((socket, _)) = listener.accept() else {
+        let Ok(socket) = accept(rt, listener) else {
             return (accepted, Stop::Accept);
         };
         if sockets.send(rt, socket).is_err() {
