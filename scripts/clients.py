@@ -1,0 +1,84 @@
+"""Services that scripts start, and connections to them: frames out, frames in. Used by hostile and served."""
+
+import atexit
+import socket
+import struct
+import subprocess
+
+import wire
+
+PATIENCE = 20.0
+
+
+def same(what, wanted, found):
+    if wanted != found:
+        raise SystemExit(f"{what}: wanted {wanted!r}, found {found!r}")
+
+
+def frame(body):
+    return wire.number(len(body), 4) + body
+
+
+class Service:
+    """A running service, by its words. Its first line tells where it listens. It does not outlive the script."""
+
+    def __init__(self, words, **how):
+        self.process = subprocess.Popen([str(word) for word in words], stdout=subprocess.PIPE, text=True, **how)
+        atexit.register(self.process.kill)
+        word, _, address = self.process.stdout.readline().strip().partition(" ")
+        same("the first word of its line", "listening", word)
+        host, port = address.rsplit(":", 1)
+        self.address = host, int(port)
+
+    def connect(self):
+        client = socket.create_connection(self.address, PATIENCE)
+        client.setsockopt(socket.IPPROTO_TCP, socket.TCP_NODELAY, 1)
+        return client
+
+    def memory(self):
+        """What it holds of the machine's memory, in KiB."""
+        for line in open(f"/proc/{self.process.pid}/status"):
+            if line.startswith("VmRSS:"):
+                return int(line.split()[1])
+
+    def ends(self, connections, faults):
+        """The service ends by itself, with this line and nothing else, at status 0."""
+        rest = self.process.stdout.read()
+        same("its last line", f"connections {connections} faults {faults}\n", rest)
+        same("its exit status", 0, self.process.wait(PATIENCE))
+
+
+def exactly(client, count):
+    """So many bytes, or fewer at the end of what comes."""
+    parts = b""
+    while len(parts) < count:
+        part = client.recv(count - len(parts))
+        if not part:
+            break
+        parts += part
+    return parts
+
+
+def read_reply(client):
+    """The body of the next frame, or None at the end."""
+    head = exactly(client, 4)
+    if not head:
+        return None
+    return exactly(client, struct.unpack(">I", head)[0])
+
+
+def asked(client, body):
+    client.sendall(frame(body))
+    return read_reply(client)
+
+
+def all_replies(client):
+    """The replies up to the end. A connection that is given up with bytes unread may end in a reset."""
+    replies = []
+    try:
+        while (reply := read_reply(client)) is not None:
+            replies.append(reply)
+    except ConnectionResetError:
+        pass
+    client.close()
+    return replies
