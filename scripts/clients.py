@@ -5,7 +5,7 @@ import socket
 import struct
 import subprocess
 
-import wire
+from wire import frame
 
 PATIENCE = 20.0
 
@@ -13,10 +13,6 @@ PATIENCE = 20.0
 def same(what, wanted, found):
     if wanted != found:
         raise SystemExit(f"{what}: wanted {wanted!r}, found {found!r}")
-
-
-def frame(body):
-    return wire.number(len(body), 4) + body
 
 
 class Service:

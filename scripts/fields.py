@@ -5,8 +5,8 @@ block is the model's, what writes it is wire.py; both ways of a reply and a fram
 """
 
 import wire
-from model import OPS, ROLES, Malformed, Reader, partition_of, read_block, read_request
-from wire import number
+from model import OPS, ROLES, Malformed, Reader, read_block, read_request
+from wire import frame, number
 
 REPLIES = ["done", "blocks", "page", "entries", "status", "denied", "no_memory", "audit_full", "spent", "no_database",
            "malformed"]
@@ -38,9 +38,9 @@ def block_fields(data):
     block = read_block(data)
     records = []
     for page, *put in block.records:
-        record = {"kind": "put", "page": page, "offset": put[0], "bytes": put[1].hex()} if put else {"kind": "zero", "page": page}
-        records.append(record)
-    return {"lsn": block.lsn, "partitions": sorted({partition_of(page) for page, *_ in block.records}), "records": records}
+        what = {"offset": put[0], "bytes": put[1].hex()} if put else {}
+        records.append({"kind": "put" if put else "zero", "page": page, **what})
+    return {"lsn": block.lsn, "partitions": sorted(block.touched), "records": records}
 
 
 # Requests. The fields of each operation behind those of the head, in the order of the wire.
@@ -91,7 +91,7 @@ def reply_bytes(fields):
     out = bytes([REPLIES.index(kind)])
     if kind == "blocks":
         blocks = [bytes.fromhex(block) for block in fields["blocks"]]
-        return out + number(fields["next"], 8) + number(len(blocks), 2) + b"".join(map(framed, blocks))
+        return out + number(fields["next"], 8) + number(len(blocks), 2) + b"".join(map(frame, blocks))
     if kind == "page":
         return out + number(fields["at"], 8) + bytes.fromhex(fields["bytes"])
     if kind == "entries":
@@ -135,12 +135,8 @@ def count(reader, most):
 # Frames.
 
 
-def framed(body):
-    return number(len(body), 4) + body
-
-
 def frame_bytes(fields):
-    return framed(bytes.fromhex(fields["body"]))
+    return frame(bytes.fromhex(fields["body"]))
 
 
 def frame_fields(data):

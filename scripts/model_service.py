@@ -14,9 +14,9 @@ import sys
 import threading
 
 sys.dont_write_bytecode = True
-import fields
 from model import Malformed, Model, read_request
 from table_text import Texts
+from wire import frame
 
 LONGEST_REQUEST, LONGEST_TEXT = 65536, 65506
 NO_DATABASE = b"\x09"
@@ -56,7 +56,7 @@ class Connection(socketserver.StreamRequestHandler):
                 body = self.rfile.read(length)
                 if len(body) < length:
                     return
-                self.wfile.write(fields.framed(self.server.databases.reply(body, number)))
+                self.wfile.write(frame(self.server.databases.reply(body, number)))
         except ConnectionError:
             pass
 

@@ -1,4 +1,4 @@
-"""Blocks and requests as bytes, written from docs/FORMATS.md; shared by trial.py and bench/play.py."""
+"""Blocks, requests and frames as bytes, written from docs/FORMATS.md; shared by the scripts and bench/play.py."""
 
 PRIMARY, SECONDARY, PAGE_SERVER, OPERATOR = 1, 2, 3, 4
 WRITE, OFFER, REPORT, GET, PULL, ADVANCE, STATUS, FAILOVER, SET_TABLE, AUDIT, TIDY = range(1, 12)
@@ -37,6 +37,10 @@ def block(lsn, records):
     out = number(lsn, 8) + number(len(annotations), 2)
     out += b"".join(number(partition, 2) for partition in annotations) + number(len(records), 2)
     return out + b"".join(record(*parts) for parts in records)
+
+
+def frame(body):
+    return number(len(body), 4) + body
 
 
 def puts_of(size, byte):
