@@ -12,8 +12,8 @@ use Rattle.pl_wire.specs.declared.frame_writing.WriteFault.TheVariants as writes
 use Rattle.pl_wire.specs.FrameReading.{StopsReply}
 use Rattle.pl_wire.specs.FrameWriting.{WritesText, reply_frame, request_frame}
 use Rattle.pl_wire.specs.Replies.{IsReply}
-use Rattle.pl_program.specs.declared.operator_words.AdminFault.{AdminFault}
-use Rattle.pl_program.specs.declared.operator_words.AdminFault.TheVariants as admins
+use Rattle.pl_play.specs.declared.operator_words.AdminFault.{AdminFault}
+use Rattle.pl_play.specs.declared.operator_words.AdminFault.TheVariants as admins
 use Rattle.pl_program.specs.declared.run_fault.RunFault.{RunFault}
 use Rattle.pl_program.specs.declared.run_fault.RunFault.TheVariants as faults
 

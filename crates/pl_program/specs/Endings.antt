@@ -1,11 +1,7 @@
 -- How the program ends: the text on standard error, and the exit status.
-use Rattle.std.specs.Prelude.{ℕ, List, [], ◌∷◌, ◌++◌, Result, Ok, Err, codes, decimal, string_bytes}
-use Rattle.pl_table.specs.Fault.{fault_number}
-use Rattle.pl_program.specs.declared.command_line.CommandFault.TheVariants as commands
-use Rattle.pl_program.specs.declared.start.StartFault.{StartFault}
-use Rattle.pl_program.specs.declared.start.StartFault.TheVariants as starts
-use Rattle.pl_program.specs.declared.fault.PlayFault.{PlayFault}
-use Rattle.pl_program.specs.declared.fault.PlayFault.TheVariants as faults
+use Rattle.std.specs.Prelude.{ℕ, List, [], ◌∷◌, ◌++◌, Result, Ok, Err, codes, string_bytes}
+use Rattle.pl_command.specs.declared.command_line.CommandFault.TheVariants as commands
+use Rattle.pl_play.specs.FaultText.{fault_text, start_fault_text}
 use Rattle.pl_program.specs.declared.run_fault.RunFault.{RunFault}
 use Rattle.pl_program.specs.declared.run_fault.RunFault.TheVariants as runs
 use Rattle.pl_core.specs.declared.reply.Reply.{Reply}
@@ -14,13 +10,6 @@ use Rattle.pl_program.specs.declared.ending.Failure.{Failure}
 use Rattle.pl_program.specs.declared.ending.Failure.TheVariants as failures
 use Rattle.pl_program.specs.declared.ending.Ending.{Ending}
 use Rattle.pl_program.specs.declared.ending.Ending.TheVariants as endings
-
--- the text of a fault of the start, behind its first word
-abbrev pub start_fault_text : StartFault → List ℕ
-start_fault_text starts.File = codes "file"
-start_fault_text (starts.Table fault) = codes "table " ++ decimal (fault_number fault)
-start_fault_text starts.NotListed = codes "not listed"
-start_fault_text starts.NoMemory = codes "no memory"
 
 -- the text of a fault of `serve` or `ask`, behind its first word
 abbrev pub run_fault_text : RunFault → List ℕ
@@ -31,14 +20,6 @@ run_fault_text runs.Write = codes "write"
 run_fault_text runs.Reply = codes "reply"
 run_fault_text runs.Threads = codes "threads"
 run_fault_text runs.NoMemory = codes "no memory"
-
--- the text of a fault of `play`, behind its first word
-abbrev pub fault_text : PlayFault → List ℕ
-fault_text faults.Read = codes "read"
-fault_text faults.Write = codes "write"
-fault_text faults.NoMemory = codes "no memory"
-fault_text (faults.Text line) = codes "line " ++ (decimal line ++ codes " is no hexadecimal text")
-fault_text (faults.Long line) = codes "line " ++ (decimal line ++ codes " is too long")
 
 -- a fault as a line
 abbrev pub fault_line : List ℕ → List ℕ

@@ -1,11 +1,4 @@
-pub mod Lines
-pub mod Text
-pub mod Admin
-pub mod AnswerText
-pub mod Answering
 pub mod Asking
-pub mod Start
-pub mod Played
 pub mod Endings
-pub mod CommandLine
+pub mod Paging
 pub mod Serving

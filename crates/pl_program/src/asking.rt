@@ -4,9 +4,9 @@ ghost use Rattle.std.specs.Prelude.{◌≡◌, ◌∷◌, [], codes, Ok, IfErr, 
 ghost use Rattle.hex.specs.Hex.{decode_sized};
 ghost use Rattle.pl_program.specs.Asking.{ends, Exchanged, StopsExchange};
 
-use crate::operator_words::Credentials;
 use crate::run_fault::RunFault;
 use pl_core::Reply;
+use pl_play::Credentials;
 use pl_table::Request;
 use pl_wire::{read_reply, write_request};
 use std::alloc::Global;

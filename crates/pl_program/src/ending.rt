@@ -3,11 +3,10 @@
 ghost use Rattle.std.specs.Prelude.{◌≡◌, Some};
 ghost use Rattle.pl_program.specs.Endings.{ending_of, ending_of_reply, ending_status, ending_text, failure_text};
 
-use crate::command_line::CommandFault;
-use crate::fault::PlayFault;
 use crate::run_fault::RunFault;
-use crate::start::StartFault;
+use pl_command::CommandFault;
 use pl_core::Reply;
+use pl_play::{PlayFault, StartFault};
 use std::fmt;
 
 /// Why the program ends before all is done.

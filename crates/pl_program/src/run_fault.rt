@@ -3,7 +3,7 @@
 ghost use Rattle.std.specs.Prelude.{◌≡◌, Some};
 ghost use Rattle.pl_program.specs.Endings.{run_fault_text};
 
-use crate::operator_words::AdminFault;
+use pl_play::AdminFault;
 use pl_wire::{BodyFault, FrameFault, ReplyFault, WriteFault};
 use std::alloc::AllocError;
 use std::fmt;
@@ -16,9 +16,9 @@ pub enum RunFault {
     Words,
     /// It is no address, it could not be listened at, or nobody answers there.
     Address,
-    /// A read failed, or a connection could not be accepted.
+    /// A read failed, whatever the cause, or a connection could not be accepted.
     Read,
-    /// A write failed.
+    /// A write failed, whatever the cause.
     Write,
     /// What came back is no reply.
     Reply,

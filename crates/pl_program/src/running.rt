@@ -3,30 +3,25 @@
 
 ghost use Rattle.std.specs.Prelude.{◌≤◌, vec_len};
 
-use crate::arguments::{arguments_of, asked};
 use crate::asking::{credentials_of, exchange, file_of};
-use crate::command_line::{CommandLine, ServeNumbers};
 use crate::ending::{Ending, Failure};
-use crate::fault::PlayFault;
-use crate::operator_words::{Credentials, admin};
-use crate::player::play;
-use crate::reply_text::answer_text;
 use crate::run_fault::RunFault;
-use crate::service::{Pager, serve_databases};
-use crate::serving::{Tally, databases_of, result_of, token_of};
-use crate::start::{StartFault, file_fault_of, read_text, start_db};
+use crate::service::serve_databases;
+use crate::serving::{Opening, opening_of, tally_of};
+use pl_command::{CommandLine, ServeNumbers, arguments_of, asked};
 use pl_core::{Db, Reply};
+use pl_play::{
+    Credentials, PlayFault, StartFault, admin, answer_text, file_fault_of, play, read_text,
+    start_play,
+};
 use pl_table::Request;
-use std::alloc::{AllocGlobal, Global};
+use std::alloc::AllocGlobal;
 use std::io::{self, BufReader, ErrorKind};
 use std::net::{Net, TcpListener, TcpStream};
 use std::rt::{Env, Files};
 use std::sync::Wait;
 use std::thread::Threads;
 use std::{fmt, fs};
-
-/// How many entries the audit list of `play` holds.
-const AUDIT_OF_PLAY: u64 = 65_536;
 
 /// Does what the arguments of the process ask for, and tells how the program ends. Help is written;
 /// `play` answers the lines of the standard input on the standard output; `serve` writes its address,
@@ -115,7 +110,7 @@ where
     R: Files + Input + Print + AllocGlobal,
 {
     let text = text_of_file(rt, table)?;
-    let mut db = start_db(rt.alloc(), text.as_slice(), primary, AUDIT_OF_PLAY)?;
+    let mut db = start_play(rt.alloc(), text.as_slice(), primary)?;
     play_all(rt, &mut db)?;
     Ok(Ending::Done)
 }
@@ -139,24 +134,7 @@ fn address_fault(error: &io::Error) -> RunFault {
     RunFault::Address
 }
 
-/// The page server of a service with this table, where it has one.
-fn pager_of(
-    alloc: Global,
-    text: &[u8],
-    numbers: ServeNumbers,
-) -> Result<Option<Pager>, StartFault> {
-    if numbers.rounds == 0 {
-        return Ok(None);
-    }
-    Ok(Some(Pager {
-        principal: numbers.pager,
-        token: token_of(alloc, text, numbers.pager)?,
-        partition: numbers.partition,
-        rounds: numbers.rounds,
-    }))
-}
-
-/// Serves databases with the table of this file.
+/// Serves databases that begin with the table of this file.
 fn serve_with<R>(
     rt: &R,
     listen: &str,
@@ -171,16 +149,9 @@ where
     requires workers { numbers.workers ≤ 64 }
     requires audit { 1 ≤ numbers.audit }
 {
-    let ServeNumbers {
-        primary,
-        audit,
-        dbs,
-        ..
-    } = numbers;
     let text = text_of_file(rt, table)?;
-    let dbs = databases_of(rt.alloc(), text.as_slice(), primary, audit, dbs)?;
-    let pager = pager_of(rt.alloc(), text.as_slice(), numbers)?;
-    serve_all(rt, listen, dbs, numbers.workers, numbers.connections, pager)?;
+    let opening = opening_of(rt.alloc(), text.as_slice(), numbers)?;
+    serve_all(rt, listen, opening, numbers.workers, numbers.connections)?;
     Ok(Ending::Done)
 }
 
@@ -188,16 +159,15 @@ where
 fn serve_all<R>(
     rt: &R,
     listen: &str,
-    dbs: Vec<Db>,
+    opening: Opening,
     workers: u32,
     connections: u32,
-    pager: Option<Pager>,
 ) -> Result<(), RunFault>
 where
     R: Print + AllocGlobal + Threads + Wait + Sync + Copy + Drop,
     R: Net<Listener = TcpListener, Stream = TcpStream>,
-    requires some { 1 ≤ vec_len dbs }
-    requires few { vec_len dbs ≤ 16 }
+    requires some { 1 ≤ vec_len opening.dbs }
+    requires few { vec_len opening.dbs ≤ 16 }
     requires workers { workers ≤ 64 }
 {
     let listener = match TcpListener::bind(rt, listen) {
@@ -208,14 +178,10 @@ where
         return Err(RunFault::Address);
     };
     println!(rt; "listening {address}").map_err(|_| RunFault::Write)?;
+    let Opening { dbs, pager } = opening;
     let alloc = rt.alloc();
     let served = serve_databases(rt, alloc, &listener, dbs, workers, connections, pager)?;
-    result_of(served.stop)?;
-    let tally = Tally {
-        connections: served.accepted,
-        faults: served.faults,
-    };
-    show(rt, &tally)
+    show(rt, &tally_of(&served)?)
 }
 
 /// Sends the request that the words ask for, and shows the reply.

@@ -2,13 +2,15 @@
 
 ghost use Rattle.std.specs.Prelude.{◌≡◌, ◌≤◌, ◌⊎◌, Err, Ok, Some, IfErr, IfOk, vec_len};
 ghost use Rattle.std.specs.List.{All};
-ghost use Rattle.pl_program.specs.Serving.{result_of_stop, tally_text};
-ghost use Rattle.pl_program.specs.Start.{start_of, token_in};
+ghost use Rattle.pl_play.specs.Start.{start_of};
+ghost use Rattle.pl_program.specs.Serving.{pager_in, result_of_stop, tally_at, tally_text, token_in};
 
+use crate::pager::Pager;
 use crate::run_fault::RunFault;
-use crate::start::{StartFault, start_db};
-use pl_conn::Stop;
+use pl_command::ServeNumbers;
+use pl_conn::{Passes, Served, Stop};
 use pl_core::Db;
+use pl_play::{StartFault, start_db};
 use pl_table::read_table;
 use std::alloc::Global;
 use std::fmt;
@@ -58,6 +60,57 @@ pub fn token_of(alloc: Global, text: &[u8], principal: u32) -> Result<[u8; 16], 
         .ok_or(StartFault::NotListed)
 }
 
+/// The page server of a service with the table of this text: `None` of no rounds, else one with the token
+/// that the table lists for the pager.
+pub fn pager_of(
+    alloc: Global,
+    text: &[u8],
+    numbers: ServeNumbers,
+) -> Result<Option<Pager>, StartFault>
+    ensures value { (result ≡ Err StartFault.NoMemory) ⊎ (result ≡ pager_in text.now numbers) }
+{
+    if numbers.rounds == 0 {
+        return Ok(None);
+    }
+    Ok(Some(Pager {
+        principal: numbers.pager,
+        token: token_of(alloc, text, numbers.pager)?,
+        partition: numbers.partition,
+        rounds: numbers.rounds,
+    }))
+}
+
+/// What a service begins with.
+#[derive(Drop)]
+pub struct Opening {
+    /// Its databases, by their numbers from 0 on.
+    pub dbs: Vec<Db>,
+    /// Its page server, where it has one.
+    pub pager: Option<Pager>,
+}
+
+/// What a service with the table of this text begins with: so many databases as the numbers say, each with
+/// their primary and an audit list of at most as many entries as they say, and their page server.
+pub fn opening_of(alloc: Global, text: &[u8], numbers: ServeNumbers) -> Result<Opening, StartFault>
+    requires { 1 ≤ numbers.audit }
+    ensures count { IfOk result (λ o. vec_len o.dbs ≡ numbers.dbs) }
+    ensures each { IfOk result (λ o. All (λ db. start_of text.now numbers.primary numbers.audit ≡ Ok db) o.dbs.items) }
+    ensures pager { IfOk result (λ o. pager_in text.now numbers ≡ Ok o.pager) }
+    ensures err { IfErr result (λ fault. (fault ≡ StartFault.NoMemory)
+        ⊎ ((start_of text.now numbers.primary numbers.audit ≡ Err fault)
+        ⊎ (pager_in text.now numbers ≡ Err fault))) }
+{
+    let ServeNumbers {
+        primary,
+        audit,
+        dbs,
+        ..
+    } = numbers;
+    let dbs = databases_of(alloc, text, primary, audit, dbs)?;
+    let pager = pager_of(alloc, text, numbers)?;
+    Ok(Opening { dbs, pager })
+}
+
 /// What a stop of the service comes to: all is done where all connections were accepted.
 pub fn result_of(stop: Stop) -> Result<(), RunFault>
     ensures value { result ≡ result_of_stop stop }
@@ -77,6 +130,17 @@ pub struct Tally {
     pub connections: u32,
     /// How many of them ended in a fault.
     pub faults: u64,
+}
+
+/// The last line of a service that came to this, or the fault of its stop.
+pub fn tally_of(served: &Served<Passes>) -> Result<Tally, RunFault>
+    ensures value { result ≡ tally_at served.now.stop served.now.accepted served.now.faults }
+{
+    result_of(served.stop)?;
+    Ok(Tally {
+        connections: served.accepted,
+        faults: served.faults,
+    })
 }
 
 impl fmt::Display for Tally {

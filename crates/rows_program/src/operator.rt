@@ -1,7 +1,7 @@
 //! Requests of an operator, from their words to the text of the reply.
 
 use pl_core::Db;
-use pl_program::{AdminFault, Credentials, admin, answer_text, play, start_db};
+use pl_play::{AdminFault, Credentials, admin, answer_text, play, start_db};
 use pl_wire::{decode_request, encode_request};
 use std::alloc::{AllocError, Global};
 use std::test::Fail;

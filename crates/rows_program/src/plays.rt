@@ -1,7 +1,7 @@
 //! A run of `play` over a reader, and one with a refused allocation.
 
 use pl_core::Db;
-use pl_program::{PlayFault, StartFault, play, start_db};
+use pl_play::{PlayFault, StartFault, play, start_db};
 use std::alloc::Global;
 use std::io::BufRead;
 use std::test::Fail;

@@ -1,7 +1,7 @@
 //! Reads that fail, and input that is not read to its end.
 
 use crate::plays::run;
-use pl_program::{FileFault, PlayFault, read_text};
+use pl_play::{FileFault, PlayFault, read_text};
 use std::alloc::Global;
 use std::io::{self, BufReader, ErrorKind, Read};
 use std::process::Abort;

@@ -1,7 +1,7 @@
 //! Writes that fail or take a part.
 
 use crate::plays::fresh;
-use pl_program::{PlayFault, play};
+use pl_play::{PlayFault, play};
 use std::alloc::Global;
 use std::io::{self, ErrorKind, Write};
 use std::process::Abort;

@@ -1,20 +1,31 @@
-use Rattle.std.proofs.Common.{◌≡◌, ◌+◌, length, ap, subst, take, ◌∙◌}
-use Rattle.std.proofs.lemmas.List.FromFn.{length-map-range_with_len}
-use Rattle.pl_conn.specs.Desks.{AreOf, DesksCall, fresh_at}
+use Rattle.std.proofs.Common.{◌≡◌, ◌+◌, ◌∷◌, ◌++◌, [], length, sym, subst, ◌∙◌, arith}
+use Rattle.std.proofs.lemmas.List.FromFn.{map-range_with_len_more}
+use Rattle.pl_conn.specs.Desks.{AreOf, DesksCall, all_fresh, fresh_at}
 use Rattle.pl_conn.specs.Serving.{Serves}
+use Rattle.pl_program.specs.Paging.{HasPaged}
+use Rattle.pl_program.proofs.Rounds.{ends_of}
 use Rattle.pl_program.proofs.service.serve_databases.Goals as goal
+use Rattle.pl_program.proofs.service.serve_databases.Goals.{in-Some, in-None}
 
-pub returns-in-Some : goal.returns-in-Some
-returns-in-Some g c =
+pub returns-in-Some-serve_over-clause-serves : goal.returns-in-Some-serve_over-clause-serves
+returns-in-Some-serve_over-clause-serves g c =
     let desks = c.in_ok-desks.desks in
-    let seats = c.args.workers + 1 in
-    let count : length c.in_ok-desks.passes.items ≡ seats =
-    ap length c.in_ok-desks.ensures.passes ∙ length-map-range_with_len (fresh_at desks) 1 seats in
-    let left = c.take_last-last.ensures.left c.args.workers count ∙ ap (take c.args.workers) c.in_ok-desks.ensures.passes in
+    let workers = c.args.workers in
+    let last = fresh_at desks (workers + 1) in
+    let all : all_fresh desks (workers + 1) ≡ all_fresh desks workers ++ last ∷ [] =
+    map-range_with_len_more (fresh_at desks) 1 workers (workers + 1) (omega arith) in
+    let ends = ends_of c.take_last-last.new.passes.items (all_fresh desks workers) c.take_last-last.result last
+        (sym c.take_last-last.ensures.parts ∙ c.in_ok-desks.ensures.passes ∙ all) in
+    let served = c.in-Some-serve_over.served in
     record {
-      serves = record {
-        desks = desks;
-        made = c.in_ok-desks.ensures.terms;
-        serves = subst (λ given. Serves DesksCall (AreOf desks) given c.args.connections c.in-Some.served.accepted c.in-Some.served.stop c.in-Some.served.passes.items) left c.in-Some.ensures.serves;
-      };
+      desks = desks;
+      made = c.in_ok-desks.ensures.terms;
+      serves = subst (λ given. Serves DesksCall (AreOf desks) given c.args.connections served.accepted served.stop served.passes.items) ends.fronts c.in-Some-serve_over.ensures.serves;
+      paged = elim c.match-pager.branch [
+        | in-Some w ↦
+            let has = rw w.paging-is at c.in-Some-serve_over.ensures.paged in
+            let count : c.len-databases.result ≡ length c.args.dbs.items = omega (arith, c.len-databases.ensures, c.args.dbs.ok.0) in
+            rw w.in-Some.is (subst (λ n. HasPaged w.in-Some.pager n last) count (subst (λ p. HasPaged w.in-Some.pager c.len-databases.result p) ends.lasts has))
+        | in-None w ↦ rw w.in-None.is tt
+      ];
     }

@@ -2,7 +2,7 @@ use Rattle.std.proofs.Common.{◌≡◌, ap, sym, subst, ◌∙◌, ℕ, Ok, Lis
 use Rattle.std.proofs.lemmas.List.Elements.{All-push}
 use Rattle.std.specs.List.{All}
 use Rattle.pl_core.specs.History.{History}
-use Rattle.pl_program.specs.Start.{start_of}
+use Rattle.pl_play.specs.Start.{start_of}
 use Rattle.pl_program.proofs.serving.databases_of.Goals as goal
 
 pub loop-preserved : goal.loop-preserved

@@ -1,6 +1,6 @@
 use Rattle.std.proofs.Common.{◌≡◌, Ok, vec_len}
 use Rattle.std.specs.List.{All}
-use Rattle.pl_program.specs.Start.{start_of}
+use Rattle.pl_play.specs.Start.{start_of}
 use Rattle.pl_program.proofs.serving.databases_of.Given as goal
 
 -- so many databases so far, each as it is begun

@@ -1,0 +1,4 @@
+pub mod Passes
+mod Matching
+mod Rows
+mod Taken

@@ -1,0 +1,437 @@
+//! What the arguments of the program ask for, read with `clap`.
+
+ghost use Rattle.std.specs.Prelude.{◌≡◌, ◌≢◌, ◌≤◌, false, true, Some, None, codes, pos, IfErr, IfOk, IfSome, IsNone, map, string_bytes};
+ghost use Rattle.clap.specs.Words.{IsAmong, all_of, app_of, fault_of, found_of, kind_of, rows_of, rule_of, subcommand_of, subcommand_rows_of, takes};
+ghost use Rattle.pl_command.specs.CommandLine.{AsksFor, GivesAsk, GivesNumber, GivesPlay, GivesServe, GivesWords, Has, HasNumber, HasNumbers, HasWords, IsGiven, IsHelp, IsUsage, Names, ask_app, number_option, number_or_zero, own_app, play_app, serve_app, text_option, words_rule};
+
+use clap::builder::ValueParser;
+use clap::error::ErrorKind;
+use clap::{Arg, ArgMatches, Command};
+use std::alloc::{AllocError, Global};
+use thiserror::Error;
+
+/// What the arguments ask for.
+#[derive(Debug, Drop, PartialEq, Eq)]
+pub enum CommandLine {
+    /// `help`, or `--help` or `-h` where an option may stand: show this text.
+    Help {
+        text: String,
+    },
+    /// `play`: answer the lines of the standard input.
+    Play {
+        /// The file with the text of the table.
+        table: String,
+        /// The id of the first primary.
+        primary: u32,
+    },
+    /// `serve`: answer the requests of connections.
+    Serve {
+        /// The address at which connections are accepted.
+        listen: String,
+        /// The file with the text of the table, which each database begins with.
+        table: String,
+        /// The id of the first primary.
+        primary: u32,
+        /// How many databases there are, 1 to 16.
+        dbs: u32,
+        /// How many connections are answered at the same time, 1 to 64.
+        workers: u32,
+        /// How many connections are accepted before the end, at least 1.
+        connections: u32,
+        /// How many entries the audit list of a database holds, 1 to 16,777,216.
+        audit: u32,
+        /// The principal that advances a partition as page server, where `rounds` is not 0.
+        pager: u32,
+        /// The partition that it advances.
+        partition: u16,
+        /// How often it advances the partition of each database.
+        rounds: u32,
+    },
+    /// `ask`: send one request of an operator, and show the reply.
+    Ask {
+        /// The address that is asked.
+        to: String,
+        /// The operator's id.
+        id: u32,
+        /// The operator's token, which is yet to be read.
+        token: String,
+        /// The number of the database.
+        db: u32,
+        /// The epoch that the operator takes to be the current one.
+        epoch: u32,
+        /// What is asked for, at least one word.
+        words: Vec<String>,
+    },
+}
+
+/// Why the arguments ask for nothing.
+#[derive(Debug, Drop, PartialEq, Eq, Error)]
+pub enum CommandFault {
+    /// A usage error: no subcommand, an option that is missing or unknown, a value that an option
+    /// does not take, or an argument that is not UTF-8. The text says which, and ends in a line feed.
+    #[error("{0}")]
+    Usage(String),
+    /// An allocation failed.
+    #[error("no memory")]
+    NoMemory,
+}
+
+impl From<AllocError> for CommandFault {
+    ghost use Rattle.pl_command.specs.declared.command_line.CommandFault.TheVariants.{NoMemory};
+
+    ghost from_gives = { λ _ e. e ≡ NoMemory };
+
+    fn from(_refused: AllocError) -> CommandFault {
+        CommandFault::NoMemory
+    }
+}
+
+// The option `--name VALUE`, which is always given.
+fn text<'a>(alloc: Global, name: &'a str, value: &'a str, help: &'a str) -> Arg<'a>
+    ensures rule { rule_of result ≡ text_option name.entry.now }
+    ensures local { result.global ≡ false }
+{
+    Arg::new(alloc, name)
+        .long(name)
+        .value_name(value)
+        .help(help)
+        .required(true)
+}
+
+// The option `--name N`, which is always given, with a number of this range.
+fn number<'a>(alloc: Global, name: &'a str, least: u32, most: u32, help: &'a str) -> Arg<'a>
+    ensures rule { rule_of result ≡ number_option name.entry.now least most }
+    ensures local { result.global ≡ false }
+{
+    let range = ValueParser::Signed(i64::from(least), i64::from(most));
+    text(alloc, name, "N", help).value_parser(range)
+}
+
+// The option `--name N`, with a number from 0 on, which is 0 where it is not given.
+fn number_from_zero<'a>(alloc: Global, name: &'a str, most: u32, help: &'a str) -> Arg<'a>
+    ensures rule { rule_of result ≡ number_or_zero name.entry.now most }
+    ensures local { result.global ≡ false }
+{
+    number(alloc, name, 0, most, help)
+        .required(false)
+        .default_value("0")
+}
+
+// The words behind the options of `ask`.
+fn words<'a>(alloc: Global) -> Arg<'a>
+    ensures rule { rule_of result ≡ words_rule }
+    ensures local { result.global ≡ false }
+{
+    Arg::new(alloc, "words")
+        .value_name("WORDS")
+        .help("status, tidy, audit FIRST MAX, failover ID or set_table FILE")
+        .required(true)
+        .num_args(1..)
+}
+
+const TABLE: &str = "The file with the text of the table of who may do what";
+
+const PRIMARY: &str = "The id of the first primary";
+
+fn play_command<'a>(alloc: Global) -> Result<Command<'a>, AllocError>
+    ensures ok { IfOk result (λ c. app_of c ≡ play_app) }
+{
+    Command::new(alloc, "play")
+        .about("Answers request bodies, each a line of hexadecimal digits of the standard input")
+        .arg(text(alloc, "table", "FILE", TABLE))?
+        .arg(number(alloc, "primary", 0, u32::MAX, PRIMARY))
+}
+
+fn serve_command<'a>(alloc: Global) -> Result<Command<'a>, AllocError>
+    ensures ok { IfOk result (λ c. app_of c ≡ serve_app) }
+{
+    Command::new(alloc, "serve")
+        .about("Answers the requests of connections")
+        .arg(text(
+            alloc,
+            "listen",
+            "ADDRESS",
+            "The address at which connections are accepted",
+        ))?
+        .arg(text(alloc, "table", "FILE", TABLE))?
+        .arg(number(alloc, "primary", 0, u32::MAX, PRIMARY))?
+        .arg(number(alloc, "dbs", 1, 16, "How many databases there are, 1 to 16"))?
+        .arg(number(
+            alloc,
+            "workers",
+            1,
+            64,
+            "How many connections are answered at the same time, 1 to 64",
+        ))?
+        .arg(number(
+            alloc,
+            "connections",
+            1,
+            u32::MAX,
+            "How many connections are accepted before the end",
+        ))?
+        .arg(number(
+            alloc,
+            "audit",
+            1,
+            16_777_216,
+            "How many entries each audit list holds",
+        ))?
+        .arg(number_from_zero(
+            alloc,
+            "pager",
+            u32::MAX,
+            "The id of the page server that advances a partition",
+        ))?
+        .arg(number_from_zero(alloc, "partition", 65_535, "The partition that it advances"))?
+        .arg(number_from_zero(
+            alloc,
+            "rounds",
+            u32::MAX,
+            "How often it advances the partition of each database",
+        ))
+}
+
+fn ask_command<'a>(alloc: Global) -> Result<Command<'a>, AllocError>
+    ensures ok { IfOk result (λ c. app_of c ≡ ask_app) }
+{
+    Command::new(alloc, "ask")
+        .about("Sends one request of an operator, and shows the reply")
+        .arg(text(alloc, "to", "ADDRESS", "The address of the service"))?
+        .arg(number(alloc, "id", 0, u32::MAX, "The operator's id"))?
+        .arg(text(
+            alloc,
+            "token",
+            "HEX",
+            "The operator's token, 32 hexadecimal digits",
+        ))?
+        .arg(number(
+            alloc,
+            "db",
+            0,
+            u32::MAX,
+            "The number of the database, from 0",
+        ))?
+        .arg(number(alloc, "epoch", 0, u32::MAX, "The current epoch"))?
+        .arg(words(alloc))
+}
+
+// The program and its subcommands.
+fn program<'a>(alloc: Global) -> Result<Command<'a>, AllocError>
+    ensures ok { IfOk result (λ c. app_of c ≡ own_app) }
+{
+    Command::new(alloc, "pagelog")
+        .about("A log service for databases")
+        .subcommand_required(true)
+        .arg_required_else_help(true)
+        .subcommand(play_command(alloc)?)?
+        .subcommand(serve_command(alloc)?)?
+        .subcommand(ask_command(alloc)?)
+}
+
+// The number that was found of this option, where it lies in the range.
+fn number_of(found: &ArgMatches<'_>, name: &str, least: u32, most: u32) -> Option<u32>
+    ensures some { IfSome result (HasNumber (rows_of (found_of found.now)) name.now least most) }
+    ensures none { IsNone result → GivesNumber (rows_of (found_of found.now)) name.now least most → ⊥ }
+{
+    let number = found.get_one::<u32>(name)?;
+    if number < least || most < number {
+        return None;
+    }
+    Some(number)
+}
+
+// The words that were found.
+fn words_of(alloc: Global, found: &ArgMatches<'_>) -> Result<Option<Vec<String>>, AllocError>
+    ensures ok { IfOk result (λ words. IfSome words (λ words.
+        HasWords (rows_of (found_of found.now)) (map string_bytes words.items))) }
+    ensures none { IfOk result (λ words. IsNone words → GivesWords (rows_of (found_of found.now)) → ⊥) }
+{
+    let Some(given) = found.get_strs("words") else {
+        return Ok(None);
+    };
+    let mut words = Vec::new(alloc);
+    for word in given {
+        words.push(String::from_str(alloc, word)?)?;
+    }
+    Ok(Some(words))
+}
+
+fn play_of(alloc: Global, found: &ArgMatches<'_>) -> Result<Option<CommandLine>, AllocError>
+    ensures ok { IfOk result (λ line. IfSome line (Has (codes "play") (rows_of (found_of found.now)))) }
+    ensures none { IfOk result (λ line. IsNone line → GivesPlay (rows_of (found_of found.now)) → ⊥) }
+{
+    let Some(table) = found.get_str("table") else {
+        return Ok(None);
+    };
+    let Some(primary) = number_of(found, "primary", 0, u32::MAX) else {
+        return Ok(None);
+    };
+    let table = String::from_str(alloc, table)?;
+    Ok(Some(CommandLine::Play { table, primary }))
+}
+
+/// The numbers among the options of `serve`, as [`CommandLine::Serve`] has them.
+#[derive(Clone, Copy)]
+pub struct ServeNumbers {
+    /// The id of the first primary.
+    pub primary: u32,
+    /// How many databases there are, 1 to 16.
+    pub dbs: u32,
+    /// How many connections are answered at the same time, 1 to 64.
+    pub workers: u32,
+    /// How many connections are accepted before the end, at least 1.
+    pub connections: u32,
+    /// How many entries the audit list of a database holds, 1 to 16,777,216.
+    pub audit: u32,
+    /// The principal that advances a partition as page server, where `rounds` is not 0.
+    pub pager: u32,
+    /// The partition that it advances.
+    pub partition: u16,
+    /// How often it advances the partition of each database.
+    pub rounds: u32,
+}
+
+fn serve_numbers(found: &ArgMatches<'_>) -> Option<ServeNumbers>
+    ensures some { IfSome result (HasNumbers (rows_of (found_of found.now))) }
+    ensures none { IsNone result → GivesServe (rows_of (found_of found.now)) → ⊥ }
+{
+    Some(ServeNumbers {
+        primary: number_of(found, "primary", 0, u32::MAX)?,
+        dbs: number_of(found, "dbs", 1, 16)?,
+        workers: number_of(found, "workers", 1, 64)?,
+        connections: number_of(found, "connections", 1, u32::MAX)?,
+        audit: number_of(found, "audit", 1, 16_777_216)?,
+        pager: number_of(found, "pager", 0, u32::MAX)?,
+        partition: number_of(found, "partition", 0, 65_535)? as u16,
+        rounds: number_of(found, "rounds", 0, u32::MAX)?,
+    })
+}
+
+fn serve_of(alloc: Global, found: &ArgMatches<'_>) -> Result<Option<CommandLine>, AllocError>
+    ensures ok { IfOk result (λ line. IfSome line (Has (codes "serve") (rows_of (found_of found.now)))) }
+    ensures none { IfOk result (λ line. IsNone line → GivesServe (rows_of (found_of found.now)) → ⊥) }
+{
+    let (Some(listen), Some(table)) = (found.get_str("listen"), found.get_str("table")) else {
+        return Ok(None);
+    };
+    let Some(numbers) = serve_numbers(found) else {
+        return Ok(None);
+    };
+    Ok(Some(CommandLine::Serve {
+        listen: String::from_str(alloc, listen)?,
+        table: String::from_str(alloc, table)?,
+        primary: numbers.primary,
+        dbs: numbers.dbs,
+        workers: numbers.workers,
+        connections: numbers.connections,
+        audit: numbers.audit,
+        pager: numbers.pager,
+        partition: numbers.partition,
+        rounds: numbers.rounds,
+    }))
+}
+
+fn ask_of(alloc: Global, found: &ArgMatches<'_>) -> Result<Option<CommandLine>, AllocError>
+    ensures ok { IfOk result (λ line. IfSome line (Has (codes "ask") (rows_of (found_of found.now)))) }
+    ensures none { IfOk result (λ line. IsNone line → GivesAsk (rows_of (found_of found.now)) → ⊥) }
+{
+    let (Some(to), Some(token)) = (found.get_str("to"), found.get_str("token")) else {
+        return Ok(None);
+    };
+    let Some(id) = number_of(found, "id", 0, u32::MAX) else {
+        return Ok(None);
+    };
+    let Some(db) = number_of(found, "db", 0, u32::MAX) else {
+        return Ok(None);
+    };
+    let Some(epoch) = number_of(found, "epoch", 0, u32::MAX) else {
+        return Ok(None);
+    };
+    let Some(words) = words_of(alloc, found)? else {
+        return Ok(None);
+    };
+    let to = String::from_str(alloc, to)?;
+    let token = String::from_str(alloc, token)?;
+    Ok(Some(CommandLine::Ask {
+        to,
+        id,
+        token,
+        db,
+        epoch,
+        words,
+    }))
+}
+
+// The subcommand that was matched, with its options.
+fn line_of(alloc: Global, matches: &ArgMatches<'_>) -> Result<Option<CommandLine>, AllocError>
+    ensures ok { IfOk result (λ line. IfSome line (Names (subcommand_rows_of matches.now))) }
+    ensures none { IfOk result (λ line. IsNone line → IsGiven (subcommand_rows_of matches.now) → ⊥) }
+{
+    if let Some(play) = matches.subcommand_matches("play") {
+        return play_of(alloc, play);
+    }
+    if let Some(serve) = matches.subcommand_matches("serve") {
+        return serve_of(alloc, serve);
+    }
+    if let Some(ask) = matches.subcommand_matches("ask") {
+        return ask_of(alloc, ask);
+    }
+    Ok(None)
+}
+
+// What the arguments ask for, where `clap` matches them.
+fn match_arguments<'a>(
+    alloc: Global,
+    program: &mut Command<'a>,
+    arguments: &'a [String],
+) -> Result<Option<CommandLine>, clap::Error>
+    requires { app_of program.old ≡ own_app }
+    ensures ok { IfOk result (λ line. IfSome line
+        (Names (subcommand_of own_app (map string_bytes arguments.entry.now)))) }
+    ensures none { IfOk result (λ line. IsNone line →
+        takes own_app (map string_bytes arguments.entry.now) ≢ true) }
+    ensures passes { IfErr result (λ error. takes own_app (map string_bytes arguments.entry.now) ≡ true →
+        kind_of error ≡ ErrorKind.OutOfMemory) }
+    ensures help { IfErr result (λ error. kind_of error ≡ ErrorKind.DisplayHelp →
+        IsAmong ErrorKind.DisplayHelp (fault_of own_app (map string_bytes arguments.entry.now))) }
+{
+    let matches = program.try_get_matches_from_mut(arguments)?;
+    Ok(line_of(alloc, &matches)?)
+}
+
+// What comes of arguments that were not matched: `clap` reports a request for help as an error.
+fn outcome_of(alloc: Global, error: &clap::Error) -> Result<CommandLine, CommandFault>
+    ensures help { IfOk result (λ line. IsHelp line × (kind_of error.now ≡ ErrorKind.DisplayHelp)) }
+    ensures usage { IfErr result (λ fault. IsUsage fault → (kind_of error.now ≢ ErrorKind.DisplayHelp)
+        × (kind_of error.now ≢ ErrorKind.OutOfMemory)) }
+{
+    if error.kind() == ErrorKind::OutOfMemory {
+        return Err(CommandFault::NoMemory);
+    }
+    let text = error.to_string(alloc)?;
+    if error.kind() == ErrorKind::DisplayHelp {
+        return Ok(CommandLine::Help { text });
+    }
+    Err(CommandFault::Usage(text))
+}
+
+/// What the arguments ask for, the first of which is the program's name.
+///
+/// `Usage` comes where `clap` does not take them, and `NoMemory` where an allocation failed.
+pub fn command(alloc: Global, arguments: Vec<String>) -> Result<CommandLine, CommandFault>
+    ensures ok { IfOk result (AsksFor (map string_bytes arguments.items)) }
+    ensures usage { IfErr result (λ fault. IsUsage fault →
+        takes own_app (map string_bytes arguments.items) ≢ true) }
+{
+    let mut program = program(alloc)?;
+    match match_arguments(alloc, &mut program, arguments.as_slice()) {
+        Ok(Some(line)) => Ok(line),
+        // `clap` refuses such arguments itself.
+        Ok(None) => {
+            let error = program.error(ErrorKind::MissingRequiredArgument, "an option is missing")?;
+            outcome_of(alloc, &error)
+        }
+        Err(error) => outcome_of(alloc, &error),
+    }
+}

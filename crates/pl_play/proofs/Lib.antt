@@ -1,0 +1,4 @@
+mod Feeds
+mod Pieces
+mod Turns
+mod Words

@@ -1,0 +1,77 @@
+//! The answer to one body.
+
+ghost use Rattle.std.specs.Prelude.{◌≡◌, ◌↔◌, IfOk, IsTrue, OnErr, OnOk};
+ghost use Rattle.pl_core.specs.Reply.{FitsReply};
+ghost use Rattle.pl_wire.specs.Replies.{reply_spelling};
+ghost use Rattle.pl_play.specs.Answering.{AnswersBody, IsCopied, own_pass};
+ghost use Rattle.pl_play.specs.Played.{WritesReply};
+ghost use Rattle.pl_play.specs.Text.{line_text};
+
+use crate::fault::PlayFault;
+use crate::text::line_of_bytes;
+use crate::writing::write_whole;
+use bytes::Bytes;
+use pl_core::{Db, Reply};
+use pl_wire::{BodyFault, decode_request_shared, encode_reply};
+use std::alloc::{AllocError, Global};
+use std::io::Write;
+
+/// The pass under which each request is handed in.
+const PASS: u64 = 1;
+
+/// The line of [`Reply::NoMemory`].
+const NO_MEMORY: &[u8] = b"06\n";
+
+/// Replies to one body: by a step of the database, or by the fault that makes the body no request.
+///
+/// A written block keeps the bytes of the body. A step that runs out of memory has a reply too.
+/// `AllocError` comes where the records of a block or a table's text found no memory, before any step.
+pub(crate) fn reply_to(alloc: Global, body: Bytes, db: &mut Db) -> Result<Reply, AllocError>
+    ensures answers { IfOk result (λ reply.
+        AnswersBody own_pass db.old body (reply_spelling reply) db.new) }
+    ensures fits { IfOk result (λ reply. FitsReply reply) }
+    ensures same { OnErr result (db.new ≡ db.old) }
+    ensures copied { OnErr result (IsCopied body) }
+{
+    match decode_request_shared(alloc, body) {
+        Ok(request) => Ok(db.step(PASS, request)),
+        Err(BodyFault::Malformed(fault)) => Ok(Reply::Malformed { code: fault.code() }),
+        Err(BodyFault::NoMemory) => Err(AllocError),
+    }
+}
+
+/// A reply as a line.
+fn line_of_reply(alloc: Global, reply: &Reply) -> Result<Vec<u8>, AllocError>
+    requires { FitsReply reply.now }
+    ensures value { IfOk result (λ line. line.items ≡ line_text (reply_spelling reply.now)) }
+{
+    let body = encode_reply(alloc, reply)?;
+    line_of_bytes(alloc, body.as_slice())
+}
+
+/// Whether the reply is that memory ran out.
+fn lacks_memory(reply: &Reply) -> bool
+    ensures value { IsTrue result ↔ reply.now ≡ Reply.NoMemory }
+{
+    matches!(reply, Reply::NoMemory)
+}
+
+/// Writes a reply as one line. The line of [`Reply::NoMemory`] takes no memory, so that it is never
+/// lost for lack of it.
+pub(crate) fn write_reply<W: Write>(
+    alloc: Global,
+    reply: &Reply,
+    writer: &mut W,
+) -> Result<(), PlayFault>
+    requires { FitsReply reply.now }
+    ensures value { WritesReply (reply_spelling reply.now)
+        (W.contents writer.old) (W.contents writer.new) result }
+{
+    if lacks_memory(reply) {
+        write_whole(writer, NO_MEMORY)?;
+        return Ok(());
+    }
+    let line = line_of_reply(alloc, reply)?;
+    write_whole(writer, line.as_slice())?;
+    Ok(())
+}
