@@ -11,7 +11,7 @@ use thiserror::Error;
 /// Why `play` stopped before the end of its input. Lines are numbered from 1.
 #[derive(Clone, Copy, Debug, PartialEq, Eq, Error)]
 pub enum PlayFault {
-    /// A read failed, or the input goes on behind 4,294,967,296 lines.
+    /// A read failed, or the input goes on past 4,294,967,296 lines.
     Read,
     /// A write failed, whatever the cause, or took no byte.
     Write,
