@@ -53,6 +53,54 @@ fn faults_of_frames(rt: HostRuntime) -> Result<(), Fail> {
     plays::<Frames>(rt.alloc(), FAULTS_OF_FRAMES)
 }
 
+// A read is interrupted behind so many bytes, and those behind it would bring the others: the frame
+// ends there, as where any other read fails.
+const INTERRUPTED_FRAMES: &str = "\
+interrupted 0 frames 65536 00000001aa   = Io 5
+interrupted 2 frames 65536 00000001aa   = Io 3
+interrupted 4 frames 65536 00000001aa   = Io 1
+interrupted 5 frames 65536 00000001aa 00000001bb = aa Io 5
+interrupted 5 frames 65536 00000001aa   = aa Io 0
+interrupted 7 frames 65536 00000003 010203 = 010203 Io 0
+interrupted 6 frames 65536 00000003 010203 = Io 1
+interrupted 3 head 65536 00000001       = Io 1
+interrupted 4 head 65536 00000001       = 1 0
+interrupted 1 body 3 010203             = Io 2
+interrupted 0 body 0 01                 = empty 1
+interrupted 0 replies 0000000100        = Io 5
+interrupted 4 replies 0000000100        = Io 1
+interrupted 5 replies 0000000100 0000000106 = Done Io 5
+";
+
+#[test]
+fn interrupted_frames(rt: HostRuntime) -> Result<(), Fail> {
+    plays::<Frames>(rt.alloc(), INTERRUPTED_FRAMES)
+}
+
+// The reads of a reader that gives one byte at once: one for each byte, and one that finds the end.
+const READS_OF_A_FRAME: &str = "\
+reads head 65536                        = 1
+reads head 65536 000000                 = 4
+reads head 65536 00000007 01            = 4
+reads head 65536 00010001 01            = 4
+reads body 3 010203 04                  = 3
+reads body 3 0102                       = 3
+reads body 0 01                         = 0
+reads frames 65536                      = 1
+reads frames 65536 00000000             = 5
+reads frames 65536 00000001aa           = 6
+reads frames 65536 00000001aa 00000002bbbb = 12
+reads frames 65536 00000003 0102        = 7
+reads frames 2 00000002aabb 00000003aabbcc = 10
+reads frames 65536 00010000 65536*ab    = 65541
+reads replies 0000000100 0000000106     = 11
+";
+
+#[test]
+fn reads_of_a_frame(rt: HostRuntime) -> Result<(), Fail> {
+    plays::<Frames>(rt.alloc(), READS_OF_A_FRAME)
+}
+
 const LONGEST_FRAMES: &str = "\
 frames 65536 00010000 65536*ab 01       = 65536*ab  Short 0
 frames 65536 00010000 65535*ab          = Short 0

@@ -14,9 +14,18 @@ use transcripts::codec::bytes_of;
 use transcripts::reply_text::{push_reply, reply_of};
 use transcripts::transcript::{Stop, Subject};
 
-/// How many bytes a reader gives at once, or a writer takes, and whether a signal interrupts each
-/// second call.
-const PIECES: [(usize, bool); 4] = [(1, false), (2, true), (3, false), (5, true)];
+/// How many bytes a reader gives at once.
+const PIECES: [usize; 4] = [1, 2, 3, 5];
+
+/// How many bytes a writer takes at once, and what comes when its room is full.
+const WAYS: [(usize, Full); 6] = [
+    (1, Full::TakesNone),
+    (2, Full::Fails),
+    (3, Full::IsInterrupted),
+    (5, Full::Fails),
+    (usize::MAX, Full::TakesNone),
+    (usize::MAX, Full::IsInterrupted),
+];
 
 /// How many frames of an input are read at most.
 const MOST_FRAMES: u32 = 100;
@@ -33,65 +42,98 @@ enum Behind {
     Failure,
 }
 
-/// Gives its bytes, at most so many at once.
+/// Gives its bytes, at most so many at once, and counts its reads.
 #[derive(Drop)]
 struct Feed<'a> {
     left: &'a [u8],
     at_once: usize,
-    interrupts: bool,
-    interrupted: bool,
+    /// How many bytes it gives before a read is interrupted. The reads behind that one go on.
+    interrupted: Option<usize>,
     behind: Behind,
+    reads: u64,
+    given: u64,
 }
 
 impl<'a> Feed<'a> {
-    fn new(left: &'a [u8], piece: (usize, bool), behind: Behind) -> Feed<'a> {
-        let (at_once, interrupts) = piece;
+    fn new(left: &'a [u8], at_once: usize, stop: (Option<usize>, Behind)) -> Feed<'a> {
+        let (interrupted, behind) = stop;
         Feed {
             left,
             at_once,
-            interrupts,
-            interrupted: false,
+            interrupted,
             behind,
+            reads: 0,
+            given: 0,
         }
+    }
+
+    // Whether there were so few reads as there may be: each but the last brought a byte at least.
+    fn has_few_reads(&self) -> bool {
+        self.reads <= self.given.saturating_add(1)
     }
 }
 
 impl Read for Feed<'_> {
     fn read(&mut self, buf: &mut [u8]) -> io::Result<usize> {
-        self.interrupted = self.interrupts && !self.interrupted;
-        if self.interrupted {
+        self.reads = self.reads.saturating_add(1);
+        if self.interrupted == Some(0) {
+            self.interrupted = None;
             return Err(io::Error::from(ErrorKind::Interrupted));
         }
         if self.left.is_empty() && matches!(self.behind, Behind::Failure) {
             return Err(io::Error::from(ErrorKind::InvalidData));
         }
-        let count = self.left.len().min(self.at_once).min(buf.len());
+        let before = self.interrupted.unwrap_or(usize::MAX);
+        let count = self.left.len().min(self.at_once).min(buf.len()).min(before);
         let (given, left) = self.left.split_at(count);
         buf[..count].copy_from_slice(given);
         self.left = left;
+        if let Some(before) = &mut self.interrupted {
+            *before = before.saturating_sub(count);
+        }
+        self.given = self.given.saturating_add(count as u64);
         Ok(count)
     }
 }
 
-/// Takes so many bytes in all, and at most so many at once. Behind them a write fails, or takes none.
+/// What a write comes to where the room is full.
+#[derive(Clone, Copy)]
+enum Full {
+    /// It takes none.
+    TakesNone,
+    /// It fails.
+    Fails,
+    /// It is interrupted, once; those behind it take all.
+    IsInterrupted,
+}
+
+/// Takes so many bytes in all, and at most so many at once.
 #[derive(Drop)]
 struct Sink {
     held: Vec<u8>,
     at_once: usize,
-    interrupts: bool,
-    interrupted: bool,
     room: usize,
-    fails: bool,
+    full: Full,
+}
+
+impl Sink {
+    // A write where the room is full.
+    fn write_at_end(&mut self) -> io::Result<usize> {
+        match self.full {
+            Full::TakesNone => Ok(0),
+            Full::Fails => Err(io::Error::from(ErrorKind::BrokenPipe)),
+            Full::IsInterrupted => {
+                self.room = usize::MAX;
+                Err(io::Error::from(ErrorKind::Interrupted))
+            }
+        }
+    }
 }
 
 impl Write for Sink {
     fn write(&mut self, buf: &[u8]) -> io::Result<usize> {
-        self.interrupted = self.interrupts && !self.interrupted;
-        if self.interrupted {
-            return Err(io::Error::from(ErrorKind::Interrupted));
-        }
-        if self.room == 0 && self.fails {
-            return Err(io::Error::from(ErrorKind::BrokenPipe));
+        if self.room == 0 {
+            return self.write_at_end();
         }
         let count = buf.len().min(self.at_once).min(self.room);
         self.held.extend_from_slice(&buf[..count])?;
@@ -193,8 +235,8 @@ impl Frames {
         Err(Stop::Unread)
     }
 
-    // What is read, and how many bytes are left unread.
-    fn read(&self, asked: Asked, mut feed: Feed) -> Result<String, Stop> {
+    // What is read and how many bytes are left unread, as words, and the number of reads.
+    fn read(&self, asked: Asked, mut feed: Feed) -> Result<(String, u64), Stop> {
         let mut out = String::new(self.alloc);
         match asked {
             Asked::Head(limit) => self.push_head(limit, &mut feed, &mut out)?,
@@ -203,7 +245,10 @@ impl Frames {
             Asked::Replies => self.push_replies(&mut feed, &mut out)?,
         }
         push_numbers(&mut out, &[feed.left.len() as u64])?;
-        Ok(out)
+        if !feed.has_few_reads() {
+            return Err(Stop::Changed);
+        }
+        Ok((out, feed.reads))
     }
 
     // Pushes what is read, which is the same in any pieces.
@@ -211,12 +256,12 @@ impl Frames {
         &self,
         asked: Asked,
         bytes: &[u8],
-        behind: Behind,
+        stop: (Option<usize>, Behind),
         out: &mut String,
     ) -> Result<(), Stop> {
-        let whole = self.read(asked, Feed::new(bytes, (usize::MAX, false), behind))?;
+        let (whole, _) = self.read(asked, Feed::new(bytes, usize::MAX, stop))?;
         for piece in PIECES {
-            let text = self.read(asked, Feed::new(bytes, piece, behind))?;
+            let (text, _) = self.read(asked, Feed::new(bytes, piece, stop))?;
             if text.as_str() != whole.as_str() {
                 return Err(Stop::Changed);
             }
@@ -248,23 +293,21 @@ impl Frames {
     }
 
     // A writer of so much room, which takes its bytes in such pieces.
-    fn sink(&self, room: usize, piece: (usize, bool), fails: bool) -> Result<Sink, Stop> {
-        let (at_once, interrupts) = piece;
+    fn sink(&self, room: usize, way: (usize, Full)) -> Result<Sink, Stop> {
+        let (at_once, full) = way;
         Ok(Sink {
             held: Vec::with_capacity(self.alloc, ROOM)?,
             at_once,
-            interrupts,
-            interrupted: false,
             room,
-            fails,
+            full,
         })
     }
 
     // What a writer of so much room holds in the end, in any pieces, and however it stops.
     fn held(&self, what: &[&str], room: usize) -> Result<(Vec<u8>, bool), Stop> {
-        let (held, whole) = self.written(what, self.sink(room, (usize::MAX, false), true)?)?;
-        for piece in PIECES {
-            let (again, as_whole) = self.written(what, self.sink(room, piece, piece.1)?)?;
+        let (held, whole) = self.written(what, self.sink(room, (usize::MAX, Full::Fails))?)?;
+        for way in WAYS {
+            let (again, as_whole) = self.written(what, self.sink(room, way)?)?;
             if again.as_slice() != held.as_slice() || as_whole != whole {
                 return Err(Stop::Changed);
             }
@@ -310,22 +353,40 @@ impl Frames {
 
 impl Frames {
     // Pushes what is read of the input that the words spell.
-    fn push_input(&self, words: &[&str], behind: Behind, out: &mut String) -> Result<(), Stop> {
+    fn push_input(
+        &self,
+        words: &[&str],
+        stop: (Option<usize>, Behind),
+        out: &mut String,
+    ) -> Result<(), Stop> {
         if let ["sent", words @ ..] = words {
-            return self.push_sent(words, behind, out);
+            return self.push_sent(words, stop, out);
         }
         let (asked, bytes) = asked_in(words)?;
         let bytes = bytes_of(self.alloc, bytes)?;
-        self.push_read(asked, &bytes, behind, out)
+        self.push_read(asked, &bytes, stop, out)
     }
 
     // Pushes what is read of the bytes that were sent.
-    fn push_sent(&self, words: &[&str], behind: Behind, out: &mut String) -> Result<(), Stop> {
+    fn push_sent(
+        &self,
+        words: &[&str],
+        stop: (Option<usize>, Behind),
+        out: &mut String,
+    ) -> Result<(), Stop> {
         let (asked, bytes) = asked_in(words)?;
         if !bytes.is_empty() {
             return Err(Stop::Unread);
         }
-        self.push_read(asked, &self.sent, behind, out)
+        self.push_read(asked, &self.sent, stop, out)
+    }
+
+    // Pushes how many reads the input takes that gives one byte at once.
+    fn push_reads(&self, words: &[&str], out: &mut String) -> Result<(), Stop> {
+        let (asked, bytes) = asked_in(words)?;
+        let bytes = bytes_of(self.alloc, bytes)?;
+        let (_, reads) = self.read(asked, Feed::new(&bytes, 1, (None, Behind::End)))?;
+        push_numbers(out, &[reads])
     }
 }
 
@@ -357,8 +418,12 @@ impl Subject for Frames {
         match words {
             ["send", what @ ..] => self.send(what, out),
             ["room", room, what @ ..] => self.push_stopped(room.parse()?, what, out),
-            ["failing", words @ ..] => self.push_input(words, Behind::Failure, out),
-            _ => self.push_input(words, Behind::End, out),
+            ["failing", words @ ..] => self.push_input(words, (None, Behind::Failure), out),
+            ["interrupted", given, words @ ..] => {
+                self.push_input(words, (Some(given.parse()?), Behind::End), out)
+            }
+            ["reads", words @ ..] => self.push_reads(words, out),
+            _ => self.push_input(words, (None, Behind::End), out),
         }
     }
 }
