@@ -1,35 +1,79 @@
 //! Connections: clients over the loopback, two at once and one after the other.
 
-ghost use Rattle.std.specs.Prelude.{◌≡◌, ⊤, vec_len, IfOk};
+ghost use Rattle.std.specs.Prelude.{⊤};
 ghost use Rattle.std.specs.List.{All};
 ghost use Rattle.pl_conn.specs.Desks.{AreOf};
 
-use crate::conversations::{FRAMES, REPLIES, check, open};
+use crate::conversations::{FRAMES, REPLIES};
+use crate::desks::TURNS;
+use crate::memory::check;
+use crate::talking::one_db;
 use pl_conn::{Desks, Gate, Passes, Served, Solo, SoloPass, Stop as Stopped, serve};
-use pl_core::{Db, Reply};
+use pl_core::Reply;
 use pl_table::{Act, Request};
 use std::alloc::Global;
-use std::io::{Read, Write};
+use std::io::{self, ErrorKind, Read, Write};
 use std::net::{Net, SocketAddr, TcpListener, TcpStream};
 use std::sync::Wait;
 use std::sync::atomic::{AtomicU64, Ordering};
 use std::thread;
 use std::thread::Threads;
+use std::time::Duration;
 use transcripts::transcript::Stop;
 
-// The turns of a desk.
-const TURNS: u64 = 1 << 62;
+/// How many seconds a client waits for a reply before it gives up.
+const PATIENCE: u64 = 20;
 
-// A gate that answers a report of LSN 1 once it has answered another request, or Spent after many turns.
+/// What an error of the system is to a test: a refusal, or something else.
+pub(crate) fn stop_of(error: io::Error) -> Stop {
+    if error.kind() == ErrorKind::OutOfMemory {
+        Stop::NoMemory
+    } else {
+        Stop::Changed
+    }
+}
+
+/// A connection whose reads give up in the end.
+pub(crate) fn connect<R: Net<Stream = TcpStream>>(
+    rt: &R,
+    addr: SocketAddr,
+) -> io::Result<TcpStream> {
+    let stream = TcpStream::connect(rt, addr)?;
+    stream.set_read_timeout(Some(Duration::from_secs(PATIENCE)))?;
+    Ok(stream)
+}
+
+/// A listener on a free port, and its address.
+pub(crate) fn listen<R: Net<Listener = TcpListener, Stream = TcpStream>>(
+    rt: &R,
+) -> Result<(TcpListener, SocketAddr), Stop> {
+    let listener = TcpListener::bind(rt, "127.0.0.1:0").map_err(stop_of)?;
+    let addr = listener.local_addr().map_err(stop_of)?;
+    Ok((listener, addr))
+}
+
+/// So many connections were accepted, and so many ended in a fault. Where there are more faults, or
+/// nothing was served, it is taken for a refusal: what is served tells no cause.
+pub(crate) fn check_served<P>(served: &Served<P>, accepted: u32, faults: u64) -> Result<(), Stop> {
+    let is_refused = matches!(served.stop, Stopped::NoMemory | Stopped::Start);
+    if is_refused || served.faults > faults {
+        return Err(Stop::NoMemory);
+    }
+    let is_limit = served.stop == Stopped::Limit;
+    check(is_limit && served.accepted == accepted && served.faults == faults)
+}
+
+/// A gate that answers a report of LSN 1 once it has answered another request, or Spent after many
+/// turns. Its passes count their calls.
 #[derive(Drop)]
-struct Holds {
+pub(crate) struct Holds {
     entered: AtomicU64,
     answered: AtomicU64,
 }
 
 impl Holds {
-    // Such a gate, of which nothing was asked.
-    fn new() -> Holds {
+    /// Such a gate, of which nothing was asked.
+    pub(crate) fn new() -> Holds {
         Holds {
             entered: AtomicU64::new(0),
             answered: AtomicU64::new(0),
@@ -70,8 +114,8 @@ impl Gate for Holds {
     }
 }
 
-// The frame of a report of the LSN.
-fn report(lsn: u8) -> Option<[u8; 42]> {
+/// The frame of a report of the LSN.
+pub(crate) fn report(lsn: u8) -> Option<[u8; 42]> {
     let mut frame = [0; 42];
     let text = "00000026000000022222222222222222222222222222222201000000000000000103";
     let (front, back) = frame.split_at_mut(34);
@@ -87,8 +131,8 @@ fn ask_both<R: Net<Stream = TcpStream>>(
     addr: SocketAddr,
     gate: &Holds,
 ) -> Option<([u8; 5], [u8; 5])> {
-    let mut first = TcpStream::connect(rt, addr).ok()?;
-    let mut second = TcpStream::connect(rt, addr).ok()?;
+    let mut first = connect(rt, addr).ok()?;
+    let mut second = connect(rt, addr).ok()?;
     let (mut of_first, mut of_second) = ([0; 5], [0; 5]);
     first.write_all(&report(1)?).ok()?;
     if !comes(&gate.entered) {
@@ -104,11 +148,10 @@ fn ask_both<R: Net<Stream = TcpStream>>(
 fn serve_both<R: Net<Listener = TcpListener, Stream = TcpStream> + Threads + Wait + Sync>(
     rt: &R,
     alloc: Global,
-) -> Option<bool> {
+) -> Result<(), Stop> {
     let gate = Holds::new();
-    let listener = TcpListener::bind(rt, "127.0.0.1:0").ok()?;
-    let addr = listener.local_addr().ok()?;
-    let passes = Vec::from_array(alloc, [5_u64, 8]).ok()?;
+    let (listener, addr) = listen(rt)?;
+    let passes = Vec::from_array(alloc, [5_u64, 8])?;
     let gate = &gate;
     let (served, replies) = thread::join(
         rt,
@@ -119,20 +162,19 @@ fn serve_both<R: Net<Listener = TcpListener, Stream = TcpStream> + Threads + Wai
         },
         || ask_both(rt, addr, gate),
     );
+    check_served(&served, 2, 0)?;
+    check(served.passes.as_slice() == [6, 9].as_slice())?;
     let done = [0, 0, 0, 1, 0];
-    let (of_first, of_second) = replies?;
-    let is_served = served.accepted == 2 && served.faults == 0 && served.stop == Stopped::Limit;
-    let are_passes = served.passes.as_slice() == [6, 9].as_slice();
-    Some(is_served && are_passes && of_first == done && of_second == done)
+    check(replies == Some((done, done)))
 }
 
 #[test]
 fn two_connections_at_once(rt: HostRuntime) {
-    let mut is_done = serve_both(&rt, rt.alloc());
-    if is_done != Some(true) {
-        is_done = serve_both(&rt, rt.alloc());
+    let mut done = serve_both(&rt, rt.alloc());
+    if matches!(done, Err(Stop::NoMemory)) {
+        done = serve_both(&rt, rt.alloc());
     }
-    assert!(&rt; is_done == Some(true));
+    assert!(&rt; done.is_ok());
 }
 
 // Two workers, at a listener that does not wait for a connection, so that its first accept fails.
@@ -140,133 +182,186 @@ fn two_connections_at_once(rt: HostRuntime) {
 fn accept_none<R: Net<Listener = TcpListener, Stream = TcpStream> + Threads + Wait + Sync>(
     rt: &R,
     alloc: Global,
-) -> Option<bool> {
-    let listener = TcpListener::bind(rt, "127.0.0.1:0").ok()?;
-    listener.set_nonblocking(true).ok()?;
-    let passes = Vec::from_array(alloc, [5_u64, 8]).ok()?;
+) -> Result<(), Stop> {
+    let (listener, _) = listen(rt)?;
+    listener.set_nonblocking(true).map_err(stop_of)?;
+    let passes = Vec::from_array(alloc, [5_u64, 8])?;
     let served = serve(rt, alloc, &listener, &Holds::new(), passes, 3);
-    let is_stopped = served.accepted == 0 && served.faults == 0 && served.stop == Stopped::Accept;
-    Some(is_stopped && served.passes.as_slice() == [5, 8].as_slice())
+    if matches!(served.stop, Stopped::NoMemory | Stopped::Start) {
+        return Err(Stop::NoMemory);
+    }
+    check(served.accepted == 0 && served.faults == 0 && served.stop == Stopped::Accept)?;
+    check(served.passes.as_slice() == [5, 8].as_slice())
 }
 
 #[test]
 fn a_failed_accept_ends_it(rt: HostRuntime) {
-    let mut is_done = accept_none(&rt, rt.alloc());
-    if is_done != Some(true) {
-        is_done = accept_none(&rt, rt.alloc());
+    let mut done = accept_none(&rt, rt.alloc());
+    if matches!(done, Err(Stop::NoMemory)) {
+        done = accept_none(&rt, rt.alloc());
     }
-    assert!(&rt; is_done == Some(true));
+    assert!(&rt; done.is_ok());
 }
 
-// One client after the other: the first writes, reads so many replies and closes; so does the second,
-// unless it is to read none.
+/// What one client writes on its connection, and what it reads: bytes of the stored run and of its
+/// replies, from and to.
+type Client = ((usize, usize), (usize, usize));
+
+/// Clients that come one after the other, and how many of their conversations end in a fault.
+type Clients = ([Client; 2], u64);
+
+/// The first client writes three frames, the second the last one; or ten bytes of it; or the first
+/// writes ten bytes, and the second the whole run.
+const CLIENTS: [Clients; 3] = [
+    ([((0, 160), (0, 15)), ((160, 208), (15, 58))], 0),
+    ([((0, 160), (0, 15)), ((160, 170), (58, 58))], 1),
+    ([((0, 10), (0, 0)), ((0, 208), (0, 58))], 1),
+];
+
+// One client: it writes its frames, reads so many bytes and closes. Whether they are those wanted.
+fn asks<R: Net<Stream = TcpStream>>(
+    rt: &R,
+    addr: SocketAddr,
+    frames: &[u8],
+    wanted: &[u8],
+) -> Option<bool> {
+    let mut stream = connect(rt, addr).ok()?;
+    stream.write_all(frames).ok()?;
+    let mut told = [0; 58];
+    let (told, _) = told.split_at_mut(wanted.len().min(58));
+    stream.read_exact(told).ok()?;
+    Some(&*told == wanted)
+}
+
+// The two clients, one after the other.
 fn ask_in_turn<R: Net<Stream = TcpStream>>(
     rt: &R,
     addr: SocketAddr,
-    asked: (&[u8], &[u8]),
-    replies: (&mut [u8], &mut [u8]),
-) -> Option<()> {
-    let mut first = TcpStream::connect(rt, addr).ok()?;
-    first.write_all(asked.0).ok()?;
-    first.read_exact(replies.0).ok()?;
-    drop(first);
-    let mut second = TcpStream::connect(rt, addr).ok()?;
-    second.write_all(asked.1).ok()?;
-    second.read_exact(replies.1).ok()
+    run: (&[u8], &[u8]),
+    clients: [Client; 2],
+) -> Option<bool> {
+    let mut are_right = true;
+    for ((from, to), (first, last)) in clients {
+        let (frames, wanted) = (run.0.get(from..to)?, run.1.get(first..last)?);
+        let is_right = asks(rt, addr, frames, wanted)?;
+        are_right = are_right && is_right;
+    }
+    Some(are_right)
 }
 
-/// What the first client read, and what the second did.
-type Answers = ([u8; 15], [u8; 43]);
+// One client that reads each reply before it asks again, on one connection.
+fn ask_again<R: Net<Stream = TcpStream>>(
+    rt: &R,
+    addr: SocketAddr,
+    run: (&[u8], &[u8]),
+) -> Option<bool> {
+    let mut stream = connect(rt, addr).ok()?;
+    let mut are_right = true;
+    let mut told = [0; 58];
+    for ((from, to), (first, last)) in TURNS_OF_RUN {
+        stream.write_all(run.0.get(from..to)?).ok()?;
+        let told = told.get_mut(first..last)?;
+        stream.read_exact(told).ok()?;
+        are_right = are_right && Some(&*told) == run.1.get(first..last);
+    }
+    Some(are_right)
+}
 
-// Serves two clients over the desks, one after the other.
-fn serve_two<R>(
+/// The frames of the stored run and their replies.
+const TURNS_OF_RUN: [Client; 4] = [
+    ((0, 59), (0, 5)),
+    ((59, 118), (5, 10)),
+    ((118, 160), (10, 15)),
+    ((160, 208), (15, 58)),
+];
+
+// The clients, one after the other; or the one that asks again.
+fn ask_as<R: Net<Stream = TcpStream>>(
+    rt: &R,
+    addr: SocketAddr,
+    run: (&[u8], &[u8]),
+    clients: Option<[Client; 2]>,
+) -> Option<bool> {
+    match clients {
+        Some(clients) => ask_in_turn(rt, addr, run, clients),
+        None => ask_again(rt, addr, run),
+    }
+}
+
+// Serves the clients over the desks, and whether they were told what they want.
+fn serve_clients<R>(
     rt: &R,
     alloc: Global,
     desks: &Desks<R>,
     passes: Vec<Passes>,
-    asked: (&[u8], &[u8]),
-    is_cut: bool,
-) -> Result<(Served<Passes>, Answers), Stop>
+    run: (&[u8], &[u8]),
+    clients: Option<[Client; 2]>,
+) -> Result<(Served<Passes>, Option<bool>), Stop>
 where
     R: Net<Listener = TcpListener, Stream = TcpStream> + Threads + Wait + Sync + Drop,
     requires own { All (AreOf desks.now) passes.items }
 {
-    let listener = TcpListener::bind(rt, "127.0.0.1:0").map_err(|_| Stop::Unread)?;
-    let addr = listener.local_addr().map_err(|_| Stop::Unread)?;
-    let (mut of_first, mut of_second) = ([0; 15], [0; 43]);
-    let (second, _) = of_second.split_at_mut(if is_cut { 0 } else { 43 });
-    let (served, are_asked) = thread::join(
+    let (listener, addr) = listen(rt)?;
+    let connections = if clients.is_some() { 2 } else { 1 };
+    Ok(thread::join(
         rt,
         move || -> Served<Passes>
             requires own { All (AreOf desks.now) passes.items }
         {
-            let served = serve(rt, alloc, &listener, desks, passes, 2);
+            let served = serve(rt, alloc, &listener, desks, passes, connections);
             drop(listener);
             served
         },
-        || ask_in_turn(rt, addr, asked, (&mut of_first, second)),
-    );
-    are_asked.ok_or(Stop::Changed)?;
-    Ok((served, (of_first, of_second)))
+        || ask_as(rt, addr, run, clients),
+    ))
 }
 
-// The database of the desk.
-fn one_db(alloc: Global) -> Result<Vec<Db>, Stop>
-    ensures one { IfOk result (λ dbs. vec_len dbs ≡ 1) }
-{
-    let mut dbs = Vec::with_capacity(alloc, 1)?;
-    dbs.push_reserved(open(alloc)?);
-    Ok(dbs)
-}
-
-// Serves two clients of these frames over the desk of one database.
-fn serve_frames<R>(
+// Serves the clients with one worker, over the desk of one database.
+fn serve_at_desk<R>(
     rt: &R,
     alloc: Global,
-    frames: &[u8],
-    is_cut: bool,
-) -> Result<(Served<Passes>, Answers), Stop>
+    clients: Option<[Client; 2]>,
+) -> Result<(Served<Passes>, Option<bool>), Stop>
 where
     R: Net<Listener = TcpListener, Stream = TcpStream> + Threads + Wait + Sync + Copy + Drop,
 {
-    let (first, second) = frames.split_at(160.min(frames.len()));
-    let count = if is_cut { 10 } else { 48 };
-    let (second, _) = second.split_at(count.min(second.len()));
+    let (frames, replies) = (hex::decode(alloc, FRAMES)?, hex::decode(alloc, REPLIES)?);
     let (desks, passes) = Desks::new(alloc, *rt, one_db(alloc)?, 1, TURNS)?;
-    serve_two(rt, alloc, &desks, passes, (first, second), is_cut)
+    serve_clients(rt, alloc, &desks, passes, (&frames, &replies), clients)
 }
 
-fn check_served(served: &Served<Passes>, is_cut: bool) -> Result<(), Stop> {
-    check(served.accepted == 2 && served.stop == Stopped::Limit && served.passes.len() == 1)?;
-    check(served.faults == if is_cut { 1 } else { 0 })
-}
-
-fn check_answers(answers: Answers, replies: &[u8], is_cut: bool) -> Result<(), Stop> {
-    let (of_first, of_second) = answers;
-    let (wanted_first, wanted_second) = replies.split_at(15.min(replies.len()));
-    check(of_first.as_slice() == wanted_first)?;
-    check(is_cut || of_second.as_slice() == wanted_second)
-}
-
-// Serves two clients with one worker, over the desk of one database. The second sends its whole frame
-// and reads the reply, or 10 bytes of it, which is a fault.
-fn serve_in_turn<R>(rt: &R, alloc: Global, is_cut: bool) -> Result<(), Stop>
+// The same, and each client is told what it wants.
+fn serve_in_turn<R>(
+    rt: &R,
+    alloc: Global,
+    clients: Option<[Client; 2]>,
+    faults: u64,
+) -> Result<(), Stop>
 where
     R: Net<Listener = TcpListener, Stream = TcpStream> + Threads + Wait + Sync + Copy + Drop,
 {
-    let frames = hex::decode(alloc, FRAMES)?;
-    let (served, answers) = serve_frames(rt, alloc, &frames, is_cut)?;
-    check_served(&served, is_cut)?;
-    let replies = hex::decode(alloc, REPLIES)?;
-    check_answers(answers, &replies, is_cut)
+    let (served, are_right) = serve_at_desk(rt, alloc, clients)?;
+    let connections = if clients.is_some() { 2 } else { 1 };
+    check_served(&served, connections, faults)?;
+    check(served.passes.len() == 1 && are_right == Some(true))
+}
+
+/// A client that reads the reply to each frame before it writes the next one, on one connection.
+#[test]
+fn asks_and_asks_again(rt: HostRuntime) {
+    let mut done = serve_in_turn(&rt, rt.alloc(), None, 0);
+    if matches!(done, Err(Stop::NoMemory)) {
+        done = serve_in_turn(&rt, rt.alloc(), None, 0);
+    }
+    assert!(&rt; done.is_ok());
 }
 
 #[test]
 fn serve_two_clients(rt: HostRuntime) {
-    for is_cut in [false, true] {
-        let mut done = serve_in_turn(&rt, rt.alloc(), is_cut);
-        if done.is_err() {
-            done = serve_in_turn(&rt, rt.alloc(), is_cut);
+    for (clients, faults) in CLIENTS {
+        let mut done = serve_in_turn(&rt, rt.alloc(), Some(clients), faults);
+        if matches!(done, Err(Stop::NoMemory)) {
+            done = serve_in_turn(&rt, rt.alloc(), Some(clients), faults);
         }
         assert!(&rt; done.is_ok());
     }

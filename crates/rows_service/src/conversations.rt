@@ -1,12 +1,13 @@
 //! Conversations over memory: whole, cut anywhere, and with frames that are none.
 
-ghost use Rattle.std.specs.Prelude.{IfOk, take};
+ghost use Rattle.std.specs.Prelude.{IfOk};
 ghost use Rattle.pl_conn.specs.Solo.{HasDatabases};
 
-use pl_conn::{Cause, ConnFault, Solo, SoloPass, Source, converse};
+use crate::memory::{Input, Output, Telling, check, ended_in_refusal};
+use pl_conn::{Cause, ConnFault, SoloPass, Source, converse};
 use pl_core::{Db, Limits};
 use std::alloc::Global;
-use std::io::{self, BufReader, ErrorKind, Read, Write};
+use std::io::{BufReader, Read};
 use transcripts::table_text::table_named;
 use transcripts::transcript::Stop;
 
@@ -45,8 +46,8 @@ pub(crate) fn open(alloc: Global) -> Result<Db, Stop> {
     Db::new(alloc, table_named(alloc, "start")?, 2, limits).map_err(|_| Stop::NoMemory)
 }
 
-// A pass with one database, under the number 1.
-fn one_pass(alloc: Global) -> Result<SoloPass, Stop>
+/// A pass with one database, under the number 1.
+pub(crate) fn one_pass(alloc: Global) -> Result<SoloPass, Stop>
     ensures has { IfOk result (λ pass. HasDatabases pass) }
 {
     let mut dbs = Vec::with_capacity(alloc, 1)?;
@@ -54,101 +55,30 @@ fn one_pass(alloc: Global) -> Result<SoloPass, Stop>
     Ok(SoloPass::new(dbs, 1))
 }
 
-// A reader that gives a few bytes at once, of which it says that they are at hand. At the end it
-// fails, or has no more.
-#[derive(Drop)]
-struct Input<'a> {
-    left: &'a [u8],
-    at_once: usize,
-    fails: bool,
-}
-
-impl Read for Input<'_> {
-    fn read(&mut self, buf: &mut [u8]) -> io::Result<usize> {
-        let count = self.at_once.min(self.left.len()).min(buf.len());
-        if self.fails && self.left.is_empty() {
-            return Err(io::Error::from(ErrorKind::TimedOut));
-        }
-        let (now, later) = self.left.split_at(count);
-        let (front, _) = buf.split_at_mut(count);
-        front.copy_from_slice(now);
-        self.left = later;
-        Ok(count)
-    }
-}
-
-impl Source for Input<'_> {
-    ghost hand = { λ input. take input.at_once input.left.now };
-
-    fn at_hand(&self) -> &[u8] {
-        let (now, _) = self.left.split_at(self.at_once.min(self.left.len()));
-        now
-    }
-
-    fn consume(&mut self, count: usize) {
-        let (_, later) = self.left.split_at(count);
-        self.left = later;
-    }
-}
-
-// A writer that takes a few bytes at once, and so many in all.
-#[derive(Drop)]
-struct Output {
-    taken: Vec<u8>,
-    at_once: usize,
-    room: usize,
-}
-
-impl Write for Output {
-    fn write(&mut self, buf: &[u8]) -> io::Result<usize> {
-        let count = self.at_once.min(self.room).min(buf.len());
-        if count == 0 {
-            return Err(io::Error::from(ErrorKind::BrokenPipe));
-        }
-        let (now, _) = buf.split_at(count);
-        self.taken.extend_from_slice(now)?;
-        self.room -= count;
-        Ok(count)
-    }
-
-    fn flush(&mut self) -> io::Result<()> {
-        Ok(())
-    }
-}
-
 // What a conversation ended with, what it wrote, and how many entries it made.
 #[derive(Drop)]
 struct Talked {
     end: Result<u64, ConnFault>,
-    output: Vec<u8>,
+    output: Output,
     entries: u64,
 }
 
-// A conversation with a fresh database, over these bytes.
+// A conversation with a fresh database, over these bytes. An error is that memory was refused.
 fn talk(alloc: Global, input: Input<'_>, at_once: usize, room: usize) -> Result<Talked, Stop> {
     let mut pass = one_pass(alloc)?;
     let mut reader = input;
-    let mut writer = Output {
-        taken: Vec::new(alloc),
-        at_once,
-        room,
-    };
-    let end = converse(alloc, &mut reader, &mut writer, &Solo, &mut pass);
+    let mut output = Output::new(alloc, at_once, room);
+    let gate = Telling::new();
+    let end = converse(alloc, &mut reader, &mut output, &gate, &mut pass);
+    if ended_in_refusal(&end) || gate.tells_refusal() || output.tells_refusal(alloc) {
+        return Err(Stop::NoMemory);
+    }
     let db = pass.into_dbs().pop().ok_or(Stop::Unread)?;
-    let Output {
-        taken,
-        at_once: _,
-        room: _,
-    } = writer;
     Ok(Talked {
         end,
-        output: taken,
+        output,
         entries: db.audit_len(),
     })
-}
-
-pub(crate) fn check(holds: bool) -> Result<(), Stop> {
-    if holds { Ok(()) } else { Err(Stop::Changed) }
 }
 
 // How many of these places are reached with so many bytes.
@@ -171,7 +101,7 @@ fn ends_at_once(alloc: Global, bytes: &[u8], wanted: ConnFault) -> Result<(), St
     };
     let talked = talk(alloc, input, 1_000, 1_000)?;
     check(matches!(talked.end, Err(fault) if fault == wanted))?;
-    check(talked.output.is_empty() && talked.entries == 0)
+    check(talked.output.taken().is_empty() && talked.entries == 0)
 }
 
 // A write to copy 0, whose block has a record on page 0 and names partition 1.
@@ -198,13 +128,13 @@ fn broken_frames(alloc: Global) -> Result<(), Stop> {
     };
     let talked = talk(alloc, input, 1_000, 1_000)?;
     check(matches!(talked.end, Ok(1)))?;
-    check(talked.output.as_slice() == [0, 0, 0, 2, 10, 14].as_slice() && talked.entries == 0)
+    check(talked.output.taken() == [0, 0, 0, 2, 10, 14].as_slice() && talked.entries == 0)
 }
 
 #[test]
 fn converse_over_broken_frames(rt: HostRuntime) {
     let mut done = broken_frames(rt.alloc());
-    if done.is_err() {
+    if matches!(done, Err(Stop::NoMemory)) {
         done = broken_frames(rt.alloc());
     }
     assert!(&rt; done.is_ok());
@@ -230,7 +160,7 @@ fn longest_body(alloc: Global) -> Result<(), Stop> {
     };
     let talked = talk(alloc, input, 1_000, 1_000)?;
     check(matches!(talked.end, Ok(1)))?;
-    check(talked.output.as_slice() == [0, 0, 0, 2, 10, 2].as_slice() && talked.entries == 0)?;
+    check(talked.output.taken() == [0, 0, 0, 2, 10, 2].as_slice() && talked.entries == 0)?;
     let frame = zeros_behind(alloc, [0, 1, 0, 1], 65_537)?;
     let input = Input {
         left: &frame,
@@ -242,13 +172,13 @@ fn longest_body(alloc: Global) -> Result<(), Stop> {
         cause: Cause::TooLong,
         answered: 0,
     };
-    check(matches!(talked.end, Err(fault) if fault == wanted) && talked.output.is_empty())
+    check(matches!(talked.end, Err(fault) if fault == wanted) && talked.output.taken().is_empty())
 }
 
 #[test]
 fn longest_body_at_hand(rt: HostRuntime) {
     let mut done = longest_body(rt.alloc());
-    if done.is_err() {
+    if matches!(done, Err(Stop::NoMemory)) {
         done = longest_body(rt.alloc());
     }
     assert!(&rt; done.is_ok());
@@ -282,7 +212,7 @@ fn takes_at_hand(alloc: Global) -> Result<(), Stop> {
 #[test]
 fn bytes_at_hand_are_taken(rt: HostRuntime) {
     let mut done = takes_at_hand(rt.alloc());
-    if done.is_err() {
+    if matches!(done, Err(Stop::NoMemory)) {
         done = takes_at_hand(rt.alloc());
     }
     assert!(&rt; done.is_ok());
@@ -300,7 +230,7 @@ fn any_cut(alloc: Global) -> Result<(), Stop> {
         };
         let talked = talk(alloc, input, at_once, 1_000)?;
         check(matches!(talked.end, Ok(4)) && talked.entries == 4)?;
-        check(talked.output.as_slice() == replies.as_slice())?;
+        check(talked.output.taken() == replies.as_slice())?;
     }
     Ok(())
 }
@@ -308,7 +238,7 @@ fn any_cut(alloc: Global) -> Result<(), Stop> {
 #[test]
 fn converse_any_cut(rt: HostRuntime) {
     let mut done = any_cut(rt.alloc());
-    if done.is_err() {
+    if matches!(done, Err(Stop::NoMemory)) {
         done = any_cut(rt.alloc());
     }
     assert!(&rt; done.is_ok());
@@ -320,12 +250,13 @@ fn cut_input(
     frames: &[u8],
     replies: &[u8],
     len: usize,
-    fails: bool,
+    way: (usize, bool),
 ) -> Result<(), Stop> {
+    let (at_once, fails) = way;
     let (left, _) = frames.split_at(len.min(frames.len()));
     let input = Input {
         left,
-        at_once: 50,
+        at_once,
         fails,
     };
     let talked = talk(alloc, input, 1_000, 1_000)?;
@@ -339,15 +270,16 @@ fn cut_input(
     let told = [0, 5, 10, 15, 58];
     let len = told.get(answered as usize).ok_or(Stop::Changed)?;
     let (wanted, _) = replies.split_at((*len).min(replies.len()));
-    check(talked.output.as_slice() == wanted && talked.entries == answered)
+    check(talked.output.taken() == wanted && talked.entries == answered)
 }
 
 fn cut_inputs(alloc: Global) -> Result<(), Stop> {
     let frames = hex::decode(alloc, FRAMES)?;
     let replies = hex::decode(alloc, REPLIES)?;
     for len in 0..=208 {
-        cut_input(alloc, &frames, &replies, len, false)?;
-        cut_input(alloc, &frames, &replies, len, true)?;
+        for way in [(1, false), (1, true), (50, false), (50, true)] {
+            cut_input(alloc, &frames, &replies, len, way)?;
+        }
     }
     Ok(())
 }
@@ -355,7 +287,7 @@ fn cut_inputs(alloc: Global) -> Result<(), Stop> {
 #[test]
 fn input_cut_anywhere(rt: HostRuntime) {
     let mut done = cut_inputs(rt.alloc());
-    if done.is_err() {
+    if matches!(done, Err(Stop::NoMemory)) {
         done = cut_inputs(rt.alloc());
     }
     assert!(&rt; done.is_ok());
@@ -380,12 +312,21 @@ fn cut_output(
         answered: whole(&REPLY_ENDS, room),
     };
     check(matches!(talked.end, Err(fault) if fault == wanted))?;
+    check(
+        talked.entries
+            == if at_once == 1 {
+                wanted.answered.saturating_add(1)
+            } else {
+                4
+            },
+    )?;
     let (wanted, _) = replies.split_at(room.min(replies.len()));
-    check(talked.output.as_slice() == wanted)
+    check(talked.output.taken() == wanted)
 }
 
-// The frames come one after the other, so that each reply is written before the next one is read, or
-// all at once, so that the replies go out together.
+// The frames come one after the other, so that each reply is written before the next one is read, and
+// one step was taken behind those that are answered; or all at once, so that the replies go out
+// together, behind all of the steps.
 fn cut_outputs(alloc: Global) -> Result<(), Stop> {
     let frames = hex::decode(alloc, FRAMES)?;
     let replies = hex::decode(alloc, REPLIES)?;
@@ -399,7 +340,7 @@ fn cut_outputs(alloc: Global) -> Result<(), Stop> {
 #[test]
 fn output_cut_anywhere(rt: HostRuntime) {
     let mut done = cut_outputs(rt.alloc());
-    if done.is_err() {
+    if matches!(done, Err(Stop::NoMemory)) {
         done = cut_outputs(rt.alloc());
     }
     assert!(&rt; done.is_ok());
@@ -419,13 +360,13 @@ fn asks_no_database(alloc: Global) -> Result<(), Stop> {
     };
     let talked = talk(alloc, input, 1_000, 1_000)?;
     check(matches!(talked.end, Ok(1)) && talked.entries == 0)?;
-    check(talked.output.as_slice() == [0, 0, 0, 1, 9].as_slice())
+    check(talked.output.taken() == [0, 0, 0, 1, 9].as_slice())
 }
 
 #[test]
 fn no_such_database(rt: HostRuntime) {
     let mut done = asks_no_database(rt.alloc());
-    if done.is_err() {
+    if matches!(done, Err(Stop::NoMemory)) {
         done = asks_no_database(rt.alloc());
     }
     assert!(&rt; done.is_ok());

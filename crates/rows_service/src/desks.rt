@@ -131,17 +131,20 @@ fn play_last<R: Wait + Abort>(
     Ok((number, pass))
 }
 
-// Plays a row of one pass, and returns its number and how many entries there are in the end.
+// Plays a row of the pass of the last of so many seats, and returns its number and how many entries
+// there are in the end.
 fn play_alone<R: Wait + Abort>(
     rt: &R,
     alloc: Global,
+    seats: u32,
     turns: u64,
     row: &str,
 ) -> Result<(u64, u64), Stop>
+    requires seats { 1 ≤ seats }
     requires some { 1 ≤ turns }
     requires few { turns ≤ 2 ^ 62 }
 {
-    let (desk, passes) = desk_of(alloc, 65_536, 1, turns)?;
+    let (desk, passes) = desk_of(alloc, 65_536, seats, turns)?;
     let (number, pass) = play_last(rt, alloc, &desk, passes, row)?;
     let db = desk.close(pass).ok_or(Stop::Unread)?;
     Ok((number, db.audit_len()))
@@ -156,11 +159,21 @@ const DESK_OF_ONE_SEAT: &str = "\
 
 #[test]
 fn desk_of_one_seat(rt: HostRuntime) {
-    let mut ends = play_alone(&rt, rt.alloc(), TURNS, DESK_OF_ONE_SEAT);
+    let mut ends = play_alone(&rt, rt.alloc(), 1, TURNS, DESK_OF_ONE_SEAT);
     if matches!(ends, Err(Stop::NoMemory)) {
-        ends = play_alone(&rt, rt.alloc(), TURNS, DESK_OF_ONE_SEAT);
+        ends = play_alone(&rt, rt.alloc(), 1, TURNS, DESK_OF_ONE_SEAT);
     }
     assert!(&rt; matches!(ends, Ok((1, 4))));
+}
+
+/// A desk of 65 seats, called through the last of them, and closed.
+#[test]
+fn desk_of_65_seats(rt: HostRuntime) {
+    let mut ends = play_alone(&rt, rt.alloc(), 65, TURNS, DESK_OF_ONE_SEAT);
+    if matches!(ends, Err(Stop::NoMemory)) {
+        ends = play_alone(&rt, rt.alloc(), 65, TURNS, DESK_OF_ONE_SEAT);
+    }
+    assert!(&rt; matches!(ends, Ok((65, 4))));
 }
 
 const TURNS_RUN_OUT: &str = "\
@@ -171,9 +184,9 @@ const TURNS_RUN_OUT: &str = "\
 
 #[test]
 fn turns_run_out(rt: HostRuntime) {
-    let mut ends = play_alone(&rt, rt.alloc(), 2, TURNS_RUN_OUT);
+    let mut ends = play_alone(&rt, rt.alloc(), 1, 2, TURNS_RUN_OUT);
     if matches!(ends, Err(Stop::NoMemory)) {
-        ends = play_alone(&rt, rt.alloc(), 2, TURNS_RUN_OUT);
+        ends = play_alone(&rt, rt.alloc(), 1, 2, TURNS_RUN_OUT);
     }
     assert!(&rt; matches!(ends, Ok((1, 2))));
 }

@@ -3,12 +3,14 @@
 ghost use Rattle.std.specs.Prelude.{IfSome};
 ghost use Rattle.std.specs.List.{All};
 ghost use Rattle.pl_conn.specs.Desks.{AreOf};
+ghost use Rattle.pl_conn.specs.Solo.{HasDatabases};
 
+use crate::memory::Telling;
 use bytes::Bytes;
 use pl_block::{Block, Record};
-use pl_conn::{Desks, Gate, Passes, Solo, SoloPass, Worked, materialise};
+use pl_conn::{Desks, Gate, Passes, SoloPass, Worked, materialise};
 use pl_core::{Db, Limits, Reply};
-use pl_table::{Act, Head, Request, Role, Section, read_table};
+use pl_table::{Act, Head, ReadFault, Request, Role, Section, read_table};
 use std::alloc::{AllocError, AllocFailed, Global};
 use std::process::Abort;
 use std::sync::Wait;
@@ -86,23 +88,28 @@ impl<T: Drop> From<AllocFailed<T>> for Stop {
 
 // A database with primary 2.
 fn open(alloc: Global) -> Result<Db, Stop> {
-    let Ok(table) = read_table(alloc, TABLE.as_bytes()) else {
-        return Err(Stop::Refused);
+    let table = match read_table(alloc, TABLE.as_bytes()) {
+        Ok(table) => table,
+        Err(ReadFault::NoMemory) => return Err(Stop::NoMemory),
+        Err(ReadFault::Malformed(_)) => return Err(Stop::Refused),
     };
     let limits = Limits {
         audit: 65_536,
         chunks: 16,
     };
-    Db::new(alloc, table, 2, limits).map_err(|_| Stop::Refused)
+    Db::new(alloc, table, 2, limits).map_err(|_| Stop::NoMemory)
 }
 
-// The reply of the gate.
+// The reply of the gate. An error is that memory was refused.
 fn ask<G: Gate>(gate: &G, pass: &mut G::Pass, head: Head, act: Act) -> Result<Reply, Stop>
     requires own { G.owns gate.now pass.old }
     ensures own { G.owns gate.now pass.new }
 {
     let request = Request::new(head, act).ok_or(Stop::Refused)?;
-    Ok(gate.call(pass, request))
+    match gate.call(pass, request) {
+        Reply::NoMemory => Err(Stop::NoMemory),
+        reply => Ok(reply),
+    }
 }
 
 // Writes a block, whose one byte is its LSN, to the copy.
@@ -123,7 +130,7 @@ fn write<G: Gate>(
         bytes: Bytes::from_vec(vec![in alloc; lsn; 1]?)?,
     })?;
     let Ok(block) = Block::new(alloc, u64::from(lsn), records) else {
-        return Err(Stop::Refused);
+        return Err(Stop::NoMemory);
     };
     ask(gate, pass, PRIMARY, Act::Write { copy, block })
 }
@@ -142,24 +149,40 @@ fn harden<G: Gate>(alloc: Global, gate: &G, pass: &mut G::Pass) -> Result<Reply,
 
 // What came of three rounds, the LSN and the first byte of the page then, and what came of three
 // rounds more after a failover.
-fn materialise_twice(alloc: Global) -> Result<(Worked, u64, u8, Worked), Stop> {
-    let mut dbs = Vec::new(alloc);
-    dbs.push(open(alloc)?)?;
-    let mut pass = SoloPass::new(dbs, 1);
-    harden(alloc, &Solo, &mut pass)?;
-    let first = materialise(&Solo, &mut pass, 4, PAGER_TOKEN, 0, 0, 3);
+fn materialise_twice(
+    alloc: Global,
+    gate: &Telling,
+    pass: &mut SoloPass,
+) -> Result<(Worked, u64, u8, Worked), Stop>
+    requires own { HasDatabases pass.old }
+{
+    harden(alloc, gate, pass)?;
+    let first = materialise(gate, pass, 4, PAGER_TOKEN, 0, 0, 3);
     let get = Act::Get {
         page: 0,
         lsn: 1,
         exact: false,
     };
-    let Reply::Page { at, bytes } = ask(&Solo, &mut pass, SECONDARY, get)? else {
+    let Reply::Page { at, bytes } = ask(gate, pass, SECONDARY, get)? else {
         return Err(Stop::Refused);
     };
-    ask(&Solo, &mut pass, OPERATOR, Act::Failover { primary: 5 })?;
-    let second = materialise(&Solo, &mut pass, 4, PAGER_TOKEN, 0, 0, 3);
+    ask(gate, pass, OPERATOR, Act::Failover { primary: 5 })?;
+    let second = materialise(gate, pass, 4, PAGER_TOKEN, 0, 0, 3);
     let byte = *bytes.as_slice().first().ok_or(Stop::Refused)?;
     Ok((first, at, byte, second))
+}
+
+// The same of a fresh database. An error is that memory was refused, to the test or to a round.
+fn materialise_fresh(alloc: Global) -> Result<(Worked, u64, u8, Worked), Stop> {
+    let mut dbs = Vec::new(alloc);
+    dbs.push(open(alloc)?)?;
+    let gate = Telling::new();
+    let mut pass = SoloPass::new(dbs, 1);
+    let seen = materialise_twice(alloc, &gate, &mut pass);
+    if gate.tells_refusal() {
+        return Err(Stop::NoMemory);
+    }
+    seen
 }
 
 const AFTER_FAILOVER: (Worked, u64, u8, Worked) = (
@@ -171,9 +194,9 @@ const AFTER_FAILOVER: (Worked, u64, u8, Worked) = (
 
 #[test]
 fn materialise_follows_epochs(rt: HostRuntime) {
-    let mut seen = materialise_twice(rt.alloc());
-    if !matches!(seen, Ok(AFTER_FAILOVER)) {
-        seen = materialise_twice(rt.alloc());
+    let mut seen = materialise_fresh(rt.alloc());
+    if matches!(seen, Err(Stop::NoMemory)) {
+        seen = materialise_fresh(rt.alloc());
     }
     assert!(&rt; matches!(seen, Ok(AFTER_FAILOVER)));
 }
@@ -217,7 +240,7 @@ fn is_empty_list(reply: &Reply) -> bool {
 fn no_such_database(rt: HostRuntime) {
     let alloc = rt.alloc();
     let mut replies = ask_beside(rt, alloc);
-    if replies.is_err() {
+    if matches!(replies, Err(Stop::NoMemory)) {
         replies = ask_beside(rt, alloc);
     }
     assert!(&rt; matches!(&replies, Ok((Reply::NoDatabase, audit)) if is_empty_list(audit)));
@@ -246,7 +269,7 @@ fn fail_over_second<R: Wait + Drop>(rt: R, alloc: Global) -> Result<(Reply, Repl
 fn databases_stand_apart(rt: HostRuntime) {
     let alloc = rt.alloc();
     let mut replies = fail_over_second(rt, alloc);
-    if !matches!(replies, Ok((Reply::Status { .. }, Reply::Denied { .. }))) {
+    if matches!(replies, Err(Stop::NoMemory)) {
         replies = fail_over_second(rt, alloc);
     }
     assert!(&rt;

@@ -11,6 +11,8 @@ mod connections;
 #[cfg(test)]
 mod conversations;
 #[cfg(test)]
+mod crowds;
+#[cfg(test)]
 mod desk_changes;
 #[cfg(test)]
 mod desks;
@@ -21,8 +23,16 @@ mod framing;
 #[cfg(test)]
 mod gates;
 #[cfg(test)]
+mod memory;
+#[cfg(test)]
 mod reply_bodies;
 #[cfg(test)]
 mod reply_faults;
+#[cfg(test)]
+mod talking;
+#[cfg(test)]
+mod talks;
+#[cfg(test)]
+mod waits;
 #[cfg(test)]
 mod wire;

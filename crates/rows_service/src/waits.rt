@@ -1,0 +1,258 @@
+//! When replies are written: before each wait for bytes, and before too many of them wait.
+
+ghost use Rattle.std.specs.Prelude.{⊤, take};
+
+use crate::memory::{check, ended_in_refusal};
+use pl_conn::{Cause, ConnFault, Gate, Source, converse};
+use pl_core::Reply;
+use pl_table::Request;
+use std::alloc::Global;
+use std::io::{self, ErrorKind, Read, Write};
+use std::sync::atomic::{AtomicU64, Ordering};
+use transcripts::transcript::Stop;
+
+/// A status of principal 2.
+const STATUS: [u8; 34] = [
+    0, 0, 0, 30, 0, 0, 0, 2, 34, 34, 34, 34, 34, 34, 34, 34, 34, 34, 34, 34, 34, 34, 34, 34, 1, 0,
+    0, 0, 0, 0, 0, 0, 1, 7,
+];
+
+/// The frame of the reply to it.
+const REPLY_BYTES: u64 = 37;
+
+/// How many of these replies wait at most: 256 KiB and one reply more.
+const MOST_WAITING: u64 = 7_085;
+
+/// What a gate, a reader and a writer tell each other.
+#[derive(Drop)]
+struct Tally {
+    /// How many requests were handed to the gate.
+    calls: AtomicU64,
+    /// How many bytes of replies were written.
+    written: AtomicU64,
+    /// How often the reader had to wait.
+    waits: AtomicU64,
+    /// How often it had to wait while there were replies that were not written.
+    late: AtomicU64,
+}
+
+impl Tally {
+    fn new() -> Tally {
+        Tally {
+            calls: AtomicU64::new(0),
+            written: AtomicU64::new(0),
+            waits: AtomicU64::new(0),
+            late: AtomicU64::new(0),
+        }
+    }
+
+    // A wait for bytes: each reply that the gate gave has to be written.
+    fn wait(&self) {
+        add(&self.waits, 1);
+        if self.waiting() > 0 {
+            add(&self.late, 1);
+        }
+    }
+
+    // How many replies are not written whole.
+    fn waiting(&self) -> u64 {
+        let whole = self.written.load(Ordering::SeqCst) / REPLY_BYTES;
+        self.calls.load(Ordering::SeqCst).saturating_sub(whole)
+    }
+}
+
+fn add(word: &AtomicU64, more: u64) {
+    word.store(
+        word.load(Ordering::SeqCst).saturating_add(more),
+        Ordering::SeqCst,
+    );
+}
+
+/// A gate that counts its calls and replies a status.
+#[derive(Drop)]
+struct Counting<'a> {
+    tally: &'a Tally,
+}
+
+impl Gate for Counting<'_> {
+    type Pass = u64;
+
+    ghost owns = { λ _ _. ⊤ };
+
+    ghost calls = { λ _ _ _ _ _. ⊤ };
+
+    fn call(&self, _pass: &mut u64, _request: Request) -> Reply {
+        add(&self.tally.calls, 1);
+        Reply::Status {
+            epoch: 1,
+            primary: 2,
+            hard: 0,
+            pending: 0,
+            landing: 0,
+        }
+    }
+}
+
+/// A reader to which a few bytes come whenever it has to wait for them.
+#[derive(Drop)]
+struct Coming<'a> {
+    left: &'a [u8],
+    /// How many of them are at hand.
+    hand: usize,
+    /// How many come at once.
+    piece: usize,
+    tally: &'a Tally,
+}
+
+impl Read for Coming<'_> {
+    fn read(&mut self, buf: &mut [u8]) -> io::Result<usize> {
+        if self.hand == 0 {
+            self.tally.wait();
+            self.hand = self.piece.min(self.left.len());
+        }
+        let count = self.hand.min(self.left.len()).min(buf.len());
+        let (now, later) = self.left.split_at(count);
+        let (front, _) = buf.split_at_mut(count);
+        front.copy_from_slice(now);
+        self.left = later;
+        self.hand -= count;
+        Ok(count)
+    }
+}
+
+impl Source for Coming<'_> {
+    ghost hand = { λ coming. take coming.hand coming.left.now };
+
+    fn at_hand(&self) -> &[u8] {
+        let (now, _) = self.left.split_at(self.hand.min(self.left.len()));
+        now
+    }
+
+    fn consume(&mut self, count: usize) {
+        let (_, later) = self.left.split_at(count);
+        self.left = later;
+        self.hand = self.hand.saturating_sub(count);
+    }
+}
+
+/// A writer that takes so many bytes, and then fails.
+#[derive(Drop)]
+struct Filling<'a> {
+    room: usize,
+    tally: &'a Tally,
+}
+
+impl Write for Filling<'_> {
+    fn write(&mut self, buf: &[u8]) -> io::Result<usize> {
+        let count = self.room.min(buf.len());
+        if count == 0 {
+            return Err(io::Error::from(ErrorKind::BrokenPipe));
+        }
+        self.room -= count;
+        add(&self.tally.written, count as u64);
+        Ok(count)
+    }
+
+    fn flush(&mut self) -> io::Result<()> {
+        Ok(())
+    }
+}
+
+// So many statuses, as frames.
+fn frames_of(alloc: Global, count: usize) -> Result<Vec<u8>, Stop> {
+    let mut frames = Vec::new(alloc);
+    for _ in 0..count {
+        frames.extend_from_slice(&STATUS)?;
+    }
+    Ok(frames)
+}
+
+// A conversation over these frames, of which so many bytes come at once, with a writer of so much room.
+fn talk(
+    alloc: Global,
+    frames: &[u8],
+    piece: usize,
+    room: usize,
+    tally: &Tally,
+) -> Result<Result<u64, ConnFault>, Stop> {
+    let mut reader = Coming {
+        left: frames,
+        hand: 0,
+        piece,
+        tally,
+    };
+    let mut writer = Filling { room, tally };
+    let mut pass = 0;
+    let end = converse(
+        alloc,
+        &mut reader,
+        &mut writer,
+        &Counting { tally },
+        &mut pass,
+    );
+    if ended_in_refusal(&end) {
+        return Err(Stop::NoMemory);
+    }
+    Ok(end)
+}
+
+// Twelve frames, of which so many bytes come at once: at no wait there are replies that are not written.
+fn answers_in_time(alloc: Global, frames: &[u8], piece: usize) -> Result<(), Stop> {
+    let tally = Tally::new();
+    let end = talk(alloc, frames, piece, usize::MAX, &tally)?;
+    check(matches!(end, Ok(12)) && tally.waiting() == 0)?;
+    // Each piece comes by a wait.
+    let waits = tally.waits.load(Ordering::SeqCst);
+    check(waits.saturating_mul(piece as u64) >= frames.len() as u64)?;
+    check(tally.late.load(Ordering::SeqCst) == 0)
+}
+
+fn answers_all_in_time(alloc: Global) -> Result<(), Stop> {
+    let frames = frames_of(alloc, 12)?;
+    for piece in 1..=408 {
+        answers_in_time(alloc, &frames, piece)?;
+    }
+    Ok(())
+}
+
+/// Twelve frames that come in pieces of any length, cut anywhere: whenever the reader has to wait, the
+/// replies to all frames before are written, also where a part of the next one is at hand.
+#[test]
+fn replies_before_each_wait(rt: HostRuntime) {
+    let mut done = answers_all_in_time(rt.alloc());
+    if matches!(done, Err(Stop::NoMemory)) {
+        done = answers_all_in_time(rt.alloc());
+    }
+    assert!(&rt; done.is_ok());
+}
+
+// Where the writer takes so many bytes of the replies to these frames, which are all at hand.
+fn stops_soon(alloc: Global, frames: &[u8], room: usize) -> Result<(), Stop> {
+    let tally = Tally::new();
+    let end = talk(alloc, frames, frames.len(), room, &tally)?;
+    let wanted = ConnFault {
+        cause: Cause::Write,
+        answered: room as u64 / REPLY_BYTES,
+    };
+    check(matches!(end, Err(fault) if fault == wanted))?;
+    check(tally.waiting() <= MOST_WAITING)
+}
+
+fn stops_at_each(alloc: Global) -> Result<(), Stop> {
+    let frames = frames_of(alloc, 20_000)?;
+    for room in [0, 36, 37, 100_000, 262_144, 262_182, 600_000] {
+        stops_soon(alloc, &frames, room)?;
+    }
+    Ok(())
+}
+
+/// Twenty thousand frames that are all at hand, and a writer that fails: behind the answered ones no
+/// more requests were handed to the gate than those whose replies wait, 256 KiB and one reply more.
+#[test]
+fn steps_before_a_failed_write(rt: HostRuntime) {
+    let mut done = stops_at_each(rt.alloc());
+    if matches!(done, Err(Stop::NoMemory)) {
+        done = stops_at_each(rt.alloc());
+    }
+    assert!(&rt; done.is_ok());
+}
