@@ -182,6 +182,40 @@ impl Database {
         self.put_each(head, (first.parse()?, last.parse()?), copy, refused)
     }
 
+    // Writes the blocks of 64 numbers to two copies, and reports the last of them.
+    fn harden_window(
+        &mut self,
+        head: [&str; 4],
+        lsns: (u64, u64),
+        refused: &mut bool,
+    ) -> Result<Reply, Stop> {
+        for copy in ["0", "1"] {
+            let reply = self.put_each(head, lsns, copy, refused)?;
+            if !matches!(reply, Reply::Done) {
+                return Ok(reply);
+            }
+        }
+        let [principal, token, role, epoch] = head;
+        let (_, last) = lsns;
+        let last = format!(in self.alloc; "{last}")?;
+        let report = [principal, token, role, epoch, "report", last.as_str()];
+        self.ask(Asked::Words(&report), refused)
+    }
+
+    // The reply to the last request that hardens so many times 64 blocks, from block 1 on, or to the first
+    // that is not done.
+    fn harden(&mut self, head: [&str; 4], count: u64, refused: &mut bool) -> Result<Reply, Stop> {
+        for window in 0..count {
+            let before = window.saturating_mul(64);
+            let lsns = (before.saturating_add(1), before.saturating_add(64));
+            let reply = self.harden_window(head, lsns, refused)?;
+            if !matches!(reply, Reply::Done) {
+                return Ok(reply);
+            }
+        }
+        Ok(Reply::Done)
+    }
+
     // Pushes how many lines an audit serves.
     fn push_served(
         &mut self,
@@ -287,6 +321,7 @@ impl Database {
         match act {
             ["fill", first, last, copy] => self.fill(head, [first, last, copy], refused),
             ["offers", first, last] => self.fill(head, [first, last, ""], refused),
+            ["windows", count] => self.harden(head, count.parse()?, refused),
             _ => self.ask(Asked::Words(words), refused),
         }
     }

@@ -46,6 +46,35 @@ fn three_hundred_blocks(rt: HostRuntime) -> Result<(), Fail> {
     plays::<Database>(rt.alloc(), THREE_HUNDRED_BLOCKS)
 }
 
+const FIVE_THOUSAND_BLOCKS: &str = "\
+open start 2 65536                    = Ok
+2 22 primary 1 windows 79             = Done
+hard                                  = 5056
+in_broker                             = 256
+2 22 primary 1 status                 = Status 1 2 5056 0 5056
+1 11 operator 1 tidy                  = Done
+in_broker                             = 64
+3 33 secondary 1 pull 0 65535 1 2     = Blocks 3 1:01 2:02
+3 33 secondary 1 pull 0 65535 4095 4  = Blocks 4099 4095:ff 4096:00 4097:01 4098:02
+3 33 secondary 1 pull 0 65535 4352 2  = Blocks 4354 4352:00 4353:01
+3 33 secondary 1 pull 0 65535 4991 2  = Blocks 4993 4991:7f 4992:80
+3 33 secondary 1 pull 0 65535 5055 16 = Blocks 5057 5055:bf 5056:c0
+3 33 secondary 1 get 0 4097 exact     = Page 4097 01+0
+3 33 secondary 1 get 0 4095 exact     = Page 4095 ff+0
+3 33 secondary 1 get 0 5056 exact     = Page 5056 c0+0
+3 33 secondary 1 get 0 5057 exact     = Denied C1 5056
+4 44 page_server 1 advance 0 1024     = Done
+3 33 secondary 1 get 0 1              = Page 1024
+3 33 secondary 1 get 0 1025           = Page 1025 01+0
+audit                                 = 10204
+";
+
+/// More hardened blocks than the first chunk of the index of destaged blocks has, read back.
+#[test]
+fn five_thousand_blocks(rt: HostRuntime) -> Result<(), Fail> {
+    plays::<Database>(rt.alloc(), FIVE_THOUSAND_BLOCKS)
+}
+
 const WINDOW_FILLED_THREE_TIMES: &str = "\
 open start 2 65536            = Ok
 2 22 primary 1 fill 1 64 0    = Done

@@ -284,3 +284,59 @@ fn page_by_its_versions(rt: HostRuntime) {
     }
     assert!(&rt; matches!(is_right, Ok(true)));
 }
+
+// Whether a get of the page at the LSN gives bytes of which the first is this one.
+fn shows(served: &mut Served, page: u32, lsn: u64, byte: u8) -> Result<bool, AllocError> {
+    if served.log.hard() < lsn {
+        return Ok(false);
+    }
+    let (at, bytes) = served.pages.get(&mut served.log, page, lsn, true)?;
+    Ok(at == lsn && bytes.first() == Some(&byte))
+}
+
+// Hardens 6,000 blocks, of which every second changes page 0 and the others page 1.
+fn harden_in_turn(served: &mut Served) -> Result<bool, AllocError> {
+    for number in 0..6_000_u32 {
+        if !served.harden(number % 2, 0xaa)? {
+            return Ok(false);
+        }
+    }
+    Ok(true)
+}
+
+// Gets so many pages that no block changes, so that each frame has a version.
+fn fill_frames(served: &mut Served) -> Result<bool, AllocError> {
+    for page in 2..66_u32 {
+        if !shows(served, page, 0, 0)? {
+            return Ok(false);
+        }
+    }
+    Ok(true)
+}
+
+// Gets the two pages in turn, 300,000 times.
+fn get_in_turn(served: &mut Served) -> Result<bool, AllocError> {
+    for _ in 0..300_000_u32 {
+        if !shows(served, 0, 6_000, 0xaa)? || !shows(served, 1, 6_000, 0xaa)? {
+            return Ok(false);
+        }
+    }
+    Ok(true)
+}
+
+fn keeps_two_pages(alloc: Global) -> Result<bool, AllocError> {
+    let mut served = open(alloc, 1)?;
+    Ok(harden_in_turn(&mut served)? && fill_frames(&mut served)? && get_in_turn(&mut served)?)
+}
+
+/// Two pages of 3,000 changes each are got in turn, 300,000 times, where each frame had a version
+/// before: each replaces another one, and is then found. If one took the frame of the other, each get
+/// would make 3,000 changes, and the test would take minutes.
+#[test]
+fn two_pages_in_turn(rt: HostRuntime) {
+    let mut is_right = keeps_two_pages(rt.alloc());
+    if is_right.is_err() {
+        is_right = keeps_two_pages(rt.alloc());
+    }
+    assert!(&rt; matches!(is_right, Ok(true)));
+}

@@ -218,8 +218,8 @@ fn frames_are_apart(rt: HostRuntime) -> Result<(), Fail> {
     plays::<Framed>(rt.alloc(), FRAMES_ARE_APART)
 }
 
-// Takes so many frames of an arena, gives back the last, and lets the arena go.
-fn ends(alloc: Global, frames: u32, refused: &mut bool) -> Result<(), Stop> {
+/// Takes so many frames of an arena, gives back the last, and lets the arena go.
+pub(crate) fn ends(alloc: Global, frames: u32, refused: &mut bool) -> Result<(), Stop> {
     let mut arena = VersionArena::new(alloc, 3);
     let mut last = None;
     for _ in 0..frames {

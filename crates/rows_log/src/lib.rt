@@ -19,6 +19,8 @@ mod log;
 #[cfg(test)]
 mod logs;
 #[cfg(test)]
+mod memory;
+#[cfg(test)]
 mod newest_blocks;
 #[cfg(test)]
 mod offers;

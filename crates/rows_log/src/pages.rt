@@ -14,7 +14,7 @@ use transcripts::transcript::{Stop, Subject, plays};
 
 /// A log with its pages, as whoever serves pages keeps them.
 #[derive(Drop)]
-struct Served {
+pub(crate) struct Served {
     log: DbLog,
     pages: Pages,
     ghost fits: { FitsLog pages log.hardened },
@@ -27,10 +27,11 @@ struct Replayed {
     served: Option<Served>,
 }
 
-fn open(alloc: Global) -> Result<Served, Stop> {
+/// An empty log with its pages, which have so many chunks of versions, or one.
+pub(crate) fn open(alloc: Global, chunks: u8) -> Result<Served, Stop> {
     Ok(Served {
         log: DbLog::new(alloc, 3, 2)?,
-        pages: Pages::new(alloc, 16),
+        pages: Pages::new(alloc, usize::from(chunks).max(1)),
     })
 }
 
@@ -74,8 +75,8 @@ impl Served {
         }
     }
 
-    // The LSN that is answered, and the first and the last byte of the page.
-    fn get(&mut self, page: u32, lsn: u64, exact: bool) -> Result<[u64; 3], Stop> {
+    /// The LSN that is answered, and the first and the last byte of the page.
+    pub(crate) fn get(&mut self, page: u32, lsn: u64, exact: bool) -> Result<[u64; 3], Stop> {
         if self.log.hard() < lsn {
             return Err(Stop::Unread);
         }
@@ -132,7 +133,7 @@ impl Subject for Replayed {
         let ["pages"] = words else {
             return self.ask(words, out);
         };
-        self.served = Some(open(self.alloc)?);
+        self.served = Some(open(self.alloc, 16)?);
         push_word(out, "Ok")
     }
 }

@@ -163,7 +163,7 @@ fn asks_at_once<R: Net<Stream = TcpStream>>(
 }
 
 // Two threads of connections.
-fn asks_by_two<R: Net<Stream = TcpStream> + Threads + Sync>(
+fn asks_by_two<R: Net<Listener = TcpListener, Stream = TcpStream> + Threads + Sync>(
     rt: &R,
     addr: SocketAddr,
 ) -> Result<bool, Stop> {
@@ -172,7 +172,7 @@ fn asks_by_two<R: Net<Stream = TcpStream> + Threads + Sync>(
 }
 
 // Connections at the same time, and then those of four threads.
-fn asks_all<R: Net<Stream = TcpStream> + Threads + Sync>(
+fn asks_all<R: Net<Listener = TcpListener, Stream = TcpStream> + Threads + Sync>(
     rt: &R,
     alloc: Global,
     addr: SocketAddr,
