@@ -66,7 +66,7 @@ in_broker                             = 64
 4 44 page_server 1 advance 0 1024     = Done
 3 33 secondary 1 get 0 1              = Page 1024
 3 33 secondary 1 get 0 1025           = Page 1025 01+0
-audit                                 = 10204
+audit                                 = 10205
 ";
 
 /// More hardened blocks than the first chunk of the index of destaged blocks has, read back.
