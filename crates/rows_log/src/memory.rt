@@ -6,6 +6,7 @@ use std::alloc::Global;
 use std::fs::File;
 use std::io::Read;
 use std::rt::Files;
+use std::str::SplitWhitespace;
 use transcripts::transcript::Stop;
 
 // The words of a file that the system writes.
@@ -16,20 +17,26 @@ fn system_text(files: &impl Files, alloc: Global) -> Option<Vec<u8>> {
     Some(text)
 }
 
-// How many pages of 4,096 bytes the program has.
-fn pages_in_use(files: &impl Files, alloc: Global) -> Result<u64, Stop> {
+// The next number of the words.
+fn next_number(words: &mut SplitWhitespace) -> Result<u64, Stop> {
+    Ok(words.next().ok_or(Stop::Unread)?.parse()?)
+}
+
+// How many pages of 4,096 bytes the program has, as addresses and as memory.
+fn pages_in_use(files: &impl Files, alloc: Global) -> Result<(u64, u64), Stop> {
     let text = system_text(files, alloc).ok_or(Stop::NoMemory)?;
     let Ok(text) = str::from_utf8(&text) else {
         return Err(Stop::Unread);
     };
-    let word = text.split_whitespace().next().ok_or(Stop::Unread)?;
-    Ok(word.parse()?)
+    let mut words = text.split_whitespace();
+    let addresses = next_number(&mut words)?;
+    Ok((addresses, next_number(&mut words)?))
 }
 
 // Whether the program runs under a checker of its memory, as `rt try` runs it: that holds terabytes of
 // addresses, and keeps what is freed.
-fn is_checked(pages: u64) -> bool {
-    pages > 1 << 28
+fn is_checked(addresses: u64) -> bool {
+    addresses > 1 << 28
 }
 
 // By how many pages of 4,096 bytes the program grows with a hundred arenas of three chunks, one after the
@@ -37,14 +44,15 @@ fn is_checked(pages: u64) -> bool {
 fn growth_of_arenas(files: &impl Files, alloc: Global) -> Result<u64, Stop> {
     let mut refused = false;
     ends(alloc, 192, &mut refused)?;
-    let before = pages_in_use(files, alloc)?;
-    if is_checked(before) {
+    let (addresses, before) = pages_in_use(files, alloc)?;
+    if is_checked(addresses) {
         return Ok(0);
     }
     for _ in 0..100 {
         ends(alloc, 192, &mut refused)?;
     }
-    Ok(pages_in_use(files, alloc)?.saturating_sub(before))
+    let (_, after) = pages_in_use(files, alloc)?;
+    Ok(after.saturating_sub(before))
 }
 
 /// A hundred arenas of 1.5 MB take no more than 8 MB, since the memory of each is freed at its end.
@@ -71,12 +79,13 @@ fn get_all(served: &mut Served, first: u32, behind: u32) -> Result<(), Stop> {
 fn growth_of_versions(files: &impl Files, alloc: Global) -> Result<u64, Stop> {
     let mut served = open(alloc, 1)?;
     get_all(&mut served, 0, 1_000)?;
-    let before = pages_in_use(files, alloc)?;
-    if is_checked(before) {
+    let (addresses, before) = pages_in_use(files, alloc)?;
+    if is_checked(addresses) {
         return Ok(0);
     }
     get_all(&mut served, 1_000, 501_000)?;
-    Ok(pages_in_use(files, alloc)?.saturating_sub(before))
+    let (_, after) = pages_in_use(files, alloc)?;
+    Ok(after.saturating_sub(before))
 }
 
 /// Half a million versions over an arena of 64 frames take no more than 4 MB: one that was replaced leaves
