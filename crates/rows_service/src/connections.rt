@@ -233,7 +233,8 @@ fn asks<R: Net<Stream = TcpStream>>(
     Some(&*told == wanted)
 }
 
-// The two clients, one after the other.
+// The two clients, one after the other. Each connects, whatever came of the one before, so that the
+// service comes to its end.
 fn ask_in_turn<R: Net<Stream = TcpStream>>(
     rt: &R,
     addr: SocketAddr,
@@ -243,7 +244,7 @@ fn ask_in_turn<R: Net<Stream = TcpStream>>(
     let mut are_right = true;
     for ((from, to), (first, last)) in clients {
         let (frames, wanted) = (run.0.get(from..to)?, run.1.get(first..last)?);
-        let is_right = asks(rt, addr, frames, wanted)?;
+        let is_right = asks(rt, addr, frames, wanted) == Some(true);
         are_right = are_right && is_right;
     }
     Some(are_right)

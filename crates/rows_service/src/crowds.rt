@@ -133,14 +133,20 @@ fn asking<R: Net<Stream = TcpStream>>(rt: &R, addr: SocketAddr) -> Result<TcpStr
     Ok(stream)
 }
 
-// One connection after the other. Whether each is answered.
+// One connection, which is closed again. Whether it is answered.
+fn is_answered<R: Net<Stream = TcpStream>>(rt: &R, addr: SocketAddr) -> Result<bool, Stop> {
+    is_done(&mut asking(rt, addr)?)
+}
+
+// One connection after the other, each whatever came of those before, so that the service comes to its
+// end. Whether all are answered.
 fn asks_in_turn<R: Net<Stream = TcpStream>>(rt: &R, addr: SocketAddr) -> Result<bool, Stop> {
+    let mut are_answered = true;
     for _ in 0..IN_TURN {
-        if !is_done(&mut asking(rt, addr)?)? {
-            return Ok(false);
-        }
+        let answered = is_answered(rt, addr);
+        are_answered = are_answered && matches!(answered, Ok(true));
     }
-    Ok(true)
+    Ok(are_answered)
 }
 
 // So many connections, which are open at the same time. Each has asked before the first is closed, and
@@ -177,9 +183,9 @@ fn asks_all<R: Net<Listener = TcpListener, Stream = TcpStream> + Threads + Sync>
     alloc: Global,
     addr: SocketAddr,
 ) -> Result<bool, Stop> {
-    let at_once = asks_at_once(rt, alloc, addr)?;
+    let at_once = asks_at_once(rt, alloc, addr);
     let (first, second) = thread::join(rt, || asks_by_two(rt, addr), || asks_by_two(rt, addr));
-    Ok(at_once && first? && second?)
+    Ok(at_once? && first? && second?)
 }
 
 // A pass for each worker, of which the first counts from 0, the next from 1,000, and so on.

@@ -117,14 +117,14 @@ struct Sink {
 }
 
 impl Sink {
-    // A write where the room is full.
-    fn write_at_end(&mut self) -> io::Result<usize> {
+    // The error of a write where the room is full, or `None` where it takes no byte.
+    fn error_at_end(&mut self) -> Option<ErrorKind> {
         match self.full {
-            Full::TakesNone => Ok(0),
-            Full::Fails => Err(io::Error::from(ErrorKind::BrokenPipe)),
+            Full::TakesNone => None,
+            Full::Fails => Some(ErrorKind::BrokenPipe),
             Full::IsInterrupted => {
                 self.room = usize::MAX;
-                Err(io::Error::from(ErrorKind::Interrupted))
+                Some(ErrorKind::Interrupted)
             }
         }
     }
@@ -133,7 +133,10 @@ impl Sink {
 impl Write for Sink {
     fn write(&mut self, buf: &[u8]) -> io::Result<usize> {
         if self.room == 0 {
-            return self.write_at_end();
+            return match self.error_at_end() {
+                Some(kind) => Err(io::Error::from(kind)),
+                None => Ok(0),
+            };
         }
         let count = buf.len().min(self.at_once).min(self.room);
         self.held.extend_from_slice(&buf[..count])?;

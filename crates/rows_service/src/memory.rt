@@ -108,7 +108,7 @@ impl Write for Output {
         let (now, _) = buf.split_at(count);
         self.keep(now)?;
         self.taken = self.taken.saturating_add(count);
-        self.room -= count;
+        self.room = self.room.saturating_sub(count);
         Ok(count)
     }
 
