@@ -1,0 +1,348 @@
+/* The wire: one object is one connection to a log and page service, as one principal, to one database, in one
+ * epoch.
+ *
+ * docs/FORMATS.md has the bytes, docs/RULES.md what the service decides, docs/CLIENT.md how a database uses
+ * both.
+ *
+ *   - An object connects when it has to ask, and again when the connection was lost. It is used by one thread
+ * at a time.
+ *   - Every wait ends: `connect_ms` bounds a connect, `reply_ms` the sending of what is queued and the wait
+ * for one reply to its last byte. A lost connection is opened again for `patience_ms`, so that a call whose
+ * service does not answer takes about the sum of the three.
+ *   - Nothing here ends the process, writes to a stream, raises a signal or keeps anything outside of the
+ * object.
+ *   - LSNs, pages, epochs and lengths are the service's: an LSN is 1 to 2^48, a page has 8,192 bytes.
+ */
+#ifndef PAGELOG_H
+#define PAGELOG_H
+
+#include <stdbool.h>
+#include <stddef.h>
+#include <stdint.h>
+
+#ifdef __cplusplus
+extern "C" {
+#endif
+
+enum {
+    PAGELOG_PAGE_BYTES = 8192,
+    PAGELOG_BLOCK_BYTES = 32768,   /* a block, encoded, at most */
+    PAGELOG_REQUEST_BYTES = 65536, /* the body of a request, at most */
+    PAGELOG_REPLY_BYTES = 1048576, /* the body of a reply, at most */
+    PAGELOG_TOKEN_BYTES = 16,
+    PAGELOG_WINDOW = 64,        /* LSNs above the end of the log that may be written */
+    PAGELOG_PULL_BLOCKS = 16,   /* blocks of one pull, at most */
+    PAGELOG_AUDIT_LINES = 1024, /* lines of one audit, at most */
+    PAGELOG_AUDIT_LINE_BYTES = 53,
+    PAGELOG_IN_FLIGHT = 1024, /* requests that may wait for their replies, at most */
+};
+
+#define PAGELOG_LAST_LSN (UINT64_C(1) << 48)
+
+/* ---- Outcomes: what a client does next ---- */
+
+/* What became of a call. `pagelog_refused()` has the reply behind it, row and value. */
+enum pagelog_outcome {
+    PAGELOG_DONE,       /* it is done; of an append: all blocks are in the log */
+    PAGELOG_LOST,       /* no connection, or it was lost, or a time-out; asked again it may be done */
+    PAGELOG_FENCED,     /* A2, A3, A4: another epoch or another primary, or a service that was started anew */
+    PAGELOG_IN_DOUBT,   /* of an append only: whether it is in the log cannot be learned now */
+    PAGELOG_CONFLICT,   /* C2, C3, C4, C6: the window holds something else than this object believed */
+    PAGELOG_DENIED,     /* any other row; no such database; no turns left (Spent) */
+    PAGELOG_NO_MEMORY,  /* the service's memory, or this process', did not suffice; nothing was changed */
+    PAGELOG_AUDIT_FULL, /* the database answers nothing any more, not even to an operator */
+    PAGELOG_MALFORMED,  /* an argument out of its range, or a reply that is none */
+};
+
+/* The outcome in lower case, as "in doubt". */
+const char *pagelog_outcome_name(enum pagelog_outcome outcome);
+
+/* ---- Requests and replies ---- */
+
+enum pagelog_role { PAGELOG_PRIMARY = 1, PAGELOG_SECONDARY, PAGELOG_PAGE_SERVER, PAGELOG_OPERATOR };
+
+enum pagelog_operation {
+    PAGELOG_WRITE = 1,
+    PAGELOG_OFFER,
+    PAGELOG_REPORT,
+    PAGELOG_GET,
+    PAGELOG_PULL,
+    PAGELOG_ADVANCE,
+    PAGELOG_STATUS,
+    PAGELOG_FAILOVER,
+    PAGELOG_SET_TABLE,
+    PAGELOG_AUDIT,
+    PAGELOG_TIDY,
+};
+
+/* A request; each operation reads the fields that are named after it, and no others. */
+struct pagelog_request {
+    uint32_t principal;
+    uint8_t token[PAGELOG_TOKEN_BYTES];
+    uint8_t role;
+    uint32_t database;
+    uint32_t epoch;
+    uint8_t operation;
+    uint8_t copy;         /* write */
+    uint8_t exact;        /* get: 0 or 1 */
+    uint16_t lo, hi;      /* pull: partitions, lo at most hi */
+    uint16_t max;         /* pull: 1 to 16; audit: 1 to 1,024 */
+    uint16_t partition;   /* advance */
+    uint16_t steps;       /* advance: 1 to 1,024 */
+    uint32_t page;        /* get */
+    uint32_t to;          /* failover: the principal that becomes the primary */
+    uint64_t lsn;         /* report, get: 0 to 2^48; pull: from 1 on; audit: the first entry, from 1 on */
+    const uint8_t *bytes; /* write, offer: an encoded block; set_table: a text */
+    size_t length;
+};
+
+enum pagelog_kind {
+    PAGELOG_REPLY_DONE,
+    PAGELOG_REPLY_BLOCKS,
+    PAGELOG_REPLY_PAGE,
+    PAGELOG_REPLY_ENTRIES,
+    PAGELOG_REPLY_STATUS,
+    PAGELOG_REPLY_DENIED,
+    PAGELOG_REPLY_NO_MEMORY,
+    PAGELOG_REPLY_AUDIT_FULL,
+    PAGELOG_REPLY_SPENT,
+    PAGELOG_REPLY_NO_DATABASE,
+    PAGELOG_REPLY_MALFORMED,
+};
+
+/* A reply. Its bytes are those that were received: they stand until the next call with the same object. */
+struct pagelog_reply {
+    uint8_t kind;
+    uint8_t section;  /* denied: 1 to 3, for A to C */
+    uint16_t row;     /* denied */
+    uint64_t value;   /* denied */
+    uint8_t code;     /* malformed: the body's fault, 1 to 15 */
+    uint16_t count;   /* blocks, entries: how many */
+    uint64_t next;    /* blocks: where the next pull goes on */
+    uint64_t at;      /* page: the LSN that it is served at */
+    uint32_t epoch;   /* status */
+    uint32_t primary; /* status */
+    uint64_t hard;    /* status: the end of the log, the number of hardened blocks */
+    uint64_t pending; /* status: how many of them came from the pending area */
+    uint64_t landing; /* status: how many from the landing zone */
+    const uint8_t
+        *bytes; /* blocks: u32 length and block, `count` times; page: 8,192 bytes; entries: 53 bytes each */
+    size_t length;
+};
+
+/* How many bytes the body of a request has, which are written to `body`, or 0 where a field is out of its
+ * range or the body would be longer than `room`. 65,536 bytes of room suffice for every request. A block is
+ * not looked at. */
+size_t pagelog_encode_request(const struct pagelog_request *request, uint8_t *body, size_t room);
+
+/* Reads the body of a reply. 0, or the first fault, 1 to 15, by docs/FORMATS.md, section Reply. */
+unsigned pagelog_decode_reply(const uint8_t *body, size_t length, struct pagelog_reply *reply);
+
+/* What a reply means to a client. */
+enum pagelog_outcome pagelog_outcome_of(const struct pagelog_reply *reply);
+
+/* A line of the audit list. */
+struct pagelog_audit_line {
+    uint64_t number, pass;
+    uint32_t principal;
+    uint8_t role;
+    uint32_t epoch;
+    uint8_t operation;
+    uint64_t a, b;
+    uint8_t section; /* 0: it was allowed */
+    uint16_t row;
+    uint64_t value;
+};
+
+/* Reads one of the 53-byte lines of a reply Entries. */
+void pagelog_read_audit_line(const uint8_t *bytes, struct pagelog_audit_line *line);
+
+/* ---- Blocks ---- */
+
+/* The fault of an encoded block, 1 to 9 by docs/FORMATS.md, section Block, or 0. */
+unsigned pagelog_block_fault(const uint8_t *block, size_t length);
+
+/* A record of a block: it replaces `length` bytes of a page from `offset` on, or, where length is 0, makes
+ * all of them zeros. */
+struct pagelog_record {
+    uint32_t page;
+    uint16_t offset, length;
+    const uint8_t *bytes;
+};
+
+/* Goes through the records of a block. */
+struct pagelog_records {
+    uint64_t lsn;
+    uint16_t left; /* records that were not yet read */
+    const uint8_t *at;
+};
+
+/* Begins at the first record. REQUIRES: the block has no fault, as those of a decoded reply have none. */
+void pagelog_records_begin(struct pagelog_records *records, const uint8_t *block);
+
+/* The next record, or false behind the last one. */
+bool pagelog_records_next(struct pagelog_records *records, struct pagelog_record *record);
+
+/* Blocks with consecutive LSNs that are built of records, each filled before the next one is begun. */
+struct pagelog_blocks;
+
+/* No blocks yet; NULL where memory runs out. */
+struct pagelog_blocks *pagelog_blocks_new(void);
+void pagelog_blocks_free(struct pagelog_blocks *blocks);
+
+/* Drops all blocks; the next one has this LSN. */
+void pagelog_blocks_restart(struct pagelog_blocks *blocks, uint64_t first_lsn);
+
+/* Adds a Put, cut where a block is full. `length` is 1 to 8,192, and offset + length at most 8,192, else
+ * MALFORMED. After NO_MEMORY the blocks can only be restarted or freed. */
+enum pagelog_outcome pagelog_blocks_put(struct pagelog_blocks *blocks, uint32_t page, uint16_t offset,
+                                        const uint8_t *bytes, uint16_t length);
+
+/* Adds a Put that is never cut: it begins the next block where it does not fit into this one. */
+enum pagelog_outcome pagelog_blocks_put_whole(struct pagelog_blocks *blocks, uint32_t page, uint16_t offset,
+                                              const uint8_t *bytes, uint16_t length);
+
+/* Adds a Zero: all bytes of the page become 0. */
+enum pagelog_outcome pagelog_blocks_zero(struct pagelog_blocks *blocks, uint32_t page);
+
+/* Adds the Puts that make the page `old` into `new`; a gap of so few equal bytes that a second head would
+ * cost more is put too. Both have 8,192 bytes. Nothing is added where they are equal. */
+enum pagelog_outcome pagelog_blocks_difference(struct pagelog_blocks *blocks, uint32_t page,
+                                               const uint8_t *old, const uint8_t *new_bytes);
+
+/* Ends the block that is being filled, if it has a record. An append needs it. */
+enum pagelog_outcome pagelog_blocks_end(struct pagelog_blocks *blocks);
+
+/* How many blocks were ended. A block that is being filled is not counted. */
+size_t pagelog_blocks_count(const struct pagelog_blocks *blocks);
+
+/* Forgets the first `count` ended blocks, which were appended; the block that is being filled stays. */
+void pagelog_blocks_drop(struct pagelog_blocks *blocks, size_t count);
+
+/* An ended block as its bytes. REQUIRES: index below the count. */
+const uint8_t *pagelog_blocks_at(const struct pagelog_blocks *blocks, size_t index, size_t *length);
+
+/* ---- The object ---- */
+
+struct pagelog;
+
+struct pagelog_options {
+    const char *address; /* "HOST:PORT", "[HOST]:PORT" of IPv6; copied */
+    uint32_t principal;
+    uint8_t token[PAGELOG_TOKEN_BYTES];
+    uint32_t database;
+    unsigned connect_ms; /* 0: 5,000 */
+    unsigned reply_ms;   /* 0: 10,000 */
+    unsigned
+        patience_ms; /* how long a call opens lost connections again while nothing gets done; 0: 10,000 */
+};
+
+/* What an object has done since it was made. */
+struct pagelog_counts {
+    uint64_t requests, replies;
+    uint64_t bytes_sent, bytes_received;
+    uint64_t round_trips; /* waits for a reply after something was sent */
+    uint64_t connects;
+};
+
+/* An object that is not connected yet; NULL where memory runs out. */
+struct pagelog *pagelog_new(const struct pagelog_options *options);
+void pagelog_free(struct pagelog *log);
+
+/* Closes the connection. The next call opens another. Requests in flight are lost. */
+void pagelog_disconnect(struct pagelog *log);
+
+/* The reply behind the last outcome that was not DONE; `kind` is PAGELOG_REPLY_DONE where there was none, as
+ * for LOST. */
+const struct pagelog_reply *pagelog_refused(const struct pagelog *log);
+
+/* Whether the service was started anew behind this object's back: its epoch or the end of its log fell.
+ * Everything that was in the log is gone then. Each later call is FENCED. */
+bool pagelog_is_anew(const struct pagelog *log);
+
+/* Writes a sentence on the last outcome that was not DONE, cut to `room` bytes with the 0 behind it, as
+ * "fenced: denied A2, value 7". */
+void pagelog_explain(const struct pagelog *log, char *text, size_t room);
+
+struct pagelog_counts pagelog_counts_of(const struct pagelog *log);
+
+/* The newest epoch that the object has heard of; 0 before the first reply that tells one. */
+uint32_t pagelog_epoch(const struct pagelog *log);
+
+/* The epoch in which the object writes, or 0 where it is no writer. */
+uint32_t pagelog_writing_epoch(const struct pagelog *log);
+
+/* The highest LSN that the object knows to be in the log. */
+uint64_t pagelog_end(const struct pagelog *log);
+
+/* ---- Requests in flight ---- */
+
+/* Queues a request: principal, token, database and epoch are the object's where `as` is NULL, so that a
+ * caller fills in role, operation and arguments alone. A primary's epoch is the writing epoch, every other
+ * role's the newest one. MALFORMED where an argument is out of its range or 1,024 requests are in flight.
+ * Nothing may have been sent yet when
+ * it returns. While the rest of what is queued is being sent, up to 16 MiB of replies are read ahead. */
+enum pagelog_outcome pagelog_send(struct pagelog *log, const struct pagelog_request *request);
+
+/* As pagelog_send, with principal, token, database and epoch as the request has them. */
+enum pagelog_outcome pagelog_send_as(struct pagelog *log, const struct pagelog_request *request);
+
+/* Sends what is queued and reads the reply to the oldest request in flight. The outcome is that of the reply.
+ * LOST: all requests in flight are forgotten, and each of them may have been carried out or not. MALFORMED:
+ * the same, where the reply is none of those that the request can have. */
+enum pagelog_outcome pagelog_receive(struct pagelog *log, struct pagelog_reply *reply);
+
+/* How many requests were sent or queued whose replies were not yet read. */
+size_t pagelog_in_flight(const struct pagelog *log);
+
+/* ---- Reading. These calls need an object with nothing in flight; they are repeated after a lost connection,
+ * and take over a newer epoch for every role but the primary's. ---- */
+
+/* Asks for the status. As primary FENCED where the epoch is over. */
+enum pagelog_outcome pagelog_status(struct pagelog *log, enum pagelog_role role,
+                                    struct pagelog_reply *status);
+
+/* Pages at an LSN, 8,192 bytes each, to `out`, with up to 64 requests in flight. DENIED with row C1 where the
+ * LSN is above the end of the log. What stands in `out` after any outcome but DONE is not told. */
+enum pagelog_outcome pagelog_get(struct pagelog *log, enum pagelog_role role, uint64_t lsn,
+                                 const uint32_t *pages, size_t count, uint8_t *out);
+
+/* The blocks from an LSN on, at most `max` (1 to 16), as a secondary, over all partitions. At the end of the
+ * log it is DONE with a count of 0 and `next` as it was asked. The blocks stand until the next call. After a
+ * lost connection fewer are asked for. */
+enum pagelog_outcome pagelog_pull(struct pagelog *log, uint64_t from, unsigned max,
+                                  struct pagelog_reply *blocks);
+
+/* The next block of a reply Blocks, or NULL: `*at` is 0 at first, and is moved on. */
+const uint8_t *pagelog_next_block(const struct pagelog_reply *blocks, size_t *at, size_t *length);
+
+/* ---- Writing ---- */
+
+/* Becomes the writer of a new epoch, by a failover to this object's principal in the name of an operator.
+ * Where `expected` is not 0 it does so only if that is the current epoch, and is FENCED otherwise; else
+ * whatever the epoch is. No other object has the epoch that it begins: it is of use to nobody who does not
+ * ask in its name and in its number. */
+enum pagelog_outcome pagelog_take_over(struct pagelog *log, uint32_t operator_principal,
+                                       const uint8_t operator_token[PAGELOG_TOKEN_BYTES], uint32_t expected);
+
+/* Becomes a writer of the current epoch, which has to be this principal's; FENCED (A4) otherwise. Two objects
+ * may write in one epoch so, which spoils transactions of several blocks: pagelog_take_over rules that out.
+ */
+enum pagelog_outcome pagelog_join(struct pagelog *log);
+
+/* Appends ended blocks, the first of which has the LSN pagelog_end() + 1, to two copies or to three. Up to 64
+ * blocks take one round trip. A lost connection is opened again and the rest is repeated, in smaller groups.
+ *
+ * DONE: all blocks are in the log, even if the epoch has ended in the meantime; then the next call is FENCED.
+ * IN_DOUBT: the last block may be in the log or come into it; a look in a later epoch tells.
+ * Any other outcome: the last block is not in the log and never will be; some of the first may be.
+ *
+ * After any outcome but DONE each later append is CONFLICT until pagelog_take_over was DONE, unless nothing
+ * was accepted. */
+enum pagelog_outcome pagelog_append(struct pagelog *log, const struct pagelog_blocks *blocks,
+                                    unsigned copies);
+
+#ifdef __cplusplus
+}
+#endif
+#endif

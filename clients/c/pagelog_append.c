@@ -1,0 +1,286 @@
+/* The append: it knows the blocks until they are in the log, repeats them after a lost connection, and turns
+ * the replies into an outcome that never lies.
+ *
+ * What it rests on, of docs/RULES.md:
+ *   - The content of an LSN is fixed in an epoch. So a block may be written again, and a write that was Done
+ * says that the content is this block.
+ *   - A report says nothing about whose blocks it hardens. So the reply to each write is read.
+ *   - A failover hardens the longest run of blocks that are in two copies. So blocks that were Done in two
+ * copies are in the log once their epoch is over, whatever became of their report.
+ *   - Nothing of an epoch that is over can be written any more. So a block that was then in fewer than two
+ * copies, and was not hardened, never will be.
+ */
+#include "pagelog_inside.h"
+
+#include <string.h>
+
+enum { MEMORY_TRIES = 5 };
+
+/* What is known of a block above the end of the log: of each copy a bit. */
+struct marks {
+    uint8_t done;   /* the write was Done */
+    uint8_t unsure; /* the write was sent, and its reply was lost */
+};
+
+struct append {
+    struct pagelog *log;
+    const struct pagelog_blocks *blocks;
+    size_t count;
+    unsigned copies;
+    uint64_t base;                      /* the LSN of block 0 */
+    size_t first;                       /* the blocks before it are in the log */
+    struct marks marks[PAGELOG_WINDOW]; /* of block i, first <= i < first + 64, at i % 64 */
+    bool is_report_unsure;              /* a report of the last block was sent, and its reply was lost */
+    /* What the last group was answered. */
+    bool is_reported, is_ahead;   /* the report was Done; a write met an LSN in the log (C2) */
+    enum pagelog_outcome refusal; /* the first refusal of a write, else that of the report, or DONE */
+    struct pagelog_reply refused;
+};
+
+static struct marks *marks_of(struct append *append, size_t index) {
+    return &append->marks[index % PAGELOG_WINDOW];
+}
+
+static unsigned count_of(unsigned bits) {
+    return (bits & 1) + (bits >> 1 & 1) + (bits >> 2 & 1);
+}
+
+/* In how many copies the last block may stand. */
+static unsigned copies_of_last(struct append *append) {
+    size_t last = append->count - 1;
+    if (last >= append->first + PAGELOG_WINDOW) return 0;
+    const struct marks *marks = marks_of(append, last);
+    return count_of(marks->done | marks->unsure);
+}
+
+/* Whether each of `count` blocks from the first one on was Done in so many copies. */
+static bool are_done(struct append *append, size_t count, unsigned copies) {
+    for (size_t i = append->first; i < append->first + count; i++)
+        if (i >= append->first + PAGELOG_WINDOW || count_of(marks_of(append, i)->done) < copies) return false;
+    return true;
+}
+
+/* The next `count` blocks are in the log. */
+static void advance(struct append *append, size_t count) {
+    for (size_t i = 0; i < count && i < PAGELOG_WINDOW; i++)
+        *marks_of(append, append->first + i) = (struct marks){0, 0};
+    append->first += count;
+    uint64_t end = append->base + append->first - 1;
+    if (end > append->log->end) append->log->end = end;
+}
+
+/* ---- A group: writes and a report in one round trip ---- */
+
+static enum pagelog_outcome send_writes(struct append *append, size_t index) {
+    struct pagelog_request request = {.role = PAGELOG_PRIMARY, .operation = PAGELOG_WRITE};
+    request.bytes = pagelog_blocks_at(append->blocks, index, &request.length);
+    for (unsigned copy = 0; copy < append->copies; copy++) {
+        if (marks_of(append, index)->done >> copy & 1) continue;
+        request.copy = (uint8_t)copy;
+        enum pagelog_outcome outcome = pagelog_send(append->log, &request);
+        if (outcome != PAGELOG_DONE) return outcome;
+    }
+    return PAGELOG_DONE;
+}
+
+static enum pagelog_outcome send_report(struct append *append, size_t count) {
+    struct pagelog_request request = {.role = PAGELOG_PRIMARY, .operation = PAGELOG_REPORT};
+    request.lsn = append->base + append->first + count - 1;
+    return pagelog_send(append->log, &request);
+}
+
+/* Notes what a write or the report was answered; false where the connection is gone. */
+static bool note(struct append *append, enum pagelog_outcome outcome) {
+    const struct pagelog_reply *refused = pagelog_refused(append->log);
+    bool hardened = outcome == PAGELOG_CONFLICT && refused->row == 2;
+    if (hardened) append->is_ahead = true;
+    if (outcome != PAGELOG_DONE && append->refusal == PAGELOG_DONE) {
+        append->refusal = outcome;
+        append->refused = *refused;
+    }
+    return outcome != PAGELOG_LOST && outcome != PAGELOG_MALFORMED;
+}
+
+/* Reads the replies to the writes of a block. Once the connection is gone the others' are lost with it. */
+static bool receive_writes(struct append *append, size_t index, bool connected) {
+    struct marks *marks = marks_of(append, index);
+    struct pagelog_reply reply;
+    for (unsigned copy = 0; copy < append->copies; copy++) {
+        if (marks->done >> copy & 1) continue;
+        enum pagelog_outcome outcome = connected ? pagelog_receive(append->log, &reply) : PAGELOG_LOST;
+        if (connected) connected = note(append, outcome);
+        if (outcome == PAGELOG_DONE) marks->done |= (uint8_t)(1u << copy);
+        if (!connected) marks->unsure |= (uint8_t)(1u << copy);
+    }
+    return connected;
+}
+
+static enum pagelog_outcome exchange_group(struct append *append, size_t count) {
+    enum pagelog_outcome outcome = PAGELOG_DONE;
+    struct pagelog_reply reply;
+    bool has_last = append->first + count == append->count, connected = true;
+    append->is_reported = append->is_ahead = false;
+    append->refusal = PAGELOG_DONE;
+    for (size_t i = 0; i < count && outcome == PAGELOG_DONE; i++)
+        outcome = send_writes(append, append->first + i);
+    if (outcome == PAGELOG_DONE) outcome = send_report(append, count);
+    if (outcome != PAGELOG_DONE) { /* nothing has left this process yet */
+        pagelog_disconnect(append->log);
+        note(append, outcome);
+        return outcome;
+    }
+    for (size_t i = 0; i < count; i++)
+        connected = receive_writes(append, append->first + i, connected);
+    if (connected) {
+        outcome = pagelog_receive(append->log, &reply);
+        append->is_reported = outcome == PAGELOG_DONE;
+        connected = note(append, outcome);
+    }
+    if (!connected && has_last) append->is_report_unsure = true;
+    return append->refusal;
+}
+
+/* ---- A look at what is in the log ---- */
+
+/* Whether the log has just these blocks from the first one on, `count` of them: DONE, CONFLICT where another
+ * stands in its place or the log ends before, else why it could not be learned. */
+static enum pagelog_outcome look(struct append *append, size_t first, size_t count) {
+    size_t seen = 0;
+    while (seen < count) {
+        struct pagelog_reply pulled;
+        size_t at = 0, length, own_length;
+        const uint8_t *block;
+        unsigned max = count - seen < PAGELOG_PULL_BLOCKS ? (unsigned)(count - seen) : PAGELOG_PULL_BLOCKS;
+        enum pagelog_outcome outcome = pagelog_pull(append->log, append->base + first + seen, max, &pulled);
+        if (outcome != PAGELOG_DONE) return outcome;
+        while (seen < count && (block = pagelog_next_block(&pulled, &at, &length))) {
+            const uint8_t *own = pagelog_blocks_at(append->blocks, first + seen, &own_length);
+            if (length != own_length || memcmp(block, own, length) != 0) return PAGELOG_CONFLICT;
+            seen++;
+        }
+        if (at == 0) return PAGELOG_CONFLICT;
+    }
+    return PAGELOG_DONE;
+}
+
+/* After a lost connection, or a write at an LSN that is in the log: learns how far the log goes, and whether
+ * what stands there is what was to be appended. DONE: the rest may be asked again. */
+static enum pagelog_outcome catch_up(struct append *append) {
+    struct pagelog_reply status;
+    enum pagelog_outcome outcome = pagelog_status(append->log, PAGELOG_PRIMARY, &status);
+    if (outcome != PAGELOG_DONE) return outcome;
+    uint64_t next = append->base + append->first;
+    if (status.hard < next) return PAGELOG_DONE;
+    size_t count = append->count - append->first;
+    if (status.hard - next + 1 < count) count = (size_t)(status.hard - next + 1);
+    outcome = look(append, append->first, count);
+    /* Who may not pull knows it by an epoch of its own, or by writes that were Done. */
+    if (outcome == PAGELOG_DENIED && (append->log->owns_epoch || are_done(append, count, 1)))
+        outcome = PAGELOG_DONE;
+    if (outcome == PAGELOG_DONE) advance(append, count);
+    return outcome;
+}
+
+/* ---- The end of an append ---- */
+
+/* Ends an append that is not DONE. What the window may hold now nobody takes back but a failover. */
+static enum pagelog_outcome give_up(struct append *append, enum pagelog_outcome outcome) {
+    bool accepted = false;
+    for (size_t i = 0; i < PAGELOG_WINDOW; i++)
+        if (append->marks[i].done | append->marks[i].unsure) accepted = true;
+    if (accepted) append->log->stuck = true;
+    append->log->last = outcome;
+    append->log->refused = append->refused;
+    append->log->refused.bytes = NULL;
+    return outcome;
+}
+
+/* The epoch is over, so that what became of the last block is decided. */
+static enum pagelog_outcome conclude_after_epoch(struct append *append) {
+    size_t left = append->count - append->first;
+    if (are_done(append, left, 2)) {
+        advance(append, left);
+        return PAGELOG_DONE;
+    }
+    if (copies_of_last(append) < 2) return give_up(append, PAGELOG_FENCED);
+    enum pagelog_outcome outcome = look(append, append->count - 1, 1);
+    if (outcome == PAGELOG_DONE) {
+        advance(append, left);
+        return PAGELOG_DONE;
+    }
+    bool never = outcome == PAGELOG_CONFLICT || append->log->anew;
+    return give_up(append, never ? PAGELOG_FENCED : PAGELOG_IN_DOUBT);
+}
+
+static bool is_epoch_over(const struct pagelog_reply *refused) {
+    return refused->kind == PAGELOG_REPLY_DENIED && refused->section == SECTION_A && refused->row == 2;
+}
+
+static bool is_dead(const struct pagelog_reply *refused) {
+    return refused->kind == PAGELOG_REPLY_AUDIT_FULL || refused->kind == PAGELOG_REPLY_SPENT;
+}
+
+/* What an append has come to that cannot go on, by the last refusal. */
+static enum pagelog_outcome conclude(struct append *append, enum pagelog_outcome cause) {
+    if (append->log->anew) return give_up(append, PAGELOG_FENCED);
+    if (is_epoch_over(&append->refused)) return conclude_after_epoch(append);
+    if (is_dead(&append->refused) && !append->is_report_unsure) return give_up(append, cause);
+    return give_up(append, copies_of_last(append) < 2 ? cause : PAGELOG_IN_DOUBT);
+}
+
+/* Keeps the refusal of a call within the append as its own. */
+static enum pagelog_outcome taken_from_log(struct append *append, enum pagelog_outcome outcome) {
+    if (outcome != PAGELOG_DONE) append->refused = *pagelog_refused(append->log);
+    return outcome;
+}
+
+/* Whether the group that was exchanged is in the log. A report that was Done hardened the contents of these
+ * LSNs, and a write that was Done says that the content is this block. */
+static bool is_in_log(struct append *append, size_t count) {
+    return append->is_reported && are_done(append, count, 1);
+}
+
+/* Goes on until all blocks are in the log, or why they are not. */
+static enum pagelog_outcome run(struct append *append) {
+    struct pagelog_patience patience = pagelog_patience_of(append->log);
+    size_t most = PAGELOG_WINDOW;
+    unsigned memory_tries = 0;
+    while (append->first < append->count) {
+        size_t left = append->count - append->first, count = left < most ? left : most;
+        size_t before = append->first;
+        enum pagelog_outcome outcome = exchange_group(append, count);
+        if (is_in_log(append, count)) {
+            advance(append, count);
+            pagelog_progress(&patience);
+            most = most * 2 < PAGELOG_WINDOW ? most * 2 : PAGELOG_WINDOW;
+            continue;
+        }
+        if (outcome == PAGELOG_LOST && pagelog_may_try_again(&patience)) {
+            most = count > 1 ? count / 2 : 1;
+            outcome = taken_from_log(append, catch_up(append));
+        } else if (append->is_ahead) {
+            outcome = taken_from_log(append, catch_up(append));
+            if (outcome == PAGELOG_DONE && append->first == before) outcome = PAGELOG_CONFLICT;
+        } else if (outcome == PAGELOG_NO_MEMORY && ++memory_tries < MEMORY_TRIES) {
+            outcome = pagelog_may_try_again(&patience) ? PAGELOG_DONE : outcome;
+        }
+        if (append->first > before) pagelog_progress(&patience);
+        if (outcome != PAGELOG_DONE) return conclude(append, outcome);
+    }
+    return PAGELOG_DONE;
+}
+
+enum pagelog_outcome pagelog_append(struct pagelog *log, const struct pagelog_blocks *blocks,
+                                    unsigned copies) {
+    struct append append = {.log = log, .blocks = blocks, .copies = copies};
+    size_t length;
+    append.count = pagelog_blocks_count(blocks);
+    if (log->anew) return pagelog_fail(log, PAGELOG_FENCED);
+    if (log->stuck) return pagelog_fail(log, PAGELOG_CONFLICT);
+    if (log->writing_epoch == 0 || log->asked_count > 0 || copies < 2 || copies > 3)
+        return pagelog_fail(log, PAGELOG_MALFORMED);
+    if (append.count == 0) return PAGELOG_DONE;
+    append.base = pagelog_read_number(pagelog_blocks_at(blocks, 0, &length), 8);
+    if (append.base != log->end + 1) return pagelog_fail(log, PAGELOG_MALFORMED);
+    return run(&append);
+}

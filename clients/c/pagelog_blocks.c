@@ -1,0 +1,217 @@
+/* Blocks that are built of records. */
+#include "pagelog_inside.h"
+
+#include <stdlib.h>
+#include <string.h>
+
+/* Bytes of a Put that are worth the end of a block: a shorter piece goes into the next one as a whole. */
+enum { SHORTEST_PIECE = 64 };
+
+struct pagelog_blocks {
+    uint64_t next_lsn; /* of the block that is being filled */
+    /* Ended blocks, one behind the other; block i ends at ends[i], counted from the start of `bytes`. */
+    uint8_t *bytes;
+    size_t room;
+    size_t *ends;
+    size_t count, ends_room;
+    /* The block that is being filled. */
+    uint8_t records[PAGELOG_BLOCK_BYTES];
+    size_t length;
+    unsigned record_count;
+    uint16_t *partitions; /* rising */
+    size_t partition_count, partition_room;
+};
+
+struct pagelog_blocks *pagelog_blocks_new(void) {
+    return calloc(1, sizeof(struct pagelog_blocks));
+}
+
+void pagelog_blocks_free(struct pagelog_blocks *blocks) {
+    if (!blocks) return;
+    free(blocks->bytes);
+    free(blocks->ends);
+    free(blocks->partitions);
+    free(blocks);
+}
+
+static void empty_record_area(struct pagelog_blocks *blocks) {
+    blocks->length = 0;
+    blocks->record_count = 0;
+    blocks->partition_count = 0;
+}
+
+void pagelog_blocks_restart(struct pagelog_blocks *blocks, uint64_t first_lsn) {
+    blocks->next_lsn = first_lsn;
+    blocks->count = 0;
+    empty_record_area(blocks);
+}
+
+/* Where the ended blocks end. */
+static size_t end_of(const struct pagelog_blocks *blocks) {
+    return blocks->count > 0 ? blocks->ends[blocks->count - 1] : 0;
+}
+
+/* Makes room for `wanted` elements, twice as many as before at least. */
+static bool grow(void **array, size_t *room, size_t wanted, size_t size) {
+    if (wanted <= *room) return true;
+    size_t most = *room * 2 > wanted ? *room * 2 : wanted;
+    void *grown = realloc(*array, most * size);
+    if (!grown) return false;
+    *array = grown;
+    *room = most;
+    return true;
+}
+
+enum pagelog_outcome pagelog_blocks_end(struct pagelog_blocks *blocks) {
+    if (blocks->record_count == 0) return PAGELOG_DONE;
+    size_t start = end_of(blocks);
+    size_t length = BLOCK_HEAD_BYTES + 2 * blocks->partition_count + blocks->length;
+    if (!grow((void **)&blocks->bytes, &blocks->room, start + length, 1) ||
+        !grow((void **)&blocks->ends, &blocks->ends_room, blocks->count + 1, sizeof *blocks->ends))
+        return PAGELOG_NO_MEMORY;
+    uint8_t *at = pagelog_write_number(blocks->bytes + start, blocks->next_lsn, 8);
+    at = pagelog_write_number(at, blocks->partition_count, 2);
+    for (size_t i = 0; i < blocks->partition_count; i++)
+        at = pagelog_write_number(at, blocks->partitions[i], 2);
+    at = pagelog_write_number(at, blocks->record_count, 2);
+    memcpy(at, blocks->records, blocks->length);
+    blocks->ends[blocks->count++] = start + length;
+    blocks->next_lsn++;
+    empty_record_area(blocks);
+    return PAGELOG_DONE;
+}
+
+/* Where the partition of a page stands among those of the block, or would stand. */
+static size_t place_of(const struct pagelog_blocks *blocks, uint16_t partition, bool *found) {
+    size_t place = blocks->partition_count;
+    while (place > 0 && blocks->partitions[place - 1] >= partition)
+        place--;
+    *found = place < blocks->partition_count && blocks->partitions[place] == partition;
+    return place;
+}
+
+/* Bytes that a record of a page may still have in the block that is being filled, with its head. */
+static size_t room_for(const struct pagelog_blocks *blocks, uint32_t page) {
+    bool found;
+    place_of(blocks, (uint16_t)(page >> 16), &found);
+    size_t taken = BLOCK_HEAD_BYTES + 2 * (blocks->partition_count + !found) + blocks->length;
+    return taken < PAGELOG_BLOCK_BYTES ? PAGELOG_BLOCK_BYTES - taken : 0;
+}
+
+/* Notes a record of a page, and returns where its bytes go; NULL where memory runs out. */
+static uint8_t *add_record(struct pagelog_blocks *blocks, uint32_t page, size_t length) {
+    bool found;
+    uint16_t partition = (uint16_t)(page >> 16);
+    size_t place = place_of(blocks, partition, &found);
+    if (!found) {
+        if (!grow((void **)&blocks->partitions, &blocks->partition_room, blocks->partition_count + 1,
+                  sizeof *blocks->partitions))
+            return NULL;
+        memmove(blocks->partitions + place + 1, blocks->partitions + place,
+                (blocks->partition_count - place) * sizeof *blocks->partitions);
+        blocks->partitions[place] = partition;
+        blocks->partition_count++;
+    }
+    uint8_t *at = blocks->records + blocks->length;
+    blocks->length += length;
+    blocks->record_count++;
+    return at;
+}
+
+/* Adds a Put for which there is room. */
+static enum pagelog_outcome add_put(struct pagelog_blocks *blocks, uint32_t page, size_t offset,
+                                    const uint8_t *bytes, size_t length) {
+    uint8_t *at = add_record(blocks, page, PUT_HEAD_BYTES + length);
+    if (!at) return PAGELOG_NO_MEMORY;
+    at = pagelog_write_number(at, RECORD_PUT, 1);
+    at = pagelog_write_number(at, page, 4);
+    at = pagelog_write_number(at, offset, 2);
+    at = pagelog_write_number(at, length, 2);
+    memcpy(at, bytes, length);
+    return PAGELOG_DONE;
+}
+
+/* Ends the block that is being filled where a record of `length` bytes, head included, has no room in it. */
+static enum pagelog_outcome ensure_room(struct pagelog_blocks *blocks, uint32_t page, size_t length) {
+    return room_for(blocks, page) < length ? pagelog_blocks_end(blocks) : PAGELOG_DONE;
+}
+
+static bool is_put(uint16_t offset, uint16_t length) {
+    return length > 0 && (size_t)offset + length <= PAGELOG_PAGE_BYTES;
+}
+
+enum pagelog_outcome pagelog_blocks_put(struct pagelog_blocks *blocks, uint32_t page, uint16_t offset,
+                                        const uint8_t *bytes, uint16_t length) {
+    if (!is_put(offset, length)) return PAGELOG_MALFORMED;
+    for (size_t done = 0; done < length;) {
+        size_t left = length - done;
+        size_t shortest = left < SHORTEST_PIECE ? left : SHORTEST_PIECE;
+        enum pagelog_outcome outcome = ensure_room(blocks, page, PUT_HEAD_BYTES + shortest);
+        if (outcome != PAGELOG_DONE) return outcome;
+        size_t room = room_for(blocks, page) - PUT_HEAD_BYTES;
+        size_t piece = left < room ? left : room;
+        outcome = add_put(blocks, page, offset + done, bytes + done, piece);
+        if (outcome != PAGELOG_DONE) return outcome;
+        done += piece;
+    }
+    return PAGELOG_DONE;
+}
+
+enum pagelog_outcome pagelog_blocks_put_whole(struct pagelog_blocks *blocks, uint32_t page, uint16_t offset,
+                                              const uint8_t *bytes, uint16_t length) {
+    if (!is_put(offset, length)) return PAGELOG_MALFORMED;
+    enum pagelog_outcome outcome = ensure_room(blocks, page, PUT_HEAD_BYTES + (size_t)length);
+    return outcome == PAGELOG_DONE ? add_put(blocks, page, offset, bytes, length) : outcome;
+}
+
+enum pagelog_outcome pagelog_blocks_zero(struct pagelog_blocks *blocks, uint32_t page) {
+    enum pagelog_outcome outcome = ensure_room(blocks, page, ZERO_BYTES);
+    if (outcome != PAGELOG_DONE) return outcome;
+    uint8_t *at = add_record(blocks, page, ZERO_BYTES);
+    if (!at) return PAGELOG_NO_MEMORY;
+    pagelog_write_number(pagelog_write_number(at, RECORD_ZERO, 1), page, 4);
+    return PAGELOG_DONE;
+}
+
+/* The first byte from `at` on that differs, or the end of the page. */
+static size_t first_difference(const uint8_t *old, const uint8_t *now, size_t at) {
+    while (at + 8 <= PAGELOG_PAGE_BYTES && memcmp(old + at, now + at, 8) == 0)
+        at += 8;
+    while (at < PAGELOG_PAGE_BYTES && old[at] == now[at])
+        at++;
+    return at;
+}
+
+enum pagelog_outcome pagelog_blocks_difference(struct pagelog_blocks *blocks, uint32_t page,
+                                               const uint8_t *old, const uint8_t *new_bytes) {
+    for (size_t at = first_difference(old, new_bytes, 0); at < PAGELOG_PAGE_BYTES;) {
+        size_t end = at + 1, next = at + 1; /* `end` is behind the last byte that differs */
+        while ((next = first_difference(old, new_bytes, next)) < PAGELOG_PAGE_BYTES &&
+               next - end <= PUT_HEAD_BYTES)
+            end = ++next;
+        enum pagelog_outcome outcome =
+            pagelog_blocks_put(blocks, page, (uint16_t)at, new_bytes + at, (uint16_t)(end - at));
+        if (outcome != PAGELOG_DONE) return outcome;
+        at = next;
+    }
+    return PAGELOG_DONE;
+}
+
+size_t pagelog_blocks_count(const struct pagelog_blocks *blocks) {
+    return blocks->count;
+}
+
+void pagelog_blocks_drop(struct pagelog_blocks *blocks, size_t count) {
+    if (count == 0) return;
+    size_t gone = blocks->ends[count - 1];
+    memmove(blocks->bytes, blocks->bytes + gone, end_of(blocks) - gone);
+    blocks->count -= count;
+    for (size_t i = 0; i < blocks->count; i++)
+        blocks->ends[i] = blocks->ends[i + count] - gone;
+}
+
+const uint8_t *pagelog_blocks_at(const struct pagelog_blocks *blocks, size_t index, size_t *length) {
+    size_t start = index > 0 ? blocks->ends[index - 1] : 0;
+    *length = blocks->ends[index] - start;
+    return blocks->bytes + start;
+}

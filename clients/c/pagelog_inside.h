@@ -1,0 +1,74 @@
+/* What the files of the wire share, and no caller sees. */
+#ifndef PAGELOG_INSIDE_H
+#define PAGELOG_INSIDE_H
+
+#include "pagelog.h"
+
+enum { RECORD_PUT = 1, RECORD_ZERO = 2, PUT_HEAD_BYTES = 9, ZERO_BYTES = 5, BLOCK_HEAD_BYTES = 12 };
+
+enum { SECTION_A = 1, SECTION_B, SECTION_C };
+
+/* The faults of a block, and of a reply. */
+enum {
+    BLOCK_CUT = 1,
+    BLOCK_LSN,
+    BLOCK_ORDER,
+    BLOCK_KIND,
+    BLOCK_EMPTY_PUT,
+    BLOCK_PUT_RANGE,
+    BLOCK_TRAILING,
+    BLOCK_ANNOTATIONS,
+    BLOCK_LENGTH,
+};
+enum { REPLY_EMPTY = 1, REPLY_ROLE, REPLY_KIND, REPLY_CUT, REPLY_TRAILING, REPLY_RANGE };
+
+/* A number of `size` bytes, the high one first; the place behind it. */
+uint8_t *pagelog_write_number(uint8_t *to, uint64_t value, size_t size);
+uint64_t pagelog_read_number(const uint8_t *from, size_t size);
+
+/* A buffer that grows. What is in it stands from `start` to `end`. */
+struct buffer {
+    uint8_t *bytes;
+    size_t start, end, room;
+};
+
+struct pagelog {
+    char *host, *port;
+    struct pagelog_options options;
+    int socket;                       /* -1: not connected */
+    struct buffer output, input;      /* requests that were not sent yet; replies not read yet */
+    uint8_t asked[PAGELOG_IN_FLIGHT]; /* a ring: the operations of the requests in flight, the oldest first */
+    size_t asked_first, asked_count;
+    uint32_t epoch;               /* the newest that was heard of; 0: none yet */
+    uint32_t writing_epoch;       /* 0: no writer */
+    uint64_t end;                 /* the highest LSN known to be in the log */
+    bool owns_epoch;              /* it was begun for this object alone */
+    uint32_t lost_failovers;      /* whose replies were lost since the writing epoch began */
+    bool anew;                    /* the service was started anew */
+    bool stuck;                   /* the window may hold blocks of an append that was not DONE */
+    bool waits;                   /* something was sent since the last wait */
+    enum pagelog_outcome last;    /* the last outcome that was not DONE */
+    struct pagelog_reply refused; /* and the reply behind it, without its bytes */
+    struct pagelog_counts counts;
+};
+
+/* Enters an outcome that has no reply behind it, and returns it. */
+enum pagelog_outcome pagelog_fail(struct pagelog *log, enum pagelog_outcome outcome);
+
+/* How long a call goes on with lost connections while nothing is done. */
+struct pagelog_patience {
+    uint64_t until;
+    unsigned ms, tries;
+};
+struct pagelog_patience pagelog_patience_of(const struct pagelog *log);
+
+/* Something was done: the patience begins anew. */
+void pagelog_progress(struct pagelog_patience *patience);
+
+/* Whether there is patience for another try; it waits a little before, and longer each time. */
+bool pagelog_may_try_again(struct pagelog_patience *patience);
+
+/* Milliseconds of a clock that never goes back. */
+uint64_t pagelog_now(void);
+
+#endif

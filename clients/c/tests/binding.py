@@ -1,0 +1,266 @@
+"""The client's own calls, by ctypes, from the library with sanitizers."""
+
+import ctypes
+import os
+from ctypes import POINTER, Structure, byref, c_bool, c_char_p, c_size_t, c_uint, c_uint8, c_uint16, c_uint32, c_uint64
+from ctypes import c_void_p
+
+from service import CLIENT
+
+LIBRARY = os.environ.get("PAGELOG_LIBRARY") or str(CLIENT / "out" / "checked" / "pagelog_vfs.so")
+lib = ctypes.CDLL(LIBRARY)
+
+OUTCOMES = ["done", "lost", "fenced", "in doubt", "conflict", "denied", "no memory", "audit list full", "malformed"]
+DONE, LOST, FENCED, IN_DOUBT, CONFLICT, DENIED, NO_MEMORY, AUDIT_FULL, MALFORMED = OUTCOMES
+PRIMARY, SECONDARY, PAGE_SERVER, OPERATOR = 1, 2, 3, 4
+Token = c_uint8 * 16
+
+
+def token(principal):
+    return Token(*[0x11 * principal % 256] * 16)
+
+
+class Request(Structure):
+    _fields_ = [("principal", c_uint32), ("token", Token), ("role", c_uint8), ("database", c_uint32),
+                ("epoch", c_uint32), ("operation", c_uint8), ("copy", c_uint8), ("exact", c_uint8), ("lo", c_uint16),
+                ("hi", c_uint16), ("max", c_uint16), ("partition", c_uint16), ("steps", c_uint16), ("page", c_uint32),
+                ("to", c_uint32), ("lsn", c_uint64), ("bytes", c_void_p), ("length", c_size_t)]
+
+
+class Reply(Structure):
+    _fields_ = [("kind", c_uint8), ("section", c_uint8), ("row", c_uint16), ("value", c_uint64), ("code", c_uint8),
+                ("count", c_uint16), ("next", c_uint64), ("at", c_uint64), ("epoch", c_uint32), ("primary", c_uint32),
+                ("hard", c_uint64), ("pending", c_uint64), ("landing", c_uint64), ("bytes", c_void_p),
+                ("length", c_size_t)]
+
+    def data(self):
+        return ctypes.string_at(self.bytes, self.length) if self.bytes else b""
+
+
+class AuditLine(Structure):
+    _fields_ = [("number", c_uint64), ("pass_", c_uint64), ("principal", c_uint32), ("role", c_uint8),
+                ("epoch", c_uint32), ("operation", c_uint8), ("a", c_uint64), ("b", c_uint64), ("section", c_uint8),
+                ("row", c_uint16), ("value", c_uint64)]
+
+
+class Record(Structure):
+    _fields_ = [("page", c_uint32), ("offset", c_uint16), ("length", c_uint16), ("bytes", c_void_p)]
+
+
+class Records(Structure):
+    _fields_ = [("lsn", c_uint64), ("left", c_uint16), ("at", c_void_p)]
+
+
+class Options(Structure):
+    _fields_ = [("address", c_char_p), ("principal", c_uint32), ("token", Token), ("database", c_uint32),
+                ("connect_ms", c_uint), ("reply_ms", c_uint), ("patience_ms", c_uint)]
+
+
+class Counts(Structure):
+    _fields_ = [(name, c_uint64) for name in
+                ("requests", "replies", "bytes_sent", "bytes_received", "round_trips", "connects")]
+
+
+def declare(name, result, *arguments):
+    function = getattr(lib, name)
+    function.restype, function.argtypes = result, arguments
+
+
+declare("pagelog_new", c_void_p, POINTER(Options))
+declare("pagelog_blocks_new", c_void_p)
+declare("pagelog_blocks_restart", None, c_void_p, c_uint64)
+declare("pagelog_blocks_put", c_uint, c_void_p, c_uint32, c_uint16, c_char_p, c_uint16)
+declare("pagelog_blocks_put_whole", c_uint, c_void_p, c_uint32, c_uint16, c_char_p, c_uint16)
+declare("pagelog_blocks_zero", c_uint, c_void_p, c_uint32)
+declare("pagelog_blocks_difference", c_uint, c_void_p, c_uint32, c_char_p, c_char_p)
+declare("pagelog_blocks_end", c_uint, c_void_p)
+declare("pagelog_blocks_count", c_size_t, c_void_p)
+declare("pagelog_blocks_drop", None, c_void_p, c_size_t)
+declare("pagelog_blocks_at", c_void_p, c_void_p, c_size_t, POINTER(c_size_t))
+declare("pagelog_blocks_free", None, c_void_p)
+declare("pagelog_encode_request", c_size_t, POINTER(Request), c_char_p, c_size_t)
+declare("pagelog_decode_reply", c_uint, c_char_p, c_size_t, POINTER(Reply))
+declare("pagelog_block_fault", c_uint, c_char_p, c_size_t)
+declare("pagelog_read_audit_line", None, c_char_p, POINTER(AuditLine))
+declare("pagelog_records_begin", None, POINTER(Records), c_char_p)
+declare("pagelog_records_next", c_bool, POINTER(Records), POINTER(Record))
+declare("pagelog_next_block", c_void_p, POINTER(Reply), POINTER(c_size_t), POINTER(c_size_t))
+declare("pagelog_end", c_uint64, c_void_p)
+declare("pagelog_epoch", c_uint32, c_void_p)
+declare("pagelog_writing_epoch", c_uint32, c_void_p)
+declare("pagelog_is_anew", c_bool, c_void_p)
+declare("pagelog_refused", POINTER(Reply), c_void_p)
+declare("pagelog_explain", None, c_void_p, c_char_p, c_size_t)
+declare("pagelog_counts_of", Counts, c_void_p)
+declare("pagelog_outcome_name", c_char_p, c_uint)
+declare("pagelog_send", c_uint, c_void_p, POINTER(Request))
+declare("pagelog_send_as", c_uint, c_void_p, POINTER(Request))
+declare("pagelog_receive", c_uint, c_void_p, POINTER(Reply))
+declare("pagelog_in_flight", c_size_t, c_void_p)
+declare("pagelog_status", c_uint, c_void_p, c_uint, POINTER(Reply))
+declare("pagelog_get", c_uint, c_void_p, c_uint, c_uint64, POINTER(c_uint32), c_size_t, c_char_p)
+declare("pagelog_pull", c_uint, c_void_p, c_uint64, c_uint, POINTER(Reply))
+declare("pagelog_take_over", c_uint, c_void_p, c_uint32, POINTER(c_uint8), c_uint32)
+declare("pagelog_join", c_uint, c_void_p)
+declare("pagelog_append", c_uint, c_void_p, c_void_p, c_uint)
+declare("pagelog_disconnect", None, c_void_p)
+declare("pagelog_free", None, c_void_p)
+
+assert [lib.pagelog_outcome_name(i).decode() for i in range(9)] == OUTCOMES
+
+
+def name(outcome):
+    return OUTCOMES[outcome]
+
+
+def request(role, operation, data=None, **fields):
+    made = Request(role=role, operation=operation, **fields)
+    if data is not None:
+        made.kept = ctypes.create_string_buffer(data, max(len(data), 1))
+        made.bytes, made.length = ctypes.cast(made.kept, c_void_p), len(data)
+    return made
+
+
+def encode(made):
+    body = ctypes.create_string_buffer(65536)
+    length = lib.pagelog_encode_request(byref(made), body, 65536)
+    return body.raw[:length]
+
+
+def exact_buffer(data):
+    """The bytes in memory of just their length, so that a sanitizer sees a read behind them."""
+    return (ctypes.c_char * len(data)).from_buffer_copy(data) if data else (ctypes.c_char * 1)()
+
+
+def decode(body):
+    """Fault and reply."""
+    reply = Reply()
+    reply.kept = exact_buffer(body)
+    return lib.pagelog_decode_reply(ctypes.cast(reply.kept, c_char_p), len(body), byref(reply)), reply
+
+
+def records_of(block):
+    """LSN and records of a block, as (page,) or (page, offset, bytes)."""
+    kept = exact_buffer(block)
+    records, record, found = Records(), Record(), []
+    lib.pagelog_records_begin(byref(records), ctypes.cast(kept, c_char_p))
+    while lib.pagelog_records_next(byref(records), byref(record)):
+        put = (record.offset, ctypes.string_at(record.bytes, record.length)) if record.length else ()
+        found.append((record.page, *put))
+    return records.lsn, found
+
+
+def blocks_of(reply):
+    at, length, found = c_size_t(0), c_size_t(0), []
+    while True:
+        block = lib.pagelog_next_block(byref(reply), byref(at), byref(length))
+        if not block:
+            return found
+        found.append(ctypes.string_at(block, length.value))
+
+
+class Blocks:
+    def __init__(self, first_lsn=1):
+        self.made = lib.pagelog_blocks_new()
+        lib.pagelog_blocks_restart(self.made, first_lsn)
+
+    def __del__(self):
+        lib.pagelog_blocks_free(self.made)
+
+    def put(self, page, offset, data):
+        return name(lib.pagelog_blocks_put(self.made, page, offset, data, len(data)))
+
+    def put_whole(self, page, offset, data):
+        return name(lib.pagelog_blocks_put_whole(self.made, page, offset, data, len(data)))
+
+    def zero(self, page):
+        return name(lib.pagelog_blocks_zero(self.made, page))
+
+    def difference(self, page, old, new):
+        return name(lib.pagelog_blocks_difference(self.made, page, old, new))
+
+    def end(self):
+        return name(lib.pagelog_blocks_end(self.made))
+
+    def drop(self, count):
+        lib.pagelog_blocks_drop(self.made, count)
+
+    def all(self):
+        length, found = c_size_t(), []
+        for i in range(lib.pagelog_blocks_count(self.made)):
+            at = lib.pagelog_blocks_at(self.made, i, byref(length))
+            found.append(ctypes.string_at(at, length.value))
+        return found
+
+
+class Log:
+    """An object of the wire."""
+
+    def __init__(self, address, principal, database=0, key=None, connect_ms=0, reply_ms=0, patience_ms=0):
+        options = Options(address.encode(), principal, key or token(principal), database, connect_ms, reply_ms,
+                          patience_ms)
+        self.made = lib.pagelog_new(byref(options))
+
+    def __enter__(self):
+        return self
+
+    def __exit__(self, *_):
+        lib.pagelog_free(self.made)
+        self.made = None
+
+    def send(self, made, whole=False):
+        call = lib.pagelog_send_as if whole else lib.pagelog_send
+        return name(call(self.made, byref(made)))
+
+    def receive(self):
+        reply = Reply()
+        return name(lib.pagelog_receive(self.made, byref(reply))), reply
+
+    def ask(self, role, operation, data=None, **fields):
+        sent = self.send(request(role, operation, data, **fields))
+        return self.receive() if sent == DONE else (sent, Reply())
+
+    def in_flight(self):
+        return lib.pagelog_in_flight(self.made)
+
+    def status(self, role=PRIMARY):
+        reply = Reply()
+        return name(lib.pagelog_status(self.made, role, byref(reply))), reply
+
+    def get(self, role, lsn, pages):
+        out = ctypes.create_string_buffer(max(8192 * len(pages), 1))
+        outcome = name(lib.pagelog_get(self.made, role, lsn, (c_uint32 * len(pages))(*pages), len(pages), out))
+        return outcome, [out.raw[8192 * i : 8192 * (i + 1)] for i in range(len(pages))]
+
+    def pull(self, lsn, most=16):
+        reply = Reply()
+        return name(lib.pagelog_pull(self.made, lsn, most, byref(reply))), reply
+
+    def take_over(self, expected=0, operator=1):
+        return name(lib.pagelog_take_over(self.made, operator, token(operator), expected))
+
+    def join(self):
+        return name(lib.pagelog_join(self.made))
+
+    def append(self, blocks, copies=2):
+        return name(lib.pagelog_append(self.made, blocks.made, copies))
+
+    def disconnect(self):
+        lib.pagelog_disconnect(self.made)
+
+    end = property(lambda self: lib.pagelog_end(self.made))
+    epoch = property(lambda self: lib.pagelog_epoch(self.made))
+    writing_epoch = property(lambda self: lib.pagelog_writing_epoch(self.made))
+    is_anew = property(lambda self: lib.pagelog_is_anew(self.made))
+    counts = property(lambda self: lib.pagelog_counts_of(self.made))
+    refused = property(lambda self: lib.pagelog_refused(self.made).contents)
+
+    @property
+    def row(self):
+        return "?ABC"[self.refused.section] + str(self.refused.row), self.refused.value
+
+    @property
+    def words(self):
+        text = ctypes.create_string_buffer(200)
+        lib.pagelog_explain(self.made, text, 200)
+        return text.value.decode()

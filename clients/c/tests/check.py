@@ -1,0 +1,43 @@
+"""Runs the tests of a part: the functions of its module whose names begin with `test_`, in the order of the file."""
+
+import sys
+import time
+import traceback
+
+LONG = "--long" in sys.argv
+
+
+def same(what, wanted, found):
+    if wanted != found:
+        raise AssertionError(f"{what}: wanted {wanted!r}, found {found!r}")
+
+
+def true(what, holds):
+    if not holds:
+        raise AssertionError(what)
+
+
+def run(part, names):
+    """Prints a line for the part, and one for each test that failed. The exit status tells whether all passed."""
+    tests = [(name, test) for name, test in names.items() if name.startswith("test_")]
+    only = [word for word in sys.argv[1:] if not word.startswith("-")]
+    passed, failed, start, said = 0, 0, time.monotonic(), []
+    for name, test in tests:
+        if only and name not in only:
+            continue
+        try:
+            told = test()
+            passed += 1
+            if told:
+                said.append(told)
+        except Exception as error:  # noqa: BLE001
+            failed += 1
+            print(f"{part}: {name} failed: {error}")
+            if not isinstance(error, AssertionError):
+                traceback.print_exc(file=sys.stdout)
+        if "-v" in sys.argv:
+            print(f"  {name} {time.monotonic() - start:.1f} s", flush=True)
+    seconds = time.monotonic() - start
+    print(f"{part}: {passed} passed, {failed} failed, {seconds:.1f} s" + "".join(f"; {text}" for text in said))
+    sys.stdout.flush()
+    sys.exit(1 if failed else 0)

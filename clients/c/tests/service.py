@@ -1,0 +1,222 @@
+"""A running `pagelog serve`, its operator, and proxies in front of it that cut, hold or watch what passes."""
+
+import os
+import pathlib
+import random
+import select
+import socket
+import struct
+import subprocess
+import sys
+import threading
+
+HERE = pathlib.Path(__file__).resolve().parent
+CLIENT = HERE.parent
+ROOT = CLIENT.parent.parent
+TABLE = CLIENT / "table.toml"
+START_TABLE = ROOT / "crates" / "pagelog" / "data" / "t0.toml"
+PROGRAM = os.environ.get("PAGELOG") or str(ROOT / "crates" / "pagelog" / "out" / "pagelog")
+
+sys.path.insert(0, str(ROOT / "scripts"))
+sys.dont_write_bytecode = True
+import wire  # noqa: E402
+
+
+def plain_environment(**more):
+    """That of this process, but for the sanitizers' library, which is for the client alone."""
+    kept = {name: value for name, value in os.environ.items() if name not in ("LD_PRELOAD", "ASAN_OPTIONS")}
+    return {**kept, **more}
+
+
+class Service:
+    """Ends with the block that it is used in."""
+
+    def __init__(self, table=TABLE, primary=2, dbs=1, workers=16, connections=4294967295, audit=16777216, listen=None,
+                 prefix=()):
+        words = ["serve", "--listen", listen or "127.0.0.1:0", "--table", table, "--primary", primary, "--dbs", dbs,
+                 "--workers", workers, "--connections", connections, "--audit", audit]
+        words = list(prefix) + [PROGRAM] + [str(word) for word in words]
+        self.process = subprocess.Popen(words, stdout=subprocess.PIPE, text=True, env=plain_environment())
+        line = self.process.stdout.readline().split()
+        if len(line) != 2 or line[0] != "listening":
+            raise RuntimeError(f"the service did not start: {line}")
+        self.address = line[1]
+
+    def __enter__(self):
+        return self
+
+    def __exit__(self, *_):
+        self.end()
+
+    def end(self):
+        self.process.kill()
+        self.process.wait()
+        self.process.stdout.close()
+
+    def operator(self, database=0):
+        return Asker(self.address, 1, wire.OPERATOR, database)
+
+
+class Asker:
+    """Plain requests, one at a time, in a hand of this test's own, so that no error of the client hides in it."""
+
+    def __init__(self, address, principal, role, database=0, epoch=1):
+        host, port = address.rsplit(":", 1)
+        self.socket = socket.create_connection((host, int(port)), 20)
+        self.principal, self.role, self.database, self.epoch = principal, role, database, epoch
+
+    def close(self):
+        self.socket.close()
+
+    def __enter__(self):
+        return self
+
+    def __exit__(self, *_):
+        self.close()
+
+    def once(self, op, rest=b"", epoch=None):
+        body = wire.head(self.principal, self.role, op, self.epoch if epoch is None else epoch, self.database) + rest
+        self.socket.sendall(struct.pack(">I", len(body)) + body)
+        (length,) = struct.unpack(">I", exactly(self.socket, 4))
+        return exactly(self.socket, length)
+
+    def ask(self, op, rest=b""):
+        """The reply, in the epoch that is current."""
+        while True:
+            reply = self.once(op, rest)
+            if reply[:4] not in (b"\5\1\0\2", b"\5\1\0\3"):
+                return reply
+            self.epoch = struct.unpack(">Q", reply[4:])[0]
+
+    def status(self):
+        """Epoch, primary, hard."""
+        reply = self.ask(wire.STATUS)
+        assert reply[0] == 4, reply
+        return struct.unpack(">IIQ", reply[1:17])
+
+    def failover(self, to):
+        """A failover that happened; the epoch that it began."""
+        self.status()
+        while self.ask(wire.FAILOVER, wire.failover(to)) != b"\0":
+            pass
+        self.epoch += 1
+        return self.epoch
+
+    def set_table(self, text):
+        assert self.ask(wire.SET_TABLE, text.encode()) == b"\0"
+
+    def page(self, page, lsn):
+        reply = self.ask(wire.GET, wire.get(page, lsn, 1))
+        assert reply[0] == 2, reply
+        return reply[9:]
+
+    def blocks(self, lsn=1):
+        """All blocks from an LSN on."""
+        found = []
+        while True:
+            reply = self.ask(wire.PULL, wire.pull(0, 65535, lsn, 16))
+            if reply[0] != 1:
+                return found
+            lsn, count = struct.unpack(">QH", reply[1:11])
+            at = 11
+            for _ in range(count):
+                (length,) = struct.unpack(">I", reply[at : at + 4])
+                found.append(reply[at + 4 : at + 4 + length])
+                at += 4 + length
+            if count < 16:
+                return found
+
+
+def exactly(client, count):
+    parts = bytearray()
+    while len(parts) < count:
+        part = client.recv(count - len(parts))
+        if not part:
+            raise ConnectionError(f"{len(parts)} bytes of {count}")
+        parts += part
+    return bytes(parts)
+
+
+class Proxy:
+    """Carries bytes between clients and a service. A plan says for each connection after how many bytes, of both
+    directions together, it is cut; `between` is called with each whole frame of a request before it is carried on, and
+    may return bytes to be carried in its place, or None to cut."""
+
+    def __init__(self, address, plan=None, between=None):
+        host, port = address.rsplit(":", 1)
+        self.target = host, int(port)
+        self.plan, self.between = plan, between
+        self.listener = socket.create_server(("127.0.0.1", 0), backlog=64)
+        self.address = "127.0.0.1:%d" % self.listener.getsockname()[1]
+        self.cuts = self.accepted = 0
+        self.is_on = True
+        self.thread = threading.Thread(target=self.accept, daemon=True)
+        self.thread.start()
+
+    def __enter__(self):
+        return self
+
+    def __exit__(self, *_):
+        self.is_on = False
+        self.listener.close()
+
+    def accept(self):
+        while self.is_on:
+            try:
+                client, _ = self.listener.accept()
+            except OSError:
+                return
+            self.accepted += 1
+            threading.Thread(target=self.carry, args=(client,), daemon=True).start()
+
+    def carry(self, client):
+        try:
+            server = socket.create_connection(self.target, 20)
+        except OSError:
+            client.close()
+            return
+        for end in (client, server):
+            end.setsockopt(socket.IPPROTO_TCP, socket.TCP_NODELAY, 1)
+        left = self.plan() if self.plan else None
+        try:
+            self.pump(client, server, left)
+        except OSError:
+            pass
+        for end in (client, server):
+            end.close()
+
+    def pump(self, client, server, left):
+        pending = b""
+        while self.is_on:
+            for source in select.select([client, server], [], [], 1.0)[0]:
+                data = source.recv(65536)
+                if not data:
+                    return
+                if left is not None and len(data) >= left:
+                    (server if source is client else client).sendall(data[:left])
+                    self.cuts += 1
+                    for end in (client, server):
+                        end.setsockopt(socket.SOL_SOCKET, socket.SO_LINGER, struct.pack("ii", 1, 0))
+                    return
+                if left is not None:
+                    left -= len(data)
+                if source is server:
+                    client.sendall(data)
+                elif not self.between:
+                    server.sendall(data)
+                else:
+                    pending += data
+                    while len(pending) >= 4 and len(pending) >= 4 + int.from_bytes(pending[:4], "big"):
+                        length = 4 + int.from_bytes(pending[:4], "big")
+                        frame, pending = pending[:length], pending[length:]
+                        carried = self.between(frame)
+                        if carried is None:
+                            self.cuts += 1
+                            return
+                        server.sendall(carried)
+
+
+def random_plan(seed, least, most):
+    """Cuts each connection after a random number of bytes."""
+    numbers = random.Random(seed)
+    return lambda: numbers.randrange(least, most)

@@ -1,0 +1,434 @@
+"""The wire, call by call, against the real service."""
+
+import ctypes
+import random
+import socket
+import threading
+import time
+
+from binding import (CONFLICT, DENIED, DONE, FENCED, IN_DOUBT, LOST, MALFORMED, AUDIT_FULL, OPERATOR, PAGE_SERVER,
+                     PRIMARY, SECONDARY, Blocks, Log, blocks_of, encode, records_of, request, token)
+from check import run, same, true
+from service import Proxy, Service, START_TABLE, TABLE, wire
+
+
+def block_of(lsn, *records):
+    return wire.block(lsn, list(records))
+
+
+def numbered(first, count, size=20, page=0):
+    """Blocks that put the LSN, in so many bytes, one block each."""
+    blocks = Blocks(first)
+    for lsn in range(first, first + count):
+        same("put", DONE, blocks.put(page, 0, lsn.to_bytes(8, "big") * (size // 8 + 1)))
+        same("end", DONE, blocks.end())
+    return blocks
+
+
+def test_requests_are_spelled_as_the_scripts_spell_them():
+    cases = [
+        (request(1, wire.WRITE, b"abc", copy=2), wire.PRIMARY, wire.WRITE, wire.write(2, b"abc")),
+        (request(1, wire.OFFER, b"abc"), wire.PRIMARY, wire.OFFER, b"abc"),
+        (request(1, wire.REPORT, lsn=1 << 48), wire.PRIMARY, wire.REPORT, wire.report(1 << 48)),
+        (request(2, wire.GET, page=4294967295, lsn=7, exact=1), 2, wire.GET, wire.get(4294967295, 7, 1)),
+        (request(2, wire.PULL, lo=1, hi=65535, lsn=9, max=16), 2, wire.PULL, wire.pull(1, 65535, 9, 16)),
+        (request(3, wire.ADVANCE, partition=5, steps=1024), 3, wire.ADVANCE, wire.advance(5, 1024)),
+        (request(1, wire.STATUS), 1, wire.STATUS, b""),
+        (request(4, wire.FAILOVER, to=7), 4, wire.FAILOVER, wire.failover(7)),
+        (request(4, wire.SET_TABLE, b""), 4, wire.SET_TABLE, b""),
+        (request(4, wire.AUDIT, lsn=1, max=1024), 4, wire.AUDIT, wire.audit(1, 1024)),
+        (request(4, wire.TIDY), 4, wire.TIDY, b""),
+    ]
+    for made, role, op, rest in cases:
+        made.principal, made.epoch, made.database = 3, 9, 2
+        made.token[:] = token(3)[:]
+        same(f"operation {op}", wire.head(3, role, op, 9, 2) + rest, encode(made))
+    wrong = [request(0, 7), request(5, 7), request(1, 0), request(1, 12), request(1, 3, lsn=(1 << 48) + 1),
+             request(2, 5, lo=2, hi=1, lsn=1, max=1), request(2, 5, lsn=0, max=1), request(2, 5, lsn=1, max=17),
+             request(3, 6, steps=0), request(3, 6, steps=1025), request(4, 10, lsn=0, max=1),
+             request(4, 10, lsn=1, max=1025), request(1, 4, exact=2), request(4, 9, b"x" * 65507)]
+    for made in wrong:
+        same(f"out of range {made.operation}", b"", encode(made))
+
+
+def test_each_operation_is_answered():
+    table = TABLE.read_text() + '\n[[row]]\nverdict = "allow"\nwho = 3\nrole = "page_server"\n'
+    with Service() as service, service.operator() as operator, Log(service.address, 2) as log, \
+            Log(service.address, 3) as reader:
+        operator.set_table(table)
+        same("join", DONE, log.join())
+        same("epoch", 1, log.writing_epoch)
+        block = block_of(1, (0, 0, b"abc"), (65536, 8191, b"z"))
+        for copy in (0, 2):
+            same("write", DONE, log.ask(PRIMARY, wire.WRITE, block, copy=copy)[0])
+        same("offer", DONE, log.ask(PRIMARY, wire.OFFER, block)[0])
+        same("report", DONE, log.ask(PRIMARY, wire.REPORT, lsn=1)[0])
+        outcome, status = log.status()
+        same("status", (DONE, 1, 2, 1, 1, 0),
+             (outcome, status.epoch, status.primary, status.hard, status.pending, status.landing))
+        outcome, pages = reader.get(SECONDARY, 1, [0, 65536, 5])
+        same("pages", (DONE, b"abc" + bytes(8189), bytes(8191) + b"z", bytes(8192)), (outcome, *pages))
+        outcome, pulled = reader.pull(1)
+        same("pull", (DONE, 2, [block]), (outcome, pulled.next, blocks_of(pulled)))
+        outcome, pulled = reader.pull(2)
+        same("pull at the end", (DONE, 2, 0), (outcome, pulled.next, pulled.count))
+        same("advance", DONE, reader.ask(PAGE_SERVER, wire.ADVANCE, partition=1, steps=4)[0])
+        outcome, page = reader.ask(SECONDARY, wire.GET, page=65536, lsn=0, exact=0)
+        same("not exact", (DONE, 1), (outcome, page.at))
+        with Log(service.address, 1) as admin:
+            same("status of an operator", DONE, admin.status(OPERATOR)[0])
+            same("tidy", DONE, admin.ask(OPERATOR, wire.TIDY)[0])
+            outcome, entries = admin.ask(OPERATOR, wire.AUDIT, lsn=2, max=3)
+            same("audit", (DONE, 3, 159), (outcome, entries.count, entries.length))
+            same("set_table", DONE, admin.ask(OPERATOR, wire.SET_TABLE, TABLE.read_bytes())[0])
+            same("failover", DONE, admin.ask(OPERATOR, wire.FAILOVER, to=5)[0])
+
+
+def test_denials_have_their_outcomes():
+    with Service() as service, Log(service.address, 2) as log, Log(service.address, 3) as reader, \
+            Log(service.address, 1) as admin:
+        same("join", DONE, log.join())
+        reader.status(SECONDARY), admin.status(OPERATOR)
+        one, other = block_of(1, (0, 0, b"a")), block_of(1, (0, 0, b"b"))
+        write = lambda made, lsn=1, **more: log.ask(PRIMARY, wire.WRITE, made, **more)[0]
+        same("write", DONE, write(one))
+        same("C6", (CONFLICT, ("C6", 0)), (log.ask(PRIMARY, wire.REPORT, lsn=1)[0], log.row))
+        same("C4", (CONFLICT, ("C4", 0)), (write(other, copy=1), log.row))
+        same("C3", (CONFLICT, ("C3", 0)), (write(block_of(65, (0, 0, b"a"))), log.row))
+        same("C5", (DENIED, ("C5", 0)), (write(one, copy=3), log.row))
+        same("write", DONE, write(one, copy=1))
+        same("report", DONE, log.ask(PRIMARY, wire.REPORT, lsn=1)[0])
+        same("C2", (CONFLICT, ("C2", 1)), (write(one), log.row))
+        same("C1", (DENIED, ("C1", 1)), (reader.get(SECONDARY, 2, [0])[0], reader.row))
+        same("words", "denied: denied C1, value 1", reader.words)
+        same("A5", (DENIED, ("A5", 0)), (reader.ask(SECONDARY, wire.TIDY)[0], reader.row))
+        same("B0", (DENIED, ("B0", 0)), (reader.ask(PAGE_SERVER, wire.STATUS)[0], reader.row))
+        same("C7", (DENIED, ("C7", 1)), (admin.ask(OPERATOR, wire.SET_TABLE, b"\0")[0], admin.row))
+        same("C8", (DENIED, ("C8", 0)), (admin.ask(OPERATOR, wire.FAILOVER, to=99)[0], admin.row))
+        with Log(service.address, 2, key=token(9)) as unknown:
+            same("A1", (DENIED, ("A1", 0)), (unknown.status()[0], unknown.row))
+        with Log(service.address, 2, database=1) as nowhere:
+            same("no database", (DENIED, "denied: no database"), (nowhere.status()[0], nowhere.words))
+        same("malformed", MALFORMED, write(b"\0" * 12))
+        same("its words", "malformed: fault 8 of the request", log.words)
+        same("failover", DONE, admin.ask(OPERATOR, wire.FAILOVER, to=5)[0])
+        same("A2", (FENCED, ("A2", 2)), (log.status()[0], log.row))
+        same("epochs", (2, 1), (log.epoch, log.writing_epoch))
+        same("A4", (FENCED, ("A4", 0)), (log.join(), log.row))
+        same("a secondary takes it over", (DONE, 2), (reader.status(SECONDARY)[0], reader.epoch))
+
+
+def test_replies_come_in_order():
+    """A thousand requests of four kinds in flight: each reply is that of its own request."""
+    with Service() as service, Log(service.address, 2) as log:
+        same("join", DONE, log.join())
+        same("append", DONE, log.append(numbered(1, 60)))
+        numbers, wanted = random.Random(1), []
+        for _ in range(1000):
+            lsn = numbers.randrange(1, 61)
+            kind = numbers.randrange(4)
+            if kind == 0:
+                log.send(request(PRIMARY, wire.GET, page=0, lsn=lsn, exact=1))
+            elif kind == 1:
+                log.send(request(SECONDARY, wire.PULL, hi=65535, lsn=lsn, max=1))
+            elif kind == 2:
+                log.send(request(PRIMARY, wire.STATUS))
+            else:
+                log.send(request(PRIMARY, wire.WRITE, block_of(61, (0, 0, b"x")), copy=3))
+            wanted.append((kind, lsn))
+        same("in flight", 1000, log.in_flight())
+        for kind, lsn in wanted:
+            outcome, reply = log.receive()
+            same("kind", [2, 1, 4, 5][kind], reply.kind)
+            if kind == 0:
+                same("page", (lsn, lsn.to_bytes(8, "big")), (reply.at, reply.data()[:8]))
+            if kind == 1:
+                same("block", lsn, records_of(blocks_of(reply)[0])[0])
+        same("nothing in flight", (MALFORMED, 0), (log.receive()[0], log.in_flight()))
+        for _ in range(1024):
+            same("send", DONE, log.send(request(PRIMARY, wire.STATUS)))
+        same("one too many", MALFORMED, log.send(request(PRIMARY, wire.STATUS)))
+        for _ in range(1024):
+            same("receive", DONE, log.receive()[0])
+
+
+def test_big_requests_and_big_replies_pass_each_other():
+    """More is in flight in both directions than the sockets hold: neither side may wait for the other for ever."""
+    with Service() as service, Log(service.address, 2) as log, service.operator() as operator:
+        same("join", DONE, log.join())
+        blocks = Blocks(1)
+        for page in range(60):
+            same("put", DONE, blocks.put(page, 0, bytes([page + 1]) * 8192))
+        blocks.end()
+        same("append", DONE, log.append(blocks))
+        big = block_of(log.end + 1, *[(page, 0, b"y" * 8000) for page in range(4)])
+        for i in range(25):
+            log.send(request(SECONDARY, wire.PULL, hi=65535, lsn=1, max=8))
+            for _ in range(5):
+                log.send(request(PRIMARY, wire.WRITE, big, copy=i % 3))
+        kinds = [log.receive()[1].kind for _ in range(150)]
+        same("kinds", [1, 0, 0, 0, 0, 0] * 25, kinds)
+
+
+def test_blocks_are_cut_where_they_are_full():
+    numbers = random.Random(2)
+    for _ in range(30):
+        blocks, wanted = Blocks(5), {}
+        for _ in range(numbers.randrange(1, 60)):
+            page = numbers.choice([0, 1, 2, 65536, 65537, 131072 + numbers.randrange(3) * 65536])
+            offset = numbers.randrange(8192)
+            data = numbers.randbytes(numbers.randrange(1, 8193 - offset))
+            bytes_of_page = wanted.setdefault(page, bytearray(8192))
+            if numbers.random() < 0.1:
+                same("zero", DONE, blocks.zero(page))
+                bytes_of_page[:] = bytes(8192)
+            same("put", DONE, blocks.put(page, offset, data))
+            bytes_of_page[offset : offset + len(data)] = data
+        blocks.end()
+        found = {}
+        all_blocks = blocks.all()
+        for i, block in enumerate(all_blocks):
+            lsn, records = records_of(block)
+            same("lsn", 5 + i, lsn)
+            same("spelling", wire.block(lsn, records), block)
+            true("full", len(block) > 32768 - 80 or i == len(all_blocks) - 1)
+            for page, *put in records:
+                at = found.setdefault(page, bytearray(8192))
+                at[:] = bytes(8192) if not put else at[: put[0]] + put[1] + at[put[0] + len(put[1]) :]
+        same("pages", wanted, found)
+    same("ranges", [MALFORMED] * 2, [blocks.put(0, 0, b""), blocks.put(0, 1, bytes(8192))])
+
+
+def test_differences_make_the_new_page():
+    numbers = random.Random(3)
+    for _ in range(200):
+        old = bytearray(numbers.randbytes(8192) if numbers.random() < 0.5 else bytes(8192))
+        new = bytearray(old)
+        for _ in range(numbers.choice([0, 1, 3, 40])):
+            at = numbers.randrange(8192)
+            piece = numbers.randbytes(numbers.randrange(1, 30))[: 8192 - at]
+            new[at : at + len(piece)] = piece
+        blocks = Blocks(1)
+        same("difference", DONE, blocks.difference(7, bytes(old), bytes(new)))
+        blocks.end()
+        puts = [record for block in blocks.all() for record in records_of(block)[1]]
+        for page, offset, data in puts:
+            old[offset : offset + len(data)] = data
+            true("ends differ", data)
+        same("page", new, old)
+        for (_, offset, data), (_, after, _) in zip(puts, puts[1:]):
+            true("a gap that is worth a head", after - offset - len(data) > 9)
+
+
+def test_appends_are_in_the_log():
+    """One block, a window, more than a window, in two copies and in three: just these blocks, and one round trip for 64."""
+    with Service() as service, Log(service.address, 2) as log, Log(service.address, 3) as reader:
+        same("take over", DONE, log.take_over())
+        wanted = []
+        for count, copies in ((1, 2), (1, 3), (2, 2), (64, 2), (64, 3), (65, 2), (200, 3)):
+            blocks = numbered(log.end + 1, count, size=700)
+            wanted += blocks.all()
+            before = log.counts
+            same("append", DONE, log.append(blocks, copies))
+            after = log.counts
+            same("end", len(wanted), log.end)
+            same("round trips", -(-count // 64), after.round_trips - before.round_trips)
+            same("requests", count * copies + -(-count // 64), after.requests - before.requests)
+        found, lsn = [], 1
+        while len(found) < len(wanted):
+            outcome, pulled = reader.pull(lsn)
+            same("pull", DONE, outcome)
+            found += blocks_of(pulled)
+            lsn = pulled.next
+        same("log", wanted, found)
+        same("a wrong LSN", MALFORMED, log.append(numbered(log.end + 2, 1)))
+        same("one copy", MALFORMED, log.append(numbered(log.end + 1, 1), 1))
+        same("no blocks", DONE, log.append(Blocks(log.end + 1)))
+
+
+def test_an_old_writer_is_fenced():
+    with Service() as service, Log(service.address, 2) as old, Log(service.address, 5) as new, \
+            service.operator() as operator:
+        same("old", DONE, old.take_over())
+        same("append", DONE, old.append(numbered(1, 3)))
+        same("new", DONE, new.take_over())
+        same("its end", 3, new.end)
+        same("fenced", (FENCED, ("A2", 3)), (old.append(numbered(4, 2)), old.row))
+        same("nothing", 3, operator.status()[2])
+        same("append", DONE, new.append(numbered(4, 2)))
+        same("still fenced", FENCED, old.append(numbered(4, 1)))
+        same("not asked for", FENCED, old.take_over(expected=2))
+        same("asked for", DONE, old.take_over())
+        same("append", DONE, old.append(numbered(6, 1)))
+        same("end", 6, operator.status()[2])
+
+
+def failing_over(service, operation, count, to):
+    """Called with each frame: before the `count`-th one of an operation, the epoch ends."""
+    left = [count]
+
+    def between(frame):
+        if frame[33] == operation:
+            left[0] -= 1
+            if left[0] == 0:
+                with service.operator() as operator:
+                    operator.failover(to)
+        return frame
+
+    return between
+
+
+def test_blocks_in_two_copies_are_in_the_log_when_their_report_is_denied():
+    for copies in (2, 3):
+        with Service() as service, Proxy(service.address, between=failing_over(service, wire.REPORT, 1, 5)) as proxy, \
+                Log(proxy.address, 2) as log, Log(service.address, 3) as reader:
+            same("take over", DONE, log.take_over())
+            blocks = numbered(1, 3)
+            same("in the log", (DONE, 3), (log.append(blocks, copies), log.end))
+            same("log", blocks.all(), blocks_of(reader.pull(1)[1]))
+            same("then fenced", (FENCED, ("A2", 3)), (log.append(numbered(4, 1)), log.row))
+
+
+def test_a_block_in_one_copy_is_never_in_the_log():
+    """The epoch ends before each of the writes of three blocks in turn."""
+    for write in range(1, 7):
+        with Service() as service, Log(service.address, 3) as reader:
+            with Proxy(service.address, between=failing_over(service, wire.WRITE, write, 5)) as proxy, \
+                    Log(proxy.address, 2) as log:
+                same("take over", DONE, log.take_over())
+                blocks = numbered(1, 3)
+                same("fenced", (FENCED, ("A2", 3)), (log.append(blocks), log.row))
+            same("log", blocks.all()[: (write - 1) // 2], blocks_of(reader.pull(1)[1]))
+
+
+def test_a_report_that_is_not_allowed_leaves_doubt():
+    denied = TABLE.read_text().replace('[[row]]', '[[row]]\nverdict = "deny"\nwho = 2\nop = ["report"]\n\n[[row]]', 1)
+    with Service() as service, service.operator() as operator, Log(service.address, 2) as log:
+        same("take over", DONE, log.take_over())
+        operator.set_table(denied)
+        same("in doubt", (IN_DOUBT, ("B1", 0)), (log.append(numbered(1, 1)), log.row))
+        same("stuck", CONFLICT, log.append(numbered(1, 1)))
+        same("not yet", 0, operator.status()[2])
+        operator.set_table(TABLE.read_text())
+        same("take over", DONE, log.take_over(expected=log.writing_epoch))
+        same("the failover hardened it", 1, log.end)
+        same("append", DONE, log.append(numbered(2, 1)))
+
+
+def test_another_writer_of_the_epoch_is_a_conflict():
+    with Service() as service, Log(service.address, 2) as one, Log(service.address, 2) as two, \
+            Log(service.address, 2) as third:
+        for log in (one, two, third):
+            same("join", DONE, log.join())
+        write = block_of(1, (3, 0, b"other"))
+        same("its write", DONE, one.ask(PRIMARY, wire.WRITE, write, copy=1)[0])
+        same("C4", (CONFLICT, ("C4", 0)), (two.append(numbered(1, 1)), two.row))
+        same("its write", DONE, one.ask(PRIMARY, wire.WRITE, write, copy=0)[0])
+        same("report", DONE, one.ask(PRIMARY, wire.REPORT, lsn=1)[0])
+        same("C2", (CONFLICT, ("C2", 1)), (third.append(numbered(1, 1)), third.row))
+        same("what is there", (DONE, 1), (third.status()[0], third.end))
+        same("append", DONE, third.append(numbered(2, 1)))
+
+
+def test_an_append_after_the_same_blocks_is_done():
+    """What an earlier connection left behind is hardened by the same append: C2 for blocks that are its own."""
+    with Service() as service, Log(service.address, 2) as log, Log(service.address, 2) as other:
+        same("take over", DONE, log.take_over())
+        other.status(SECONDARY)
+        same("join", DONE, other.join())
+        blocks = numbered(1, 5)
+        same("append", DONE, log.append(blocks))
+        same("the same again", MALFORMED, log.append(blocks))
+        with Proxy(service.address) as proxy:
+            pass
+        late = numbered(6, 4)
+
+        def between(frame):
+            if frame[33] == wire.WRITE:
+                for block in late.all():
+                    for copy in (0, 1):
+                        other.ask(PRIMARY, wire.WRITE, block, copy=copy)
+                other.ask(PRIMARY, wire.REPORT, lsn=9)
+            return frame
+
+        with Proxy(service.address, between=between) as proxy, Log(proxy.address, 2) as third:
+            third.status(SECONDARY)
+            same("join", DONE, third.join())
+            same("done", (DONE, 9), (third.append(late), third.end))
+
+
+def test_a_full_audit_list():
+    with Service(audit=40) as service, Log(service.address, 2) as log:
+        same("take over", DONE, log.take_over())
+        outcomes = [log.append(numbered(log.end + 1, 1)) for _ in range(20)]
+        true("first done", outcomes[0] == DONE)
+        true("then full", AUDIT_FULL in outcomes and set(outcomes[outcomes.index(AUDIT_FULL) :]) <= {AUDIT_FULL, CONFLICT})
+        same("status", AUDIT_FULL, log.status()[0])
+
+
+def test_a_service_that_was_started_anew():
+    with Service() as service:
+        address = service.address
+        with Log(address, 2) as log, Log(address, 3) as reader:
+            same("take over", DONE, log.take_over())
+            same("append", DONE, log.append(numbered(1, 3)))
+            same("pull", 4, reader.pull(1)[1].next)
+            service.end()
+            with Service(listen=address):
+                same("writer", (FENCED, True), (log.append(numbered(4, 1)), log.is_anew))
+                same("reader", (FENCED, True), (reader.pull(4)[0], reader.is_anew))
+                true("words", "started anew" in reader.words)
+                same("for good", FENCED, reader.status(SECONDARY)[0])
+
+
+def test_every_wait_ends():
+    with Service(workers=1) as service, Log(service.address, 2) as holder:
+        same("holder", DONE, holder.join())
+        with Log(service.address, 3, reply_ms=200, patience_ms=300) as log:
+            start = time.monotonic()
+            same("no worker", LOST, log.status(SECONDARY)[0])
+            true("soon", 0.15 < time.monotonic() - start < 2.0)
+    with Log("127.0.0.1:1", 2, patience_ms=100) as log:
+        start = time.monotonic()
+        same("nobody", (LOST, LOST, LOST), (log.status(SECONDARY)[0], log.take_over(), log.pull(1)[0]))
+        true("soon", time.monotonic() - start < 2.0)
+    for address in ("nonsense", "", "::::", "[::1", "127.0.0.1:no"):
+        with Log(address, 2, patience_ms=1) as log:
+            same(f"address {address}", LOST, log.status(SECONDARY)[0])
+    listener = socket.create_server(("127.0.0.1", 0))
+    dripping = threading.Event()
+
+    def drip():
+        client, _ = listener.accept()
+        while not dripping.wait(0.05):
+            client.sendall(b"\0" if dripping else b"")
+
+    thread = threading.Thread(target=drip, daemon=True)
+    thread.start()
+    with Log("127.0.0.1:%d" % listener.getsockname()[1], 2, reply_ms=400, patience_ms=1) as log:
+        start = time.monotonic()
+        outcome = log.ask(SECONDARY, wire.STATUS)[0]
+        true("a reply that drips", outcome in (LOST, MALFORMED) and time.monotonic() - start < 3.0)
+    dripping.set()
+
+
+def test_a_joined_writer_without_the_role_of_a_secondary():
+    """Under the start table nobody may look: a lost reply to a report is made up for by an epoch of one's own."""
+    with Service(table=START_TABLE) as service:
+        lost = [True]
+
+        def between(frame):
+            if frame[33] == wire.REPORT and lost[0]:
+                lost[0] = False
+                threading.Thread(target=lambda: None).start()
+                return None
+            return frame
+
+        with Proxy(service.address, between=between) as proxy, Log(proxy.address, 2) as log:
+            same("take over", DONE, log.take_over())
+            same("append", (DONE, 2), (log.append(numbered(1, 2)), log.end))
+            true("was cut", proxy.cuts == 1)
+
+
+if __name__ == "__main__":
+    run("wire calls", globals())
