@@ -19,12 +19,6 @@ enum {
     GETS_IN_FLIGHT = 64,
 };
 
-uint64_t pagelog_now(void) {
-    struct timespec now;
-    clock_gettime(CLOCK_MONOTONIC, &now);
-    return (uint64_t)now.tv_sec * 1000 + (uint64_t)now.tv_nsec / 1000000;
-}
-
 /* ---- Buffers ---- */
 
 static size_t held(const struct buffer *buffer) {
@@ -104,6 +98,10 @@ void pagelog_disconnect(struct pagelog *log) {
 
 const struct pagelog_reply *pagelog_refused(const struct pagelog *log) {
     return &log->refused;
+}
+
+bool pagelog_is_stuck(const struct pagelog *log) {
+    return log->stuck;
 }
 
 bool pagelog_is_anew(const struct pagelog *log) {
@@ -516,9 +514,11 @@ enum pagelog_outcome pagelog_pull(struct pagelog *log, uint64_t from, unsigned m
         uint32_t epoch = log->epoch;
         enum pagelog_outcome outcome = pagelog_send(log, &request);
         if (outcome == PAGELOG_DONE) outcome = pagelog_receive(log, blocks);
-        if (outcome == PAGELOG_DONE) return are_pulled(blocks, from, request.max) ? outcome : distrust(log);
+        if (outcome == PAGELOG_DONE && !are_pulled(blocks, from, request.max)) return distrust(log);
+        if (outcome == PAGELOG_DONE && blocks->count < request.max) blocks->hard = blocks->next - 1;
+        if (outcome == PAGELOG_DONE) return outcome;
         if (outcome == PAGELOG_DENIED && is_at_the_end(log, from)) {
-            *blocks = (struct pagelog_reply){.kind = PAGELOG_REPLY_BLOCKS, .next = from};
+            *blocks = (struct pagelog_reply){.kind = PAGELOG_REPLY_BLOCKS, .next = from, .hard = from - 1};
             return PAGELOG_DONE;
         }
         if (outcome == PAGELOG_LOST && pagelog_may_try_again(&patience)) {

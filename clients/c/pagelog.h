@@ -198,9 +198,9 @@ void pagelog_blocks_restart(struct pagelog_blocks *blocks, uint64_t first_lsn);
 enum pagelog_outcome pagelog_blocks_put(struct pagelog_blocks *blocks, uint32_t page, uint16_t offset,
                                         const uint8_t *bytes, uint16_t length);
 
-/* Adds a Put that is never cut: it begins the next block where it does not fit into this one. */
-enum pagelog_outcome pagelog_blocks_put_whole(struct pagelog_blocks *blocks, uint32_t page, uint16_t offset,
-                                              const uint8_t *bytes, uint16_t length);
+/* The LSN of the block that a Put of `length` bytes goes into as a whole: the block that is being filled is
+ * ended where the Put has no room in it. 0 where memory runs out. */
+uint64_t pagelog_blocks_room(struct pagelog_blocks *blocks, uint32_t page, uint16_t length);
 
 /* Adds a Zero: all bytes of the page become 0. */
 enum pagelog_outcome pagelog_blocks_zero(struct pagelog_blocks *blocks, uint32_t page);
@@ -212,6 +212,9 @@ enum pagelog_outcome pagelog_blocks_difference(struct pagelog_blocks *blocks, ui
 
 /* Ends the block that is being filled, if it has a record. An append needs it. */
 enum pagelog_outcome pagelog_blocks_end(struct pagelog_blocks *blocks);
+
+/* Whether no record was added since the last block was ended. */
+bool pagelog_blocks_is_fresh(const struct pagelog_blocks *blocks);
 
 /* How many blocks were ended. A block that is being filled is not counted. */
 size_t pagelog_blocks_count(const struct pagelog_blocks *blocks);
@@ -259,6 +262,9 @@ const struct pagelog_reply *pagelog_refused(const struct pagelog *log);
 /* Whether the service was started anew behind this object's back: its epoch or the end of its log fell.
  * Everything that was in the log is gone then. Each later call is FENCED. */
 bool pagelog_is_anew(const struct pagelog *log);
+
+/* Whether an append has left something in the window, so that nothing else can be appended in this epoch. */
+bool pagelog_is_stuck(const struct pagelog *log);
 
 /* Writes a sentence on the last outcome that was not DONE, cut to `room` bytes with the 0 behind it, as
  * "fenced: denied A2, value 7". */
@@ -308,8 +314,8 @@ enum pagelog_outcome pagelog_get(struct pagelog *log, enum pagelog_role role, ui
                                  const uint32_t *pages, size_t count, uint8_t *out);
 
 /* The blocks from an LSN on, at most `max` (1 to 16), as a secondary, over all partitions. At the end of the
- * log it is DONE with a count of 0 and `next` as it was asked. The blocks stand until the next call. After a
- * lost connection fewer are asked for. */
+ * log it is DONE with a count of 0 and `next` as it was asked. `hard` is the end of the log where the blocks
+ * go so far, else 0. The blocks stand until the next call. After a lost connection fewer are asked for. */
 enum pagelog_outcome pagelog_pull(struct pagelog *log, uint64_t from, unsigned max,
                                   struct pagelog_reply *blocks);
 

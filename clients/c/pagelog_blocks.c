@@ -157,11 +157,9 @@ enum pagelog_outcome pagelog_blocks_put(struct pagelog_blocks *blocks, uint32_t 
     return PAGELOG_DONE;
 }
 
-enum pagelog_outcome pagelog_blocks_put_whole(struct pagelog_blocks *blocks, uint32_t page, uint16_t offset,
-                                              const uint8_t *bytes, uint16_t length) {
-    if (!is_put(offset, length)) return PAGELOG_MALFORMED;
+uint64_t pagelog_blocks_room(struct pagelog_blocks *blocks, uint32_t page, uint16_t length) {
     enum pagelog_outcome outcome = ensure_room(blocks, page, PUT_HEAD_BYTES + (size_t)length);
-    return outcome == PAGELOG_DONE ? add_put(blocks, page, offset, bytes, length) : outcome;
+    return outcome == PAGELOG_DONE ? blocks->next_lsn : 0;
 }
 
 enum pagelog_outcome pagelog_blocks_zero(struct pagelog_blocks *blocks, uint32_t page) {
@@ -195,6 +193,10 @@ enum pagelog_outcome pagelog_blocks_difference(struct pagelog_blocks *blocks, ui
         at = next;
     }
     return PAGELOG_DONE;
+}
+
+bool pagelog_blocks_is_fresh(const struct pagelog_blocks *blocks) {
+    return blocks->record_count == 0;
 }
 
 size_t pagelog_blocks_count(const struct pagelog_blocks *blocks) {

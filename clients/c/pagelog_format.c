@@ -5,21 +5,6 @@
 
 enum { HEAD_BYTES = 30, FAULT_OF_BLOCK = 6 };
 
-uint8_t *pagelog_write_number(uint8_t *to, uint64_t value, size_t size) {
-    for (size_t i = size; i > 0; i--) {
-        to[i - 1] = (uint8_t)value;
-        value >>= 8;
-    }
-    return to + size;
-}
-
-uint64_t pagelog_read_number(const uint8_t *from, size_t size) {
-    uint64_t value = 0;
-    for (size_t i = 0; i < size; i++)
-        value = value << 8 | from[i];
-    return value;
-}
-
 /* ---- Blocks ---- */
 
 /* Bytes that are read from the front; `cut` once a field was asked for that is not there as a whole. */

@@ -3,6 +3,7 @@
 #define PAGELOG_INSIDE_H
 
 #include "pagelog.h"
+#include "pagelog_common.h"
 
 enum { RECORD_PUT = 1, RECORD_ZERO = 2, PUT_HEAD_BYTES = 9, ZERO_BYTES = 5, BLOCK_HEAD_BYTES = 12 };
 
@@ -21,10 +22,6 @@ enum {
     BLOCK_LENGTH,
 };
 enum { REPLY_EMPTY = 1, REPLY_ROLE, REPLY_KIND, REPLY_CUT, REPLY_TRAILING, REPLY_RANGE };
-
-/* A number of `size` bytes, the high one first; the place behind it. */
-uint8_t *pagelog_write_number(uint8_t *to, uint64_t value, size_t size);
-uint64_t pagelog_read_number(const uint8_t *from, size_t size);
 
 /* A buffer that grows. What is in it stands from `start` to `end`. */
 struct buffer {
@@ -67,8 +64,5 @@ void pagelog_progress(struct pagelog_patience *patience);
 
 /* Whether there is patience for another try; it waits a little before, and longer each time. */
 bool pagelog_may_try_again(struct pagelog_patience *patience);
-
-/* Milliseconds of a clock that never goes back. */
-uint64_t pagelog_now(void);
 
 #endif

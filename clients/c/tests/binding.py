@@ -70,7 +70,8 @@ declare("pagelog_new", c_void_p, POINTER(Options))
 declare("pagelog_blocks_new", c_void_p)
 declare("pagelog_blocks_restart", None, c_void_p, c_uint64)
 declare("pagelog_blocks_put", c_uint, c_void_p, c_uint32, c_uint16, c_char_p, c_uint16)
-declare("pagelog_blocks_put_whole", c_uint, c_void_p, c_uint32, c_uint16, c_char_p, c_uint16)
+declare("pagelog_blocks_room", c_uint64, c_void_p, c_uint32, c_uint16)
+declare("pagelog_blocks_is_fresh", c_bool, c_void_p)
 declare("pagelog_blocks_zero", c_uint, c_void_p, c_uint32)
 declare("pagelog_blocks_difference", c_uint, c_void_p, c_uint32, c_char_p, c_char_p)
 declare("pagelog_blocks_end", c_uint, c_void_p)
@@ -170,8 +171,8 @@ class Blocks:
     def put(self, page, offset, data):
         return name(lib.pagelog_blocks_put(self.made, page, offset, data, len(data)))
 
-    def put_whole(self, page, offset, data):
-        return name(lib.pagelog_blocks_put_whole(self.made, page, offset, data, len(data)))
+    def room(self, page, length):
+        return lib.pagelog_blocks_room(self.made, page, length)
 
     def zero(self, page):
         return name(lib.pagelog_blocks_zero(self.made, page))
@@ -264,3 +265,86 @@ class Log:
         text = ctypes.create_string_buffer(200)
         lib.pagelog_explain(self.made, text, 200)
         return text.value.decode()
+
+
+class FileOptions(Structure):
+    _fields_ = [("service", Options), ("reads_only", c_bool), ("has_operator", c_bool), ("operator", c_uint32),
+                ("operator_token", Token), ("copies", c_uint), ("check_ms", c_uint), ("cache_pages", c_size_t),
+                ("at", c_uint64), ("may_be_stale", c_bool)]
+
+
+class State(Structure):
+    _fields_ = [("is_writer", c_bool), ("is_fenced", c_bool), ("is_broken", c_bool), ("is_stale", c_bool),
+                ("lsn", c_uint64), ("end", c_uint64), ("size", c_uint64), ("transaction", c_uint64),
+                ("epoch", c_uint32), ("writing_epoch", c_uint32), ("cached_pages", c_size_t), ("commits", c_uint64),
+                ("repairs", c_uint64), ("pages_fetched", c_uint64), ("blocks_written", c_uint64), ("wire", Counts)]
+
+
+declare("pagelog_file_new", c_void_p, POINTER(FileOptions))
+declare("pagelog_file_free", None, c_void_p)
+declare("pagelog_file_open", c_uint, c_void_p)
+declare("pagelog_file_begin", c_uint, c_void_p)
+declare("pagelog_file_read", c_uint, c_void_p, c_uint64, c_char_p, c_size_t, POINTER(c_size_t))
+declare("pagelog_file_write", c_uint, c_void_p, c_uint64, c_char_p, c_size_t)
+declare("pagelog_file_resize", c_uint, c_void_p, c_uint64)
+declare("pagelog_file_size", c_uint64, c_void_p)
+declare("pagelog_file_commit", c_uint, c_void_p)
+declare("pagelog_file_undo", None, c_void_p)
+declare("pagelog_file_state_of", State, c_void_p)
+declare("pagelog_file_explain", None, c_void_p, c_char_p, c_size_t)
+
+
+class File:
+    """A file with transactions."""
+
+    def __init__(self, address, principal, reads_only=False, operator=None, copies=0, check_ms=0, cache_pages=0, at=0,
+                 may_be_stale=False, database=0, reply_ms=0, patience_ms=0):
+        service = Options(address.encode(), principal, token(principal), database, 0, reply_ms, patience_ms)
+        options = FileOptions(service, reads_only, operator is not None, operator or 0, token(operator or 0), copies,
+                              check_ms, cache_pages, at, may_be_stale)
+        self.made = lib.pagelog_file_new(byref(options))
+
+    def __enter__(self):
+        return self
+
+    def __exit__(self, *_):
+        lib.pagelog_file_free(self.made)
+        self.made = None
+
+    def open(self):
+        return name(lib.pagelog_file_open(self.made))
+
+    def begin(self):
+        return name(lib.pagelog_file_begin(self.made))
+
+    def read(self, offset, length):
+        out, count = ctypes.create_string_buffer(max(length, 1)), c_size_t()
+        outcome = name(lib.pagelog_file_read(self.made, offset, out, length, byref(count)))
+        return outcome, out.raw[: count.value]
+
+    def write(self, offset, data):
+        return name(lib.pagelog_file_write(self.made, offset, data, len(data)))
+
+    def resize(self, size):
+        return name(lib.pagelog_file_resize(self.made, size))
+
+    def commit(self):
+        return name(lib.pagelog_file_commit(self.made))
+
+    def undo(self):
+        lib.pagelog_file_undo(self.made)
+
+    size = property(lambda self: lib.pagelog_file_size(self.made))
+    state = property(lambda self: lib.pagelog_file_state_of(self.made))
+
+    @property
+    def words(self):
+        text = ctypes.create_string_buffer(200)
+        lib.pagelog_file_explain(self.made, text, 200)
+        return text.value.decode()
+
+    def whole(self):
+        """All bytes of the file."""
+        outcome, data = self.read(0, self.size)
+        assert outcome == DONE, (outcome, self.words)
+        return data

@@ -1,0 +1,199 @@
+#include "pagelog_cache.h"
+
+#include <stdlib.h>
+#include <string.h>
+
+enum { LEAST_CHAINS = 1024, LEAST_PAGES = 16 };
+
+/* Frames from the one used last to the one used longest ago. */
+struct list {
+    struct pagelog_frame *newest, *oldest;
+    size_t count;
+};
+
+struct pagelog_cache {
+    size_t most;
+    struct pagelog_frame **chains;
+    size_t chain_count; /* a power of two */
+    struct list changed, unchanged;
+};
+
+struct pagelog_cache *pagelog_cache_new(size_t most) {
+    struct pagelog_cache *cache = calloc(1, sizeof *cache);
+    if (!cache) return NULL;
+    cache->most = most > LEAST_PAGES ? most : LEAST_PAGES;
+    cache->chain_count = LEAST_CHAINS;
+    cache->chains = calloc(cache->chain_count, sizeof *cache->chains);
+    if (cache->chains) return cache;
+    free(cache);
+    return NULL;
+}
+
+static struct pagelog_frame **chain_of(const struct pagelog_cache *cache, uint32_t page) {
+    return &cache->chains[(page * UINT32_C(2654435761) >> 7) & (cache->chain_count - 1)];
+}
+
+static void put_in_chain(struct pagelog_cache *cache, struct pagelog_frame *frame) {
+    struct pagelog_frame **chain = chain_of(cache, frame->page);
+    frame->next_in_chain = *chain;
+    *chain = frame;
+}
+
+/* Twice as many chains; as many as before where memory runs out. */
+static void spread(struct pagelog_cache *cache) {
+    struct pagelog_frame **chains = calloc(cache->chain_count * 2, sizeof *chains);
+    if (!chains) return;
+    free(cache->chains);
+    cache->chains = chains;
+    cache->chain_count *= 2;
+    for (struct pagelog_frame *frame = cache->changed.newest; frame; frame = frame->older)
+        put_in_chain(cache, frame);
+    for (struct pagelog_frame *frame = cache->unchanged.newest; frame; frame = frame->older)
+        put_in_chain(cache, frame);
+}
+
+static struct list *list_of(struct pagelog_cache *cache, const struct pagelog_frame *frame) {
+    return frame->changed ? &cache->changed : &cache->unchanged;
+}
+
+static void unlink_frame(struct pagelog_cache *cache, struct pagelog_frame *frame) {
+    struct list *list = list_of(cache, frame);
+    *(frame->newer ? &frame->newer->older : &list->newest) = frame->older;
+    *(frame->older ? &frame->older->newer : &list->oldest) = frame->newer;
+    list->count--;
+}
+
+static void link_newest(struct pagelog_cache *cache, struct pagelog_frame *frame) {
+    struct list *list = list_of(cache, frame);
+    frame->newer = NULL;
+    frame->older = list->newest;
+    *(list->newest ? &list->newest->newer : &list->oldest) = frame;
+    list->newest = frame;
+    list->count++;
+}
+
+/* Gives the frame this page as its changed one, or none. */
+static void set_changed(struct pagelog_cache *cache, struct pagelog_frame *frame, uint8_t *changed) {
+    unlink_frame(cache, frame);
+    if (!changed) free(frame->changed);
+    frame->changed = changed;
+    link_newest(cache, frame);
+}
+
+static void drop_frame(struct pagelog_cache *cache, struct pagelog_frame *frame) {
+    struct pagelog_frame **at = chain_of(cache, frame->page);
+    while (*at != frame)
+        at = &(*at)->next_in_chain;
+    *at = frame->next_in_chain;
+    unlink_frame(cache, frame);
+    free(frame->changed);
+    free(frame->base);
+    free(frame);
+}
+
+void pagelog_cache_clear(struct pagelog_cache *cache) {
+    while (cache->changed.oldest)
+        drop_frame(cache, cache->changed.oldest);
+    while (cache->unchanged.oldest)
+        drop_frame(cache, cache->unchanged.oldest);
+}
+
+void pagelog_cache_free(struct pagelog_cache *cache) {
+    if (!cache) return;
+    pagelog_cache_clear(cache);
+    free(cache->chains);
+    free(cache);
+}
+
+struct pagelog_frame *pagelog_cache_find(struct pagelog_cache *cache, uint32_t page) {
+    struct pagelog_frame *frame = *chain_of(cache, page);
+    while (frame && frame->page != page)
+        frame = frame->next_in_chain;
+    if (frame && frame->newer) {
+        unlink_frame(cache, frame);
+        link_newest(cache, frame);
+    }
+    return frame;
+}
+
+/* Lets unchanged pages go that were used longest ago; there are so many that the two used last stay. */
+static void make_room(struct pagelog_cache *cache) {
+    while (cache->unchanged.count >= cache->most)
+        drop_frame(cache, cache->unchanged.oldest);
+}
+
+struct pagelog_frame *pagelog_cache_make(struct pagelog_cache *cache, uint32_t page) {
+    struct pagelog_frame *frame = pagelog_cache_find(cache, page);
+    if (frame) return frame;
+    make_room(cache);
+    if (pagelog_cache_count(cache) >= 2 * cache->chain_count) spread(cache);
+    frame = calloc(1, sizeof *frame);
+    if (!frame) return NULL;
+    frame->base = malloc(PAGELOG_PAGE_BYTES);
+    if (!frame->base) {
+        free(frame);
+        return NULL;
+    }
+    frame->page = page;
+    put_in_chain(cache, frame);
+    link_newest(cache, frame);
+    return frame;
+}
+
+bool pagelog_cache_change(struct pagelog_cache *cache, struct pagelog_frame *frame) {
+    if (frame->changed) return true;
+    uint8_t *changed = calloc(1, PAGELOG_PAGE_BYTES);
+    if (!changed) return false;
+    if (frame->has_base) memcpy(changed, frame->base, PAGELOG_PAGE_BYTES);
+    set_changed(cache, frame, changed);
+    return true;
+}
+
+static int compare_pages(const void *one, const void *other) {
+    uint32_t a = (*(struct pagelog_frame *const *)one)->page,
+             b = (*(struct pagelog_frame *const *)other)->page;
+    return a < b ? -1 : a > b;
+}
+
+bool pagelog_cache_changed(const struct pagelog_cache *cache, struct pagelog_frame ***frames, size_t *count) {
+    *count = 0;
+    *frames = malloc((cache->changed.count + 1) * sizeof **frames);
+    if (!*frames) return false;
+    for (struct pagelog_frame *frame = cache->changed.newest; frame; frame = frame->older)
+        (*frames)[(*count)++] = frame;
+    qsort(*frames, *count, sizeof **frames, compare_pages);
+    return true;
+}
+
+void pagelog_cache_undo(struct pagelog_cache *cache) {
+    struct pagelog_frame *frame;
+    while ((frame = cache->changed.oldest)) {
+        set_changed(cache, frame, NULL);
+        if (!frame->has_base) drop_frame(cache, frame);
+    }
+}
+
+void pagelog_cache_keep(struct pagelog_cache *cache) {
+    struct pagelog_frame *frame;
+    while ((frame = cache->changed.oldest)) {
+        memcpy(frame->base, frame->changed, PAGELOG_PAGE_BYTES);
+        frame->has_base = true;
+        set_changed(cache, frame, NULL);
+    }
+}
+
+static void forget_above(struct pagelog_cache *cache, const struct list *list, uint32_t last) {
+    for (struct pagelog_frame *frame = list->newest, *older; frame; frame = older) {
+        older = frame->older;
+        if (frame->page > last) drop_frame(cache, frame);
+    }
+}
+
+void pagelog_cache_forget_above(struct pagelog_cache *cache, uint32_t last) {
+    forget_above(cache, &cache->changed, last);
+    forget_above(cache, &cache->unchanged, last);
+}
+
+size_t pagelog_cache_count(const struct pagelog_cache *cache) {
+    return cache->changed.count + cache->unchanged.count;
+}

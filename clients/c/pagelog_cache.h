@@ -1,0 +1,47 @@
+/* Pages in memory, each as it was committed and, where it was changed since, as it is now. Knows no service.
+ */
+#ifndef PAGELOG_CACHE_H
+#define PAGELOG_CACHE_H
+
+#include "pagelog.h"
+
+struct pagelog_frame {
+    uint32_t page;
+    bool has_base;
+    uint8_t *base;    /* 8,192 bytes: the page as it was committed, where `has_base` */
+    uint8_t *changed; /* 8,192 bytes: the page as the transaction has it, or NULL */
+    struct pagelog_frame *next_in_chain, *newer, *older;
+};
+
+struct pagelog_cache;
+
+/* A cache of at most so many pages, and as many more as are changed or in use. NULL where memory runs out. */
+struct pagelog_cache *pagelog_cache_new(size_t most);
+void pagelog_cache_free(struct pagelog_cache *cache);
+
+/* The frame of a page, as the one used last; NULL where there is none. */
+struct pagelog_frame *pagelog_cache_find(struct pagelog_cache *cache, uint32_t page);
+
+/* The frame of a page, a new one without a base where there was none. The unchanged page used longest ago may
+ * go for it, so at most the two frames that were asked for last may be held on to. NULL where memory runs
+ * out. */
+struct pagelog_frame *pagelog_cache_make(struct pagelog_cache *cache, uint32_t page);
+
+/* Gives a frame a changed page, which is its base at first, or zeros where it has none. False where memory
+ * runs out. */
+bool pagelog_cache_change(struct pagelog_cache *cache, struct pagelog_frame *frame);
+
+/* The changed frames, by rising page; `*frames` is to be freed. False where memory runs out. */
+bool pagelog_cache_changed(const struct pagelog_cache *cache, struct pagelog_frame ***frames, size_t *count);
+
+/* Forgets all changes, or makes them the base. */
+void pagelog_cache_undo(struct pagelog_cache *cache);
+void pagelog_cache_keep(struct pagelog_cache *cache);
+
+/* Forgets the pages above `last`, or all pages, changes included. */
+void pagelog_cache_forget_above(struct pagelog_cache *cache, uint32_t last);
+void pagelog_cache_clear(struct pagelog_cache *cache);
+
+size_t pagelog_cache_count(const struct pagelog_cache *cache);
+
+#endif

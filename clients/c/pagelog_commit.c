@@ -1,0 +1,307 @@
+/* The commit: pages that differ become records, records fill blocks, and the end mark ends the last of them;
+ * and the repair, which undoes a commit that did not come so far. */
+#include "pagelog_file_inside.h"
+
+#include <stdlib.h>
+#include <string.h>
+
+static const uint8_t zeros[PAGELOG_PAGE_BYTES];
+
+static enum pagelog_outcome out_of_memory(struct pagelog_file *file) {
+    return pagelog_file_fail(file, PAGELOG_NO_MEMORY, "this process has no memory left");
+}
+
+/* ---- The commit ---- */
+
+/* What is left to do of a commit. */
+struct commit {
+    struct pagelog_file *file;
+    struct pagelog_frame **frames; /* the changed ones, by rising page */
+    size_t count;
+    uint32_t old_pages,
+        fresh_pages; /* pages up to the first have a base in the log; from there to the second, zeros */
+};
+
+/* Gives the changed frames from `first` on, up to 64, their bases where they have none in memory. */
+static enum pagelog_outcome fetch_bases(struct commit *commit, size_t first) {
+    uint32_t pages[GROUP];
+    struct pagelog_frame *frames[GROUP];
+    size_t count = 0;
+    for (size_t i = first; i < commit->count && i < first + GROUP; i++) {
+        struct pagelog_frame *frame = commit->frames[i];
+        if (frame->has_base || frame->page > commit->old_pages) continue;
+        pages[count] = frame->page;
+        frames[count++] = frame;
+    }
+    if (count == 0) return PAGELOG_DONE;
+    uint8_t *bytes = malloc(count * PAGELOG_PAGE_BYTES);
+    if (!bytes) return out_of_memory(commit->file);
+    enum pagelog_outcome outcome = pagelog_fetch(commit->file, commit->file->mark.lsn, pages, count, bytes);
+    for (size_t i = 0; i < count && outcome == PAGELOG_DONE; i++) {
+        memcpy(frames[i]->base, bytes + i * PAGELOG_PAGE_BYTES, PAGELOG_PAGE_BYTES);
+        frames[i]->has_base = true;
+    }
+    free(bytes);
+    return outcome;
+}
+
+/* Appends full groups, so that the blocks of a long transaction need not all be in memory. The last group
+ * waits for the end mark: nobody sees what stands in the log without one. */
+static enum pagelog_outcome append_full_group(struct pagelog_file *file) {
+    return pagelog_blocks_count(file->blocks) >= GROUP ? pagelog_append_ended(file) : PAGELOG_DONE;
+}
+
+/* Adds the records of the changed pages that were in the file before. */
+static enum pagelog_outcome add_old_pages(struct commit *commit, size_t *next) {
+    struct pagelog_blocks *blocks = commit->file->blocks;
+    for (; *next < commit->count && commit->frames[*next]->page <= commit->old_pages; ++*next) {
+        struct pagelog_frame *frame = commit->frames[*next];
+        enum pagelog_outcome outcome = frame->has_base ? PAGELOG_DONE : fetch_bases(commit, *next);
+        if (outcome == PAGELOG_DONE)
+            outcome = pagelog_blocks_difference(blocks, frame->page, frame->base, frame->changed);
+        if (outcome == PAGELOG_DONE) outcome = append_full_group(commit->file);
+        if (outcome != PAGELOG_DONE) return outcome;
+    }
+    return PAGELOG_DONE;
+}
+
+/* Adds the records of the pages that are new in the file, each of which begins as zeros. */
+static enum pagelog_outcome add_fresh_pages(struct commit *commit, size_t next) {
+    struct pagelog_blocks *blocks = commit->file->blocks;
+    for (uint32_t page = commit->old_pages; page < commit->fresh_pages;) {
+        enum pagelog_outcome outcome = pagelog_blocks_zero(blocks, ++page);
+        if (outcome == PAGELOG_DONE && next < commit->count && commit->frames[next]->page == page)
+            outcome = pagelog_blocks_difference(blocks, page, zeros, commit->frames[next++]->changed);
+        if (outcome == PAGELOG_DONE) outcome = append_full_group(commit->file);
+        if (outcome != PAGELOG_DONE) return outcome;
+    }
+    return PAGELOG_DONE;
+}
+
+/* What is in memory is what was committed. */
+static void keep(struct pagelog_file *file, const struct mark *mark) {
+    pagelog_cache_keep(file->cache);
+    file->mark = *mark;
+    file->least = file->size;
+    file->next = mark->lsn + 1;
+    file->commits++;
+}
+
+static struct mark next_mark(const struct pagelog_file *file) {
+    return (struct mark){
+        .size = file->size, .session = file->session, .transaction = file->mark.transaction + 1};
+}
+
+/* Whether nothing differs from what was committed. Blocks that were appended already count too. */
+static bool is_nothing(const struct pagelog_file *file, uint64_t end_before) {
+    return pagelog_blocks_is_fresh(file->blocks) && pagelog_blocks_count(file->blocks) == 0 &&
+           pagelog_end(file->log) == end_before && file->size == file->mark.size;
+}
+
+/* The outcome of a group before the last one: the end mark was not sent, so that there is no doubt about the
+ * whole. */
+static enum pagelog_outcome without_doubt(const struct pagelog_file *file, enum pagelog_outcome outcome) {
+    if (outcome != PAGELOG_IN_DOUBT) return outcome;
+    enum pagelog_outcome cause = pagelog_outcome_of(pagelog_refused(file->log));
+    return cause == PAGELOG_DONE ? PAGELOG_LOST : cause;
+}
+
+/* Sends the changes, and the end mark behind them. `*mark` is that of the transaction once DONE is returned;
+ * `*is_sent` once the end mark may have come to the service. */
+static enum pagelog_outcome send_changes(struct commit *commit, struct mark *mark, bool *is_sent) {
+    struct pagelog_file *file = commit->file;
+    size_t next = 0;
+    uint64_t end = pagelog_end(file->log);
+    pagelog_blocks_restart(file->blocks, end + 1);
+    enum pagelog_outcome outcome = add_old_pages(commit, &next);
+    if (outcome == PAGELOG_DONE) outcome = add_fresh_pages(commit, next);
+    if (outcome != PAGELOG_DONE) return without_doubt(file, outcome);
+    if (is_nothing(file, end)) {
+        *mark = file->mark;
+        return PAGELOG_DONE;
+    }
+    *is_sent = true;
+    return pagelog_append_mark(file, mark);
+}
+
+/* Whether the end mark is in the log, of an epoch that is over: DONE where it is, CONFLICT where it is not.
+ */
+static enum pagelog_outcome find_mark(struct pagelog_file *file, enum pagelog_role role,
+                                      const struct mark *mark) {
+    uint8_t page[PAGELOG_PAGE_BYTES];
+    const uint32_t number = MARK_PAGE;
+    struct mark found;
+    enum pagelog_outcome outcome = pagelog_get(file->log, role, mark->lsn, &number, 1, page);
+    bool ends_before = outcome == PAGELOG_DENIED && pagelog_refused(file->log)->section == 3 &&
+                       pagelog_refused(file->log)->row == 1 && !pagelog_is_anew(file->log);
+    if (ends_before) return PAGELOG_CONFLICT;
+    if (outcome != PAGELOG_DONE) return outcome;
+    bool is_ours = pagelog_read_mark(page, &found) && found.lsn == mark->lsn &&
+                   found.session == mark->session && found.transaction == mark->transaction;
+    return is_ours ? PAGELOG_DONE : PAGELOG_CONFLICT;
+}
+
+/* A commit in doubt: another epoch decides it, be it one that this writer begins or one that somebody else
+ * has begun. */
+static enum pagelog_outcome settle(struct pagelog_file *file, const struct mark *mark) {
+    const struct pagelog_file_options *options = &file->options;
+    enum pagelog_outcome cause = pagelog_outcome_of(pagelog_refused(file->log));
+    if (!options->has_operator) return PAGELOG_IN_DOUBT;
+    enum pagelog_outcome outcome = pagelog_take_over(
+        file->log, options->operator_principal, options->operator_token, pagelog_writing_epoch(file->log));
+    bool is_fenced = outcome == PAGELOG_FENCED && !pagelog_is_anew(file->log);
+    if (outcome != PAGELOG_DONE && !is_fenced) return PAGELOG_IN_DOUBT;
+    if (is_fenced) pagelog_become_follower(file);
+    outcome = find_mark(file, role_of(file), mark);
+    if (outcome == PAGELOG_DONE) return PAGELOG_DONE;
+    if (outcome != PAGELOG_CONFLICT) return PAGELOG_IN_DOUBT;
+    if (is_fenced) return PAGELOG_FENCED;
+    return cause == PAGELOG_DONE ? PAGELOG_LOST : cause;
+}
+
+/* What an outcome leaves behind for the next transaction. */
+static void note_failure(struct pagelog_file *file, enum pagelog_outcome outcome, uint64_t end) {
+    bool is_untouched = pagelog_end(file->log) == end && !pagelog_is_stuck(file->log);
+    if (outcome == PAGELOG_FENCED && !pagelog_is_anew(file->log))
+        pagelog_become_follower(file);
+    else if (!is_untouched || outcome == PAGELOG_IN_DOUBT)
+        file->is_broken = true;
+}
+
+static enum pagelog_outcome commit_changes(struct commit *commit) {
+    struct pagelog_file *file = commit->file;
+    struct mark mark = next_mark(file);
+    bool is_sent = false;
+    uint64_t end = pagelog_end(file->log);
+    enum pagelog_outcome outcome = send_changes(commit, &mark, &is_sent);
+    if (outcome == PAGELOG_IN_DOUBT) outcome = settle(file, &mark);
+    if (outcome == PAGELOG_DONE && is_sent)
+        keep(file, &mark);
+    else if (outcome == PAGELOG_DONE)
+        pagelog_file_undo(file);
+    else
+        note_failure(file, outcome, end);
+    return outcome;
+}
+
+enum pagelog_outcome pagelog_file_commit(struct pagelog_file *file) {
+    struct commit commit = {.file = file};
+    file->reason = NULL;
+    if (!pagelog_cache_changed(file->cache, &commit.frames, &commit.count)) return out_of_memory(file);
+    commit.old_pages = pages_of(file->least);
+    commit.fresh_pages = pages_of(file->size);
+    bool is_unchanged = commit.count == 0 && file->size == file->mark.size && file->least == file->size;
+    enum pagelog_outcome outcome = PAGELOG_DONE;
+    if (!is_unchanged && !is_writer(file))
+        outcome = pagelog_file_fail(file, PAGELOG_FENCED, "this file is not written to: it follows");
+    if (!is_unchanged && is_writer(file)) outcome = commit_changes(&commit);
+    free(commit.frames);
+    return outcome;
+}
+
+/* ---- The repair ---- */
+
+/* A set of pages, as a list. */
+struct pages {
+    uint32_t *numbers;
+    size_t count, room;
+};
+
+static bool add_page(struct pages *pages, uint32_t page) {
+    if (pages->count > 0 && pages->numbers[pages->count - 1] == page) return true;
+    if (pages->count == pages->room) {
+        size_t room = pages->room ? 2 * pages->room : 256;
+        uint32_t *numbers = realloc(pages->numbers, room * sizeof *numbers);
+        if (!numbers) return false;
+        pages->numbers = numbers;
+        pages->room = room;
+    }
+    pages->numbers[pages->count++] = page;
+    return true;
+}
+
+static int compare_numbers(const void *one, const void *other) {
+    uint32_t a = *(const uint32_t *)one, b = *(const uint32_t *)other;
+    return a < b ? -1 : a > b;
+}
+
+static void sort_once_each(struct pages *pages) {
+    size_t kept = 0;
+    if (pages->count == 0) return;
+    qsort(pages->numbers, pages->count, sizeof *pages->numbers, compare_numbers);
+    for (size_t i = 0; i < pages->count; i++)
+        if (kept == 0 || pages->numbers[kept - 1] != pages->numbers[i])
+            pages->numbers[kept++] = pages->numbers[i];
+    pages->count = kept;
+}
+
+/* Adds the pages of the file that a block touches. */
+static bool add_touched(struct pages *pages, const uint8_t *block, uint32_t last) {
+    struct pagelog_records records;
+    struct pagelog_record record;
+    pagelog_records_begin(&records, block);
+    while (pagelog_records_next(&records, &record))
+        if (record.page != MARK_PAGE && record.page <= last && !add_page(pages, record.page)) return false;
+    return true;
+}
+
+/* The pages of the file that the blocks behind the end mark touch; all pages where this principal may not
+ * pull. */
+static enum pagelog_outcome touched_pages(struct pagelog_file *file, uint64_t end, struct pages *pages) {
+    uint32_t last = pages_of(file->mark.size);
+    for (uint64_t next = file->mark.lsn + 1; next <= end;) {
+        struct pagelog_reply pulled;
+        size_t at = 0, length;
+        const uint8_t *block;
+        enum pagelog_outcome outcome = pagelog_pull(file->log, next, PAGELOG_PULL_BLOCKS, &pulled);
+        if (outcome == PAGELOG_DENIED) break;
+        if (outcome != PAGELOG_DONE) return outcome;
+        while ((block = pagelog_next_block(&pulled, &at, &length)))
+            if (!add_touched(pages, block, last)) return out_of_memory(file);
+        next = pulled.next;
+        if (next > end) {
+            sort_once_each(pages);
+            return PAGELOG_DONE;
+        }
+    }
+    pages->count = 0;
+    for (uint32_t page = 1; page <= last; page++)
+        if (!add_page(pages, page)) return out_of_memory(file);
+    return PAGELOG_DONE;
+}
+
+/* Adds what makes up to 64 pages again what they were at the end mark. */
+static enum pagelog_outcome add_repairs(struct pagelog_file *file, uint64_t end, const uint32_t *pages,
+                                        size_t count) {
+    uint8_t *old = malloc(2 * GROUP * PAGELOG_PAGE_BYTES), *now = old + GROUP * PAGELOG_PAGE_BYTES;
+    if (!old) return out_of_memory(file);
+    enum pagelog_outcome outcome = pagelog_get(file->log, PAGELOG_PRIMARY, file->mark.lsn, pages, count, old);
+    if (outcome == PAGELOG_DONE) outcome = pagelog_get(file->log, PAGELOG_PRIMARY, end, pages, count, now);
+    for (size_t i = 0; i < count && outcome == PAGELOG_DONE; i++) {
+        size_t at = i * PAGELOG_PAGE_BYTES;
+        outcome = pagelog_blocks_difference(file->blocks, pages[i], now + at, old + at);
+        if (outcome == PAGELOG_DONE) outcome = append_full_group(file);
+    }
+    free(old);
+    return outcome;
+}
+
+enum pagelog_outcome pagelog_repair(struct pagelog_file *file) {
+    struct pages pages = {0};
+    uint64_t end = pagelog_end(file->log);
+    struct mark mark = {
+        .size = file->mark.size, .session = file->session, .transaction = file->mark.transaction + 1};
+    enum pagelog_outcome outcome = touched_pages(file, end, &pages);
+    pagelog_blocks_restart(file->blocks, end + 1);
+    for (size_t i = 0; i < pages.count && outcome == PAGELOG_DONE; i += GROUP) {
+        size_t count = pages.count - i < GROUP ? pages.count - i : GROUP;
+        outcome = add_repairs(file, end, pages.numbers + i, count);
+    }
+    free(pages.numbers);
+    if (outcome == PAGELOG_DONE) outcome = pagelog_append_mark(file, &mark);
+    if (outcome != PAGELOG_DONE) return outcome;
+    file->mark = mark;
+    file->next = mark.lsn + 1;
+    file->repairs++;
+    return PAGELOG_DONE;
+}

@@ -1,0 +1,33 @@
+/* Numbers in bytes, the high one first, and a clock: what both the wire and the file need, and no caller
+ * sees. */
+#ifndef PAGELOG_COMMON_H
+#define PAGELOG_COMMON_H
+
+#include <stddef.h>
+#include <stdint.h>
+#include <time.h>
+
+/* Writes a number in `size` bytes, and returns the place behind it. */
+static inline uint8_t *pagelog_write_number(uint8_t *to, uint64_t value, size_t size) {
+    for (size_t i = size; i > 0; i--) {
+        to[i - 1] = (uint8_t)value;
+        value >>= 8;
+    }
+    return to + size;
+}
+
+static inline uint64_t pagelog_read_number(const uint8_t *from, size_t size) {
+    uint64_t value = 0;
+    for (size_t i = 0; i < size; i++)
+        value = value << 8 | from[i];
+    return value;
+}
+
+/* Milliseconds of a clock that never goes back. */
+static inline uint64_t pagelog_now(void) {
+    struct timespec now;
+    clock_gettime(CLOCK_MONOTONIC, &now);
+    return (uint64_t)now.tv_sec * 1000 + (uint64_t)now.tv_nsec / 1000000;
+}
+
+#endif

@@ -1,0 +1,402 @@
+/* Opening, transactions, reads and writes. pagelog_commit.c has the commit, pagelog_follow.c the follower. */
+#include "pagelog_file_inside.h"
+
+#include <stdio.h>
+#include <stdlib.h>
+#include <string.h>
+#include <sys/random.h>
+
+enum { MOST_AHEAD = 32, DEFAULT_CACHE = 4096 };
+
+static const uint8_t magic[8] = {'p', 'l', 'f', 'i', 'l', 'e', '0', '1'};
+
+/* ---- The end mark ---- */
+
+bool pagelog_read_mark(const uint8_t *page, struct mark *mark) {
+    static const uint8_t zeros[MARK_BYTES];
+    memset(mark, 0, sizeof *mark);
+    if (memcmp(page, zeros, MARK_BYTES) == 0) return true;
+    if (memcmp(page, magic, sizeof magic) != 0) return false;
+    mark->lsn = pagelog_read_number(page + 8, 8);
+    mark->size = pagelog_read_number(page + 16, 8);
+    mark->session = pagelog_read_number(page + 24, 8);
+    mark->transaction = pagelog_read_number(page + 32, 8);
+    return mark->lsn > 0 && mark->size <= PAGELOG_FILE_MOST;
+}
+
+static void write_mark(uint8_t *bytes, const struct mark *mark) {
+    memcpy(bytes, magic, sizeof magic);
+    uint8_t *at = pagelog_write_number(bytes + sizeof magic, mark->lsn, 8);
+    at = pagelog_write_number(at, mark->size, 8);
+    at = pagelog_write_number(at, mark->session, 8);
+    pagelog_write_number(at, mark->transaction, 8);
+}
+
+bool pagelog_has_mark(const uint8_t *block, struct mark *mark) {
+    struct pagelog_records records;
+    struct pagelog_record record = {0}, last = {0};
+    pagelog_records_begin(&records, block);
+    while (pagelog_records_next(&records, &record))
+        last = record;
+    return last.page == MARK_PAGE && last.offset == 0 && last.length == MARK_BYTES &&
+           pagelog_read_mark(last.bytes, mark) && mark->lsn == records.lsn;
+}
+
+enum pagelog_outcome pagelog_append_ended(struct pagelog_file *file) {
+    size_t count = pagelog_blocks_count(file->blocks);
+    uint64_t asked = pagelog_now();
+    enum pagelog_outcome outcome = pagelog_append(file->log, file->blocks, file->options.copies);
+    if (outcome != PAGELOG_DONE) return outcome;
+    pagelog_blocks_drop(file->blocks, count);
+    file->blocks_written += count;
+    file->checked = asked;
+    file->is_checked = true;
+    return PAGELOG_DONE;
+}
+
+enum pagelog_outcome pagelog_append_mark(struct pagelog_file *file, struct mark *mark) {
+    uint8_t bytes[MARK_BYTES];
+    mark->lsn = pagelog_blocks_room(file->blocks, MARK_PAGE, MARK_BYTES);
+    if (mark->lsn == 0) return PAGELOG_NO_MEMORY;
+    write_mark(bytes, mark);
+    enum pagelog_outcome outcome = pagelog_blocks_put(file->blocks, MARK_PAGE, 0, bytes, MARK_BYTES);
+    if (outcome == PAGELOG_DONE) outcome = pagelog_blocks_end(file->blocks);
+    return outcome == PAGELOG_DONE ? pagelog_append_ended(file) : outcome;
+}
+
+enum pagelog_outcome pagelog_take_mark(struct pagelog_file *file, uint64_t lsn) {
+    uint8_t page[PAGELOG_PAGE_BYTES];
+    const uint32_t number = MARK_PAGE;
+    struct mark mark;
+    enum pagelog_outcome outcome = pagelog_fetch(file, lsn, &number, 1, page);
+    if (outcome != PAGELOG_DONE) return outcome;
+    if (!pagelog_read_mark(page, &mark) || mark.lsn > lsn) {
+        return pagelog_file_fail(file, PAGELOG_MALFORMED,
+                                 "page 0 is no end mark: the database holds something else");
+    }
+    if (mark.lsn != file->mark.lsn) {
+        pagelog_cache_clear(file->cache);
+        file->pending.length = 0;
+        file->is_far = false;
+        file->next = mark.lsn + 1;
+    }
+    file->mark = mark;
+    return PAGELOG_DONE;
+}
+
+/* ---- Making, opening, freeing ---- */
+
+enum pagelog_outcome pagelog_file_fail(struct pagelog_file *file, enum pagelog_outcome outcome,
+                                       const char *reason) {
+    file->failed = outcome;
+    file->reason = reason;
+    return outcome;
+}
+
+struct pagelog_file *pagelog_file_new(const struct pagelog_file_options *options) {
+    struct pagelog_file *file = calloc(1, sizeof *file);
+    if (!file) return NULL;
+    file->options = *options;
+    if (file->options.copies == 0) file->options.copies = 2;
+    file->log = pagelog_new(&options->service);
+    file->cache = pagelog_cache_new(options->cache_pages ? options->cache_pages : DEFAULT_CACHE);
+    file->blocks = pagelog_blocks_new();
+    file->next = 1;
+    file->fetched = malloc((size_t)GROUP * PAGELOG_PAGE_BYTES);
+    if (file->log && file->cache && file->blocks && file->fetched) return file;
+    pagelog_file_free(file);
+    return NULL;
+}
+
+void pagelog_file_free(struct pagelog_file *file) {
+    if (!file) return;
+    pagelog_free(file->log);
+    pagelog_cache_free(file->cache);
+    pagelog_blocks_free(file->blocks);
+    free(file->pending.bytes);
+    free(file->fetched);
+    free(file);
+}
+
+/* Reads the newest end mark as a writer, and undoes what stands behind it. */
+static enum pagelog_outcome recover(struct pagelog_file *file) {
+    enum pagelog_outcome outcome = pagelog_take_mark(file, pagelog_end(file->log));
+    if (outcome == PAGELOG_DONE && is_writer(file) && pagelog_end(file->log) > file->mark.lsn)
+        outcome = pagelog_repair(file);
+    return outcome;
+}
+
+static enum pagelog_outcome open_writer(struct pagelog_file *file) {
+    const struct pagelog_file_options *options = &file->options;
+    if (getrandom(&file->session, sizeof file->session, 0) != sizeof file->session)
+        return pagelog_file_fail(file, PAGELOG_NO_MEMORY, "the system has no random number");
+    uint64_t asked = pagelog_now();
+    enum pagelog_outcome outcome =
+        options->has_operator
+            ? pagelog_take_over(file->log, options->operator_principal, options->operator_token, 0)
+            : pagelog_join(file->log);
+    if (outcome != PAGELOG_DONE) return outcome;
+    file->checked = asked;
+    file->is_checked = true;
+    return recover(file);
+}
+
+static enum pagelog_outcome open_reader(struct pagelog_file *file) {
+    struct pagelog_reply status;
+    uint64_t asked = pagelog_now();
+    enum pagelog_outcome outcome = pagelog_status(file->log, PAGELOG_SECONDARY, &status);
+    if (outcome != PAGELOG_DONE) return outcome;
+    file->checked = asked;
+    file->is_checked = true;
+    return pagelog_take_mark(file, file->options.at ? file->options.at : status.hard);
+}
+
+enum pagelog_outcome pagelog_file_open(struct pagelog_file *file) {
+    file->reason = NULL;
+    enum pagelog_outcome outcome = file->options.reads_only ? open_reader(file) : open_writer(file);
+    file->is_open = outcome == PAGELOG_DONE;
+    file->size = file->least = file->mark.size;
+    return outcome;
+}
+
+/* ---- Beginning ---- */
+
+void pagelog_become_follower(struct pagelog_file *file) {
+    file->is_fenced = true;
+    file->is_checked = false;
+    file->next = file->mark.lsn + 1;
+    file->pending.length = 0;
+}
+
+/* After a commit that did not come to its end: an epoch of its own, in which all is decided, but only if
+ * nobody else has begun one. */
+static enum pagelog_outcome renew(struct pagelog_file *file) {
+    const struct pagelog_file_options *options = &file->options;
+    if (!options->has_operator)
+        return pagelog_file_fail(file, PAGELOG_CONFLICT,
+                                 "a commit did not come to its end: open the file again");
+    enum pagelog_outcome outcome = pagelog_take_over(
+        file->log, options->operator_principal, options->operator_token, pagelog_writing_epoch(file->log));
+    if (outcome == PAGELOG_DONE) outcome = recover(file);
+    if (outcome == PAGELOG_DONE) file->is_broken = false;
+    return outcome;
+}
+
+/* Asks whether the writer's epoch goes on, and whether the log still ends where this file believes. */
+static enum pagelog_outcome check_epoch(struct pagelog_file *file) {
+    struct pagelog_reply status;
+    enum pagelog_outcome outcome = pagelog_status(file->log, PAGELOG_PRIMARY, &status);
+    if (outcome == PAGELOG_DONE && status.hard != file->mark.lsn) outcome = recover(file);
+    return outcome;
+}
+
+static bool is_due(const struct pagelog_file *file, uint64_t now) {
+    return !file->is_checked || now - file->checked >= file->options.check_ms;
+}
+
+static enum pagelog_outcome begin_writer(struct pagelog_file *file) {
+    enum pagelog_outcome outcome = PAGELOG_DONE;
+    if (file->is_broken)
+        outcome = renew(file);
+    else if (is_due(file, pagelog_now()))
+        outcome = check_epoch(file);
+    if (outcome == PAGELOG_FENCED && !pagelog_is_anew(file->log)) pagelog_become_follower(file);
+    return outcome;
+}
+
+/* Brings the file to the newest transaction, as far as that is due. */
+static enum pagelog_outcome refresh(struct pagelog_file *file) {
+    uint64_t asked = pagelog_now();
+    enum pagelog_outcome outcome = is_writer(file) ? begin_writer(file) : PAGELOG_DONE;
+    if (!is_writer(file) && !file->options.at && is_due(file, asked)) outcome = pagelog_follow(file);
+    if (outcome != PAGELOG_DONE) return outcome;
+    if (is_due(file, asked)) file->checked = asked;
+    file->is_checked = true;
+    return PAGELOG_DONE;
+}
+
+enum pagelog_outcome pagelog_file_begin(struct pagelog_file *file) {
+    file->reason = NULL;
+    if (!file->is_open) return pagelog_file_fail(file, PAGELOG_MALFORMED, "the file is not open");
+    pagelog_file_undo(file);
+    enum pagelog_outcome outcome = refresh(file);
+    file->is_stale = outcome != PAGELOG_DONE && !is_writer(file) && file->options.may_be_stale;
+    if (outcome != PAGELOG_DONE && !file->is_stale) return outcome;
+    file->size = file->least = file->mark.size;
+    return PAGELOG_DONE;
+}
+
+/* ---- Pages ---- */
+
+static enum pagelog_outcome out_of_memory(struct pagelog_file *file) {
+    return pagelog_file_fail(file, PAGELOG_NO_MEMORY, "this process has no memory left");
+}
+
+enum pagelog_outcome pagelog_fetch(struct pagelog_file *file, uint64_t lsn, const uint32_t *pages,
+                                   size_t count, uint8_t *out) {
+    enum pagelog_outcome outcome = pagelog_get(file->log, role_of(file), lsn, pages, count, out);
+    if (outcome == PAGELOG_FENCED && is_writer(file) && !pagelog_is_anew(file->log)) {
+        pagelog_become_follower(file);
+        outcome = pagelog_get(file->log, role_of(file), lsn, pages, count, out);
+    }
+    if (outcome == PAGELOG_DONE) file->pages_fetched += count;
+    return outcome;
+}
+
+/* Whether a page was outside of the file at some moment since the last commit, so that it begins as zeros. */
+static bool is_fresh(const struct pagelog_file *file, uint32_t page) {
+    return page > pages_of(file->least);
+}
+
+/* How many pages are fetched for one that is missing: more where page after page is missing. */
+static uint32_t pages_ahead(struct pagelog_file *file, uint32_t page) {
+    bool follows = page == file->last_miss + file->ahead;
+    uint32_t wanted = follows ? 2 * file->ahead : 1, left = pages_of(file->least) - page + 1;
+    if (wanted > MOST_AHEAD) wanted = MOST_AHEAD;
+    file->last_miss = page;
+    file->ahead = wanted < left ? wanted : left;
+    return file->ahead;
+}
+
+/* Fetches a page, and those behind it that will probably be read next. */
+static enum pagelog_outcome fetch_page(struct pagelog_file *file, uint32_t page) {
+    uint32_t pages[MOST_AHEAD] = {0}, count = 0, ahead = pages_ahead(file, page);
+    for (uint32_t i = 0; i < ahead; i++) {
+        struct pagelog_frame *frame = i > 0 ? pagelog_cache_find(file->cache, page + i) : NULL;
+        if (!frame) pages[count++] = page + i;
+    }
+    enum pagelog_outcome outcome = pagelog_fetch(file, file->mark.lsn, pages, count, file->fetched);
+    for (uint32_t i = count; i > 0 && outcome == PAGELOG_DONE; i--) {
+        struct pagelog_frame *frame = pagelog_cache_make(file->cache, pages[i - 1]);
+        if (!frame) return out_of_memory(file);
+        memcpy(frame->base, file->fetched + (size_t)(i - 1) * PAGELOG_PAGE_BYTES, PAGELOG_PAGE_BYTES);
+        frame->has_base = true;
+    }
+    return outcome;
+}
+
+/* The bytes of a page as the transaction has it; NULL in `*found` for zeros. */
+static enum pagelog_outcome look_up(struct pagelog_file *file, uint32_t page, const uint8_t **found) {
+    struct pagelog_frame *frame = pagelog_cache_find(file->cache, page);
+    *found = frame ? frame->changed : NULL;
+    if (*found || is_fresh(file, page)) return PAGELOG_DONE;
+    if (!frame || !frame->has_base) {
+        enum pagelog_outcome outcome = fetch_page(file, page);
+        if (outcome != PAGELOG_DONE) return outcome;
+        frame = pagelog_cache_find(file->cache, page);
+    }
+    *found = frame->base;
+    return PAGELOG_DONE;
+}
+
+enum pagelog_outcome pagelog_file_read(struct pagelog_file *file, uint64_t offset, void *bytes, size_t length,
+                                       size_t *count) {
+    uint8_t *out = bytes;
+    uint64_t left = offset < file->size ? file->size - offset : 0;
+    *count = left < length ? (size_t)left : length;
+    memset(out + *count, 0, length - *count);
+    for (size_t done = 0; done < *count;) {
+        uint32_t page = (uint32_t)((offset + done) / PAGELOG_PAGE_BYTES) + 1;
+        size_t start = (size_t)((offset + done) % PAGELOG_PAGE_BYTES), piece = PAGELOG_PAGE_BYTES - start;
+        const uint8_t *found;
+        if (piece > *count - done) piece = *count - done;
+        enum pagelog_outcome outcome = look_up(file, page, &found);
+        if (outcome != PAGELOG_DONE) return outcome;
+        if (found)
+            memcpy(out + done, found + start, piece);
+        else
+            memset(out + done, 0, piece);
+        done += piece;
+    }
+    return PAGELOG_DONE;
+}
+
+/* Replaces bytes within a page. A page that is replaced as a whole need not be read before. */
+static enum pagelog_outcome change_page(struct pagelog_file *file, uint32_t page, size_t start,
+                                        const uint8_t *bytes, size_t length) {
+    const uint8_t *found = NULL;
+    if (length < PAGELOG_PAGE_BYTES) {
+        enum pagelog_outcome outcome = look_up(file, page, &found);
+        if (outcome != PAGELOG_DONE) return outcome;
+    }
+    struct pagelog_frame *frame = pagelog_cache_make(file->cache, page);
+    bool is_new = frame && !frame->changed;
+    if (!frame || !pagelog_cache_change(file->cache, frame)) return out_of_memory(file);
+    if (is_new && is_fresh(file, page)) memset(frame->changed, 0, PAGELOG_PAGE_BYTES);
+    if (bytes)
+        memcpy(frame->changed + start, bytes, length);
+    else
+        memset(frame->changed + start, 0, length);
+    return PAGELOG_DONE;
+}
+
+enum pagelog_outcome pagelog_file_write(struct pagelog_file *file, uint64_t offset, const void *bytes,
+                                        size_t length) {
+    const uint8_t *in = bytes;
+    if (offset > PAGELOG_FILE_MOST || length > PAGELOG_FILE_MOST - offset)
+        return pagelog_file_fail(file, PAGELOG_MALFORMED, "the file would be too long");
+    for (size_t done = 0; done < length;) {
+        uint32_t page = (uint32_t)((offset + done) / PAGELOG_PAGE_BYTES) + 1;
+        size_t start = (size_t)((offset + done) % PAGELOG_PAGE_BYTES), piece = PAGELOG_PAGE_BYTES - start;
+        if (piece > length - done) piece = length - done;
+        enum pagelog_outcome outcome = change_page(file, page, start, in + done, piece);
+        if (outcome != PAGELOG_DONE) return outcome;
+        done += piece;
+    }
+    if (offset + length > file->size) file->size = offset + length;
+    return PAGELOG_DONE;
+}
+
+enum pagelog_outcome pagelog_file_resize(struct pagelog_file *file, uint64_t size) {
+    size_t start = (size_t)(size % PAGELOG_PAGE_BYTES);
+    if (size > PAGELOG_FILE_MOST)
+        return pagelog_file_fail(file, PAGELOG_MALFORMED, "the file would be too long");
+    if (size < file->size && start > 0) { /* behind its end a page has zeros */
+        enum pagelog_outcome outcome =
+            change_page(file, pages_of(size), start, NULL, PAGELOG_PAGE_BYTES - start);
+        if (outcome != PAGELOG_DONE) return outcome;
+    }
+    if (size < file->size) pagelog_cache_forget_above(file->cache, pages_of(size));
+    file->size = size;
+    if (size < file->least) file->least = size;
+    return PAGELOG_DONE;
+}
+
+uint64_t pagelog_file_size(const struct pagelog_file *file) {
+    return file->size;
+}
+
+void pagelog_file_undo(struct pagelog_file *file) {
+    pagelog_cache_undo(file->cache);
+    file->size = file->least = file->mark.size;
+}
+
+/* ---- What is known ---- */
+
+struct pagelog_file_state pagelog_file_state_of(const struct pagelog_file *file) {
+    return (struct pagelog_file_state){
+        .is_writer = is_writer(file),
+        .is_fenced = file->is_fenced,
+        .is_broken = file->is_broken,
+        .is_stale = file->is_stale,
+        .lsn = file->mark.lsn,
+        .end = pagelog_end(file->log),
+        .size = file->mark.size,
+        .transaction = file->mark.transaction,
+        .epoch = pagelog_epoch(file->log),
+        .writing_epoch = pagelog_writing_epoch(file->log),
+        .cached_pages = pagelog_cache_count(file->cache),
+        .commits = file->commits,
+        .repairs = file->repairs,
+        .pages_fetched = file->pages_fetched,
+        .blocks_written = file->blocks_written,
+        .wire = pagelog_counts_of(file->log),
+    };
+}
+
+void pagelog_file_explain(const struct pagelog_file *file, char *text, size_t room) {
+    if (file->reason)
+        snprintf(text, room, "%s: %s", pagelog_outcome_name(file->failed), file->reason);
+    else
+        pagelog_explain(file->log, text, room);
+}

@@ -1,0 +1,109 @@
+/* A file of bytes with transactions, over a database of the service. It knows the wire, and nothing of who
+ * uses it.
+ *
+ * Page 0 of the database is the end mark: the LSN of the last transaction's last block, the size of the file,
+ * and who wrote it. Page n has the bytes from (n - 1) * 8,192 on. A transaction is a list of blocks, the last
+ * of which has the end mark as its last record. Who reads takes the end mark at the end of the log, and then
+ * every page at the LSN that it tells, so that blocks behind it, of a transaction that is on its way or was
+ * cut off, are not seen.
+ *
+ * A file is used by one thread at a time.
+ *
+ *   pagelog_file_new, pagelog_file_open
+ *   then, as often as wanted:  pagelog_file_begin, reads, writes, pagelog_file_commit or pagelog_file_undo
+ *   pagelog_file_free
+ */
+#ifndef PAGELOG_FILE_H
+#define PAGELOG_FILE_H
+
+#include "pagelog.h"
+
+#ifdef __cplusplus
+extern "C" {
+#endif
+
+/* The most bytes that a file may have: pages 1 to 2^32 - 1. */
+#define PAGELOG_FILE_MOST ((UINT64_C(4294967295)) * PAGELOG_PAGE_BYTES)
+
+struct pagelog_file;
+
+struct pagelog_file_options {
+    struct pagelog_options service;
+    bool reads_only;   /* a secondary: it follows what others commit */
+    bool has_operator; /* a writer begins an epoch of its own, in this operator's name */
+    uint32_t operator_principal;
+    uint8_t operator_token[PAGELOG_TOKEN_BYTES];
+    unsigned copies; /* 2 or 3; 0: 2 */
+    unsigned
+        check_ms; /* how old may be what a transaction begins with: the newest end that a reader knows, the
+                   * proof that a writer's epoch is not over. 0: each transaction asks, one round trip */
+    size_t cache_pages; /* unchanged pages that are kept in memory, 8,192 bytes each; 0: 4,096 */
+    uint64_t at; /* a reader of the newest transaction that ended at this LSN or before; 0: it follows */
+    bool may_be_stale; /* a reader that gets no answer when it begins goes on with what it has */
+};
+
+struct pagelog_file_state {
+    bool is_writer; /* it may commit */
+    bool is_fenced; /* it was a writer; now it follows, if its principal may be a secondary */
+    bool
+        is_broken; /* a commit did not come to its end; the next begin takes an epoch of its own, and looks */
+    bool is_stale; /* the last begin got no answer */
+    uint64_t lsn;  /* of the transaction that is read: the LSN of its last block; 0: none yet */
+    uint64_t end;  /* of the log, as far as is known */
+    uint64_t size; /* bytes, as committed at `lsn` */
+    uint64_t transaction; /* the number of the transaction at `lsn`, from 1 */
+    uint32_t epoch, writing_epoch;
+    size_t cached_pages;
+    uint64_t commits, repairs, pages_fetched, blocks_written;
+    struct pagelog_counts wire;
+};
+
+/* A file that is not open yet; NULL where memory runs out. */
+struct pagelog_file *pagelog_file_new(const struct pagelog_file_options *options);
+
+/* Frees it. A transaction that was not committed is undone: nothing of it has been sent. */
+void pagelog_file_free(struct pagelog_file *file);
+
+/* Connects, and learns the newest transaction. A writer begins its epoch and undoes, in a transaction of its
+ * own, what a writer before it left without an end mark. MALFORMED: page 0 has something that is no end mark.
+ */
+enum pagelog_outcome pagelog_file_open(struct pagelog_file *file);
+
+/* Begins a transaction: what is read is what was committed last, until the next begin. A writer whose epoch
+ * is over follows from now on as a reader, and is not FENCED here but at its commit. FENCED: the service was
+ * started anew. */
+enum pagelog_outcome pagelog_file_begin(struct pagelog_file *file);
+
+/* Bytes of the file as the transaction has it; `*count` of them are in the file, and the others zeros. */
+enum pagelog_outcome pagelog_file_read(struct pagelog_file *file, uint64_t offset, void *bytes, size_t length,
+                                       size_t *count);
+
+/* Replaces bytes, and makes the file longer where they go past its end. Nothing is sent. MALFORMED: past the
+ * most bytes that a file may have. */
+enum pagelog_outcome pagelog_file_write(struct pagelog_file *file, uint64_t offset, const void *bytes,
+                                        size_t length);
+
+/* Makes the file shorter, or longer by zeros. */
+enum pagelog_outcome pagelog_file_resize(struct pagelog_file *file, uint64_t size);
+
+/* The size as the transaction has it. */
+uint64_t pagelog_file_size(const struct pagelog_file *file);
+
+/* Makes the changes since the last commit a transaction. Nothing is sent where nothing differs.
+ *
+ * DONE: it is in the log. IN_DOUBT: it may be; the next begin looks. Any other outcome: it is not in the log
+ * and never will be. After any outcome but DONE the changes are still there, until pagelog_file_undo. */
+enum pagelog_outcome pagelog_file_commit(struct pagelog_file *file);
+
+/* Forgets all changes since the last commit. */
+void pagelog_file_undo(struct pagelog_file *file);
+
+struct pagelog_file_state pagelog_file_state_of(const struct pagelog_file *file);
+
+/* A sentence on the last outcome that was not DONE, as pagelog_explain. */
+void pagelog_file_explain(const struct pagelog_file *file, char *text, size_t room);
+
+#ifdef __cplusplus
+}
+#endif
+#endif

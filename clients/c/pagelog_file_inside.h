@@ -1,0 +1,92 @@
+/* What the files of the file layer share, and no caller sees. */
+#ifndef PAGELOG_FILE_INSIDE_H
+#define PAGELOG_FILE_INSIDE_H
+
+#include "pagelog_cache.h"
+#include "pagelog_common.h"
+#include "pagelog_file.h"
+
+enum { MARK_PAGE = 0, MARK_BYTES = 40, GROUP = 64 };
+
+/* What page 0 says: numbers of 8 bytes, the high one first, behind a magic one. */
+struct mark {
+    uint64_t lsn, size, session, transaction;
+};
+
+/* Blocks that were pulled and have no end mark behind them yet, one behind the other, each after its length.
+ */
+struct pending {
+    uint8_t *bytes;
+    size_t length, room;
+};
+
+struct pagelog_file {
+    struct pagelog *log;
+    struct pagelog_file_options options;
+    struct pagelog_cache *cache;
+    struct pagelog_blocks *blocks;
+    struct mark mark; /* of the transaction that is read */
+    uint64_t session; /* of the writer: a random number */
+    bool is_open, is_fenced, is_broken, is_stale;
+    uint64_t size, least; /* of the transaction: the size, and the least that it was since the last commit */
+    uint64_t next;        /* of a follower: where the next pull begins */
+    struct pending pending;
+    bool is_far;      /* so much was pulled without an end mark that it was not kept aside */
+    uint64_t checked; /* when the service last said that this is the newest, or that the epoch is not over */
+    bool is_checked;
+    uint32_t last_miss, ahead;   /* the page that was fetched last, and how many were with it */
+    uint8_t *fetched;            /* room for the pages of one fetch */
+    enum pagelog_outcome failed; /* the last outcome of a call that the wire did not give, and why */
+    const char *reason;
+    uint64_t commits, repairs, pages_fetched, blocks_written;
+};
+
+/* Enters an outcome that the wire did not give, and returns it. */
+enum pagelog_outcome pagelog_file_fail(struct pagelog_file *file, enum pagelog_outcome outcome,
+                                       const char *reason);
+
+/* The epoch of a writer is over: it follows from now on. */
+void pagelog_become_follower(struct pagelog_file *file);
+
+/* Whether this file may commit. */
+static inline bool is_writer(const struct pagelog_file *file) {
+    return !file->options.reads_only && !file->is_fenced;
+}
+
+static inline enum pagelog_role role_of(const struct pagelog_file *file) {
+    return is_writer(file) ? PAGELOG_PRIMARY : PAGELOG_SECONDARY;
+}
+
+/* How many pages a file of this size has; they are 1 to that. */
+static inline uint32_t pages_of(uint64_t size) {
+    return (uint32_t)((size + PAGELOG_PAGE_BYTES - 1) / PAGELOG_PAGE_BYTES);
+}
+
+/* Reads page 0, 8,192 bytes: false where it is neither an end mark nor all zeros. */
+bool pagelog_read_mark(const uint8_t *page, struct mark *mark);
+
+/* Whether a block ends with an end mark of its own. */
+bool pagelog_has_mark(const uint8_t *block, struct mark *mark);
+
+/* Pages at an LSN, as the role that the file has. A writer that is fenced by it goes on as a secondary. */
+enum pagelog_outcome pagelog_fetch(struct pagelog_file *file, uint64_t lsn, const uint32_t *pages,
+                                   size_t count, uint8_t *out);
+
+/* Takes the newest transaction at an LSN of the log for the one that is read; what is in the cache stays only
+ * where it is the same. */
+enum pagelog_outcome pagelog_take_mark(struct pagelog_file *file, uint64_t lsn);
+
+/* Appends the blocks that were ended, and forgets them. */
+enum pagelog_outcome pagelog_append_ended(struct pagelog_file *file);
+
+/* Adds the end mark to the blocks that are being made, and appends what is left of them. `*mark` is given its
+ * LSN. */
+enum pagelog_outcome pagelog_append_mark(struct pagelog_file *file, struct mark *mark);
+
+/* Undoes what stands in the log behind the end mark, in a transaction of its own. */
+enum pagelog_outcome pagelog_repair(struct pagelog_file *file);
+
+/* Pulls what was committed since, and applies it to the pages in memory. */
+enum pagelog_outcome pagelog_follow(struct pagelog_file *file);
+
+#endif

@@ -1,0 +1,94 @@
+/* The follower: it pulls blocks, keeps them aside until an end mark comes, and then applies them to the pages
+ * in memory. */
+#include "pagelog_file_inside.h"
+
+#include <stdlib.h>
+#include <string.h>
+
+enum {
+    MOST_PENDING =
+        64 << 20, /* bytes that are kept aside; past it the pages in memory are forgotten in their place */
+    FAR_BEHIND = 512, /* blocks: past it the pages are fetched anew */
+};
+
+static bool keep_aside(struct pending *pending, const uint8_t *block, size_t length) {
+    if (pending->room - pending->length < length + 4) {
+        size_t room = 2 * (pending->length + length + 4);
+        uint8_t *bytes = realloc(pending->bytes, room);
+        if (!bytes) return false;
+        pending->bytes = bytes;
+        pending->room = room;
+    }
+    uint8_t *at = pagelog_write_number(pending->bytes + pending->length, length, 4);
+    memcpy(at, block, length);
+    pending->length += 4 + length;
+    return true;
+}
+
+static void apply_record(struct pagelog_file *file, const struct pagelog_record *record) {
+    struct pagelog_frame *frame = pagelog_cache_find(file->cache, record->page);
+    if (!frame || !frame->has_base) return;
+    if (record->length == 0)
+        memset(frame->base, 0, PAGELOG_PAGE_BYTES);
+    else
+        memcpy(frame->base + record->offset, record->bytes, record->length);
+}
+
+/* A transaction is whole: the file is what it was made into. */
+static void apply_pending(struct pagelog_file *file, const struct mark *mark) {
+    struct pending *pending = &file->pending;
+    struct pagelog_records records;
+    struct pagelog_record record;
+    for (size_t at = 0; at < pending->length;) {
+        size_t length = (size_t)pagelog_read_number(pending->bytes + at, 4);
+        pagelog_records_begin(&records, pending->bytes + at + 4);
+        while (pagelog_records_next(&records, &record))
+            apply_record(file, &record);
+        at += 4 + length;
+    }
+    pending->length = 0;
+    file->mark = *mark;
+}
+
+/* Takes a block that was pulled. */
+static enum pagelog_outcome take_block(struct pagelog_file *file, const uint8_t *block, size_t length) {
+    struct mark mark;
+    if (file->pending.length + length > MOST_PENDING) {
+        file->is_far = true;
+        file->pending.length = 0;
+    }
+    if (!file->is_far && !keep_aside(&file->pending, block, length))
+        return pagelog_file_fail(file, PAGELOG_NO_MEMORY, "this process has no memory left");
+    file->next = pagelog_read_number(block, 8) + 1;
+    if (!pagelog_has_mark(block, &mark)) return PAGELOG_DONE;
+    if (file->is_far) pagelog_cache_clear(file->cache);
+    file->is_far = false;
+    apply_pending(file, &mark);
+    return PAGELOG_DONE;
+}
+
+/* Where the log has gone far ahead, takes its newest transaction at once, and what is in memory no more. */
+static enum pagelog_outcome leap(struct pagelog_file *file) {
+    struct pagelog_reply status;
+    enum pagelog_outcome outcome = pagelog_status(file->log, PAGELOG_SECONDARY, &status);
+    if (outcome != PAGELOG_DONE || status.hard < file->next + FAR_BEHIND) return outcome;
+    return pagelog_take_mark(file, status.hard);
+}
+
+enum pagelog_outcome pagelog_follow(struct pagelog_file *file) {
+    for (bool may_leap = true;;) {
+        struct pagelog_reply pulled;
+        size_t at = 0, length;
+        const uint8_t *block;
+        enum pagelog_outcome outcome = pagelog_pull(file->log, file->next, PAGELOG_PULL_BLOCKS, &pulled);
+        if (outcome != PAGELOG_DONE) return outcome;
+        while (outcome == PAGELOG_DONE && (block = pagelog_next_block(&pulled, &at, &length)))
+            outcome = take_block(file, block, length);
+        if (outcome != PAGELOG_DONE) return outcome;
+        file->next = pulled.next;
+        if (pulled.hard != 0 || pulled.count == 0) return PAGELOG_DONE;
+        if (may_leap) outcome = leap(file);
+        may_leap = false;
+        if (outcome != PAGELOG_DONE) return outcome;
+    }
+}

@@ -1,0 +1,316 @@
+"""The file with transactions, against the real service, beside a plain bytearray."""
+
+import random
+import time
+
+from binding import (AUDIT_FULL, CONFLICT, DENIED, DONE, FENCED, IN_DOUBT, LOST, MALFORMED, File, Log, PRIMARY, SECONDARY,
+                     Blocks)
+from check import LONG, run, same, true
+from service import Proxy, Service, START_TABLE, TABLE, random_plan, wire
+
+NUMBERS = random.Random(11)
+
+
+def opened(address, principal=2, **more):
+    """An open file: of a writer with an operator, where `more` does not say otherwise."""
+    if not more.get("reads_only"):
+        more.setdefault("operator", 1)
+    made = File(address, principal, **more)
+    same("open", DONE, made.open())
+    return made
+
+
+def change(file, model, numbers, most):
+    """A random change of both."""
+    kind, size = numbers.random(), len(model)
+    if kind < 0.8:
+        offset = numbers.randrange(min(size + 20000, most))
+        data = numbers.randbytes(numbers.choice([1, 8, 100, 8192, 20000]))
+        same("write", DONE, file.write(offset, data))
+        if offset > size:
+            model.extend(bytes(offset - size))
+        model[offset : offset + len(data)] = data
+    else:
+        new = numbers.randrange(most) if kind < 0.9 else size // 2
+        same("resize", DONE, file.resize(new))
+        del model[new:]
+        model.extend(bytes(new - len(model)))
+
+
+def test_transactions_beside_a_plain_file():
+    """Random changes, undone or committed; a reader sees each commit as a whole, and what a new reader sees is the same."""
+    rounds, most = (2000, 3000000) if LONG else (250, 600000)
+    for seed, cache, copies in ((1, 0, 2), (2, 16, 3)):
+        numbers = random.Random(seed)
+        with Service() as service, opened(service.address, cache_pages=cache, copies=copies) as file, \
+                opened(service.address, 3, reads_only=True, cache_pages=cache) as reader:
+            model, committed, lsns = bytearray(), bytearray(), {}
+            for _ in range(rounds):
+                same("begin", DONE, file.begin())
+                for _ in range(numbers.randrange(5)):
+                    change(file, model, numbers, most)
+                same("size", len(model), file.size)
+                at = numbers.randrange(len(model) + 100)
+                same("read", (DONE, bytes(model[at : at + 30000])), file.read(at, 30000))
+                if numbers.random() < 0.2:
+                    file.undo()
+                    model[:] = committed
+                else:
+                    same("commit", DONE, file.commit())
+                    committed[:] = model
+                lsns[file.state.lsn] = bytes(committed)
+                if numbers.random() < 0.3:
+                    same("begin", DONE, reader.begin())
+                    same("reader", committed, reader.whole())
+            same("begin", DONE, file.begin())
+            same("writer", committed, file.whole())
+            for lsn in random.Random(seed).sample(sorted(lsns), 5):
+                with opened(service.address, 4, reads_only=True, at=lsn) as past:
+                    same("begin", DONE, past.begin())
+                    same(f"as of {lsn}", lsns[lsn], past.whole())
+
+
+def test_a_reader_keeps_its_snapshot():
+    with Service() as service, opened(service.address) as file, \
+            opened(service.address, 3, reads_only=True) as reader:
+        same("write", (DONE, DONE, DONE), (file.begin(), file.write(0, b"one" * 9000), file.commit()))
+        same("begin", DONE, reader.begin())
+        same("first", (DONE, b"one"), reader.read(0, 3))
+        same("write", (DONE, DONE, DONE), (file.begin(), file.write(0, b"two" * 9000), file.commit()))
+        same("the rest is fetched as of then", b"one" * 9000, reader.whole())
+        same("begin", DONE, reader.begin())
+        same("now", b"two" * 9000, reader.whole())
+        same("a reader does not commit", (DONE, FENCED), (reader.write(0, b"x"), reader.commit()))
+
+
+def test_what_an_update_costs():
+    with Service() as service, opened(service.address, check_ms=10000) as file:
+        file.begin(), file.write(0, bytes(range(256)) * 320), file.commit()
+        before = file.state.wire
+        for i in range(10):
+            same("update", (DONE, DONE, DONE), (file.begin(), file.write(5000, b"%08d" % i), file.commit()))
+        after = file.state.wire
+        same("round trips", 10, after.round_trips - before.round_trips)
+        same("requests", 30, after.requests - before.requests)
+        true("bytes", after.bytes_sent - before.bytes_sent <= 303 * 10)
+        same("nothing", (DONE, DONE, DONE), (file.begin(), file.write(5000, b"%08d" % 9), file.commit()))
+        same("no request", after.requests, file.state.wire.requests)
+        return f"{(after.bytes_sent - before.bytes_sent) // 10} bytes an update"
+
+
+def cut_off(service, groups, principal=2):
+    """Leaves the first blocks of a transaction in the log, as a writer does that is killed in the midst of it."""
+    seen = [0]
+
+    def between(frame):
+        if frame[33] == wire.REPORT:
+            seen[0] += 1
+        return None if seen[0] > groups else frame
+
+    with Proxy(service.address, between=between) as proxy, \
+            opened(proxy.address, principal, patience_ms=1, reply_ms=500) as file:
+        same("begin", DONE, file.begin())
+        same("write", DONE, file.write(0, random.Random(5).randbytes(3 << 20)))
+        true("not committed", file.commit() in (LOST, IN_DOUBT))
+
+
+def test_a_transaction_that_was_cut_off_is_undone():
+    for table in (TABLE, START_TABLE):
+        with Service(table=table) as service, opened(service.address, 5 if table == TABLE else 2) as old:
+            wanted = random.Random(6).randbytes(1 << 20)
+            old.begin(), old.write(0, wanted)
+            same("commit", DONE, old.commit())
+            cut_off(service, 1)
+            with service.operator() as operator:
+                hard = operator.status()[2]
+            true("blocks without an end", hard > old.state.lsn)
+            if table == TABLE:
+                with opened(service.address, 3, reads_only=True) as reader:
+                    same("begin", DONE, reader.begin())
+                    same("a reader does not see them", wanted, reader.whole())
+                    with opened(service.address, 2) as file:
+                        same("repaired", 1, file.state.repairs)
+                        same("begin", DONE, reader.begin())
+                        same("nor once they are undone", wanted, reader.whole())
+                        same("a small change", (DONE, DONE, DONE),
+                             (file.begin(), file.write(7, b"small"), file.commit()))
+                    same("begin", DONE, reader.begin())
+                    same("nor behind it", wanted[:7] + b"small" + wanted[12:], reader.whole())
+                with opened(service.address, 4, reads_only=True) as new:
+                    same("begin", DONE, new.begin())
+                    same("a new reader", wanted[:7] + b"small" + wanted[12:], new.whole())
+            else:
+                with opened(service.address, 2) as file:
+                    same("repaired", 1, file.state.repairs)
+                    same("begin", DONE, file.begin())
+                    same("all pages compared", wanted, file.whole())
+
+
+def test_a_fenced_writer_follows():
+    with Service() as service, opened(service.address, 2) as old:
+        old.begin(), old.write(0, b"a" * 20000)
+        same("commit", DONE, old.commit())
+        same("begin", DONE, old.begin())
+        same("write", DONE, old.write(0, b"b" * 20000))
+        with opened(service.address, 5) as new:
+            same("new", (DONE, DONE, DONE), (new.begin(), new.write(0, b"c" * 10), new.commit()))
+            same("fenced", FENCED, old.commit())
+            true("and says so", old.state.is_fenced and "A2" in old.words)
+            same("begin", DONE, old.begin())
+            same("it follows", b"c" * 10 + b"a" * 19990, old.whole())
+            same("new", (DONE, DONE, DONE), (new.begin(), new.write(0, b"d" * 5), new.commit()))
+            same("begin", DONE, old.begin())
+            same("and goes on", b"d" * 5 + b"c" * 5 + b"a" * 19990, old.whole())
+            same("for good", (DONE, FENCED), (old.write(0, b"x"), old.commit()))
+
+
+def test_a_fenced_writer_fetches_on():
+    """It is fenced in the midst of a transaction that has to fetch pages: it reads on at its snapshot."""
+    with Service() as service, opened(service.address, 2, cache_pages=16) as old:
+        wanted = random.Random(8).randbytes(1 << 20)
+        old.begin(), old.write(0, wanted)
+        same("commit", DONE, old.commit())
+        same("begin", DONE, old.begin())
+        with opened(service.address, 5) as new:
+            same("new", (DONE, DONE, DONE), (new.begin(), new.write(0, b"c" * 500000), new.commit()))
+            same("its snapshot", wanted, old.whole())
+
+
+def test_a_commit_in_doubt_is_settled():
+    """The report is never answered, once since it was not carried and once since its reply was not."""
+    for carried in (False, True):
+        with Service() as service:
+            stop = [None]
+
+            def between(frame):
+                if frame[33] == wire.REPORT and stop[0] is None:
+                    stop[0] = time.monotonic()
+                    if carried:
+                        with service.operator() as operator:
+                            body = bytes(frame[4:])
+                            operator.socket.sendall(frame)
+                            length = int.from_bytes(operator.socket.recv(4), "big")
+                            operator.socket.recv(length)
+                    return None
+                if stop[0] is not None and time.monotonic() - stop[0] < 0.4:
+                    return None
+                return frame
+
+            with Proxy(service.address, between=between) as proxy, \
+                    opened(proxy.address, 2, patience_ms=1000) as file:
+                same("commit", (DONE, DONE, DONE), (file.begin(), file.write(0, b"x" * 100), file.commit()))
+                same("once more", (DONE, DONE, DONE), (file.begin(), file.write(0, b"y" * 50), file.commit()))
+                with opened(service.address, 3, reads_only=True) as reader:
+                    same("begin", DONE, reader.begin())
+                    same("reader", b"y" * 50 + b"x" * 50, reader.whole())
+
+
+def test_a_commit_in_doubt_is_looked_for_later():
+    """The service is away for longer than there is patience; the next begin tells what became of it."""
+    for carried in (0, 1, 2):
+        with Service() as service:
+            away, seen = [False], [0]
+
+            def between(frame):
+                if frame[33] == wire.WRITE:
+                    seen[0] += 1
+                if frame[33] == wire.WRITE and seen[0] > 2 + carried or frame[33] == wire.REPORT and seen[0] > 2:
+                    away[0] = True
+                return None if away[0] else frame
+
+            with Proxy(service.address, between=between) as proxy, \
+                    opened(proxy.address, 2, patience_ms=1, reply_ms=300) as file:
+                same("first", (DONE, DONE, DONE), (file.begin(), file.write(0, b"a" * 100), file.commit()))
+                same("begin", DONE, file.begin())
+                file.write(0, b"b" * 50)
+                outcome = file.commit()
+                true("not done", outcome in (IN_DOUBT, LOST))
+                true("broken", file.state.is_broken)
+                file.undo()
+                away[0], seen[0] = False, -1000
+                same("begin", DONE, file.begin())
+                found = file.whole()
+                true("one or the other", found in (b"a" * 100, b"b" * 50 + b"a" * 50))
+                if outcome == LOST:
+                    same("never", b"a" * 100, found)
+                same("on", (DONE, DONE), (file.write(60, b"z"), file.commit()))
+                with opened(service.address, 3, reads_only=True) as reader:
+                    same("begin", DONE, reader.begin())
+                    same("reader", found[:60] + b"z" + found[61:], reader.whole())
+
+
+def test_a_database_of_something_else():
+    with Service() as service:
+        with Log(service.address, 2) as log:
+            same("take over", DONE, log.take_over())
+            blocks = Blocks(1)
+            blocks.put(0, 0, b"something else"), blocks.end()
+            same("append", DONE, log.append(blocks))
+        with File(service.address, 2, operator=1) as file:
+            same("open", MALFORMED, file.open())
+            true("words", "no end mark" in file.words)
+            same("not open", MALFORMED, file.begin())
+
+
+def test_limits_of_a_file():
+    with Service() as service, opened(service.address, 2) as file:
+        same("begin", DONE, file.begin())
+        most = 4294967295 * 8192
+        same("too long", (MALFORMED, MALFORMED), (file.resize(most + 1), file.write(most, b"x")))
+        same("resize", DONE, file.resize(3 * 8192 + 5))
+        same("commit", DONE, file.commit())
+        same("read", (DONE, bytes(3 * 8192 + 5)), file.read(0, 1 << 20))
+        same("behind the end", (DONE, b""), file.read(1 << 40, 100))
+        same("shorter", (DONE, DONE, DONE), (file.begin(), file.resize(0), file.commit()))
+        same("empty", 0, file.size)
+
+
+def test_stale_readers():
+    with Service() as service, opened(service.address, 2) as file:
+        file.begin(), file.write(0, b"a" * 20000)
+        same("commit", DONE, file.commit())
+        with opened(service.address, 3, reads_only=True, patience_ms=1) as strict, \
+                opened(service.address, 3, reads_only=True, patience_ms=1, may_be_stale=True) as lenient:
+            for reader in (strict, lenient):
+                same("begin", DONE, reader.begin())
+                same("read", b"a" * 20000, reader.whole())
+            service.end()
+            same("strict", LOST, strict.begin())
+            same("lenient", DONE, lenient.begin())
+            true("stale", lenient.state.is_stale)
+            same("its pages", b"a" * 20000, lenient.whole())
+
+
+def test_a_service_that_was_started_anew():
+    with Service() as service, opened(service.address, 2) as file, opened(service.address, 3, reads_only=True) as reader:
+        file.begin(), file.write(0, b"a" * 20000)
+        same("commit", DONE, file.commit())
+        same("begin", DONE, reader.begin())
+        service.end()
+        with Service(listen=service.address):
+            same("writer", (FENCED, True), (file.begin(), "anew" in file.words))
+            same("reader", (FENCED, True), (reader.begin(), "anew" in reader.words))
+
+
+def test_cut_connections():
+    """Connections that are cut at any byte: each commit survives its cuts, and the file is what was committed."""
+    seconds = 20 if LONG else 4
+    with Service(workers=64) as service:
+        with Proxy(service.address, plan=random_plan(3, 2000, 120000)) as proxy:
+            with opened(proxy.address, 2) as file:
+                model, numbers, end, commits = bytearray(), random.Random(4), time.monotonic() + seconds, 0
+                while time.monotonic() < end:
+                    same("begin", DONE, file.begin())
+                    for _ in range(3):
+                        change(file, model, numbers, 300000)
+                    same("commit", (DONE, file.words), (file.commit(), file.words))
+                    commits += 1
+                true("cuts", proxy.cuts > 20)
+            with opened(proxy.address, 3, reads_only=True) as reader:
+                same("begin", DONE, reader.begin())
+                same("what was committed", bytes(model), reader.whole())
+            return f"{commits} commits over {proxy.cuts} cuts"
+
+
+if __name__ == "__main__":
+    run("file", globals())
