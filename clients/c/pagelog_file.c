@@ -70,7 +70,8 @@ enum pagelog_outcome pagelog_take_mark(struct pagelog_file *file, uint64_t lsn) 
     struct mark mark;
     enum pagelog_outcome outcome = pagelog_fetch(file, lsn, &number, 1, page);
     if (outcome != PAGELOG_DONE) return outcome;
-    if (!pagelog_read_mark(page, &mark) || mark.lsn > lsn) {
+    file->is_foreign = !pagelog_read_mark(page, &mark) || mark.lsn > lsn;
+    if (file->is_foreign) {
         return pagelog_file_fail(file, PAGELOG_MALFORMED,
                                  "page 0 is no end mark: the database holds something else");
     }
@@ -373,12 +374,22 @@ void pagelog_file_undo(struct pagelog_file *file) {
 
 /* ---- What is known ---- */
 
+const struct pagelog_reply *pagelog_file_refused(const struct pagelog_file *file) {
+    return pagelog_refused(file->log);
+}
+
+void pagelog_file_set_check(struct pagelog_file *file, unsigned check_ms) {
+    file->options.check_ms = check_ms;
+}
+
 struct pagelog_file_state pagelog_file_state_of(const struct pagelog_file *file) {
     return (struct pagelog_file_state){
         .is_writer = is_writer(file),
         .is_fenced = file->is_fenced,
         .is_broken = file->is_broken,
         .is_stale = file->is_stale,
+        .is_anew = pagelog_is_anew(file->log),
+        .is_foreign = file->is_foreign,
         .lsn = file->mark.lsn,
         .end = pagelog_end(file->log),
         .size = file->mark.size,
@@ -386,6 +397,7 @@ struct pagelog_file_state pagelog_file_state_of(const struct pagelog_file *file)
         .epoch = pagelog_epoch(file->log),
         .writing_epoch = pagelog_writing_epoch(file->log),
         .cached_pages = pagelog_cache_count(file->cache),
+        .check_ms = file->options.check_ms,
         .commits = file->commits,
         .repairs = file->repairs,
         .pages_fetched = file->pages_fetched,

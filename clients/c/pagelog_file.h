@@ -48,12 +48,15 @@ struct pagelog_file_state {
     bool
         is_broken; /* a commit did not come to its end; the next begin takes an epoch of its own, and looks */
     bool is_stale; /* the last begin got no answer */
-    uint64_t lsn;  /* of the transaction that is read: the LSN of its last block; 0: none yet */
-    uint64_t end;  /* of the log, as far as is known */
-    uint64_t size; /* bytes, as committed at `lsn` */
+    bool is_anew;  /* the service was started anew, and all is gone */
+    bool is_foreign;      /* page 0 has something that is no end mark */
+    uint64_t lsn;         /* of the transaction that is read: the LSN of its last block; 0: none yet */
+    uint64_t end;         /* of the log, as far as is known */
+    uint64_t size;        /* bytes, as committed at `lsn` */
     uint64_t transaction; /* the number of the transaction at `lsn`, from 1 */
     uint32_t epoch, writing_epoch;
     size_t cached_pages;
+    unsigned check_ms;
     uint64_t commits, repairs, pages_fetched, blocks_written;
     struct pagelog_counts wire;
 };
@@ -97,6 +100,12 @@ enum pagelog_outcome pagelog_file_commit(struct pagelog_file *file);
 
 /* Forgets all changes since the last commit. */
 void pagelog_file_undo(struct pagelog_file *file);
+
+/* The reply behind the last outcome that was not DONE, as pagelog_refused. */
+const struct pagelog_reply *pagelog_file_refused(const struct pagelog_file *file);
+
+/* Changes `check_ms`. */
+void pagelog_file_set_check(struct pagelog_file *file, unsigned check_ms);
 
 struct pagelog_file_state pagelog_file_state_of(const struct pagelog_file *file);
 

@@ -27,7 +27,7 @@ struct pagelog_file {
     struct pagelog_blocks *blocks;
     struct mark mark; /* of the transaction that is read */
     uint64_t session; /* of the writer: a random number */
-    bool is_open, is_fenced, is_broken, is_stale;
+    bool is_open, is_fenced, is_broken, is_stale, is_foreign;
     uint64_t size, least; /* of the transaction: the size, and the least that it was since the last commit */
     uint64_t next;        /* of a follower: where the next pull begins */
     struct pending pending;

@@ -275,8 +275,9 @@ class FileOptions(Structure):
 
 class State(Structure):
     _fields_ = [("is_writer", c_bool), ("is_fenced", c_bool), ("is_broken", c_bool), ("is_stale", c_bool),
+                ("is_anew", c_bool), ("is_foreign", c_bool),
                 ("lsn", c_uint64), ("end", c_uint64), ("size", c_uint64), ("transaction", c_uint64),
-                ("epoch", c_uint32), ("writing_epoch", c_uint32), ("cached_pages", c_size_t), ("commits", c_uint64),
+                ("epoch", c_uint32), ("writing_epoch", c_uint32), ("cached_pages", c_size_t), ("check_ms", c_uint), ("commits", c_uint64),
                 ("repairs", c_uint64), ("pages_fetched", c_uint64), ("blocks_written", c_uint64), ("wire", Counts)]
 
 

@@ -1,0 +1,753 @@
+/* A VFS by which SQLite keeps a database in a log and page service.
+ *
+ *   make -C clients/c
+ *   sqlite3
+ *   sqlite> .load clients/c/pagelog_vfs
+ *   sqlite> .open 'file:NAME?vfs=pagelog&to=127.0.0.1:7400&db=0&id=2&token=HEX&op=1&optoken=HEX'
+ *
+ * Parameters of the URI; those that it lacks are looked for in the file that `credentials` names, a line
+ * "NAME VALUE" for each, and then in the environment, as PAGELOG_TOKEN:
+ *
+ *   to=ADDRESS      the service, as 127.0.0.1:7400
+ *   db=N            the number of the database; 0
+ *   id=N            the principal
+ *   token=HEX       its token, 32 digits
+ *   op=N            with these a writer begins an epoch of its own when it opens, in this operator's name,
+ * and a writer optoken=HEX     elsewhere is fenced by it; without them it writes in the current epoch, if
+ * that is its principal's mode=ro         a secondary: it follows what is committed at=LSN          a
+ * secondary that reads the newest transaction that ended at this LSN or before, for ever check=MS        how
+ * old may be what a transaction begins with; 0: each one asks stale=1         a secondary that gets no answer
+ * goes on with what it has cache=PAGES     pages of 8,192 bytes that are kept besides SQLite's own; 4096
+ *   copies=N        2 or 3; 2
+ *   timeout=MS      of a connect, of a reply, and of the patience with lost connections; 5000, 10000, 10000
+ *
+ * A transaction is committed by SQLITE_FCNTL_SYNC, which SQLite sends once for each, whatever `synchronous`
+ * and `journal_mode` are: what was written since then becomes one transaction of the file. The journal, by
+ * which SQLite rolls back, is a file in this process' memory. There is no WAL.
+ *
+ * What an error means:
+ *
+ *   SQLITE_READONLY      another writer has begun an epoch: the transaction is not in the database and never
+ * will be; the connection goes on as a reader SQLITE_IOERR         the service is not there, or was started
+ * anew: the transaction is not in the database SQLITE_IOERR_FSYNC   of a COMMIT: in doubt; the next
+ * transaction sees whether it is in the database SQLITE_FULL          the audit list or the service's memory
+ * is full SQLITE_PERM          the table denies it, or there is no such database SQLITE_PROTOCOL      another
+ * session writes in this epoch, or what answers is no such service SQLITE_NOTADB        page 0 of the
+ * database has something else SQLITE_MISUSE        the URI lacks a parameter, or has one that cannot be read
+ *
+ * `PRAGMA pagelog` tells where the connection stands; `PRAGMA pagelog_lsn` and the like one number of it;
+ * `PRAGMA pagelog_error` the last error in words; `PRAGMA pagelog_check = 50` changes `check`.
+ *
+ * Connections of one process that write as one principal to one database share a file, and lock as SQLite
+ * expects. Between processes there are no locks: there is the epoch.
+ */
+#include "pagelog_file.h"
+
+#include <ctype.h>
+#include <stdio.h>
+#include <stdlib.h>
+#include <string.h>
+
+#ifdef PAGELOG_STATIC
+#include <sqlite3.h>
+#else
+#include <sqlite3ext.h>
+SQLITE_EXTENSION_INIT1
+#endif
+
+enum { SECTOR_BYTES = 8192, NAME_BYTES = 1024, VALUE_BYTES = 256, ERROR_BYTES = 160 };
+
+/* A database, as the connections of this process share it. A reader has one of its own. */
+struct database {
+    struct database *next;
+    unsigned references;
+    char *key;
+    sqlite3_mutex *mutex;
+    struct pagelog_file *file;
+    unsigned sharing;            /* connections with a lock, SQLITE_LOCK_SHARED or above */
+    struct connection *reserved; /* the one with SQLITE_LOCK_RESERVED or above, or NULL */
+    bool is_pending;             /* it waits for the others to go, or has gone on to SQLITE_LOCK_EXCLUSIVE */
+    char error[ERROR_BYTES];
+};
+
+struct connection {
+    sqlite3_file base;
+    struct database *database;
+    int lock;
+};
+
+/* A journal. */
+struct memory {
+    sqlite3_file base;
+    unsigned char *bytes;
+    sqlite3_int64 size, room;
+};
+
+static sqlite3_vfs *real_vfs; /* for what is not kept in the service: temporary files, time, random numbers */
+static struct database *databases;
+
+static sqlite3_mutex *list_mutex(void) {
+    return sqlite3_mutex_alloc(SQLITE_MUTEX_STATIC_VFS1);
+}
+
+/* ---- Errors ---- */
+
+/* SQLite's code for an outcome that was not DONE. */
+static int code_of(const struct pagelog_file *file, enum pagelog_outcome outcome) {
+    uint8_t kind = pagelog_file_refused(file)->kind;
+    switch (outcome) {
+    case PAGELOG_DONE:
+        return SQLITE_OK;
+    case PAGELOG_LOST:
+        return SQLITE_IOERR;
+    case PAGELOG_FENCED:
+        return pagelog_file_state_of(file).is_anew ? SQLITE_IOERR : SQLITE_READONLY;
+    case PAGELOG_IN_DOUBT:
+        return SQLITE_IOERR_FSYNC;
+    case PAGELOG_CONFLICT:
+        return SQLITE_PROTOCOL;
+    case PAGELOG_DENIED:
+        return kind == PAGELOG_REPLY_SPENT ? SQLITE_FULL : SQLITE_PERM;
+    case PAGELOG_NO_MEMORY:
+        return kind == PAGELOG_REPLY_NO_MEMORY ? SQLITE_FULL : SQLITE_IOERR_NOMEM;
+    case PAGELOG_AUDIT_FULL:
+        return SQLITE_FULL;
+    case PAGELOG_MALFORMED:
+        return pagelog_file_state_of(file).is_foreign ? SQLITE_NOTADB : SQLITE_PROTOCOL;
+    }
+    return SQLITE_ERROR;
+}
+
+/* SQLite's code for an outcome, which is noted for PRAGMA pagelog_error and written to SQLite's log. */
+static int result(struct database *database, enum pagelog_outcome outcome) {
+    if (outcome == PAGELOG_DONE) return SQLITE_OK;
+    int code = code_of(database->file, outcome);
+    pagelog_file_explain(database->file, database->error, sizeof database->error);
+    sqlite3_log(code, "pagelog: %s", database->error);
+    return code;
+}
+
+/* ---- Settings ---- */
+
+/* Looks in the file `path` for a line "NAME VALUE". */
+static bool find_in_file(const char *path, const char *name, char *value) {
+    char line[VALUE_BYTES + 32], found[32], text[VALUE_BYTES];
+    bool is_there = false;
+    FILE *file = fopen(path, "re");
+    if (!file) return false;
+    while (!is_there && fgets(line, sizeof line, file))
+        is_there = sscanf(line, "%31s %255s", found, text) == 2 && strcmp(found, name) == 0;
+    fclose(file);
+    if (is_there) strcpy(value, text);
+    return is_there;
+}
+
+static bool find_in_environment(const char *name, char *value) {
+    char variable[40] = "PAGELOG_";
+    size_t length = strlen(variable);
+    for (size_t i = 0; name[i] && length + 1 < sizeof variable; i++)
+        variable[length++] = (char)toupper((unsigned char)name[i]);
+    const char *text = getenv(variable);
+    if (!text || strlen(text) >= VALUE_BYTES) return false;
+    strcpy(value, text);
+    return true;
+}
+
+/* A setting: of the URI, of the file of credentials, or of the environment. */
+static bool find_setting(sqlite3_filename uri, const char *name, char value[VALUE_BYTES]) {
+    const char *text = sqlite3_uri_parameter(uri, name), *path = sqlite3_uri_parameter(uri, "credentials");
+    if (text && strlen(text) >= VALUE_BYTES) return false;
+    if (text) strcpy(value, text);
+    return text || (path && find_in_file(path, name, value)) || find_in_environment(name, value);
+}
+
+/* Reads a number of at most `most`; false where there is a setting that is none. `*number` stays where there
+ * is none. */
+static bool read_setting(sqlite3_filename uri, const char *name, uint64_t most, uint64_t *number) {
+    char text[VALUE_BYTES], *end;
+    if (!find_setting(uri, name, text)) return true;
+    unsigned long long read = strtoull(text, &end, 10);
+    if (!isdigit((unsigned char)text[0]) || *end || read > most) return false;
+    *number = read;
+    return true;
+}
+
+static int digit_of(char c) {
+    return isdigit((unsigned char)c)    ? c - '0'
+           : isxdigit((unsigned char)c) ? tolower((unsigned char)c) - 'a' + 10
+                                        : -1;
+}
+
+static bool read_token(sqlite3_filename uri, const char *name, uint8_t token[PAGELOG_TOKEN_BYTES]) {
+    char text[VALUE_BYTES];
+    if (!find_setting(uri, name, text) || strlen(text) != 2 * PAGELOG_TOKEN_BYTES) return false;
+    for (size_t i = 0; i < PAGELOG_TOKEN_BYTES; i++) {
+        int high = digit_of(text[2 * i]), low = digit_of(text[2 * i + 1]);
+        if (high < 0 || low < 0) return false;
+        token[i] = (uint8_t)(high << 4 | low);
+    }
+    return true;
+}
+
+/* The settings of a writer's operator, if it has one. */
+static bool read_operator(sqlite3_filename uri, struct pagelog_file_options *options) {
+    uint64_t principal = UINT64_MAX;
+    if (!read_setting(uri, "op", UINT32_MAX, &principal)) return false;
+    if (principal == UINT64_MAX || options->reads_only) return true;
+    options->has_operator = true;
+    options->operator_principal = (uint32_t)principal;
+    return read_token(uri, "optoken", options->operator_token);
+}
+
+/* Reads all settings; the name of the first one that is missing or cannot be read, or NULL. */
+static const char *read_settings(sqlite3_filename uri, struct pagelog_file_options *options, char *address) {
+    uint64_t database = 0, id = UINT64_MAX, copies = 2, check = 0, cache = 0, at = 0, timeout = 0, stale = 0;
+    if (!find_setting(uri, "to", address)) return "to";
+    if (!read_setting(uri, "id", UINT32_MAX, &id) || id == UINT64_MAX) return "id";
+    if (!read_token(uri, "token", options->service.token)) return "token";
+    if (!read_setting(uri, "db", UINT32_MAX, &database)) return "db";
+    if (!read_setting(uri, "at", PAGELOG_LAST_LSN, &at)) return "at";
+    if (!read_setting(uri, "copies", 3, &copies) || copies < 2) return "copies";
+    if (!read_setting(uri, "check", 3600000, &check)) return "check";
+    if (!read_setting(uri, "cache", UINT32_MAX, &cache)) return "cache";
+    if (!read_setting(uri, "timeout", 3600000, &timeout)) return "timeout";
+    if (!read_setting(uri, "stale", 1, &stale)) return "stale";
+    options->reads_only = options->reads_only || at > 0;
+    if (!read_operator(uri, options)) return "op";
+    options->service.address = address;
+    options->service.principal = (uint32_t)id;
+    options->service.database = (uint32_t)database;
+    options->service.connect_ms = options->service.reply_ms = options->service.patience_ms =
+        (unsigned)timeout;
+    options->copies = (unsigned)copies;
+    options->check_ms = (unsigned)check;
+    options->cache_pages = (size_t)cache;
+    options->at = at;
+    options->may_be_stale = stale == 1;
+    return NULL;
+}
+
+/* ---- Databases ---- */
+
+static void free_database(struct database *database) {
+    pagelog_file_free(database->file);
+    sqlite3_mutex_free(database->mutex);
+    sqlite3_free(database->key);
+    sqlite3_free(database);
+}
+
+/* A database that is not open yet. */
+static struct database *make_database(const struct pagelog_file_options *options, char *key) {
+    struct database *database = sqlite3_malloc(sizeof *database);
+    if (!database) {
+        sqlite3_free(key);
+        return NULL;
+    }
+    memset(database, 0, sizeof *database);
+    database->key = key;
+    database->references = 1;
+    database->mutex = sqlite3_mutex_alloc(SQLITE_MUTEX_FAST);
+    database->file = pagelog_file_new(options);
+    if (database->file) return database;
+    free_database(database);
+    return NULL;
+}
+
+/* What connections must have in common to share a database. */
+static char *key_of(const struct pagelog_file_options *options) {
+    char token[2 * PAGELOG_TOKEN_BYTES + 1];
+    for (size_t i = 0; i < PAGELOG_TOKEN_BYTES; i++)
+        sprintf(token + 2 * i, "%02x", options->service.token[i]);
+    return sqlite3_mprintf("%s %u %u %s", options->service.address, options->service.database,
+                           options->service.principal, token);
+}
+
+/* Opens a database, and lists it where others may share it. */
+static int open_new(const struct pagelog_file_options *options, char *key, struct database **found) {
+    struct database *database = make_database(options, key);
+    if (!database) return SQLITE_NOMEM;
+    enum pagelog_outcome outcome = pagelog_file_open(database->file);
+    if (outcome != PAGELOG_DONE) {
+        int code = result(database, outcome);
+        free_database(database);
+        return code == SQLITE_IOERR ? SQLITE_CANTOPEN : code;
+    }
+    if (!options->reads_only) {
+        database->next = databases;
+        databases = database;
+    }
+    *found = database;
+    return SQLITE_OK;
+}
+
+static int find_or_open(const struct pagelog_file_options *options, struct database **found) {
+    char *key = key_of(options);
+    int code = SQLITE_OK;
+    if (!key) return SQLITE_NOMEM;
+    sqlite3_mutex_enter(list_mutex());
+    struct database *database = options->reads_only ? NULL : databases;
+    while (database && strcmp(database->key, key) != 0)
+        database = database->next;
+    if (database) {
+        database->references++;
+        *found = database;
+        sqlite3_free(key);
+    } else {
+        code = open_new(options, key, found);
+    }
+    sqlite3_mutex_leave(list_mutex());
+    return code;
+}
+
+static void release(struct database *database) {
+    sqlite3_mutex_enter(list_mutex());
+    if (--database->references == 0) {
+        struct database **at = &databases;
+        while (*at && *at != database)
+            at = &(*at)->next;
+        if (*at) *at = database->next;
+        free_database(database);
+    }
+    sqlite3_mutex_leave(list_mutex());
+}
+
+/* ---- The methods of a database's file ---- */
+
+static struct database *enter(sqlite3_file *file) {
+    struct database *database = ((struct connection *)file)->database;
+    sqlite3_mutex_enter(database->mutex);
+    return database;
+}
+
+static int leave(struct database *database, int code) {
+    sqlite3_mutex_leave(database->mutex);
+    return code;
+}
+
+/* Lowers the lock of a connection. Changes that were not committed are of a transaction that is over. */
+static void lower_lock(struct database *database, struct connection *connection, int lock) {
+    if (connection->lock <= lock) return;
+    if (database->reserved == connection) {
+        if (connection->lock == SQLITE_LOCK_EXCLUSIVE) pagelog_file_undo(database->file);
+        database->reserved = NULL;
+        database->is_pending = false;
+    }
+    if (lock == SQLITE_LOCK_NONE) database->sharing--;
+    connection->lock = lock;
+}
+
+static int file_close(sqlite3_file *file) {
+    struct connection *connection = (struct connection *)file;
+    struct database *database = enter(file);
+    lower_lock(database, connection, SQLITE_LOCK_NONE);
+    leave(database, SQLITE_OK);
+    release(database);
+    return SQLITE_OK;
+}
+
+static int file_read(sqlite3_file *file, void *bytes, int length, sqlite3_int64 offset) {
+    struct database *database = enter(file);
+    size_t count = 0;
+    int code =
+        result(database, pagelog_file_read(database->file, (uint64_t)offset, bytes, (size_t)length, &count));
+    if (code == SQLITE_OK && count < (size_t)length) code = SQLITE_IOERR_SHORT_READ;
+    return leave(database, code);
+}
+
+static int file_write(sqlite3_file *file, const void *bytes, int length, sqlite3_int64 offset) {
+    struct database *database = enter(file);
+    return leave(database, result(database, pagelog_file_write(database->file, (uint64_t)offset, bytes,
+                                                               (size_t)length)));
+}
+
+static int file_truncate(sqlite3_file *file, sqlite3_int64 size) {
+    struct database *database = enter(file);
+    return leave(database, result(database, pagelog_file_resize(database->file, (uint64_t)size)));
+}
+
+static int file_sync(sqlite3_file *file, int flags) {
+    (void)file, (void)flags;
+    return SQLITE_OK;
+}
+
+static int file_size(sqlite3_file *file, sqlite3_int64 *size) {
+    struct database *database = enter(file);
+    *size = (sqlite3_int64)pagelog_file_size(database->file);
+    return leave(database, SQLITE_OK);
+}
+
+/* The first of those that share the database begins a transaction of the file. */
+static int lock_shared(struct database *database) {
+    if (database->is_pending) return SQLITE_BUSY;
+    int code = database->sharing > 0 ? SQLITE_OK : result(database, pagelog_file_begin(database->file));
+    if (code == SQLITE_OK) database->sharing++;
+    return code;
+}
+
+static int lock_reserved(struct database *database, struct connection *connection) {
+    if (database->reserved && database->reserved != connection) return SQLITE_BUSY;
+    if (!pagelog_file_state_of(database->file).is_writer) return SQLITE_READONLY;
+    database->reserved = connection;
+    return SQLITE_OK;
+}
+
+/* The lock stays at SQLITE_LOCK_PENDING while others share the database: nobody else is let in then. */
+static int lock_exclusive(struct database *database, struct connection *connection) {
+    int code = lock_reserved(database, connection);
+    if (code != SQLITE_OK) return code;
+    database->is_pending = true;
+    connection->lock = SQLITE_LOCK_PENDING;
+    return database->sharing > 1 ? SQLITE_BUSY : SQLITE_OK;
+}
+
+static int file_lock(sqlite3_file *file, int lock) {
+    struct connection *connection = (struct connection *)file;
+    struct database *database = enter(file);
+    int code = SQLITE_OK;
+    if (lock <= connection->lock) return leave(database, SQLITE_OK);
+    if (connection->lock == SQLITE_LOCK_NONE) code = lock_shared(database);
+    if (code == SQLITE_OK && connection->lock == SQLITE_LOCK_NONE) connection->lock = SQLITE_LOCK_SHARED;
+    if (code == SQLITE_OK && lock == SQLITE_LOCK_RESERVED) code = lock_reserved(database, connection);
+    if (code == SQLITE_OK && lock == SQLITE_LOCK_EXCLUSIVE) code = lock_exclusive(database, connection);
+    if (code == SQLITE_OK) connection->lock = lock;
+    return leave(database, code);
+}
+
+static int file_unlock(sqlite3_file *file, int lock) {
+    struct database *database = enter(file);
+    lower_lock(database, (struct connection *)file, lock);
+    return leave(database, SQLITE_OK);
+}
+
+static int file_check_reserved_lock(sqlite3_file *file, int *is_reserved) {
+    struct database *database = enter(file);
+    *is_reserved = database->reserved != NULL;
+    return leave(database, SQLITE_OK);
+}
+
+static int file_sector_size(sqlite3_file *file) {
+    (void)file;
+    return SECTOR_BYTES;
+}
+
+static int file_device_characteristics(sqlite3_file *file) {
+    (void)file;
+    return 0;
+}
+
+/* ---- Pragmas ---- */
+
+static const char *role_name(const struct pagelog_file_state *state) {
+    return state->is_writer ? "writer" : state->is_fenced ? "fenced" : "reader";
+}
+
+/* What `PRAGMA pagelog_...` tells, by its name. */
+static bool number_of(const struct pagelog_file_state *state, const char *name, uint64_t *number) {
+    const struct {
+        const char *name;
+        uint64_t number;
+    } numbers[] = {
+        {"lsn", state->lsn},
+        {"end", state->end},
+        {"size", state->size},
+        {"transaction", state->transaction},
+        {"epoch", state->epoch},
+        {"writing_epoch", state->writing_epoch},
+        {"check", state->check_ms},
+        {"stale", state->is_stale},
+        {"commits", state->commits},
+        {"repairs", state->repairs},
+        {"blocks_written", state->blocks_written},
+        {"pages_fetched", state->pages_fetched},
+        {"cached_pages", state->cached_pages},
+        {"requests", state->wire.requests},
+        {"round_trips", state->wire.round_trips},
+        {"connects", state->wire.connects},
+        {"bytes_sent", state->wire.bytes_sent},
+        {"bytes_received", state->wire.bytes_received},
+    };
+    for (size_t i = 0; i < sizeof numbers / sizeof *numbers; i++) {
+        if (sqlite3_stricmp(name, numbers[i].name) != 0) continue;
+        *number = numbers[i].number;
+        return true;
+    }
+    return false;
+}
+
+static char *text_of_pragma(struct database *database, const char *name) {
+    struct pagelog_file_state state = pagelog_file_state_of(database->file);
+    uint64_t number;
+    if (*name == 0)
+        return sqlite3_mprintf(
+            "%s lsn %llu end %llu transaction %llu size %llu epoch %u writing %u commits %llu "
+            "repairs %llu requests %llu round_trips %llu bytes_sent %llu bytes_received %llu",
+            role_name(&state), state.lsn, state.end, state.transaction, state.size, state.epoch,
+            state.writing_epoch, state.commits, state.repairs, state.wire.requests, state.wire.round_trips,
+            state.wire.bytes_sent, state.wire.bytes_received);
+    if (sqlite3_stricmp(name, "_role") == 0) return sqlite3_mprintf("%s", role_name(&state));
+    if (sqlite3_stricmp(name, "_error") == 0) return sqlite3_mprintf("%s", database->error);
+    return *name == '_' && number_of(&state, name + 1, &number) ? sqlite3_mprintf("%llu", number) : NULL;
+}
+
+/* `arguments` are a place for a text, the name of the pragma and its argument. */
+static int answer_pragma(struct database *database, char **arguments) {
+    const char *name = arguments[1];
+    if (sqlite3_strnicmp(name, "pagelog", 7) != 0) return SQLITE_NOTFOUND;
+    if (sqlite3_stricmp(name, "pagelog_check") == 0 && arguments[2])
+        pagelog_file_set_check(database->file, (unsigned)strtoul(arguments[2], NULL, 10));
+    arguments[0] = text_of_pragma(database, name + 7);
+    return arguments[0] ? SQLITE_OK : SQLITE_NOTFOUND;
+}
+
+static int file_control(sqlite3_file *file, int operation, void *argument) {
+    struct database *database = enter(file);
+    int code = SQLITE_NOTFOUND;
+    switch (operation) {
+    case SQLITE_FCNTL_SYNC: /* a commit, or the end of a rollback, after which nothing differs */
+        code = result(database, pagelog_file_commit(database->file));
+        break;
+    case SQLITE_FCNTL_COMMIT_PHASETWO: /* where a VACUUM made the file shorter, it does so behind its commit
+                                        */
+        pagelog_file_commit(database->file);
+        break;
+    case SQLITE_FCNTL_PRAGMA:
+        code = answer_pragma(database, argument);
+        break;
+    case SQLITE_FCNTL_VFSNAME:
+        *(char **)argument = sqlite3_mprintf("pagelog");
+        code = SQLITE_OK;
+        break;
+    }
+    return leave(database, code);
+}
+
+static const sqlite3_io_methods file_methods = {
+    .iVersion = 1,
+    .xClose = file_close,
+    .xRead = file_read,
+    .xWrite = file_write,
+    .xTruncate = file_truncate,
+    .xSync = file_sync,
+    .xFileSize = file_size,
+    .xLock = file_lock,
+    .xUnlock = file_unlock,
+    .xCheckReservedLock = file_check_reserved_lock,
+    .xFileControl = file_control,
+    .xSectorSize = file_sector_size,
+    .xDeviceCharacteristics = file_device_characteristics,
+};
+
+/* ---- The methods of a journal ---- */
+
+static int memory_close(sqlite3_file *file) {
+    sqlite3_free(((struct memory *)file)->bytes);
+    return SQLITE_OK;
+}
+
+static int memory_read(sqlite3_file *file, void *bytes, int length, sqlite3_int64 offset) {
+    struct memory *memory = (struct memory *)file;
+    sqlite3_int64 left = offset < memory->size ? memory->size - offset : 0;
+    size_t count = left < length ? (size_t)left : (size_t)length;
+    if (count > 0) memcpy(bytes, memory->bytes + offset, count);
+    memset((char *)bytes + count, 0, (size_t)length - count);
+    return count < (size_t)length ? SQLITE_IOERR_SHORT_READ : SQLITE_OK;
+}
+
+static int memory_write(sqlite3_file *file, const void *bytes, int length, sqlite3_int64 offset) {
+    struct memory *memory = (struct memory *)file;
+    sqlite3_int64 end = offset + length;
+    if (end > memory->room) {
+        sqlite3_int64 room = end > 2 * memory->room ? end + SECTOR_BYTES : 2 * memory->room;
+        unsigned char *grown = sqlite3_realloc64(memory->bytes, (sqlite3_uint64)room);
+        if (!grown) return SQLITE_IOERR_NOMEM;
+        memory->bytes = grown;
+        memory->room = room;
+    }
+    if (offset > memory->size) memset(memory->bytes + memory->size, 0, (size_t)(offset - memory->size));
+    memcpy(memory->bytes + offset, bytes, (size_t)length);
+    if (end > memory->size) memory->size = end;
+    return SQLITE_OK;
+}
+
+static int memory_truncate(sqlite3_file *file, sqlite3_int64 size) {
+    struct memory *memory = (struct memory *)file;
+    if (size < memory->size) memory->size = size;
+    return SQLITE_OK;
+}
+
+static int memory_size(sqlite3_file *file, sqlite3_int64 *size) {
+    *size = ((struct memory *)file)->size;
+    return SQLITE_OK;
+}
+
+static int memory_lock(sqlite3_file *file, int lock) {
+    (void)file, (void)lock;
+    return SQLITE_OK;
+}
+
+static int memory_check_reserved_lock(sqlite3_file *file, int *is_reserved) {
+    (void)file;
+    *is_reserved = 0;
+    return SQLITE_OK;
+}
+
+static int memory_control(sqlite3_file *file, int operation, void *argument) {
+    (void)file, (void)operation, (void)argument;
+    return SQLITE_NOTFOUND;
+}
+
+static const sqlite3_io_methods memory_methods = {
+    .iVersion = 1,
+    .xClose = memory_close,
+    .xRead = memory_read,
+    .xWrite = memory_write,
+    .xTruncate = memory_truncate,
+    .xSync = file_sync,
+    .xFileSize = memory_size,
+    .xLock = memory_lock,
+    .xUnlock = memory_lock,
+    .xCheckReservedLock = memory_check_reserved_lock,
+    .xFileControl = memory_control,
+    .xSectorSize = file_sector_size,
+    .xDeviceCharacteristics = file_device_characteristics,
+};
+
+/* ---- The VFS ---- */
+
+static int open_database(sqlite3_filename name, struct connection *connection, int flags, int *out_flags) {
+    struct pagelog_file_options options = {.reads_only = (flags & SQLITE_OPEN_READONLY) != 0};
+    char address[VALUE_BYTES];
+    const char *wrong = read_settings(name, &options, address);
+    if (wrong) {
+        sqlite3_log(SQLITE_MISUSE, "pagelog: the setting %s is missing, or cannot be read", wrong);
+        return SQLITE_MISUSE;
+    }
+    int code = find_or_open(&options, &connection->database);
+    if (code != SQLITE_OK) return code;
+    connection->lock = SQLITE_LOCK_NONE;
+    connection->base.pMethods = &file_methods;
+    if (out_flags && options.reads_only)
+        *out_flags = (flags & ~(SQLITE_OPEN_READWRITE | SQLITE_OPEN_CREATE)) | SQLITE_OPEN_READONLY;
+    return SQLITE_OK;
+}
+
+static int vfs_open(sqlite3_vfs *vfs, sqlite3_filename name, sqlite3_file *file, int flags, int *out_flags) {
+    (void)vfs;
+    file->pMethods = NULL;
+    if (out_flags) *out_flags = flags;
+    if (flags & SQLITE_OPEN_MAIN_DB) return open_database(name, (struct connection *)file, flags, out_flags);
+    if (flags & SQLITE_OPEN_WAL) return SQLITE_CANTOPEN;
+    if (!(flags & (SQLITE_OPEN_MAIN_JOURNAL | SQLITE_OPEN_SUPER_JOURNAL)))
+        return real_vfs->xOpen(real_vfs, name, file, flags, out_flags);
+    memset(file, 0, sizeof(struct memory));
+    file->pMethods = &memory_methods;
+    return SQLITE_OK;
+}
+
+static int vfs_delete(sqlite3_vfs *vfs, const char *name, int sync) {
+    (void)vfs, (void)name, (void)sync;
+    return SQLITE_OK;
+}
+
+/* Journals of others are not there: a writer that goes takes its own with it. */
+static int vfs_access(sqlite3_vfs *vfs, const char *name, int flags, int *is_there) {
+    (void)vfs, (void)name, (void)flags;
+    *is_there = 0;
+    return SQLITE_OK;
+}
+
+static int vfs_full_pathname(sqlite3_vfs *vfs, const char *name, int room, char *out) {
+    (void)vfs;
+    if ((int)strlen(name) >= room) return SQLITE_CANTOPEN;
+    strcpy(out, name);
+    return SQLITE_OK;
+}
+
+static void *vfs_dl_open(sqlite3_vfs *vfs, const char *name) {
+    (void)vfs;
+    return real_vfs->xDlOpen(real_vfs, name);
+}
+
+static void vfs_dl_error(sqlite3_vfs *vfs, int room, char *text) {
+    (void)vfs;
+    real_vfs->xDlError(real_vfs, room, text);
+}
+
+static void (*vfs_dl_sym(sqlite3_vfs *vfs, void *library, const char *name))(void) {
+    (void)vfs;
+    return real_vfs->xDlSym(real_vfs, library, name);
+}
+
+static void vfs_dl_close(sqlite3_vfs *vfs, void *library) {
+    (void)vfs;
+    real_vfs->xDlClose(real_vfs, library);
+}
+
+static int vfs_randomness(sqlite3_vfs *vfs, int length, char *out) {
+    (void)vfs;
+    return real_vfs->xRandomness(real_vfs, length, out);
+}
+
+static int vfs_sleep(sqlite3_vfs *vfs, int microseconds) {
+    (void)vfs;
+    return real_vfs->xSleep(real_vfs, microseconds);
+}
+
+static int vfs_current_time(sqlite3_vfs *vfs, double *now) {
+    (void)vfs;
+    return real_vfs->xCurrentTime(real_vfs, now);
+}
+
+static int vfs_get_last_error(sqlite3_vfs *vfs, int room, char *text) {
+    (void)vfs;
+    return real_vfs->xGetLastError(real_vfs, room, text);
+}
+
+static int register_vfs(void) {
+    static sqlite3_vfs vfs = {
+        .iVersion = 1,
+        .mxPathname = NAME_BYTES,
+        .zName = "pagelog",
+        .xOpen = vfs_open,
+        .xDelete = vfs_delete,
+        .xAccess = vfs_access,
+        .xFullPathname = vfs_full_pathname,
+        .xDlOpen = vfs_dl_open,
+        .xDlError = vfs_dl_error,
+        .xDlSym = vfs_dl_sym,
+        .xDlClose = vfs_dl_close,
+        .xRandomness = vfs_randomness,
+        .xSleep = vfs_sleep,
+        .xCurrentTime = vfs_current_time,
+        .xGetLastError = vfs_get_last_error,
+    };
+    int least = (int)(sizeof(struct connection) > sizeof(struct memory) ? sizeof(struct connection)
+                                                                        : sizeof(struct memory));
+    if (sqlite3_vfs_find("pagelog")) return SQLITE_OK;
+    real_vfs = sqlite3_vfs_find(NULL);
+    if (!real_vfs) return SQLITE_ERROR;
+    vfs.szOsFile = real_vfs->szOsFile > least ? real_vfs->szOsFile : least;
+    return sqlite3_vfs_register(&vfs, 0);
+}
+
+#ifdef PAGELOG_STATIC
+
+/* For a program that is linked with this file: registers the VFS. */
+int pagelog_register_vfs(void);
+
+int pagelog_register_vfs(void) {
+    return register_vfs();
+}
+
+#else
+
+/* The entry point of the extension. It stays loaded when the connection that loaded it is closed. */
+__attribute__((visibility("default"))) int sqlite3_pagelogvfs_init(sqlite3 *db, char **error,
+                                                                   const sqlite3_api_routines *api) {
+    (void)db, (void)error;
+    SQLITE_EXTENSION_INIT2(api);
+    int code = register_vfs();
+    return code == SQLITE_OK ? SQLITE_OK_LOAD_PERMANENTLY : code;
+}
+
+#endif
