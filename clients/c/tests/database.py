@@ -1,0 +1,53 @@
+"""Databases of SQLite over the service, for the tests of the VFS and the processes that they start."""
+
+import os
+import sqlite3
+import sys
+
+from service import CLIENT
+
+EXTENSION = os.environ.get("PAGELOG_EXTENSION") or str(CLIENT / "out" / "checked" / "pagelog_vfs.so")
+TOKENS = {n: f"{0x11 * n:02x}" * 16 for n in range(1, 10)}
+
+
+def load():
+    connection = sqlite3.connect(":memory:")
+    connection.enable_load_extension(True)
+    connection.load_extension(EXTENSION)
+    connection.close()
+
+
+def uri(address, principal=2, operator=1, name="test", **more):
+    """Of a writer with an operator, of one without where it is None, of a reader with mode="ro"."""
+    parts = {"vfs": "pagelog", "to": address, "id": principal, "token": TOKENS[principal]}
+    if operator and "mode" not in more and "at" not in more:
+        parts.update(op=operator, optoken=TOKENS[operator])
+    parts.update(more)
+    return f"file:{name}?" + "&".join(f"{key}={value}" for key, value in parts.items() if value is not None)
+
+
+def connect(address, principal=2, operator=1, **more):
+    timeout = more.pop("busy", 5.0)
+    return sqlite3.connect(uri(address, principal, operator, **more), uri=True, isolation_level=None, timeout=timeout,
+                           check_same_thread=False)
+
+
+def reader(address, principal=3, **more):
+    return connect(address, principal, None, mode="ro", **more)
+
+
+def one(connection, text, *values):
+    return connection.execute(text, values).fetchone()[0]
+
+
+def code_of(action):
+    """The name of the error that an action gives, as SQLITE_READONLY, or None."""
+    try:
+        action()
+    except sqlite3.Error as error:
+        return getattr(error, "sqlite_errorname", type(error).__name__)
+    return None
+
+
+load()
+sys.stdout.reconfigure(line_buffering=True)

@@ -1,0 +1,369 @@
+"""SQLite over the service, in one process: statements, locks, settings, errors."""
+
+import os
+import random
+import sqlite3
+import subprocess
+import tempfile
+import threading
+import time
+
+from check import LONG, run, same, true
+from database import EXTENSION, TOKENS, code_of, connect, one, reader, uri
+from service import START_TABLE, Service, plain_environment, TABLE
+
+COUNT = 10000 if LONG else 400
+
+
+def mixed(numbers, count):
+    """Statements of many kinds, each list a transaction; some fail, some are rolled back."""
+    yield ["create table account(id integer primary key, money int, note text)",
+           "create table blob(id integer primary key, data blob)", "create index by_note on account(note)",
+           "insert into account select value, 1000, 'n' || value from generate(200)"]
+    for i in range(count):
+        kind, a, b = numbers.random(), numbers.randrange(200), numbers.randrange(200)
+        if kind < 0.5:
+            yield [f"update account set money = money - {a} where id = {a}",
+                   f"update account set money = money + {a} where id = {b}"]
+        elif kind < 0.65:
+            yield [f"insert into blob(data) values (x'{numbers.randbytes(numbers.randrange(3000)).hex()}')"]
+        elif kind < 0.75:
+            yield [f"delete from blob where id % 37 = {a % 37}"]
+        elif kind < 0.82:
+            yield [f"update account set note = 'x{a}' where id = {b}", "savepoint s",
+                   f"insert into blob(data) values ('{a}')", "rollback to s", "release s"]
+        elif kind < 0.88:
+            yield [f"update account set note = 'lost' where id < {b}", "rollback"]
+        elif kind < 0.93:
+            yield [f"update account set note = 'kept' where id = {b}", "insert into account values (1, 1, 'twice')"]
+        elif kind < 0.995:
+            yield [f"update account set note = note || '{a}' where id % 7 = {a % 7}"]
+        else:
+            yield [f"insert into blob(data) select randomized({a}, value) from generate({numbers.randrange(2200)})"]
+        if i == count // 2:
+            yield ["vacuum"]
+
+
+def prepare(connection):
+    """Functions in place of what a plain list of statements lacks."""
+    connection.create_function("randomized", 2, lambda a, b: random.Random(a * 1000003 + b).randbytes(700))
+
+
+def play(connection, transactions):
+    for statements in transactions:
+        if statements != ["vacuum"]:
+            connection.execute("begin")
+        for statement in statements:
+            statement = statement.replace(
+                "from generate(", "from (with recursive g(value) as (select 0 union all select value + 1 from g where "
+                "value + 1 < ").replace("))", ")) select value from g)") if "generate(" in statement else statement
+            try:
+                connection.execute(statement)
+            except sqlite3.IntegrityError:
+                pass
+        if connection.in_transaction:
+            connection.execute("commit")
+
+
+def generated(statements):
+    """The statements with `generate(N)` spelled out."""
+    import re
+
+    spelled = ("(with recursive g(value) as (select 0 union all select value + 1 from g where value + 1 < \\1) "
+               "select value from g)")
+    return [re.sub(r"generate\((\d+)\)", spelled, statement) for statement in statements]
+
+
+def test_mixed_transactions_beside_plain_sqlite():
+    transactions = [generated(statements) for statements in mixed(random.Random(1), COUNT)]
+    with Service() as service:
+        ours, plain = connect(service.address, check=20), sqlite3.connect(":memory:", isolation_level=None)
+        for connection in (ours, plain):
+            prepare(connection)
+            play(connection, transactions)
+        same("integrity", "ok", one(ours, "pragma integrity_check"))
+        same("dump", list(plain.iterdump()), list(ours.iterdump()))
+        with_reader = reader(service.address)
+        same("integrity of a reader", "ok", one(with_reader, "pragma integrity_check"))
+        same("dump of a reader", list(plain.iterdump()), list(with_reader.iterdump()))
+        return f"{len(transactions)} mixed transactions"
+
+
+def test_page_sizes():
+    for size in (512, 1024, 4096, 8192, 16384, 65536):
+        with Service() as service:
+            connection = connect(service.address, check=1000)
+            connection.execute(f"pragma page_size = {size}")
+            connection.execute("create table t(a, b)")
+            connection.execute("insert into t select 1, randomblob(5000)")
+            for _ in range(4):
+                connection.execute("insert into t select a + 1, randomblob(3000) from t")
+            connection.execute("delete from t where rowid % 3 = 0")
+            connection.execute("vacuum")
+            same("size", (size, "ok"), (one(connection, "pragma page_size"), one(connection, "pragma integrity_check")))
+            follower = reader(service.address)
+            same("reader", (size, "ok"), (one(follower, "pragma page_size"), one(follower, "pragma integrity_check")))
+            same("rows", one(connection, "select total(length(b)) from t"), one(follower, "select total(length(b)) from t"))
+    with Service() as service:
+        connection = connect(service.address)
+        connection.execute("create table t(a)")
+        same("the page size that SQLite takes by itself", 8192, one(connection, "pragma page_size"))
+
+
+def test_journal_and_locking_modes():
+    with Service() as service:
+        connection = connect(service.address)
+        connection.execute("create table t(a)")
+        same("no WAL", "delete", one(connection, "pragma journal_mode = wal"))
+        for i, mode in enumerate(("truncate", "persist", "memory", "off", "delete")):
+            same("mode", mode, one(connection, f"pragma journal_mode = {mode}"))
+            for synchronous in ("off", "full"):
+                connection.execute(f"pragma synchronous = {synchronous}")
+                before = int(one(connection, "pragma pagelog_commits"))
+                connection.execute("insert into t values (?)", (i,))
+                same("a commit", before + 1, int(one(connection, "pragma pagelog_commits")))
+        same("rows", 10, one(reader(service.address), "select count(*) from t"))
+        same("exclusive", "exclusive", one(connection, "pragma locking_mode = exclusive"))
+        connection.execute("insert into t values (1)")
+        connection.execute("insert into t values (2)")
+        same("no WAL either", "delete", one(connection, "pragma journal_mode"))
+        same("rows", 12, one(reader(service.address), "select count(*) from t"))
+
+
+def test_connections_of_one_process_lock():
+    with Service() as service:
+        first, second = connect(service.address, busy=0), connect(service.address, busy=0)
+        first.execute("create table t(a)")
+        same("one epoch", one(first, "pragma pagelog_epoch"), one(second, "pragma pagelog_epoch"))
+        first.execute("begin immediate")
+        first.execute("insert into t values (1)")
+        same("busy", "SQLITE_BUSY", code_of(lambda: second.execute("begin immediate")))
+        same("others read", 0, one(second, "select count(*) from t"))
+        second.execute("begin")
+        one(second, "select count(*) from t")
+        same("a commit waits for readers", "SQLITE_BUSY", code_of(lambda: first.execute("commit")))
+        same("who comes now waits too", "SQLITE_BUSY", code_of(lambda: connect(service.address, busy=0).execute("select * from t").fetchall()))
+        second.execute("commit")
+        first.execute("commit")
+        same("seen", 1, one(second, "select count(*) from t"))
+
+
+def test_threads_of_one_process():
+    seconds, errors, counts = 8.0 if LONG else 2.0, [], [0, 0]
+    with Service() as service:
+        connect(service.address).executescript("create table account(id integer primary key, money int);"
+                                               "insert into account values (1, 500), (2, 500);")
+        end = time.monotonic() + seconds
+
+        def write():
+            connection = connect(service.address, check=5, busy=30)
+            while time.monotonic() < end:
+                connection.execute("begin immediate")
+                connection.execute("update account set money = money - 1 where id = 1")
+                connection.execute("update account set money = money + 1 where id = 2")
+                connection.execute("commit")
+                counts[0] += 1
+
+        def read():
+            connection = connect(service.address, check=5, busy=30)
+            while time.monotonic() < end:
+                if one(connection, "select sum(money) from account") != 1000:
+                    errors.append("torn")
+                counts[1] += 1
+
+        def guarded(action):
+            try:
+                action()
+            except Exception as error:  # noqa: BLE001
+                errors.append(error)
+
+        threads = [threading.Thread(target=guarded, args=(action,)) for action in (write, write, read, read)]
+        for thread in threads:
+            thread.start()
+        for thread in threads:
+            thread.join()
+        same("errors", [], errors)
+        moved = one(connect(service.address), "select money from account where id = 2") - 500
+        same("each commit is there", counts[0], moved)
+        true("both went on", counts[0] > 10 and counts[1] > 10)
+
+
+def test_a_second_writer_fences_the_first():
+    """In another process, as it were: as another principal, so that no lock of this process is shared."""
+    with Service() as service:
+        old = connect(service.address, 2)
+        old.executescript("create table t(a); insert into t values (1);")
+        old.execute("begin immediate")
+        old.execute("insert into t values (2)")
+        new = connect(service.address, 5)
+        new.execute("insert into t values (3)")
+        same("fenced", "SQLITE_READONLY", code_of(lambda: old.execute("commit")))
+        same("rolled back", False, old.in_transaction)
+        true("why", "denied A2" in one(old, "pragma pagelog_error"))
+        same("role", "fenced", one(old, "pragma pagelog_role"))
+        same("it reads on", [(1,), (3,)], old.execute("select a from t").fetchall())
+        new.execute("insert into t values (4)")
+        same("and follows", 3, one(old, "select count(*) from t"))
+        same("and does not write", "SQLITE_READONLY", code_of(lambda: old.execute("insert into t values (5)")))
+        same("no row of it", [(1,), (3,), (4,)], new.execute("select a from t").fetchall())
+        old.close()
+        again = connect(service.address, 2)
+        again.execute("insert into t values (6)")
+        same("unless it opens again", "SQLITE_READONLY", code_of(lambda: new.execute("insert into t values (7)")))
+
+
+def test_a_reader_keeps_its_snapshot_and_the_past_stays():
+    with Service() as service:
+        writer = connect(service.address)
+        writer.execute("create table t(a)")
+        lsns = []
+        for i in range(20):
+            writer.execute("insert into t values (?)", (i,))
+            lsns.append(int(one(writer, "pragma pagelog_lsn")))
+        follower = reader(service.address)
+        follower.execute("begin")
+        same("now", 20, one(follower, "select count(*) from t"))
+        writer.execute("delete from t")
+        same("still", 20, one(follower, "select count(*) from t"))
+        follower.execute("commit")
+        same("then", 0, one(follower, "select count(*) from t"))
+        for i in (0, 7, 19):
+            same("past", i + 1, one(connect(service.address, 4, None, at=lsns[i]), "select count(*) from t"))
+        same("a reader writes nothing", "SQLITE_READONLY", code_of(lambda: follower.execute("insert into t values (1)")))
+
+
+def test_settings():
+    with Service(dbs=2) as service:
+        folder = tempfile.mkdtemp()
+        path = os.path.join(folder, "credentials")
+        with open(path, "w") as file:
+            file.write(f"id 2\ntoken {TOKENS[2]}\nop 1\noptoken {TOKENS[1]}\n")
+        plain = f"file:x?vfs=pagelog&to={service.address}"
+        opened = lambda text: sqlite3.connect(text, uri=True, isolation_level=None)
+        opened(f"{plain}&credentials={path}").execute("create table t(a)")
+        same("no token", "SQLITE_MISUSE", code_of(lambda: opened(plain)))
+        os.environ.update(PAGELOG_ID="3", PAGELOG_TOKEN=TOKENS[3])
+        same("of the environment", 0, one(opened(f"{plain}&mode=ro"), "select count(*) from t"))
+        del os.environ["PAGELOG_ID"], os.environ["PAGELOG_TOKEN"]
+        os.remove(path), os.rmdir(folder)
+        other = connect(service.address, db=1)
+        same("another database", 0, one(other, "select count(*) from sqlite_schema"))
+        for text, code in (("id=9", "SQLITE_MISUSE"), ("id=3&token=zz", "SQLITE_MISUSE"),
+                           (f"id=3&token={TOKENS[3]}&db=x", "SQLITE_MISUSE"),
+                           (f"id=3&token={TOKENS[3]}&copies=1", "SQLITE_MISUSE"),
+                           (f"id=3&token={TOKENS[3]}&op=1", "SQLITE_MISUSE"),
+                           (f"id=3&token={TOKENS[4]}&mode=ro", "SQLITE_PERM"),
+                           (f"id=3&token={TOKENS[3]}&mode=ro&db=2", "SQLITE_PERM"),
+                           (f"id=3&token={TOKENS[3]}", "SQLITE_READONLY"),
+                           (f"id=3&token={TOKENS[3]}&mode=ro&to=127.0.0.1:1&timeout=50", "SQLITE_CANTOPEN")):
+            address = "" if "&to=" in text else f"&to={service.address}"
+            same(text, code, code_of(lambda: opened(f"file:x?vfs=pagelog&{text}{address}")))
+        joined = connect(service.address, 2, None, name="y")
+        joined.execute("insert into t values (1)")
+        same("a writer without an operator", 1, one(reader(service.address), "select count(*) from t"))
+
+
+def test_pragmas():
+    with Service() as service:
+        connection = connect(service.address)
+        connection.execute("create table t(a)")
+        same("numbers", ["1", "1", "1", "2", "2", "1", "0", "0"],
+             [one(connection, f"pragma pagelog_{name}") for name in
+              ("lsn", "end", "transaction", "epoch", "writing_epoch", "commits", "repairs", "check")])
+        same("role", "writer", one(connection, "pragma pagelog_role"))
+        same("check", "50", one(connection, "pragma pagelog_check = 50"))
+        true("all", one(connection, "pragma pagelog").startswith("writer lsn 1 end 1 transaction 1 size 16384 epoch 2"))
+        same("another's", "pagelog", one(reader(service.address), "pragma pagelog_role").replace("reader", "pagelog"))
+        same("none", [], connection.execute("pragma pagelog_nothing").fetchall())
+
+
+def test_several_databases_in_one_statement():
+    with Service(dbs=2) as service:
+        connection = connect(service.address)
+        connection.execute("attach ? as other", (uri(service.address, db=1),))
+        connection.execute("attach ':memory:' as plain")
+        for name in ("main", "other", "plain"):
+            connection.execute(f"create table {name}.t(a)")
+        connection.execute("begin")
+        for name in ("main", "other", "plain"):
+            connection.execute(f"insert into {name}.t values (1)")
+        connection.execute("commit")
+        for db in (0, 1):
+            same("each", 1, one(reader(service.address, db=db), "select count(*) from t"))
+
+
+def test_at_the_limits():
+    with Service(audit=300) as service:
+        connection = connect(service.address, check=1000)
+        connection.execute("create table t(a)")
+        follower = reader(service.address, stale=1)
+        same("a row", 0, one(follower, "select count(*) from t"))
+        code = None
+        while code is None:
+            code = code_of(lambda: connection.execute("insert into t values (1)"))
+        same("audit list full", "SQLITE_FULL", code)
+        same("why", "audit list full", one(connection, "pragma pagelog_error"))
+        same("a new reader", "SQLITE_FULL", code_of(lambda: reader(service.address)))
+        same("the snapshot of a reader that may be stale", (0, "1"),
+             (one(follower, "select count(*) from t"), one(follower, "pragma pagelog_stale")))
+    with Service() as service:
+        connection, follower = connect(service.address, timeout=200), reader(service.address, timeout=200)
+        connection.executescript("create table t(a); insert into t values (1);")
+        same("a row", 1, one(follower, "select count(*) from t"))
+        follower.execute("begin")
+        one(follower, "select count(*) from t")
+        service.end()
+        same("within its transaction", 1, one(follower, "select count(*) from t"))
+        follower.execute("commit")
+        same("not there", "SQLITE_IOERR", code_of(lambda: one(follower, "select count(*) from t")))
+        same("nor for a writer", "SQLITE_IOERR", code_of(lambda: connection.execute("insert into t values (2)")))
+        with Service(listen=service.address):
+            for other in (connection, follower):
+                same("started anew", "SQLITE_IOERR", code_of(lambda: one(other, "select count(*) from t")))
+                true("why", "started anew" in one(other, "pragma pagelog_error"))
+
+
+def test_no_memory():
+    """A service with little memory: it says so, and what was committed before is there."""
+    prefix = ["prlimit", "--as=400000000"]
+    try:
+        service = Service(prefix=prefix)
+    except RuntimeError:
+        return "no memory: not tried, this build does not start with so little"
+    with service:
+        connection = connect(service.address, check=1000, timeout=3000)
+        connection.execute("create table t(a)")
+        rows, code = 0, None
+        while code is None and rows < 4000:
+            code = code_of(lambda: connection.execute("insert into t values (randomblob(300000))"))
+            rows += code is None
+        true(f"an error of the right kind, and not {code}", code in ("SQLITE_FULL", "SQLITE_IOERR", "SQLITE_IOERR_FSYNC"))
+        return f"no memory: {code} after {rows} rows"
+
+
+def test_a_writer_under_the_start_table():
+    """No principal but an operator has two roles there: no look, no following, and still no lie."""
+    with Service(table=START_TABLE) as service:
+        connection = connect(service.address)
+        connection.executescript("create table t(a); insert into t values (1);")
+        other = connect(service.address, 5)
+        other.execute("insert into t values (2)")
+        same("fenced", "SQLITE_READONLY", code_of(lambda: (connection.execute("pragma pagelog_check=3000"),
+                                                           connection.execute("insert into t values (3)"))))
+        same("and may not follow", "SQLITE_PERM", code_of(lambda: one(connection, "select count(*) from t")))
+        same("rows", 2, one(other, "select count(*) from t"))
+
+
+def test_the_shell():
+    with Service() as service:
+        text = (f".load {EXTENSION}\n.open '{uri(service.address)}'\ncreate table t(a, b);\n"
+                "insert into t values (1, 'one'), (2, 'two');\nselect group_concat(b, ' ') from t;\n"
+                f".open '{uri(service.address, 3, None, mode='ro')}'\nselect count(*) from t;\npragma integrity_check;\n")
+        preload = {"LD_PRELOAD": os.environ["LD_PRELOAD"]} if "LD_PRELOAD" in os.environ else {}
+        shell = subprocess.run(["sqlite3"], input=text, capture_output=True, text=True, timeout=60,
+                               env=plain_environment(ASAN_OPTIONS="detect_leaks=0", **preload))
+        same("shell", ("one two\n2\nok\n", ""), (shell.stdout, shell.stderr))
+
+
+if __name__ == "__main__":
+    run("vfs", globals())
