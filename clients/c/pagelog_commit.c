@@ -184,17 +184,38 @@ static enum pagelog_outcome commit_changes(struct commit *commit) {
     return outcome;
 }
 
+/* Whether something may differ from what was committed last. */
+static bool has_changes(const struct commit *commit) {
+    const struct pagelog_file *file = commit->file;
+    if (file->size != file->mark.size || file->least != file->size) return true;
+    for (size_t i = 0; i < commit->count; i++) {
+        const struct pagelog_frame *frame = commit->frames[i];
+        if (!frame->has_base || memcmp(frame->base, frame->changed, PAGELOG_PAGE_BYTES) != 0) return true;
+    }
+    return false;
+}
+
+/* The differences are against `mark`: a file that has gone on from there, or may have, takes none of them. */
+static enum pagelog_outcome commit_if_allowed(struct commit *commit) {
+    struct pagelog_file *file = commit->file;
+    if (!is_writer(file))
+        return pagelog_file_fail(file, PAGELOG_FENCED, "this file is not written to: it follows");
+    if (file->is_broken)
+        return pagelog_file_fail(file, PAGELOG_CONFLICT, "a commit did not come to its end: begin again");
+    return commit_changes(commit);
+}
+
 enum pagelog_outcome pagelog_file_commit(struct pagelog_file *file) {
     struct commit commit = {.file = file};
+    enum pagelog_outcome outcome = PAGELOG_DONE;
     file->reason = NULL;
     if (!pagelog_cache_changed(file->cache, &commit.frames, &commit.count)) return out_of_memory(file);
     commit.old_pages = pages_of(file->least);
     commit.fresh_pages = pages_of(file->size);
-    bool is_unchanged = commit.count == 0 && file->size == file->mark.size && file->least == file->size;
-    enum pagelog_outcome outcome = PAGELOG_DONE;
-    if (!is_unchanged && !is_writer(file))
-        outcome = pagelog_file_fail(file, PAGELOG_FENCED, "this file is not written to: it follows");
-    if (!is_unchanged && is_writer(file)) outcome = commit_changes(&commit);
+    if (has_changes(&commit))
+        outcome = commit_if_allowed(&commit);
+    else
+        pagelog_file_undo(file);
     free(commit.frames);
     return outcome;
 }

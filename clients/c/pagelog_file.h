@@ -92,7 +92,9 @@ enum pagelog_outcome pagelog_file_resize(struct pagelog_file *file, uint64_t siz
 /* The size as the transaction has it. */
 uint64_t pagelog_file_size(const struct pagelog_file *file);
 
-/* Makes the changes since the last commit a transaction. Nothing is sent where nothing differs.
+/* Makes the changes since the last commit a transaction. Nothing is sent where nothing differs: then it is
+ * DONE for a reader too. FENCED where a reader has changes; CONFLICT where the commit before was not DONE and
+ * there was no begin since.
  *
  * DONE: it is in the log. IN_DOUBT: it may be; the next begin looks. Any other outcome: it is not in the log
  * and never will be. After any outcome but DONE the changes are still there, until pagelog_file_undo. */

@@ -39,7 +39,7 @@ def change(file, model, numbers, most):
 
 def test_transactions_beside_a_plain_file():
     """Random changes, undone or committed; a reader sees each commit as a whole, and what a new reader sees is the same."""
-    rounds, most = (2000, 3000000) if LONG else (250, 600000)
+    rounds, most = (2000, 2200000) if LONG else (250, 600000)
     for seed, cache, copies in ((1, 0, 2), (2, 16, 3)):
         numbers = random.Random(seed)
         with Service() as service, opened(service.address, cache_pages=cache, copies=copies) as file, \
@@ -108,9 +108,9 @@ def cut_off(service, groups, principal=2):
         return None if seen[0] > groups else frame
 
     with Proxy(service.address, between=between) as proxy, \
-            opened(proxy.address, principal, patience_ms=1, reply_ms=500) as file:
+            opened(proxy.address, principal, patience_ms=1) as file:
         same("begin", DONE, file.begin())
-        same("write", DONE, file.write(0, random.Random(5).randbytes(3 << 20)))
+        same("write", DONE, file.write(0, random.Random(5).randbytes(2200000)))
         true("not committed", file.commit() in (LOST, IN_DOUBT))
 
 
@@ -237,6 +237,38 @@ def test_a_commit_in_doubt_is_looked_for_later():
                 with opened(service.address, 3, reads_only=True) as reader:
                     same("begin", DONE, reader.begin())
                     same("reader", found[:60] + b"z" + found[61:], reader.whole())
+
+
+def test_a_broken_file_takes_no_commit_before_it_begins_again():
+    """The first group of a long transaction is in the log, the rest is not: nothing may be built upon it."""
+    with Service() as service:
+        seen = [0]
+
+        def between(frame):
+            if frame[33] == wire.REPORT:
+                seen[0] += 1
+            return None if seen[0] == 3 and frame[33] == wire.WRITE else frame
+
+        wanted = b"a" * 2200000
+        with Proxy(service.address, between=between) as proxy, \
+                opened(proxy.address, 2, patience_ms=1) as file:
+            same("commit", (DONE, DONE), (file.begin(), file.write(0, wanted) and file.commit()))
+            seen[0] = 1
+            same("begin", DONE, file.begin())
+            same("write", DONE, file.write(0, random.Random(5).randbytes(2200000)))
+            seen[0] = 2
+            true("not committed", file.commit() in (LOST, IN_DOUBT))
+            true("broken", file.state.is_broken)
+            file.undo()
+            same("nothing differs", (DONE, DONE), (file.write(0, b"aaa"), file.commit()))
+            seen[0] = -100
+            same("something does", (DONE, CONFLICT), (file.write(0, b"b"), file.commit()))
+            same("begin", DONE, file.begin())
+            same("as before", wanted, file.whole())
+            same("and on", (DONE, DONE), (file.write(0, b"b"), file.commit()))
+        with opened(service.address, 3, reads_only=True) as reader:
+            same("begin", DONE, reader.begin())
+            same("reader", b"b" + wanted[1:], reader.whole())
 
 
 def test_a_database_of_something_else():
