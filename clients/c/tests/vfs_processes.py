@@ -61,7 +61,7 @@ class Said:
 
 
 def test_no_reader_sees_a_torn_transaction():
-    seconds = 20 if LONG else 4
+    seconds = 20 if LONG else 3
     with Service() as service:
         connection = connect(service.address)
         connection.executescript(
@@ -85,10 +85,10 @@ def test_no_reader_sees_a_torn_transaction():
 
 def test_failovers():
     """Two writers that both want to write all the time, and an operator that moves the epoch between them."""
-    seconds = 120 if LONG else 8
+    seconds = 120 if LONG else 5
     with Service() as service:
         connect(service.address).execute(ROW)
-        writers = [start("rows", service.address, principal, seconds, principal, 2500000) for principal in (2, 5)]
+        writers = [start("rows", service.address, principal, seconds, principal, 2300000) for principal in (2, 5)]
         numbers, end, failovers = random.Random(7), time.monotonic() + seconds, 0
         with service.operator() as operator:
             while time.monotonic() < end:
@@ -106,12 +106,12 @@ def test_failovers():
 
 
 def test_killed_writers():
-    rounds = 100 if LONG else 6
+    rounds = 100 if LONG else 5
     with Service(workers=64) as service:
         connect(service.address).execute(ROW)
         said, numbers = Said(), random.Random(8)
         for i in range(rounds):
-            writer = start("rows", service.address, 2, 60, 1000 + i, 4000000)
+            writer = start("rows", service.address, 2, 60, 1000 + i, 2300000)
             while writer.stdout.readline().split()[:1] != ["epoch"]:
                 pass
             time.sleep(0.2 + numbers.random() * 0.8)
@@ -127,7 +127,7 @@ def test_killed_writers():
 
 def test_cut_connections():
     """Each connection is cut after a random number of bytes; no commit fails by it."""
-    seconds = 60 if LONG else 6
+    seconds = 60 if LONG else 4
     with Service(workers=64) as service, \
             Proxy(service.address, plan=random_plan(9, 3000, 400000)) as proxy:
         connect(service.address).execute(ROW)
@@ -141,7 +141,7 @@ def test_cut_connections():
 
 
 def test_failovers_and_cuts_at_once():
-    seconds = 60 if LONG else 6
+    seconds = 60 if LONG else 4
     with Service(workers=64) as service, \
             Proxy(service.address, plan=random_plan(10, 3000, 200000)) as proxy:
         connect(service.address).execute(ROW)
@@ -156,7 +156,7 @@ def test_failovers_and_cuts_at_once():
 
 def test_two_writers_of_one_principal():
     """Two processes that write as one principal: each open begins an epoch, so that they never share one."""
-    seconds = 30 if LONG else 4
+    seconds = 30 if LONG else 3
     with Service() as service:
         connect(service.address).execute(ROW)
         writers = [start("rows", service.address, 2, seconds, seed, 100000) for seed in (1, 2)]
