@@ -64,6 +64,7 @@ struct database {
     char *key;
     sqlite3_mutex *mutex;
     struct pagelog_file *file;
+    bool is_open;
     unsigned sharing;            /* connections with a lock, SQLITE_LOCK_SHARED or above */
     struct connection *reserved; /* the one with SQLITE_LOCK_RESERVED or above, or NULL */
     bool is_pending;             /* it waits for the others to go, or has gone on to SQLITE_LOCK_EXCLUSIVE */
@@ -262,53 +263,60 @@ static char *key_of(const struct pagelog_file_options *options) {
                            options->service.principal, token);
 }
 
-/* Opens a database, and lists it where others may share it. */
-static int open_new(const struct pagelog_file_options *options, char *key, struct database **found) {
-    struct database *database = make_database(options, key);
-    if (!database) return SQLITE_NOMEM;
-    enum pagelog_outcome outcome = pagelog_file_open(database->file);
-    if (outcome != PAGELOG_DONE) {
-        int code = result(database, outcome);
-        free_database(database);
-        return code == SQLITE_IOERR ? SQLITE_CANTOPEN : code;
-    }
-    if (!options->reads_only) {
-        database->next = databases;
-        databases = database;
-    }
-    *found = database;
-    return SQLITE_OK;
-}
-
-static int find_or_open(const struct pagelog_file_options *options, struct database **found) {
+/* The database of these options, listed where others may share it, with one reference more; NULL where memory
+ * runs out. */
+static struct database *find_or_make(const struct pagelog_file_options *options) {
     char *key = key_of(options);
-    int code = SQLITE_OK;
-    if (!key) return SQLITE_NOMEM;
+    if (!key) return NULL;
+    if (options->reads_only) return make_database(options, key);
     sqlite3_mutex_enter(list_mutex());
-    struct database *database = options->reads_only ? NULL : databases;
+    struct database *database = databases;
     while (database && strcmp(database->key, key) != 0)
         database = database->next;
     if (database) {
         database->references++;
-        *found = database;
         sqlite3_free(key);
-    } else {
-        code = open_new(options, key, found);
+    } else if ((database = make_database(options, key))) {
+        database->next = databases;
+        databases = database;
     }
     sqlite3_mutex_leave(list_mutex());
-    return code;
+    return database;
 }
 
 static void release(struct database *database) {
     sqlite3_mutex_enter(list_mutex());
-    if (--database->references == 0) {
-        struct database **at = &databases;
-        while (*at && *at != database)
-            at = &(*at)->next;
-        if (*at) *at = database->next;
-        free_database(database);
-    }
+    bool is_last = --database->references == 0;
+    struct database **at = &databases;
+    while (is_last && *at && *at != database)
+        at = &(*at)->next;
+    if (is_last && *at) *at = database->next;
     sqlite3_mutex_leave(list_mutex());
+    if (is_last) free_database(database);
+}
+
+/* Opens a database, unless another connection has. Only those that share it wait for the service meanwhile.
+ */
+static int ensure_open(struct database *database) {
+    int code = SQLITE_OK;
+    sqlite3_mutex_enter(database->mutex);
+    if (!database->is_open) {
+        code = result(database, pagelog_file_open(database->file));
+        database->is_open = code == SQLITE_OK;
+    }
+    sqlite3_mutex_leave(database->mutex);
+    return code == SQLITE_IOERR ? SQLITE_CANTOPEN : code;
+}
+
+static int find_or_open(const struct pagelog_file_options *options, struct database **found) {
+    struct database *database = find_or_make(options);
+    if (!database) return SQLITE_NOMEM;
+    int code = ensure_open(database);
+    if (code == SQLITE_OK)
+        *found = database;
+    else
+        release(database);
+    return code;
 }
 
 /* ---- The methods of a database's file ---- */
@@ -386,7 +394,10 @@ static int lock_shared(struct database *database) {
 
 static int lock_reserved(struct database *database, struct connection *connection) {
     if (database->reserved && database->reserved != connection) return SQLITE_BUSY;
-    if (!pagelog_file_state_of(database->file).is_writer) return SQLITE_READONLY;
+    struct pagelog_file_state state = pagelog_file_state_of(database->file);
+    if (!state.is_writer) return SQLITE_READONLY;
+    /* A file that is broken begins again once all connections have let go of it. */
+    if (state.is_broken && database->sharing > 1) return SQLITE_BUSY;
     database->reserved = connection;
     return SQLITE_OK;
 }

@@ -83,6 +83,28 @@ def test_a_reader_keeps_its_snapshot():
         same("a reader does not commit", (DONE, FENCED), (reader.write(0, b"x"), reader.commit()))
 
 
+def test_a_reader_that_is_far_behind():
+    """It leaps over many transactions, and over one that is too long to be kept aside."""
+    with Service() as service, opened(service.address, check_ms=60000) as file, \
+            opened(service.address, 3, reads_only=True) as reader:
+        model = bytearray(b"a" * 100000)
+        same("first", (DONE, DONE, DONE), (file.begin(), file.write(0, bytes(model)), file.commit()))
+        same("begin", DONE, reader.begin())
+        same("first", model, reader.whole())
+        for i in range(600):
+            model[100 * i : 100 * i + 4] = b"%04d" % i
+            same("commit", (DONE, DONE, DONE), (file.begin(), file.write(100 * i, b"%04d" % i), file.commit()))
+        before = reader.state.wire.requests
+        same("begin", DONE, reader.begin())
+        true("in few requests", reader.state.wire.requests - before < 6)
+        same("leapt", (model, 601), (reader.whole(), reader.state.transaction))
+        if LONG:
+            model[:] = random.Random(1).randbytes(12 << 20)
+            same("long", (DONE, DONE, DONE), (file.begin(), file.write(0, bytes(model)), file.commit()))
+            same("begin", DONE, reader.begin())
+            same("long", model, reader.whole())
+
+
 def test_what_an_update_costs():
     with Service() as service, opened(service.address, check_ms=10000) as file:
         file.begin(), file.write(0, bytes(range(256)) * 320), file.commit()
@@ -98,29 +120,37 @@ def test_what_an_update_costs():
         return f"{(after.bytes_sent - before.bytes_sent) // 10} bytes an update"
 
 
-def cut_off(service, groups, principal=2):
+class CutsOff:
+    """A proxy's rule. Once it is armed it cuts the connection at the first report, so that the group is halved, lets the
+    next report pass, and then cuts all: the first half of a transaction is in the log, without an end mark."""
+
+    def __init__(self):
+        self.is_armed, self.reports = False, 0
+
+    def __call__(self, frame):
+        if self.is_armed and frame[33] == wire.REPORT:
+            self.reports += 1
+            return None if self.reports == 1 else frame
+        return None if self.is_armed and self.reports > 1 else frame
+
+
+def cut_off(service, principal=2):
     """Leaves the first blocks of a transaction in the log, as a writer does that is killed in the midst of it."""
-    seen = [0]
-
-    def between(frame):
-        if frame[33] == wire.REPORT:
-            seen[0] += 1
-        return None if seen[0] > groups else frame
-
-    with Proxy(service.address, between=between) as proxy, \
-            opened(proxy.address, principal, patience_ms=1) as file:
+    rule = CutsOff()
+    with Proxy(service.address, between=rule) as proxy, opened(proxy.address, principal, patience_ms=200) as file:
         same("begin", DONE, file.begin())
-        same("write", DONE, file.write(0, random.Random(5).randbytes(2200000)))
+        same("write", DONE, file.write(0, random.Random(5).randbytes(150000)))
+        rule.is_armed = True
         true("not committed", file.commit() in (LOST, IN_DOUBT))
 
 
 def test_a_transaction_that_was_cut_off_is_undone():
     for table in (TABLE, START_TABLE):
         with Service(table=table) as service, opened(service.address, 5 if table == TABLE else 2) as old:
-            wanted = random.Random(6).randbytes(1 << 20)
+            wanted = random.Random(6).randbytes(200000)
             old.begin(), old.write(0, wanted)
             same("commit", DONE, old.commit())
-            cut_off(service, 1)
+            cut_off(service)
             with service.operator() as operator:
                 hard = operator.status()[2]
             true("blocks without an end", hard > old.state.lsn)
@@ -167,12 +197,12 @@ def test_a_fenced_writer_follows():
 def test_a_fenced_writer_fetches_on():
     """It is fenced in the midst of a transaction that has to fetch pages: it reads on at its snapshot."""
     with Service() as service, opened(service.address, 2, cache_pages=16) as old:
-        wanted = random.Random(8).randbytes(1 << 20)
+        wanted = random.Random(8).randbytes(250000)
         old.begin(), old.write(0, wanted)
         same("commit", DONE, old.commit())
         same("begin", DONE, old.begin())
         with opened(service.address, 5) as new:
-            same("new", (DONE, DONE, DONE), (new.begin(), new.write(0, b"c" * 500000), new.commit()))
+            same("new", (DONE, DONE, DONE), (new.begin(), new.write(0, b"c" * 50000), new.commit()))
             same("its snapshot", wanted, old.whole())
 
 
@@ -240,28 +270,20 @@ def test_a_commit_in_doubt_is_looked_for_later():
 
 
 def test_a_broken_file_takes_no_commit_before_it_begins_again():
-    """The first group of a long transaction is in the log, the rest is not: nothing may be built upon it."""
+    """The first half of a transaction is in the log, the rest is not: nothing may be built upon it."""
     with Service() as service:
-        seen = [0]
-
-        def between(frame):
-            if frame[33] == wire.REPORT:
-                seen[0] += 1
-            return None if seen[0] == 3 and frame[33] == wire.WRITE else frame
-
-        wanted = b"a" * 2200000
-        with Proxy(service.address, between=between) as proxy, \
-                opened(proxy.address, 2, patience_ms=1) as file:
-            same("commit", (DONE, DONE), (file.begin(), file.write(0, wanted) and file.commit()))
-            seen[0] = 1
+        rule, wanted = CutsOff(), b"a" * 150000
+        with Proxy(service.address, between=rule) as proxy, opened(proxy.address, 2, patience_ms=200) as file:
+            same("commit", (DONE, DONE, DONE), (file.begin(), file.write(0, wanted), file.commit()))
             same("begin", DONE, file.begin())
-            same("write", DONE, file.write(0, random.Random(5).randbytes(2200000)))
-            seen[0] = 2
+            same("write", DONE, file.write(0, random.Random(5).randbytes(150000)))
+            rule.is_armed = True
             true("not committed", file.commit() in (LOST, IN_DOUBT))
             true("broken", file.state.is_broken)
+            true("blocks without an end", file.state.end > file.state.lsn)
+            rule.is_armed = False
             file.undo()
             same("nothing differs", (DONE, DONE), (file.write(0, b"aaa"), file.commit()))
-            seen[0] = -100
             same("something does", (DONE, CONFLICT), (file.write(0, b"b"), file.commit()))
             same("begin", DONE, file.begin())
             same("as before", wanted, file.whole())
@@ -326,7 +348,7 @@ def test_a_service_that_was_started_anew():
 
 def test_cut_connections():
     """Connections that are cut at any byte: each commit survives its cuts, and the file is what was committed."""
-    seconds = 20 if LONG else 4
+    seconds = 20 if LONG else 3
     with Service(workers=64) as service:
         with Proxy(service.address, plan=random_plan(3, 2000, 120000)) as proxy:
             with opened(proxy.address, 2) as file:

@@ -32,11 +32,12 @@ class Service:
     """Ends with the block that it is used in."""
 
     def __init__(self, table=TABLE, primary=2, dbs=1, workers=16, connections=4294967295, audit=16777216, listen=None,
-                 prefix=()):
+                 prefix=(), quiet=False):
         words = ["serve", "--listen", listen or "127.0.0.1:0", "--table", table, "--primary", primary, "--dbs", dbs,
                  "--workers", workers, "--connections", connections, "--audit", audit]
         words = list(prefix) + [PROGRAM] + [str(word) for word in words]
-        self.process = subprocess.Popen(words, stdout=subprocess.PIPE, text=True, env=plain_environment())
+        self.process = subprocess.Popen(words, stdout=subprocess.PIPE, text=True, env=plain_environment(),
+                                        stderr=subprocess.DEVNULL if quiet else None)
         line = self.process.stdout.readline().split()
         if len(line) != 2 or line[0] != "listening":
             raise RuntimeError(f"the service did not start: {line}")

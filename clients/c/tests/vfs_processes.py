@@ -85,14 +85,14 @@ def test_no_reader_sees_a_torn_transaction():
 
 def test_failovers():
     """Two writers that both want to write all the time, and an operator that moves the epoch between them."""
-    seconds = 120 if LONG else 5
+    seconds = 120 if LONG else 4
     with Service() as service:
         connect(service.address).execute(ROW)
         writers = [start("rows", service.address, principal, seconds, principal, 2300000) for principal in (2, 5)]
         numbers, end, failovers = random.Random(7), time.monotonic() + seconds, 0
         with service.operator() as operator:
             while time.monotonic() < end:
-                time.sleep(numbers.random() * 0.4)
+                time.sleep(numbers.random() * 0.3)
                 operator.failover(numbers.choice([2, 5]))
                 failovers += 1
         said = Said()

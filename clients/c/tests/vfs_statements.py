@@ -2,6 +2,7 @@
 
 import os
 import random
+import re
 import sqlite3
 import subprocess
 import tempfile
@@ -39,7 +40,7 @@ def mixed(numbers, count):
         elif kind < 0.995:
             yield [f"update account set note = note || '{a}' where id % 7 = {a % 7}"]
         else:
-            yield [f"insert into blob(data) select randomized({a}, value) from generate({numbers.randrange(2200)})"]
+            yield [f"insert into blob(data) select randomized({a}, value) from generate({numbers.randrange(2200 if LONG else 200)})"]
         if i == count // 2:
             yield ["vacuum"]
 
@@ -54,9 +55,6 @@ def play(connection, transactions):
         if statements != ["vacuum"]:
             connection.execute("begin")
         for statement in statements:
-            statement = statement.replace(
-                "from generate(", "from (with recursive g(value) as (select 0 union all select value + 1 from g where "
-                "value + 1 < ").replace("))", ")) select value from g)") if "generate(" in statement else statement
             try:
                 connection.execute(statement)
             except sqlite3.IntegrityError:
@@ -67,8 +65,6 @@ def play(connection, transactions):
 
 def generated(statements):
     """The statements with `generate(N)` spelled out."""
-    import re
-
     spelled = ("(with recursive g(value) as (select 0 union all select value + 1 from g where value + 1 < \\1) "
                "select value from g)")
     return [re.sub(r"generate\((\d+)\)", spelled, statement) for statement in statements]
@@ -327,7 +323,7 @@ def test_no_memory():
     """A service with little memory: it says so, and what was committed before is there."""
     prefix = ["prlimit", "--as=400000000"]
     try:
-        service = Service(prefix=prefix)
+        service = Service(prefix=prefix, quiet=True)
     except RuntimeError:
         return "no memory: not tried, this build does not start with so little"
     with service:
