@@ -7,7 +7,7 @@
 
 enum {
     MOST_PENDING =
-        64 << 20, /* bytes that are kept aside; past it the pages in memory are forgotten in their place */
+        8 << 20, /* bytes that are kept aside; past it the pages in memory are forgotten in their place */
     FAR_BEHIND = 512, /* blocks: past it the pages are fetched anew */
 };
 

@@ -39,7 +39,7 @@ def change(file, model, numbers, most):
 
 def test_transactions_beside_a_plain_file():
     """Random changes, undone or committed; a reader sees each commit as a whole, and what a new reader sees is the same."""
-    rounds, most = (2000, 2200000) if LONG else (250, 600000)
+    rounds, most = (2000, 2200000) if LONG else (50, 120000)
     for seed, cache, copies in ((1, 0, 2), (2, 16, 3)):
         numbers = random.Random(seed)
         with Service() as service, opened(service.address, cache_pages=cache, copies=copies) as file, \
