@@ -392,10 +392,20 @@ static int lock_shared(struct database *database) {
     return code;
 }
 
+/* A connection that cannot write: the reason is noted. */
+static int refuse_write(struct database *database, const struct pagelog_file_state *state) {
+    if (state->is_fenced)
+        snprintf(database->error, sizeof database->error, "fenced: epoch %u is over, the current one is %u",
+                 state->writing_epoch, state->epoch);
+    else
+        snprintf(database->error, sizeof database->error, "this connection only reads");
+    return SQLITE_READONLY;
+}
+
 static int lock_reserved(struct database *database, struct connection *connection) {
     if (database->reserved && database->reserved != connection) return SQLITE_BUSY;
     struct pagelog_file_state state = pagelog_file_state_of(database->file);
-    if (!state.is_writer) return SQLITE_READONLY;
+    if (!state.is_writer) return refuse_write(database, &state);
     /* A file that is broken begins again once all connections have let go of it. */
     if (state.is_broken && database->sharing > 1) return SQLITE_BUSY;
     database->reserved = connection;

@@ -1,15 +1,19 @@
 """The vectors of docs/FORMATS.md: what the client spells and reads is what the page says, by the names that it has there."""
 
 import json
+import pathlib
 import re
+import shutil
 import socket
 import struct
+import subprocess
+import tempfile
 import threading
 
 from binding import (AuditLine, DONE, Blocks, Log, Reply, Request, blocks_of, byref, c_void_p, ctypes, decode, encode, lib,
                      records_of, exact_buffer)
 from check import run, same, true
-from service import ROOT, exactly, wire
+from service import CLIENT, ROOT, Service, exactly, plain_environment, wire
 
 ROLES = {"primary": 1, "secondary": 2, "page_server": 3, "operator": 4}
 OPERATIONS = dict(zip(["write", "offer", "report", "get", "pull", "advance", "status", "failover", "set_table", "audit",
@@ -171,6 +175,27 @@ def test_frames():
             same(name, data.hex(), seen[0].hex())
         else:
             same(name, (DONE, KINDS[body[0]]), (outcome, KINDS[reply.kind]))
+
+
+def test_the_lines_of_the_page():
+    """The lines of C in docs/CLIENT.md do what the page says."""
+    page = (ROOT / "docs" / "CLIENT.md").read_text()
+    lines = re.search(r"^```c\n(.*?)^```$", page, flags=re.S | re.M).group(1)
+    true("ten lines and some", len(lines.splitlines()) <= 12)
+    program = ('#include "pagelog.h"\n#include <stdio.h>\n#include <string.h>\nint main(int count, char **words) {\n'
+               "const char *address = words[count - 1];\n" + lines
+               + "pagelog_blocks_free(blocks);\npagelog_free(log);\nreturn 0;\n}\n")
+    folder = pathlib.Path(tempfile.mkdtemp())
+    source, built = folder / "lines.c", folder / "lines"
+    source.write_text(program)
+    sources = [CLIENT / name for name in ("pagelog.c", "pagelog_append.c", "pagelog_blocks.c", "pagelog_format.c")]
+    subprocess.run(["gcc", "-std=c11", "-D_GNU_SOURCE", "-Wall", "-Wextra", "-Werror", "-fsanitize=address,undefined",
+                    "-I", CLIENT, "-o", built, source, *sources], check=True, env=plain_environment())
+    with Service() as service:
+        for wanted in (1, 2):
+            said = subprocess.run([built, service.address], capture_output=True, text=True, env=plain_environment())
+            same("output", (f"done, the log ends at {wanted}\n", ""), (said.stdout, said.stderr))
+    shutil.rmtree(folder)
 
 
 if __name__ == "__main__":

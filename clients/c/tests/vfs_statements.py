@@ -201,6 +201,7 @@ def test_a_second_writer_fences_the_first():
         new.execute("insert into t values (4)")
         same("and follows", 3, one(old, "select count(*) from t"))
         same("and does not write", "SQLITE_READONLY", code_of(lambda: old.execute("insert into t values (5)")))
+        same("why", "fenced: epoch 2 is over, the current one is 3", one(old, "pragma pagelog_error"))
         same("no row of it", [(1,), (3,), (4,)], new.execute("select a from t").fetchall())
         old.close()
         again = connect(service.address, 2)
