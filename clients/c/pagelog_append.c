@@ -142,6 +142,12 @@ static enum pagelog_outcome exchange_group(struct append *append, size_t count) 
 
 /* ---- A look at what is in the log ---- */
 
+/* Whether the last refusal says that the log ends before what was asked for. */
+static bool ends_before(const struct pagelog *log) {
+    const struct pagelog_reply *refused = pagelog_refused(log);
+    return refused->kind == PAGELOG_REPLY_DENIED && refused->section == SECTION_C && refused->row == 1;
+}
+
 /* Whether the log has just these blocks from the first one on, `count` of them: DONE, CONFLICT where another
  * stands in its place or the log ends before, else why it could not be learned. */
 static enum pagelog_outcome look(struct append *append, size_t first, size_t count) {
@@ -152,6 +158,7 @@ static enum pagelog_outcome look(struct append *append, size_t first, size_t cou
         const uint8_t *block;
         unsigned max = count - seen < PAGELOG_PULL_BLOCKS ? (unsigned)(count - seen) : PAGELOG_PULL_BLOCKS;
         enum pagelog_outcome outcome = pagelog_pull(append->log, append->base + first + seen, max, &pulled);
+        if (outcome == PAGELOG_DENIED && ends_before(append->log)) return PAGELOG_CONFLICT;
         if (outcome != PAGELOG_DONE) return outcome;
         while (seen < count && (block = pagelog_next_block(&pulled, &at, &length))) {
             const uint8_t *own = pagelog_blocks_at(append->blocks, first + seen, &own_length);
@@ -204,12 +211,11 @@ static enum pagelog_outcome conclude_after_epoch(struct append *append) {
     }
     if (copies_of_last(append) < 2) return give_up(append, PAGELOG_FENCED);
     enum pagelog_outcome outcome = look(append, append->count - 1, 1);
-    if (outcome == PAGELOG_DONE) {
-        advance(append, left);
-        return PAGELOG_DONE;
-    }
-    bool never = outcome == PAGELOG_CONFLICT || append->log->anew;
-    return give_up(append, never ? PAGELOG_FENCED : PAGELOG_IN_DOUBT);
+    if (outcome == PAGELOG_CONFLICT || append->log->anew) return give_up(append, PAGELOG_FENCED);
+    if (outcome == PAGELOG_DONE) outcome = look(append, append->first, left);
+    if (outcome != PAGELOG_DONE) return give_up(append, PAGELOG_IN_DOUBT);
+    advance(append, left);
+    return PAGELOG_DONE;
 }
 
 static bool is_epoch_over(const struct pagelog_reply *refused) {

@@ -176,7 +176,9 @@ void pagelog_cache_undo(struct pagelog_cache *cache) {
 void pagelog_cache_keep(struct pagelog_cache *cache) {
     struct pagelog_frame *frame;
     while ((frame = cache->changed.oldest)) {
-        memcpy(frame->base, frame->changed, PAGELOG_PAGE_BYTES);
+        uint8_t *old = frame->base;
+        frame->base = frame->changed;
+        frame->changed = old;
         frame->has_base = true;
         set_changed(cache, frame, NULL);
     }

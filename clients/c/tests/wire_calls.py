@@ -301,6 +301,35 @@ def test_a_block_in_one_copy_is_never_in_the_log():
             same("log", blocks.all()[: (write - 1) // 2], blocks_of(reader.pull(1)[1]))
 
 
+def test_lost_replies_are_made_up_for_by_a_look():
+    """The connection is lost before so many writes of three blocks, and then the epoch ends: what was carried before it in
+    two copies is in the log, and nothing else; the client knows it by a look in the new epoch."""
+    for carried in range(0, 8):
+        with Service() as service, Log(service.address, 3) as reader:
+            left, is_over = [carried], [False]
+
+            def between(frame):
+                if is_over[0] or frame[33] not in (wire.WRITE, wire.REPORT):
+                    return frame
+                left[0] -= 1
+                if left[0] >= 0:
+                    return frame
+                time.sleep(0.05)  # what was carried has been carried out
+                with service.operator() as operator:
+                    operator.failover(5)
+                is_over[0] = True
+                return None
+
+            blocks = numbered(1, 3)
+            with Proxy(service.address, between=between) as proxy, Log(proxy.address, 2) as log:
+                same("take over", DONE, log.take_over())
+                outcome = log.append(blocks)
+                in_log = blocks_of(reader.pull(1)[1])
+                same("log", blocks.all()[: carried // 2], in_log)
+                if carried < 7:
+                    same(f"after {carried}", DONE if carried == 6 else FENCED, outcome)
+
+
 def test_a_report_that_is_not_allowed_leaves_doubt():
     denied = TABLE.read_text().replace('[[row]]', '[[row]]\nverdict = "deny"\nwho = 2\nop = ["report"]\n\n[[row]]', 1)
     with Service() as service, service.operator() as operator, Log(service.address, 2) as log:
