@@ -11,7 +11,7 @@ import time
 
 from check import LONG, run, same, true
 from database import EXTENSION, TOKENS, code_of, connect, one, reader, uri
-from service import START_TABLE, Service, plain_environment, TABLE
+from service import CLIENT, START_TABLE, Service, plain_environment
 
 COUNT = 10000 if LONG else 400
 
@@ -360,6 +360,24 @@ def test_the_shell():
         shell = subprocess.run(["sqlite3"], input=text, capture_output=True, text=True, timeout=60,
                                env=plain_environment(ASAN_OPTIONS="detect_leaks=0", **preload))
         same("shell", ("one two\n2\nok\n", ""), (shell.stdout, shell.stderr))
+
+
+def test_speedtest1():
+    """Of SQLite's sources, where SPEEDTEST1 names the program: what it reads is what it reads of plain SQLite."""
+    program = os.environ.get("SPEEDTEST1")
+    if not program:
+        return "speedtest1 not run: SPEEDTEST1 names no program"
+    subprocess.run(["make", "-s", "-C", CLIENT, "out/pagelog_preload.so"], check=True, env=plain_environment())
+    with Service() as service:
+        hashes = []
+        for words, more in ((["--vfs", "pagelog", uri(service.address, check=50)],
+                             {"LD_PRELOAD": str(CLIENT / "out" / "pagelog_preload.so")}), ([":memory:"], {})):
+            ran = subprocess.run([program, "--size", "20" if LONG else "2", "--verify", *words], capture_output=True,
+                                 text=True, env=plain_environment(**more))
+            hashes += [line for line in ran.stdout.splitlines() if "Hash" in line]
+        same("two hashes", 2, len(hashes))
+        same("verification hash", hashes[1], hashes[0])
+        return "speedtest1 reads the same"
 
 
 if __name__ == "__main__":
