@@ -362,6 +362,13 @@ def test_the_shell():
         same("shell", ("one two\n2\nok\n", ""), (shell.stdout, shell.stderr))
 
 
+def test_a_linked_program_gives_its_memory_back():
+    with Service() as service:
+        ran = subprocess.run([CLIENT / "out" / "checked" / "statements", service.address], capture_output=True, text=True,
+                             env=plain_environment())
+        same("statements", (0, "0 failures\n", ""), (ran.returncode, ran.stdout, ran.stderr[-2000:]))
+
+
 def test_speedtest1():
     """Of SQLite's sources, where SPEEDTEST1 names the program: what it reads is what it reads of plain SQLite."""
     program = os.environ.get("SPEEDTEST1")
