@@ -230,7 +230,8 @@ const uint8_t *pagelog_blocks_at(const struct pagelog_blocks *blocks, size_t ind
 struct pagelog;
 
 struct pagelog_options {
-    const char *address; /* "HOST:PORT", "[HOST]:PORT" of IPv6; copied */
+    const char *address; /* "HOST:PORT", "[HOST]:PORT" of IPv6; copied. A name is looked up at each connect,
+                          * for as long as the system's resolver takes */
     uint32_t principal;
     uint8_t token[PAGELOG_TOKEN_BYTES];
     uint32_t database;

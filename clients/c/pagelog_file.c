@@ -1,4 +1,5 @@
-/* Opening, transactions, reads and writes. pagelog_commit.c has the commit, pagelog_follow.c the follower. */
+/* Opening, transactions, reads and writes. pagelog_mark.c has the end mark, pagelog_commit.c the commit and
+ * the repair, pagelog_follow.c the follower. */
 #include "pagelog_file_inside.h"
 
 #include <stdio.h>
@@ -7,83 +8,6 @@
 #include <sys/random.h>
 
 enum { MOST_AHEAD = 32, DEFAULT_CACHE = 4096 };
-
-static const uint8_t magic[8] = {'p', 'l', 'f', 'i', 'l', 'e', '0', '1'};
-
-/* ---- The end mark ---- */
-
-bool pagelog_read_mark(const uint8_t *page, struct mark *mark) {
-    static const uint8_t zeros[MARK_BYTES];
-    memset(mark, 0, sizeof *mark);
-    if (memcmp(page, zeros, MARK_BYTES) == 0) return true;
-    if (memcmp(page, magic, sizeof magic) != 0) return false;
-    mark->lsn = pagelog_read_number(page + 8, 8);
-    mark->size = pagelog_read_number(page + 16, 8);
-    mark->session = pagelog_read_number(page + 24, 8);
-    mark->transaction = pagelog_read_number(page + 32, 8);
-    return mark->lsn > 0 && mark->size <= PAGELOG_FILE_MOST;
-}
-
-static void write_mark(uint8_t *bytes, const struct mark *mark) {
-    memcpy(bytes, magic, sizeof magic);
-    uint8_t *at = pagelog_write_number(bytes + sizeof magic, mark->lsn, 8);
-    at = pagelog_write_number(at, mark->size, 8);
-    at = pagelog_write_number(at, mark->session, 8);
-    pagelog_write_number(at, mark->transaction, 8);
-}
-
-bool pagelog_has_mark(const uint8_t *block, struct mark *mark) {
-    struct pagelog_records records;
-    struct pagelog_record record = {0}, last = {0};
-    pagelog_records_begin(&records, block);
-    while (pagelog_records_next(&records, &record))
-        last = record;
-    return last.page == MARK_PAGE && last.offset == 0 && last.length == MARK_BYTES &&
-           pagelog_read_mark(last.bytes, mark) && mark->lsn == records.lsn;
-}
-
-enum pagelog_outcome pagelog_append_ended(struct pagelog_file *file) {
-    size_t count = pagelog_blocks_count(file->blocks);
-    uint64_t asked = pagelog_now();
-    enum pagelog_outcome outcome = pagelog_append(file->log, file->blocks, file->options.copies);
-    if (outcome != PAGELOG_DONE) return outcome;
-    pagelog_blocks_drop(file->blocks, count);
-    file->blocks_written += count;
-    file->checked = asked;
-    file->is_checked = true;
-    return PAGELOG_DONE;
-}
-
-enum pagelog_outcome pagelog_append_mark(struct pagelog_file *file, struct mark *mark) {
-    uint8_t bytes[MARK_BYTES];
-    mark->lsn = pagelog_blocks_room(file->blocks, MARK_PAGE, MARK_BYTES);
-    if (mark->lsn == 0) return PAGELOG_NO_MEMORY;
-    write_mark(bytes, mark);
-    enum pagelog_outcome outcome = pagelog_blocks_put(file->blocks, MARK_PAGE, 0, bytes, MARK_BYTES);
-    if (outcome == PAGELOG_DONE) outcome = pagelog_blocks_end(file->blocks);
-    return outcome == PAGELOG_DONE ? pagelog_append_ended(file) : outcome;
-}
-
-enum pagelog_outcome pagelog_take_mark(struct pagelog_file *file, uint64_t lsn) {
-    uint8_t page[PAGELOG_PAGE_BYTES];
-    const uint32_t number = MARK_PAGE;
-    struct mark mark;
-    enum pagelog_outcome outcome = pagelog_fetch(file, lsn, &number, 1, page);
-    if (outcome != PAGELOG_DONE) return outcome;
-    file->is_foreign = !pagelog_read_mark(page, &mark) || mark.lsn > lsn;
-    if (file->is_foreign) {
-        return pagelog_file_fail(file, PAGELOG_MALFORMED,
-                                 "page 0 is no end mark: the database holds something else");
-    }
-    if (mark.lsn != file->mark.lsn) {
-        pagelog_cache_clear(file->cache);
-        file->pending.length = 0;
-        file->is_far = false;
-        file->next = mark.lsn + 1;
-    }
-    file->mark = mark;
-    return PAGELOG_DONE;
-}
 
 /* ---- Making, opening, freeing ---- */
 

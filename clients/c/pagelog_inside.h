@@ -52,6 +52,13 @@ struct pagelog {
 /* Enters an outcome that has no reply behind it, and returns it. */
 enum pagelog_outcome pagelog_fail(struct pagelog *log, enum pagelog_outcome outcome);
 
+/* Learns what a reply tells about the service, and enters a refusal. */
+enum pagelog_outcome pagelog_notice(struct pagelog *log, const struct pagelog_reply *reply);
+
+/* What came is no reply to what was asked, so that nothing behind it on this connection can be believed:
+ * closes it. */
+enum pagelog_outcome pagelog_distrust(struct pagelog *log);
+
 /* How long a call goes on with lost connections while nothing is done. */
 struct pagelog_patience {
     uint64_t until;

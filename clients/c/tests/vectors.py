@@ -188,7 +188,8 @@ def test_the_lines_of_the_page():
     folder = pathlib.Path(tempfile.mkdtemp())
     source, built = folder / "lines.c", folder / "lines"
     source.write_text(program)
-    sources = [CLIENT / name for name in ("pagelog.c", "pagelog_append.c", "pagelog_blocks.c", "pagelog_format.c")]
+    wire_layer = ("pagelog", "pagelog_connection", "pagelog_calls", "pagelog_append", "pagelog_blocks", "pagelog_format")
+    sources = [CLIENT / f"{name}.c" for name in wire_layer]
     subprocess.run(["gcc", "-std=c11", "-D_GNU_SOURCE", "-Wall", "-Wextra", "-Werror", "-fsanitize=address,undefined",
                     "-I", CLIENT, "-o", built, source, *sources], check=True, env=plain_environment())
     with Service() as service:

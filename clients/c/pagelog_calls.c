@@ -1,0 +1,233 @@
+/* The calls that are repeated after a lost connection, and the epochs of a writer. */
+#include "pagelog_inside.h"
+
+#include <string.h>
+#include <time.h>
+
+enum { GETS_IN_FLIGHT = 64, MOST_EPOCHS = 64 };
+
+/* ---- Calls that are repeated ---- */
+
+/* Whether a denial tells an epoch that this role takes over, so that the request may be asked again. */
+static bool takes_over_epoch(const struct pagelog *log, uint8_t role, uint32_t asked_epoch) {
+    const struct pagelog_reply *reply = &log->refused;
+    bool tells = reply->kind == PAGELOG_REPLY_DENIED && reply->section == SECTION_A &&
+                 (reply->row == 2 || reply->row == 3);
+    return tells && !log->anew && role != PAGELOG_PRIMARY && log->epoch != asked_epoch;
+}
+
+struct pagelog_patience pagelog_patience_of(const struct pagelog *log) {
+    return (struct pagelog_patience){.until = pagelog_now() + log->options.patience_ms,
+                                     .ms = log->options.patience_ms};
+}
+
+void pagelog_progress(struct pagelog_patience *patience) {
+    patience->tries = 0;
+    patience->until = pagelog_now() + patience->ms;
+}
+
+bool pagelog_may_try_again(struct pagelog_patience *patience) {
+    unsigned doubled = patience->tries < 6 ? patience->tries : 6;
+    struct timespec pause = {.tv_nsec = 1000000L << doubled};
+    if (pagelog_now() >= patience->until) return false;
+    if (patience->tries++ > 0) nanosleep(&pause, NULL);
+    return true;
+}
+
+/* One request, asked again with the epoch that a denial tells, and after a lost connection. */
+static enum pagelog_outcome ask(struct pagelog *log, const struct pagelog_request *request,
+                                struct pagelog_reply *reply) {
+    if (log->asked_count > 0) return pagelog_fail(log, PAGELOG_MALFORMED);
+    struct pagelog_patience patience = pagelog_patience_of(log);
+    for (unsigned epochs = 0;;) {
+        uint32_t epoch = log->epoch;
+        enum pagelog_outcome outcome = pagelog_send(log, request);
+        if (outcome != PAGELOG_DONE) return outcome;
+        outcome = pagelog_receive(log, reply);
+        if (outcome == PAGELOG_LOST && pagelog_may_try_again(&patience)) continue;
+        if (outcome != PAGELOG_FENCED || !takes_over_epoch(log, request->role, epoch) ||
+            ++epochs > MOST_EPOCHS)
+            return outcome;
+    }
+}
+
+enum pagelog_outcome pagelog_status(struct pagelog *log, enum pagelog_role role,
+                                    struct pagelog_reply *status) {
+    struct pagelog_request request = {.role = (uint8_t)role, .operation = PAGELOG_STATUS};
+    return ask(log, &request, status);
+}
+
+/* Asks for up to 64 pages in one round trip. Each reply is read, whatever those before it were. */
+static enum pagelog_outcome get_group(struct pagelog *log, enum pagelog_role role, uint64_t lsn,
+                                      const uint32_t *pages, size_t count, uint8_t *out) {
+    struct pagelog_request request = {
+        .role = (uint8_t)role, .operation = PAGELOG_GET, .lsn = lsn, .exact = 1};
+    enum pagelog_outcome first = PAGELOG_DONE;
+    struct pagelog_reply reply, refused = {0};
+    for (size_t i = 0; i < count; i++) {
+        request.page = pages[i];
+        enum pagelog_outcome outcome = pagelog_send(log, &request);
+        if (outcome != PAGELOG_DONE) {
+            pagelog_disconnect(log);
+            return outcome;
+        }
+    }
+    for (size_t i = 0; i < count; i++) {
+        enum pagelog_outcome outcome = pagelog_receive(log, &reply);
+        if (outcome == PAGELOG_LOST || outcome == PAGELOG_MALFORMED) return outcome;
+        if (outcome == PAGELOG_DONE && reply.at != lsn) return pagelog_distrust(log);
+        if (outcome == PAGELOG_DONE) memcpy(out + i * PAGELOG_PAGE_BYTES, reply.bytes, PAGELOG_PAGE_BYTES);
+        if (outcome == PAGELOG_DONE || first != PAGELOG_DONE) continue;
+        first = outcome;
+        refused = log->refused;
+    }
+    if (first == PAGELOG_DONE) return PAGELOG_DONE;
+    pagelog_fail(log, first);
+    log->refused = refused;
+    return first;
+}
+
+enum pagelog_outcome pagelog_get(struct pagelog *log, enum pagelog_role role, uint64_t lsn,
+                                 const uint32_t *pages, size_t count, uint8_t *out) {
+    struct pagelog_patience patience = pagelog_patience_of(log);
+    unsigned epochs = 0;
+    size_t most = GETS_IN_FLIGHT;
+    if (log->asked_count > 0) return pagelog_fail(log, PAGELOG_MALFORMED);
+    for (size_t done = 0; done < count;) {
+        uint32_t epoch = log->epoch;
+        size_t group = count - done < most ? count - done : most;
+        enum pagelog_outcome outcome =
+            get_group(log, role, lsn, pages + done, group, out + done * PAGELOG_PAGE_BYTES);
+        if (outcome == PAGELOG_DONE) {
+            done += group;
+            pagelog_progress(&patience);
+        } else if (outcome == PAGELOG_LOST && pagelog_may_try_again(&patience)) {
+            most = group > 1 ? group / 2 : 1;
+        } else if (outcome != PAGELOG_FENCED || !takes_over_epoch(log, role, epoch) ||
+                   ++epochs > MOST_EPOCHS) {
+            return outcome;
+        }
+    }
+    return PAGELOG_DONE;
+}
+
+/* Whether the last denial says that the log ends just before `from`. */
+static bool is_at_the_end(const struct pagelog *log, uint64_t from) {
+    const struct pagelog_reply *reply = &log->refused;
+    return !log->anew && reply->kind == PAGELOG_REPLY_DENIED && reply->section == SECTION_C &&
+           reply->row == 1 && reply->value + 1 == from;
+}
+
+/* Whether the blocks are those that a pull from this LSN may serve. */
+static bool are_pulled(const struct pagelog_reply *blocks, uint64_t from, unsigned max) {
+    uint64_t last = from - 1;
+    size_t at = 0, length;
+    const uint8_t *block;
+    while ((block = pagelog_next_block(blocks, &at, &length))) {
+        uint64_t lsn = pagelog_read_number(block, 8);
+        if (lsn <= last) return false;
+        last = lsn;
+    }
+    return blocks->count <= max && blocks->next > last;
+}
+
+enum pagelog_outcome pagelog_pull(struct pagelog *log, uint64_t from, unsigned max,
+                                  struct pagelog_reply *blocks) {
+    struct pagelog_request request = {.role = PAGELOG_SECONDARY,
+                                      .operation = PAGELOG_PULL,
+                                      .hi = UINT16_MAX,
+                                      .lsn = from,
+                                      .max = (uint16_t)max};
+    if (log->asked_count > 0) return pagelog_fail(log, PAGELOG_MALFORMED);
+    struct pagelog_patience patience = pagelog_patience_of(log);
+    for (unsigned epochs = 0;;) {
+        uint32_t epoch = log->epoch;
+        enum pagelog_outcome outcome = pagelog_send(log, &request);
+        if (outcome == PAGELOG_DONE) outcome = pagelog_receive(log, blocks);
+        if (outcome == PAGELOG_DONE && !are_pulled(blocks, from, request.max)) return pagelog_distrust(log);
+        if (outcome == PAGELOG_DONE && blocks->count < request.max) blocks->hard = blocks->next - 1;
+        if (outcome == PAGELOG_DONE) return outcome;
+        if (outcome == PAGELOG_DENIED && is_at_the_end(log, from)) {
+            *blocks = (struct pagelog_reply){.kind = PAGELOG_REPLY_BLOCKS, .next = from, .hard = from - 1};
+            return PAGELOG_DONE;
+        }
+        if (outcome == PAGELOG_LOST && pagelog_may_try_again(&patience)) {
+            request.max = request.max > 1 ? request.max / 2 : 1;
+        } else if (outcome != PAGELOG_FENCED || !takes_over_epoch(log, PAGELOG_SECONDARY, epoch) ||
+                   ++epochs > MOST_EPOCHS) {
+            return outcome;
+        }
+    }
+}
+
+/* ---- Epochs of a writer ---- */
+
+/* Learns where the log ends, from the status that a writer of the epoch is given; then nothing of it is in
+ * the window. */
+static enum pagelog_outcome begin_epoch(struct pagelog *log, uint32_t epoch, bool owns) {
+    struct pagelog_reply status;
+    log->writing_epoch = epoch;
+    log->owns_epoch = owns;
+    log->stuck = true;
+    if (epoch > log->epoch) log->epoch = epoch;
+    enum pagelog_outcome outcome = pagelog_status(log, PAGELOG_PRIMARY, &status);
+    if (outcome == PAGELOG_DONE) log->stuck = false;
+    return outcome;
+}
+
+/* Asks for a failover in this epoch, and in no other. */
+static enum pagelog_outcome fail_over(struct pagelog *log, uint32_t principal, const uint8_t *token,
+                                      uint32_t epoch) {
+    struct pagelog_reply reply;
+    struct pagelog_request request = {.principal = principal,
+                                      .role = PAGELOG_OPERATOR,
+                                      .database = log->options.database,
+                                      .epoch = epoch,
+                                      .operation = PAGELOG_FAILOVER,
+                                      .to = log->options.principal};
+    memcpy(request.token, token, PAGELOG_TOKEN_BYTES);
+    enum pagelog_outcome outcome = pagelog_send_as(log, &request);
+    if (outcome == PAGELOG_DONE) outcome = pagelog_receive(log, &reply);
+    if (outcome == PAGELOG_LOST) log->lost_failovers++;
+    return outcome;
+}
+
+/* Whether the last denial tells which epoch is the current one. */
+static bool is_epoch_told(const struct pagelog *log) {
+    const struct pagelog_reply *reply = &log->refused;
+    return !log->anew && reply->kind == PAGELOG_REPLY_DENIED && reply->section == SECTION_A &&
+           (reply->row == 2 || reply->row == 3);
+}
+
+/* A failover whose reply was lost may have begun the epoch that was told. */
+static bool may_be_ours(const struct pagelog *log, uint32_t expected) {
+    return log->epoch > expected && log->epoch - expected <= log->lost_failovers;
+}
+
+enum pagelog_outcome pagelog_take_over(struct pagelog *log, uint32_t operator_principal,
+                                       const uint8_t operator_token[PAGELOG_TOKEN_BYTES], uint32_t expected) {
+    struct pagelog_patience patience = pagelog_patience_of(log);
+    uint32_t epoch = expected ? expected : log->epoch ? log->epoch : 1;
+    if (log->asked_count > 0) return pagelog_fail(log, PAGELOG_MALFORMED);
+    for (unsigned epochs = 0;;) {
+        enum pagelog_outcome outcome = fail_over(log, operator_principal, operator_token, epoch);
+        if (outcome == PAGELOG_DONE) break;
+        if (outcome == PAGELOG_LOST && pagelog_may_try_again(&patience)) continue;
+        if (outcome != PAGELOG_FENCED || !is_epoch_told(log) || ++epochs > MOST_EPOCHS) return outcome;
+        if (expected && !may_be_ours(log, expected)) return outcome;
+        epoch = log->epoch;
+    }
+    log->lost_failovers = 0;
+    return begin_epoch(log, epoch + 1, true);
+}
+
+enum pagelog_outcome pagelog_join(struct pagelog *log) {
+    if (log->asked_count > 0) return pagelog_fail(log, PAGELOG_MALFORMED);
+    for (unsigned epochs = 0;;) {
+        uint32_t epoch = log->epoch ? log->epoch : 1;
+        enum pagelog_outcome outcome = begin_epoch(log, epoch, false);
+        if (outcome == PAGELOG_DONE) return outcome;
+        log->writing_epoch = 0;
+        if (outcome != PAGELOG_FENCED || !is_epoch_told(log) || ++epochs > MOST_EPOCHS) return outcome;
+    }
+}

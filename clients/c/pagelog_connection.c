@@ -1,0 +1,240 @@
+/* The connection, and requests in flight over it. */
+#include "pagelog_inside.h"
+
+#include <errno.h>
+#include <netdb.h>
+#include <netinet/tcp.h>
+#include <poll.h>
+#include <stdlib.h>
+#include <string.h>
+#include <sys/socket.h>
+#include <unistd.h>
+
+enum {
+    READ_AT_ONCE = 65536,
+    MOST_INPUT = 16 << 20, /* bytes that are read ahead while requests are still being sent */
+};
+
+/* ---- Buffers ---- */
+
+static size_t held(const struct buffer *buffer) {
+    return buffer->end - buffer->start;
+}
+
+/* Makes room for `wanted` bytes behind what is held. */
+static bool reserve(struct buffer *buffer, size_t wanted) {
+    if (buffer->start == buffer->end) buffer->start = buffer->end = 0;
+    if (buffer->room - buffer->end >= wanted) return true;
+    if (buffer->start > 0 && buffer->start >= held(buffer)) {
+        memmove(buffer->bytes, buffer->bytes + buffer->start, held(buffer));
+        buffer->end -= buffer->start;
+        buffer->start = 0;
+        if (buffer->room - buffer->end >= wanted) return true;
+    }
+    size_t room = buffer->end + wanted > 2 * buffer->room ? buffer->end + wanted : 2 * buffer->room;
+    uint8_t *bytes = realloc(buffer->bytes, room);
+    if (!bytes) return false;
+    buffer->bytes = bytes;
+    buffer->room = room;
+    return true;
+}
+
+static void empty(struct buffer *buffer) {
+    buffer->start = buffer->end = 0;
+}
+
+/* ---- The connection ---- */
+
+void pagelog_disconnect(struct pagelog *log) {
+    if (log->socket >= 0) close(log->socket);
+    log->socket = -1;
+    log->asked_count = 0;
+    log->waits = false;
+    empty(&log->output);
+    empty(&log->input);
+}
+
+enum pagelog_outcome pagelog_distrust(struct pagelog *log) {
+    pagelog_disconnect(log);
+    return pagelog_fail(log, PAGELOG_MALFORMED);
+}
+
+static enum pagelog_outcome lose(struct pagelog *log) {
+    pagelog_disconnect(log);
+    return pagelog_fail(log, PAGELOG_LOST);
+}
+
+/* Waits until the socket can be read, or written where `output` is asked for too; false at the deadline. */
+static bool wait_for(int socket, short events, uint64_t deadline, short *ready) {
+    for (;;) {
+        uint64_t now = pagelog_now();
+        struct pollfd fd = {.fd = socket, .events = events};
+        if (now >= deadline) return false;
+        uint64_t left = deadline - now;
+        int count = poll(&fd, 1, left > 1000000 ? 1000000 : (int)left);
+        if (count < 0 && errno != EINTR) return false;
+        if (count > 0) {
+            *ready = fd.revents;
+            return true;
+        }
+    }
+}
+
+static bool finish_connect(int fd, uint64_t deadline) {
+    short ready;
+    int error = 0;
+    socklen_t size = sizeof error;
+    if (!wait_for(fd, POLLOUT, deadline, &ready)) return false;
+    return getsockopt(fd, SOL_SOCKET, SO_ERROR, &error, &size) == 0 && error == 0;
+}
+
+/* A connected socket to one of the addresses, or -1. */
+static int connect_to(const struct addrinfo *address, uint64_t deadline) {
+    int one = 1;
+    int fd =
+        socket(address->ai_family, address->ai_socktype | SOCK_NONBLOCK | SOCK_CLOEXEC, address->ai_protocol);
+    if (fd < 0) return -1;
+    setsockopt(fd, IPPROTO_TCP, TCP_NODELAY, &one, sizeof one);
+    if (connect(fd, address->ai_addr, address->ai_addrlen) == 0) return fd;
+    if (errno == EINPROGRESS && finish_connect(fd, deadline)) return fd;
+    close(fd);
+    return -1;
+}
+
+static enum pagelog_outcome ensure_connected(struct pagelog *log) {
+    struct addrinfo hints = {.ai_family = AF_UNSPEC, .ai_socktype = SOCK_STREAM}, *found = NULL;
+    if (log->socket >= 0) return PAGELOG_DONE;
+    uint64_t deadline = pagelog_now() + log->options.connect_ms;
+    if (getaddrinfo(log->host, log->port, &hints, &found) != 0) return pagelog_fail(log, PAGELOG_LOST);
+    for (struct addrinfo *address = found; address && log->socket < 0; address = address->ai_next)
+        log->socket = connect_to(address, deadline);
+    freeaddrinfo(found);
+    if (log->socket < 0) return pagelog_fail(log, PAGELOG_LOST);
+    log->counts.connects++;
+    return PAGELOG_DONE;
+}
+
+/* Reads what is there. False where the connection has ended. */
+static bool read_some(struct pagelog *log) {
+    struct buffer *input = &log->input;
+    if (!reserve(input, READ_AT_ONCE)) return false;
+    ssize_t count = recv(log->socket, input->bytes + input->end, input->room - input->end, 0);
+    if (count < 0) return errno == EAGAIN || errno == EWOULDBLOCK || errno == EINTR;
+    input->end += (size_t)count;
+    log->counts.bytes_received += (uint64_t)count;
+    return count > 0;
+}
+
+static bool send_some(struct pagelog *log) {
+    struct buffer *output = &log->output;
+    ssize_t count = send(log->socket, output->bytes + output->start, held(output), MSG_NOSIGNAL);
+    if (count < 0) return errno == EAGAIN || errno == EWOULDBLOCK || errno == EINTR;
+    output->start += (size_t)count;
+    log->counts.bytes_sent += (uint64_t)count;
+    log->waits = true;
+    return true;
+}
+
+/* Sends all that is queued. It reads meanwhile, so that neither side waits for the other to read. */
+static enum pagelog_outcome flush(struct pagelog *log) {
+    uint64_t deadline = pagelog_now() + log->options.reply_ms;
+    enum pagelog_outcome outcome = ensure_connected(log);
+    if (outcome != PAGELOG_DONE) return lose(log);
+    while (held(&log->output) > 0) {
+        short ready, events = POLLOUT;
+        if (!send_some(log)) return lose(log);
+        if (held(&log->output) == 0) break;
+        if (held(&log->input) < MOST_INPUT) events |= POLLIN;
+        if (!wait_for(log->socket, events, deadline, &ready)) return lose(log);
+        if ((ready & (POLLIN | POLLHUP | POLLERR)) && !read_some(log)) return lose(log);
+    }
+    return PAGELOG_DONE;
+}
+
+/* The body of the next frame, once all of it is there. */
+static enum pagelog_outcome read_frame(struct pagelog *log, const uint8_t **body, size_t *length) {
+    uint64_t deadline = pagelog_now() + log->options.reply_ms;
+    struct buffer *input = &log->input;
+    for (;;) {
+        short ready;
+        if (held(input) >= 4) {
+            *length = (size_t)pagelog_read_number(input->bytes + input->start, 4);
+            if (*length > PAGELOG_REPLY_BYTES) return pagelog_distrust(log);
+            if (held(input) >= 4 + *length) break;
+        }
+        if (log->waits) log->counts.round_trips++;
+        log->waits = false;
+        if (!wait_for(log->socket, POLLIN, deadline, &ready) || !read_some(log)) return lose(log);
+    }
+    *body = input->bytes + input->start + 4;
+    input->start += 4 + *length;
+    return PAGELOG_DONE;
+}
+
+/* ---- Requests in flight ---- */
+
+static enum pagelog_outcome queue(struct pagelog *log, const struct pagelog_request *request) {
+    struct buffer *output = &log->output;
+    size_t most = 64 + request->length;
+    if (log->asked_count == PAGELOG_IN_FLIGHT) return pagelog_fail(log, PAGELOG_MALFORMED);
+    if (!reserve(output, 4 + most)) return pagelog_fail(log, PAGELOG_NO_MEMORY);
+    size_t length = pagelog_encode_request(request, output->bytes + output->end + 4, most);
+    if (length == 0) return pagelog_fail(log, PAGELOG_MALFORMED);
+    pagelog_write_number(output->bytes + output->end, length, 4);
+    output->end += 4 + length;
+    log->asked[(log->asked_first + log->asked_count++) % PAGELOG_IN_FLIGHT] = request->operation;
+    log->counts.requests++;
+    return PAGELOG_DONE;
+}
+
+enum pagelog_outcome pagelog_send_as(struct pagelog *log, const struct pagelog_request *request) {
+    return queue(log, request);
+}
+
+enum pagelog_outcome pagelog_send(struct pagelog *log, const struct pagelog_request *request) {
+    struct pagelog_request whole = *request;
+    whole.principal = log->options.principal;
+    memcpy(whole.token, log->options.token, PAGELOG_TOKEN_BYTES);
+    whole.database = log->options.database;
+    whole.epoch = request->role == PAGELOG_PRIMARY ? log->writing_epoch : log->epoch;
+    return queue(log, &whole);
+}
+
+/* Whether a reply of this kind may come to that operation. */
+static bool answers(uint8_t operation, uint8_t kind) {
+    if (kind >= PAGELOG_REPLY_DENIED) return true;
+    switch (operation) {
+    case PAGELOG_GET:
+        return kind == PAGELOG_REPLY_PAGE;
+    case PAGELOG_PULL:
+        return kind == PAGELOG_REPLY_BLOCKS;
+    case PAGELOG_STATUS:
+        return kind == PAGELOG_REPLY_STATUS;
+    case PAGELOG_AUDIT:
+        return kind == PAGELOG_REPLY_ENTRIES;
+    }
+    return kind == PAGELOG_REPLY_DONE;
+}
+
+enum pagelog_outcome pagelog_receive(struct pagelog *log, struct pagelog_reply *reply) {
+    const uint8_t *body = NULL;
+    size_t length = 0;
+    memset(reply, 0, sizeof *reply);
+    if (log->asked_count == 0) return pagelog_fail(log, PAGELOG_MALFORMED);
+    enum pagelog_outcome outcome = flush(log);
+    if (outcome == PAGELOG_DONE) outcome = read_frame(log, &body, &length);
+    if (outcome != PAGELOG_DONE) return outcome;
+    uint8_t operation = log->asked[log->asked_first];
+    log->asked_first = (log->asked_first + 1) % PAGELOG_IN_FLIGHT;
+    log->asked_count--;
+    if (pagelog_decode_reply(body, length, reply) != 0 || !answers(operation, reply->kind)) {
+        memset(reply, 0, sizeof *reply);
+        return pagelog_distrust(log);
+    }
+    log->counts.replies++;
+    return pagelog_notice(log, reply);
+}
+
+size_t pagelog_in_flight(const struct pagelog *log) {
+    return log->asked_count;
+}
