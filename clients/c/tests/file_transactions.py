@@ -150,11 +150,16 @@ def test_a_transaction_that_was_cut_off_is_undone():
             wanted = random.Random(6).randbytes(200000)
             old.begin(), old.write(0, wanted)
             same("commit", DONE, old.commit())
+            early = opened(service.address, 3, reads_only=True) if table == TABLE else None
+            if early:
+                same("all pages in memory", (DONE, wanted), (early.begin(), early.whole()))
             cut_off(service)
             with service.operator() as operator:
                 hard = operator.status()[2]
             true("blocks without an end", hard > old.state.lsn)
             if table == TABLE:
+                with early:
+                    same("who was there before does not see them", (DONE, wanted), (early.begin(), early.whole()))
                 with opened(service.address, 3, reads_only=True) as reader:
                     same("begin", DONE, reader.begin())
                     same("a reader does not see them", wanted, reader.whole())
@@ -293,6 +298,46 @@ def test_a_broken_file_takes_no_commit_before_it_begins_again():
             same("reader", b"b" + wanted[1:], reader.whole())
 
 
+def test_nothing_is_built_upon_half_a_transaction():
+    """The first half is in the log, and the table denies the rest: nothing is in the window, and still no commit may follow
+    before the file has begun again."""
+    denied = TABLE.read_text().replace('[[row]]', '[[row]]\nverdict = "deny"\nwho = 2\nop = ["write"]\n\n[[row]]', 1)
+    with Service() as service, service.operator() as operator:
+        reports, wanted = [-100], b"a" * 150000
+
+        def between(frame):
+            if frame[33] == wire.REPORT:
+                reports[0] += 1
+            if reports[0] == 3 and frame[33] == wire.WRITE:
+                reports[0] = -100
+                time.sleep(0.1)
+                operator.set_table(denied)
+            return None if reports[0] == 1 and frame[33] == wire.REPORT else frame
+
+        def between_groups(frame):
+            carried = between(frame)
+            if frame[33] == wire.REPORT and reports[0] == 2:
+                reports[0] = 3
+            return carried
+
+        with Proxy(service.address, between=between_groups) as proxy, opened(proxy.address, 2) as file:
+            same("commit", (DONE, DONE, DONE), (file.begin(), file.write(0, wanted), file.commit()))
+            same("begin", DONE, file.begin())
+            same("write", DONE, file.write(0, random.Random(5).randbytes(150000)))
+            reports[0] = 0
+            same("denied", (DENIED, True), (file.commit(), file.state.is_broken))
+            true("half of it is in the log", file.state.end > file.state.lsn)
+            operator.set_table(TABLE.read_text())
+            file.undo()
+            same("no commit", (DONE, CONFLICT), (file.write(0, b"b"), file.commit()))
+            same("begin", DONE, file.begin())
+            same("as before", wanted, file.whole())
+            same("and on", (DONE, DONE), (file.write(0, b"b"), file.commit()))
+        with opened(service.address, 3, reads_only=True) as reader:
+            same("begin", DONE, reader.begin())
+            same("reader", b"b" + wanted[1:], reader.whole())
+
+
 def test_a_database_of_something_else():
     with Service() as service:
         with Log(service.address, 2) as log:
@@ -353,13 +398,12 @@ def test_cut_connections():
         with Proxy(service.address, plan=random_plan(3, 2000, 120000)) as proxy:
             with opened(proxy.address, 2) as file:
                 model, numbers, end, commits = bytearray(), random.Random(4), time.monotonic() + seconds, 0
-                while time.monotonic() < end:
+                while time.monotonic() < end or proxy.cuts < 5:
                     same("begin", DONE, file.begin())
                     for _ in range(3):
                         change(file, model, numbers, 300000)
                     same("commit", (DONE, file.words), (file.commit(), file.words))
                     commits += 1
-                true("cuts", proxy.cuts > 20)
             with opened(proxy.address, 3, reads_only=True) as reader:
                 same("begin", DONE, reader.begin())
                 same("what was committed", bytes(model), reader.whole())

@@ -31,8 +31,8 @@ def accounts(address):
 
 
 def looks(address, seconds):
-    end, looked, moments, last = time.monotonic() + seconds, 0, set(), 0
-    connection = reader(address)
+    connection, looked, moments, last = reader(address), 0, set(), 0
+    end = time.monotonic() + seconds
     while time.monotonic() < end:
         connection.execute("begin")
         money, moment = one(connection, "select sum(money) from account"), one(connection, "select number from moment")
@@ -50,13 +50,14 @@ def looks(address, seconds):
 
 
 def rows(address, principal, seconds, seed, big):
-    numbers, end, connection, count = random.Random(seed), time.monotonic() + seconds, None, 0
-    while time.monotonic() < end:
+    numbers, end, connection, count = random.Random(seed), None, None, 0
+    while end is None or time.monotonic() < end:
         try:
             if connection is None:
                 connection = connect(address, principal, check=1000, timeout=3000)
                 epoch = one(connection, "pragma pagelog_writing_epoch")
                 print(f"epoch {epoch}")
+                end = end or time.monotonic() + seconds
             name = f"{seed}-{count}"
             count += 1
             size = big if numbers.random() < 0.1 else numbers.randrange(2000)
