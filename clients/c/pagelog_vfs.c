@@ -534,6 +534,10 @@ static int file_control(sqlite3_file *file, int operation, void *argument) {
     case SQLITE_FCNTL_PRAGMA:
         code = answer_pragma(database, argument);
         break;
+    case SQLITE_FCNTL_LOCKSTATE:
+        *(int *)argument = ((struct connection *)file)->lock;
+        code = SQLITE_OK;
+        break;
     case SQLITE_FCNTL_VFSNAME:
         *(char **)argument = sqlite3_mprintf("pagelog");
         code = SQLITE_OK;

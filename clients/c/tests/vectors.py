@@ -10,7 +10,7 @@ import subprocess
 import tempfile
 import threading
 
-from binding import (AuditLine, DONE, Blocks, Log, Reply, Request, blocks_of, byref, c_void_p, ctypes, decode, encode, lib,
+from binding import (AuditLine, DONE, LOST, MALFORMED, Blocks, Log, Reply, Request, blocks_of, byref, c_void_p, ctypes, decode, encode, lib,
                      records_of, exact_buffer)
 from check import run, same, true
 from service import CLIENT, ROOT, Service, exactly, plain_environment, wire
@@ -175,6 +175,36 @@ def test_frames():
             same(name, data.hex(), seen[0].hex())
         else:
             same(name, (DONE, KINDS[body[0]]), (outcome, KINDS[reply.kind]))
+
+
+def answered(data, reply_ms):
+    """What the client makes of a peer that answers its request with these bytes, and then is silent."""
+    listener, is_over = socket.create_server(("127.0.0.1", 0)), threading.Event()
+
+    def answer():
+        client, _ = listener.accept()
+        exactly(client, struct.unpack(">I", exactly(client, 4))[0])
+        client.sendall(data)
+        is_over.wait(20)
+        client.close()
+
+    thread = threading.Thread(target=answer)
+    thread.start()
+    with Log("127.0.0.1:%d" % listener.getsockname()[1], 2, reply_ms=reply_ms) as log:
+        outcome, _ = log.ask(2, OPERATIONS["status"])
+    is_over.set()
+    thread.join()
+    return outcome
+
+
+def test_frames_that_are_none():
+    """A length above that of any reply is refused at once; a frame that is cut is waited for, and no longer than said."""
+    same("too long", MALFORMED, answered(struct.pack(">I", 1048577), 10000))
+    same("far too long", MALFORMED, answered(b"\xff" * 4 + bytes(100), 10000))
+    same("the longest", LOST, answered(struct.pack(">I", 1048576) + bytes(100), 200))
+    same("cut", LOST, answered(struct.pack(">I", 33) + bytes(32), 200))
+    same("no reply", MALFORMED, answered(struct.pack(">I", 1) + b"\x0b", 10000))
+    same("a reply to something else", MALFORMED, answered(struct.pack(">I", 1) + b"\0", 10000))
 
 
 def test_the_lines_of_the_page():

@@ -11,7 +11,7 @@ import time
 
 from check import LONG, run, same, true
 from database import EXTENSION, TOKENS, code_of, connect, one, reader, uri
-from service import CLIENT, START_TABLE, Service, plain_environment
+from service import CLIENT, Proxy, START_TABLE, Service, exactly, plain_environment, wire
 
 COUNT = 10000 if LONG else 400
 
@@ -318,6 +318,39 @@ def test_at_the_limits():
             for other in (connection, follower):
                 same("started anew", "SQLITE_IOERR", code_of(lambda: one(other, "select count(*) from t")))
                 true("why", "started anew" in one(other, "pragma pagelog_error"))
+
+
+def test_a_commit_in_doubt():
+    """The service goes away behind the writes of a commit, before its report or behind it. The error says that it is in
+    doubt; the next transaction sees what became of it, as every other reader does."""
+    found = set()
+    for is_carried in (False, True):
+        with Service() as service, service.operator() as operator:
+            is_armed, is_away = [False], [False]
+
+            def between(frame):
+                if is_armed[0] and frame[33] == wire.REPORT:
+                    is_away[0] = True
+                    if is_carried:
+                        time.sleep(0.05)
+                        operator.socket.sendall(frame)
+                        exactly(operator.socket, int.from_bytes(exactly(operator.socket, 4), "big"))
+                return None if is_away[0] else frame
+
+            with Proxy(service.address, between=between) as proxy:
+                writer = connect(proxy.address, timeout=300, check=60000)
+                writer.executescript("create table t(a); insert into t values (1);")
+                is_armed[0] = True
+                same("in doubt", "SQLITE_IOERR_FSYNC", code_of(lambda: writer.execute("insert into t values (2)")))
+                same("not there", "SQLITE_CANTOPEN", code_of(lambda: connect(proxy.address, 5, timeout=50)))
+                is_armed[0] = is_away[0] = False
+                rows = writer.execute("select a from t").fetchall()
+                same("as a reader sees it", rows, reader(service.address).execute("select a from t").fetchall())
+                writer.execute("insert into t values (3)")
+                same("and on", rows + [(3,)], reader(service.address).execute("select a from t").fetchall())
+                found.add((is_carried, len(rows)))
+                writer.close()
+    true(f"a report that was carried out is a commit: {found}", (True, 2) in found)
 
 
 def test_no_memory():

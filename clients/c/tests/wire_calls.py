@@ -437,6 +437,21 @@ def test_a_service_that_was_started_anew():
                 same("for good", FENCED, reader.status(SECONDARY)[0])
 
 
+def test_a_service_that_was_started_anew_in_the_same_epoch():
+    """Nothing but the end of the log, which is lower than before, tells it."""
+    with Service() as service:
+        address = service.address
+        with Log(address, 2) as log, Log(address, 3) as reader, Log(address, 4) as other:
+            same("join", DONE, log.join())
+            same("append", DONE, log.append(numbered(1, 3)))
+            same("readers", (4, DONE), (reader.pull(1)[1].next, other.status(SECONDARY)[0]))
+            service.end()
+            with Service(listen=address):
+                same("pull", (FENCED, True), (reader.pull(4)[0], reader.is_anew))
+                same("status", (FENCED, True), (other.status(SECONDARY)[0], other.is_anew))
+                same("append", (FENCED, True), (log.append(numbered(4, 1)), log.is_anew))
+
+
 def test_every_wait_ends():
     with Service(workers=1) as service, Log(service.address, 2) as holder:
         same("holder", DONE, holder.join())
