@@ -1,0 +1,136 @@
+"""What the four kinds of client have in common: a connection, credentials, a database, and the epoch."""
+
+from __future__ import annotations
+
+from types import TracebackType
+from typing import Iterable, Iterator, Sequence, TypeVar
+
+from pagelog.block import HIGHEST_PARTITION
+from pagelog.connection import Address, Connection
+from pagelog.credentials import Account, Credentials
+from pagelog.errors import LogWentBack
+from pagelog.reply import Denied, Page, Reply, State, expect
+from pagelog.request import Act, Get, Head, Request, Role, Status
+from pagelog.rules import Section
+
+FIRST_EPOCH = 1
+ALL_PARTITIONS = (0, HIGHEST_PARTITION)
+Self = TypeVar("Self", bound="Client")
+
+
+def told_epoch(reply: Reply) -> int | None:
+    """The current epoch, where the reply denies for the sake of another."""
+    if isinstance(reply, Denied) and reply.section is Section.A and reply.row in (2, 3):
+        return reply.value
+    return None
+
+
+class Client:
+    """Asks as one principal, in one role, of one database.
+
+    It takes over the epoch that a denial A2 or A3 tells, and asks again; a primary does not, see `Primary`. The epoch
+    and the hardened end of one log only rise: where either is below what was seen, `LogWentBack` is raised.
+
+    Every call raises what the connection raises, and a `Refusal` for a reply that refuses.
+    """
+
+    role: Role
+
+    def __init__(self, connection: Connection, credentials: Credentials, database: int = 0) -> None:
+        self.connection = connection
+        self.credentials = credentials
+        self.database = database
+        self.epoch = FIRST_EPOCH
+        self.hard_seen = 0
+        """The highest hardened end that a reply told."""
+        self._head: Head | None = None
+
+    @classmethod
+    def open(cls: type[Self], account: Account, database: int = 0, *, timeout: float = 10.0) -> Self:
+        """A client over a connection of its own."""
+        return cls(Connection(account.to, timeout=timeout), account.credentials, database)
+
+    @classmethod
+    def at(cls: type[Self], address: Address | str, id: int, token: str, database: int = 0) -> Self:
+        """A client of the service at an address as `127.0.0.1:7400`; the token has 32 hexadecimal digits."""
+        return cls(Connection(address), Credentials.of(id, token), database)
+
+    def __enter__(self: Self) -> Self:
+        return self
+
+    def __exit__(self, kind: type[BaseException] | None, error: BaseException | None, trace: TracebackType | None) -> None:
+        self.close()
+
+    def close(self) -> None:
+        """Closes the connection. A later call opens it again."""
+        self.connection.close()
+
+    def status(self) -> State:
+        """Epoch, primary and hardened end."""
+        state = expect(State, self._ask(Status()))
+        self._saw_hard(state.hard)
+        return state
+
+    # The epoch.
+
+    def _request(self, act: Act) -> Request:
+        head = self._head
+        if head is None or head.epoch != self.epoch:
+            head = Head(self.credentials.id, self.credentials.token, self.role, self.database, self.epoch)
+            self._head = head
+        return Request(head, act)
+
+    def _take_over(self, epoch: int) -> None:
+        """The epoch is this one now. Epochs of one log only rise."""
+        if epoch < self.epoch:
+            raise LogWentBack(f"epoch {epoch} where {self.epoch} was seen: the service was started anew")
+        self.epoch = epoch
+
+    def _saw_hard(self, hard: int) -> None:
+        if hard < self.hard_seen:
+            raise LogWentBack(f"{hard} blocks where {self.hard_seen} were seen: the service was started anew")
+        self.hard_seen = hard
+
+    # Asking.
+
+    def _ask(self, act: Act) -> Reply:
+        [reply] = self._ask_all((act,))
+        return reply
+
+    def _ask_all(self, acts: Sequence[Act], in_flight: int = 64) -> list[Reply]:
+        """The replies, in order. Those that were denied for an older epoch are asked again in the one that was told."""
+        replies: list[Reply | None] = [None] * len(acts)
+        while True:
+            left = [at for at, reply in enumerate(replies) if reply is None]
+            if not left:
+                return [reply for reply in replies if reply is not None]
+            epoch = None
+            asked = (self._request(acts[at]) for at in left)
+            for at, reply in zip(left, self.connection.exchange(asked, in_flight), strict=True):
+                told = told_epoch(reply)
+                if told is None:
+                    replies[at] = reply
+                else:
+                    epoch = told
+            if epoch is not None:
+                self._take_over(epoch)
+
+    def _stream(self, acts: Iterable[Act], in_flight: int) -> Iterator[Reply]:
+        """The replies to acts that are made as room is, in order; a denial for the epoch's sake is among them."""
+        return self.connection.exchange((self._request(act) for act in acts), in_flight)
+
+
+
+class PageClient(Client):
+    """A client whose role has the operation get."""
+
+    def page(self, number: int, lsn: int, *, exact: bool = True) -> Page:
+        """The page at this LSN, 0 to the hardened end; with `exact=False` at a later one, `at`, if it is applied so far.
+
+        Raises `AboveTheEnd`, whose value is the hardened end.
+        """
+        return self.pages((number,), lsn, exact=exact)[0]
+
+    def pages(self, numbers: Sequence[int], lsn: int, *, exact: bool = True) -> list[Page]:
+        """Pages at one LSN, asked for together."""
+        return [expect(Page, reply) for reply in self._ask_all([Get(number, lsn, exact) for number in numbers])]

@@ -1,0 +1,229 @@
+"""A connection to a service: one socket, many requests in flight, replies in the order of the requests."""
+
+from __future__ import annotations
+
+import select
+import socket
+import time
+from collections import deque
+from dataclasses import dataclass
+from types import TracebackType
+from typing import Iterable, Iterator, NamedTuple
+
+from pagelog.errors import ConnectionLost, InDoubt, PagelogError, TimedOut, Unreachable
+from pagelog.faults import FrameFault
+from pagelog.reply import Reply, decode_reply
+from pagelog.request import Request
+
+REPLY_SIZE = 1 << 20
+"""The most bytes of a reply's body."""
+_RECEIVE_SIZE = 1 << 18
+
+
+@dataclass(frozen=True)
+class Address:
+    """Where a service listens."""
+
+    host: str
+    port: int
+
+    @classmethod
+    def parse(cls, text: str) -> Address:
+        """The address of a text as `127.0.0.1:7400` or `[::1]:7400`. Raises `ValueError`."""
+        host, colon, port = text.rpartition(":")
+        if not colon or not host or not port.isdecimal() or not 1 <= int(port) <= 65535:
+            raise ValueError(f"{text!r} is no address of the form HOST:PORT")
+        return cls(host.strip("[]"), int(port))
+
+    def __str__(self) -> str:
+        return f"[{self.host}]:{self.port}" if ":" in self.host else f"{self.host}:{self.port}"
+
+
+class Answer(NamedTuple):
+    """A reply, and whether its request had been sent over an earlier connection too."""
+
+    reply: Reply
+    repeated: bool
+
+
+class _Waiting:
+    """A request whose reply has not come."""
+
+    __slots__ = ("request", "frame", "sent")
+
+    def __init__(self, request: Request) -> None:
+        body = request.encode()
+        self.request = request
+        self.frame = len(body).to_bytes(4, "big") + body
+        self.sent = 0
+
+
+class Connection:
+    """A connection that is made when it is needed, and again when it is lost.
+
+    Where it is lost with requests in flight, those without a reply are sent again over a new one, in the same order,
+    if all of them may be: a write, an offer or a report that is repeated changes nothing. Else `InDoubt` is raised.
+
+    `timeout` is in seconds: the longest wait for a connection, and the longest without a byte in either direction.
+    `attempts` is how often in a row, 1 or more, a connection is tried before `Unreachable` or `ConnectionLost`; a
+    reply that came begins the count anew. `pause` is the wait in seconds before the second attempt, doubled for each
+    further one up to a second.
+
+    A worker of the service is held as long as the connection is open, so close it, or use it in a `with`. It is for one
+    thread at a time.
+    """
+
+    def __init__(self, address: Address | str, *, timeout: float = 10.0, attempts: int = 5, pause: float = 0.05) -> None:
+        self.address = Address.parse(address) if isinstance(address, str) else address
+        self.timeout = timeout
+        self.attempts = max(1, attempts)
+        self.pause = pause
+        self.connects = 0
+        """How many connections were made so far. A service may have been started anew where it has grown."""
+        self._socket: socket.socket | None = None
+        self._out = bytearray()
+        self._in = bytearray()
+        self._failures = 0
+        self._in_use = False
+
+    def __enter__(self) -> Connection:
+        return self
+
+    def __exit__(self, kind: type[BaseException] | None, error: BaseException | None, trace: TracebackType | None) -> None:
+        self.close()
+
+    def close(self) -> None:
+        """Closes the socket and lets the worker go. The next request connects again."""
+        if self._socket is not None:
+            self._socket.close()
+        self._socket = None
+        self._out.clear()
+        self._in.clear()
+
+    def ask(self, request: Request) -> Reply:
+        """The reply to one request. Raises as `exchange` does."""
+        [reply] = self.exchange((request,), in_flight=1)
+        return reply
+
+    def exchange(self, requests: Iterable[Request], in_flight: int = 64) -> Iterator[Reply]:
+        """The replies to the requests, in order, with at most so many in flight.
+
+        The next request is taken from `requests` when there is room for it. An iterator that is left before its end
+        closes the connection, since replies would still come.
+
+        Raises `Unreachable`, `ConnectionLost`, `TimedOut`, `InDoubt`, and a `Fault` for a reply that is none.
+        """
+        for answer in self.answers(requests, in_flight):
+            yield answer.reply
+
+    def answers(self, requests: Iterable[Request], in_flight: int = 64) -> Iterator[Answer]:
+        """As `exchange`, and tells of each reply whether its request was repeated."""
+        if self._in_use:
+            raise RuntimeError("the connection is in use: end the exchange that was begun on it first")
+        self._in_use = True
+        source, more = iter(requests), True
+        waiting: deque[_Waiting] = deque()
+        try:
+            while True:
+                while more and len(waiting) < in_flight:
+                    request = next(source, None)
+                    if request is None:
+                        more = False
+                    else:
+                        self._put(_Waiting(request), waiting)
+                if not waiting:
+                    return
+                reply = self._reply_to(waiting)
+                first = waiting.popleft()
+                yield Answer(reply, first.sent > 1)
+        finally:
+            self._in_use = False
+            if waiting:
+                self.close()
+
+    def _put(self, asked: _Waiting, waiting: deque[_Waiting]) -> None:
+        waiting.append(asked)
+        if self._socket is not None:
+            asked.sent += 1
+            self._out += asked.frame
+
+    def _reply_to(self, waiting: deque[_Waiting]) -> Reply:
+        """The reply to the first that waits, over as many connections as it takes."""
+        while True:
+            try:
+                if self._socket is None:
+                    self._connect()
+                    self._send_again(waiting)
+                reply = decode_reply(self._body())
+                self._failures = 0
+                return reply
+            except (ConnectionLost, Unreachable) as error:
+                self.close()
+                self._give_up_or_wait(error, waiting)
+
+    def _give_up_or_wait(self, error: PagelogError, waiting: deque[_Waiting]) -> None:
+        self._failures += 1
+        for asked in waiting:
+            if asked.sent and not asked.request.act.repeatable:
+                self._failures = 0
+                raise InDoubt(f"{asked.request.act.operation.word} may have been done: {error}") from error
+        if self._failures >= self.attempts or isinstance(error, TimedOut):
+            self._failures = 0
+            raise error
+        time.sleep(min(1.0, self.pause * 2 ** (self._failures - 1)))
+
+    def _connect(self) -> None:
+        try:
+            made = socket.create_connection((self.address.host, self.address.port), self.timeout)
+        except OSError as error:
+            raise Unreachable(f"{self.address}: {error}") from error
+        made.setsockopt(socket.IPPROTO_TCP, socket.TCP_NODELAY, 1)
+        made.setblocking(False)
+        self._socket = made
+        self.connects += 1
+
+    def _send_again(self, waiting: deque[_Waiting]) -> None:
+        for asked in waiting:
+            asked.sent += 1
+            self._out += asked.frame
+
+    def _body(self) -> bytes:
+        """The body of the next frame. What is to be sent is sent meanwhile, so that neither side waits for the other."""
+        while True:
+            body = self._take_frame()
+            if body is not None:
+                return body
+            self._move()
+
+    def _take_frame(self) -> bytes | None:
+        if len(self._in) < 4:
+            return None
+        length = int.from_bytes(self._in[:4], "big")
+        if length > REPLY_SIZE:
+            raise FrameFault(length)
+        if len(self._in) < 4 + length:
+            return None
+        body = bytes(self._in[4 : 4 + length])
+        del self._in[: 4 + length]
+        return body
+
+    def _move(self) -> None:
+        """Waits until bytes can go or have come, and moves them. Raises `TimedOut` or `ConnectionLost`."""
+        assert self._socket is not None
+        poll = select.poll()
+        poll.register(self._socket, select.POLLIN | (select.POLLOUT if self._out else 0))
+        ready = poll.poll(self.timeout * 1000)
+        if not ready:
+            raise TimedOut(f"{self.address}: nothing came in {self.timeout} s; are all its workers held?")
+        try:
+            if self._out:
+                del self._out[: self._socket.send(self._out)]
+            if ready[0][1] & ~select.POLLOUT:
+                data = self._socket.recv(_RECEIVE_SIZE)
+                if not data:
+                    raise ConnectionLost(f"{self.address}: the service ended the connection")
+                self._in += data
+        except (BlockingIOError, InterruptedError):
+            return
+        except OSError as error:
+            raise ConnectionLost(f"{self.address}: {error}") from error

@@ -1,0 +1,140 @@
+"""Who asks: address, id and token of each role, from a TOML file that nobody else may read, or from the environment.
+
+    [primary]
+    to = "127.0.0.1:7400"
+    id = 2
+    token = "22222222222222222222222222222222"
+
+The sections are `primary`, `secondary`, `page_server` and `operator`; each command says which it needs. In the
+environment PAGELOG_PRIMARY_TO, PAGELOG_PRIMARY_ID and PAGELOG_PRIMARY_TOKEN stand for such a section, and
+PAGELOG_CREDENTIALS names the file.
+"""
+
+from __future__ import annotations
+
+import os
+import stat
+import tomllib
+from dataclasses import dataclass, field
+from pathlib import Path
+from typing import Any, Mapping
+
+from pagelog.connection import Address
+from pagelog.errors import CredentialsError
+from pagelog.request import Role
+
+FILE_VARIABLE = "PAGELOG_CREDENTIALS"
+"""The variable of the environment that names the file."""
+_KEYS = ("to", "id", "token")
+
+
+@dataclass(frozen=True)
+class Credentials:
+    """A principal, 0 to 2^32 - 1, and its token of 16 bytes, which no debug text shows."""
+
+    id: int
+    token: bytes = field(repr=False)
+
+    def __post_init__(self) -> None:
+        if isinstance(self.id, bool) or not isinstance(self.id, int) or not 0 <= self.id < 1 << 32:
+            raise CredentialsError("an id is a number from 0 to 4294967295")
+        if len(self.token) != 16:
+            raise CredentialsError("a token has 32 hexadecimal digits")
+
+    @classmethod
+    def of(cls, id: int, token: str) -> Credentials:
+        """From the token's 32 hexadecimal digits. Raises `CredentialsError`."""
+        try:
+            digits = bytes.fromhex(token)
+        except (TypeError, ValueError):
+            digits = b""
+        return cls(id, digits if len(token) == 32 else b"")
+
+
+@dataclass(frozen=True)
+class Account:
+    """Credentials, and the address at which they are good."""
+
+    to: Address
+    credentials: Credentials
+
+
+@dataclass(frozen=True)
+class Accounts:
+    """The accounts of a file and of the environment, by role, and what else the file says.
+
+    `archive_url` is the `url` of the section `archive`, and `audit_limit` the `audit` of the section `service`: how many
+    entries an audit list holds, which no reply of a service tells.
+    """
+
+    of_role: Mapping[Role, Account]
+    archive_url: str | None = None
+    audit_limit: int | None = None
+
+    def account(self, role: Role) -> Account:
+        """The account of this role. Raises `CredentialsError` where there is none."""
+        found = self.of_role.get(role)
+        if found is None:
+            raise CredentialsError(f"the credentials have no section [{role.word}], which this needs")
+        return found
+
+
+def load(file: str | Path | None = None, environment: Mapping[str, str] | None = None) -> Accounts:
+    """The accounts of the file, or of the one that the environment names, and over them those of the environment.
+
+    Raises `CredentialsError` where the file cannot be read, is malformed, or others may read it.
+    """
+    environment = os.environ if environment is None else environment
+    name = file if file is not None else environment.get(FILE_VARIABLE)
+    document = _read(Path(name)) if name else {}
+    unknown = set(document) - {role.word for role in Role} - {"archive", "service"}
+    if unknown:
+        raise CredentialsError(f"{name}: there is no section [{sorted(unknown)[0]}]")
+    sections = {role: {**_section(document, role.word), **_variables(environment, role)} for role in Role}
+    accounts = {role: _account(role, section) for role, section in sections.items() if section}
+    limit = _section(document, "service").get("audit")
+    if limit is not None and (not isinstance(limit, int) or not 1 <= limit <= 1 << 24):
+        raise CredentialsError("[service]: audit is a number from 1 to 16777216")
+    return Accounts(accounts, _section(document, "archive").get("url"), limit)
+
+
+def _read(file: Path) -> dict[str, Any]:
+    try:
+        with file.open("rb") as opened:
+            told = os.fstat(opened.fileno())
+            if stat.S_ISREG(told.st_mode) and told.st_mode & 0o077:
+                raise CredentialsError(f"others may read {file.name}: chmod 600 {file.name}")
+            return tomllib.load(opened)
+    except OSError as error:
+        raise CredentialsError(f"{file}: {error.strerror}") from error
+    except (tomllib.TOMLDecodeError, UnicodeDecodeError) as error:
+        raise CredentialsError(f"{file.name}: {error}") from error
+
+
+def _section(document: Mapping[str, Any], name: str) -> dict[str, Any]:
+    section = document.get(name, {})
+    if not isinstance(section, dict):
+        raise CredentialsError(f"{name} is no section")
+    return dict(section)
+
+
+def _variables(environment: Mapping[str, str], role: Role) -> dict[str, Any]:
+    found: dict[str, Any] = {}
+    for key in _KEYS:
+        value = environment.get(f"PAGELOG_{role.name}_{key.upper()}")
+        if value is not None:
+            found[key] = int(value) if key == "id" and value.isdecimal() else value
+    return found
+
+
+def _account(role: Role, section: Mapping[str, Any]) -> Account:
+    place = f"[{role.word}]"
+    for key in _KEYS:
+        if key not in section:
+            raise CredentialsError(f"{place} has no {key}")
+    if set(section) - set(_KEYS):
+        raise CredentialsError(f"{place} has more than to, id and token")
+    try:
+        return Account(Address.parse(str(section["to"])), Credentials.of(section["id"], str(section["token"])))
+    except (CredentialsError, ValueError) as error:
+        raise CredentialsError(f"{place}: {error}") from error

@@ -1,0 +1,97 @@
+"""What can go wrong, as exceptions: one tree below `PagelogError`.
+
+    PagelogError
+        Unreachable            nobody answers at the address
+        ConnectionLost         the connection ended, and what was asked may not be asked again
+            TimedOut           no byte came or went for as long as the connection waits
+        InDoubt                whether a change was made cannot be told
+        LogWentBack            the service has less than was seen of it: it was started anew
+        UnexpectedReply        a reply of a kind that does not answer the request
+        CredentialsError       credentials are missing, malformed, or others may read their file
+        Fault                  bytes, or values for bytes, that are not in the format
+            BlockFault         of a block, 9 of them
+            RequestFault       of a request's body
+            ReplyFault         of a reply's body
+            FrameFault         of a frame
+        Refusal                the service answered, and not with what was asked for
+            Denial             a row of the written order denies it: a class for each rule
+            OutOfMemory, AuditListFull, TurnsSpent, UnknownDatabase, MalformedRequest
+"""
+
+from __future__ import annotations
+
+from typing import ClassVar
+
+__all__ = [
+    "PagelogError", "Unreachable", "ConnectionLost", "TimedOut", "InDoubt", "LogWentBack", "UnexpectedReply",
+    "CredentialsError", "Refusal", "OutOfMemory", "AuditListFull", "TurnsSpent", "UnknownDatabase",
+]  # fmt: skip
+
+
+class PagelogError(Exception):
+    """Whatever this package raises of its own."""
+
+
+class Unreachable(PagelogError):
+    """Nobody accepts connections at the address. Nothing was asked; it may be tried again later."""
+
+
+class ConnectionLost(PagelogError):
+    """The connection ended before all replies came. The next request connects anew."""
+
+
+class TimedOut(ConnectionLost):
+    """No byte came or went for the connection's time-out.
+
+    A service whose workers are all held by other connections looks like this: it accepts, and does not answer.
+    """
+
+
+class InDoubt(PagelogError):
+    """The connection was lost behind a request that must not be sent twice, or an epoch ended before its reply.
+
+    Whether the change was made has to be looked up: in the audit list, or by pulling the block.
+    """
+
+
+class LogWentBack(PagelogError):
+    """The service has fewer hardened blocks, or an older epoch, than it had: it was started anew and is another log."""
+
+
+class UnexpectedReply(PagelogError):
+    """A reply of a kind that does not answer the request: whatever listens there is no pagelog service."""
+
+
+class CredentialsError(PagelogError):
+    """Credentials are missing or malformed, or their file may be read by others."""
+
+
+class Refusal(PagelogError):
+    """The service answered, and not with what was asked for. Its state is as before, but for the audit list."""
+
+
+class OutOfMemory(Refusal):
+    """NoMemory: the service had no memory for the request. Nothing was changed; it may be asked again."""
+
+
+class AuditListFull(Refusal):
+    """AuditFull: the audit list has as many entries as it may. The database answers nothing any more, to nobody."""
+
+
+class TurnsSpent(Refusal):
+    """Spent: the database has answered as many requests as a desk has turns, 2^62."""
+
+
+class UnknownDatabase(Refusal):
+    """NoDatabase: the service has no database of this number."""
+
+
+class Fault(PagelogError):
+    """Bytes that are not in the format, or values that have no bytes. `code` is the number of docs/FORMATS."""
+
+    code: ClassVar[int] = 0
+
+
+def first_line(text: str | None) -> str:
+    """The first line of a docstring, as the text of an error."""
+    return (text or "").strip().splitlines()[0].rstrip(".")

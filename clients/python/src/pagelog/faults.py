@@ -1,0 +1,227 @@
+"""The faults of blocks, requests and replies: a class for each code of docs/FORMATS."""
+
+from __future__ import annotations
+
+from typing import ClassVar
+
+from pagelog.errors import Fault, Refusal, first_line
+
+
+class FrameFault(Fault):
+    """A frame is longer than its kind may be."""
+
+    def __init__(self, length: int) -> None:
+        super().__init__(f"a frame of {length} bytes is too long")
+
+
+# A block: codes 1 to 9.
+
+
+class BlockFault(Fault):
+    """A block's bytes are not in the format."""
+
+    def __init__(self, detail: str = "") -> None:
+        super().__init__(f"block fault {self.code}: {first_line(type(self).__doc__)}{detail and ': ' + detail}")
+
+
+class BlockEndsInField(BlockFault):
+    """The block's bytes end inside a field."""
+
+    code = 1
+
+
+class LsnOutOfRange(BlockFault):
+    """The block's LSN is 0 or above 2^48."""
+
+    code = 2
+
+
+class PartitionsNotRising(BlockFault):
+    """A partition of the annotations is not above the one before it."""
+
+    code = 3
+
+
+class UnknownRecordKind(BlockFault):
+    """The kind of a record is not 1 or 2."""
+
+    code = 4
+
+
+class EmptyPut(BlockFault):
+    """A Put has no bytes."""
+
+    code = 5
+
+
+class PutPastPage(BlockFault):
+    """A Put ends behind its page of 8,192 bytes."""
+
+    code = 6
+
+
+class BytesAfterRecords(BlockFault):
+    """There are bytes after the last record."""
+
+    code = 7
+
+
+class WrongAnnotations(BlockFault):
+    """The annotations are not the partitions that the records touch."""
+
+    code = 8
+
+
+class BlockTooLong(BlockFault):
+    """The block has more than 32,768 bytes."""
+
+    code = 9
+
+
+BLOCK_FAULTS: dict[int, type[BlockFault]] = {
+    kind.code: kind
+    for kind in (BlockEndsInField, LsnOutOfRange, PartitionsNotRising, UnknownRecordKind, EmptyPut, PutPastPage,
+                 BytesAfterRecords, WrongAnnotations, BlockTooLong)
+}  # fmt: skip
+FIRST_OF_A_BLOCK = 7
+
+
+# A request: codes 1 to 6, and 7 to 15 for the faults of its block.
+
+
+class RequestFault(Fault):
+    """A request's body, or a value for it, is not in the format."""
+
+    def __init__(self, detail: str = "") -> None:
+        super().__init__(f"request fault {self.code}: {first_line(type(self).__doc__)}{detail and ': ' + detail}")
+
+
+class BodyTooShort(RequestFault):
+    """The body has fewer than 30 bytes."""
+
+    code = 1
+
+
+class UnknownRole(RequestFault):
+    """The role is not 1 to 4."""
+
+    code = 2
+
+
+class UnknownOperation(RequestFault):
+    """The operation is not 1 to 11."""
+
+    code = 3
+
+
+class BodyEndsInArgument(RequestFault):
+    """The body ends inside an argument."""
+
+    code = 4
+
+
+class BytesAfterArguments(RequestFault):
+    """There are bytes after the last argument."""
+
+    code = 5
+
+
+class ArgumentOutOfRange(RequestFault):
+    """An argument, or the length of a text, is out of its range."""
+
+    code = 6
+
+
+class FaultyBlock(RequestFault):
+    """The block of the request is faulty. `code` is the block's fault plus 6, and `block_fault` its class."""
+
+    def __init__(self, code: int) -> None:
+        self.block_fault: type[BlockFault] = BLOCK_FAULTS[code - 6]
+        self._code = code
+        Fault.__init__(self, f"request fault {code}: {first_line(self.block_fault.__doc__)}")
+
+    @property
+    def code(self) -> int:  # type: ignore[override]
+        return self._code
+
+
+REQUEST_FAULTS: dict[int, type[RequestFault]] = {
+    kind.code: kind
+    for kind in (BodyTooShort, UnknownRole, UnknownOperation, BodyEndsInArgument, BytesAfterArguments,
+                 ArgumentOutOfRange)
+}  # fmt: skip
+
+
+def request_fault(code: int) -> RequestFault:
+    """The fault of this code, 1 to 15."""
+    return FaultyBlock(code) if code >= FIRST_OF_A_BLOCK else REQUEST_FAULTS[code]()
+
+
+class MalformedRequest(Refusal):
+    """Malformed: the service found the body to be no request. `code` is 1 to 15, and `fault` the fault it stands for."""
+
+    def __init__(self, code: int) -> None:
+        self.code = code
+        self.fault = request_fault(code)
+        super().__init__(str(self.fault))
+
+
+# A reply: codes 1 to 6, and 7 to 15 for the faults of its blocks.
+
+
+class ReplyFault(Fault):
+    """A reply's body is not in the format."""
+
+    def __init__(self, detail: str = "") -> None:
+        super().__init__(f"reply fault {self.code}: {first_line(type(self).__doc__)}{detail and ': ' + detail}")
+
+
+class EmptyReply(ReplyFault):
+    """The reply has no byte."""
+
+    code = 1
+
+
+class UnknownRoleOfLine(ReplyFault):
+    """The role of a line of the audit list is not 1 to 4."""
+
+    code = 2
+
+
+class UnknownReply(ReplyFault):
+    """The kind of the reply is above 10, or the operation of a line is not 1 to 11."""
+
+    code = 3
+
+
+class ReplyEndsInField(ReplyFault):
+    """The reply ends inside a field."""
+
+    code = 4
+
+
+class BytesAfterReply(ReplyFault):
+    """There are bytes after the last field of the reply."""
+
+    code = 5
+
+
+class FieldOutOfRange(ReplyFault):
+    """A count, a code or a section of the reply is out of its range."""
+
+    code = 6
+
+
+class FaultyBlockInReply(ReplyFault):
+    """A block of the reply is faulty. `code` is the block's fault plus 6, and `block_fault` its class."""
+
+    def __init__(self, code: int) -> None:
+        self.block_fault: type[BlockFault] = BLOCK_FAULTS[code - 6]
+        self._code = code
+        Fault.__init__(self, f"reply fault {code}: {first_line(self.block_fault.__doc__)}")
+
+    @property
+    def code(self) -> int:  # type: ignore[override]
+        return self._code
+
+

@@ -1,0 +1,72 @@
+"""An operator: failovers, tables and the audit list."""
+
+from __future__ import annotations
+
+import time
+from typing import Callable, Iterator
+
+from pagelog.client import Client, told_epoch
+from pagelog.reply import Done, Entries, Entry, expect
+from pagelog.request import AUDIT_MAX, Audit, Failover, Role, SetTable, Tidy
+
+
+class Operator(Client):
+    """Names the primary, sets the table and reads the audit list, as an operator."""
+
+    role = Role.OPERATOR
+
+    def failover(self, to: int, *, epoch: int | None = None) -> int:
+        """Ends the epoch and makes principal `to` the primary of the next one, whose number it returns.
+
+        Without `epoch` the current one is ended, whichever it is. With it that very one: raises `OlderEpoch` where it
+        is over already. Raises `UnlistedPrimary`, `LastEpoch`, and `InDoubt` where the connection was lost behind it.
+        """
+        if epoch is None:
+            epoch = self.status().epoch
+        self.epoch = epoch
+        reply = self.connection.ask(self._request(Failover(to)))
+        told = told_epoch(reply)
+        if told is not None:
+            self._take_over(told)
+        expect(Done, reply)
+        self.epoch = epoch + 1
+        return self.epoch
+
+    def set_table(self, text: str | bytes) -> None:
+        """Puts this table in force from the next request on. Raises `NoTable`, whose `fault` says what is wrong."""
+        expect(Done, self._ask(SetTable(text.encode() if isinstance(text, str) else text)))
+
+    def tidy(self) -> None:
+        """Moves all but the 64 newest blocks to the segments, where they take less memory."""
+        expect(Done, self._ask(Tidy()))
+
+    def audit(self, first: int, max: int = AUDIT_MAX) -> tuple[Entry, ...]:
+        """The entries from number `first` on, at most `max`, 1 to 1,024; none where there are none yet."""
+        return expect(Entries, self._ask(Audit(first, max))).entries
+
+    def count_of_entries(self) -> int:
+        """How many entries the audit list has, before this call; which costs some 25 entries itself, found by halves."""
+        low, high = 0, 1
+        while self.audit(high, 1):
+            low, high = high, high * 4
+        while high - low > 1:
+            middle = (low + high) // 2
+            low, high = (middle, high) if self.audit(middle, 1) else (low, middle)
+        return low
+
+    def entries(
+        self, first: int = 1, *, follow: bool = False, idle: float = 1.0, stop: Callable[[], bool] = lambda: False
+    ) -> Iterator[Entry]:
+        """The entries from number `first` on. With `follow` it waits for more, asking each `idle` seconds.
+
+        Each question is an entry itself. One who follows does not take its own questions for news: it waits where
+        there are fewer entries than one question can bring.
+        """
+        while not stop():
+            found = self.audit(first)
+            yield from found
+            first += len(found)
+            if len(found) < AUDIT_MAX:
+                if not follow:
+                    return
+                time.sleep(idle)

@@ -1,0 +1,65 @@
+"""A page server: raises the applied LSNs of partitions as blocks come."""
+
+from __future__ import annotations
+
+import time
+from typing import Callable, Sequence
+
+from pagelog.client import Client
+from pagelog.connection import Connection
+from pagelog.credentials import Credentials
+from pagelog.errors import InDoubt
+from pagelog.reader import QUICKEST
+from pagelog.reply import Done, expect
+from pagelog.request import STEPS_MAX, Advance, Role
+
+
+class PageServer(Client):
+    """Keeps partitions applied up to the hardened end, so that gets that are not exact find their pages there.
+
+    It begins without knowing how far a partition is applied, and takes it to be 0: advances that are too many do no
+    harm, since none goes above the hardened end.
+    """
+
+    role = Role.PAGE_SERVER
+
+    def __init__(
+        self, connection: Connection, credentials: Credentials, database: int = 0, partitions: Sequence[int] = (0,)
+    ) -> None:
+        super().__init__(connection, credentials, database)
+        self.partitions = tuple(partitions)
+        self.applied = 0
+        """All partitions are applied at least so far."""
+
+    def step(self) -> int:
+        """Advances all partitions to the hardened end. Returns by how many LSNs it had moved, 0 if not at all.
+
+        It costs one request where there is nothing to do, and one more for each 1,024 LSNs of each partition.
+        """
+        hard = self.status().hard
+        moved = hard - self.applied
+        if moved:
+            acts = [Advance(partition, steps) for partition in self.partitions for steps in _steps(moved)]
+            try:
+                for reply in self._ask_all(acts):
+                    expect(Done, reply)
+            except InDoubt:
+                # How many were done is not known. All of them are asked for again by the next step.
+                return 0
+        self.applied = hard
+        return moved
+
+    def run(self, *, idle: float = 0.5, stop: Callable[[], bool] = lambda: False) -> None:
+        """Advances as blocks come, until `stop` says so, and sleeps, at most `idle` seconds, while none do."""
+        wait = QUICKEST
+        while not stop():
+            if self.step():
+                wait = QUICKEST
+            else:
+                time.sleep(min(wait, idle))
+                wait = min(wait * 2, idle)
+
+
+def _steps(moved: int) -> list[int]:
+    """So many LSNs in steps of at most 1,024."""
+    return [min(STEPS_MAX, moved - done) for done in range(0, moved, STEPS_MAX)]

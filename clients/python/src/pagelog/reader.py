@@ -1,0 +1,133 @@
+"""A reader: pages and blocks of the hardened log, as a secondary."""
+
+from __future__ import annotations
+
+import time
+from dataclasses import dataclass
+from typing import Callable, Iterator, Sequence
+
+from pagelog.block import Block
+from pagelog.client import ALL_PARTITIONS, PageClient
+from pagelog.errors import LogWentBack
+from pagelog.reply import Blocks, Denied, Reply, expect
+from pagelog.request import PULL_MAX, Act, Pull, Role
+from pagelog.rules import AboveTheEnd, Section
+
+QUICKEST = 0.005
+"""The first wait, in seconds, of one who follows and finds nothing new. It is doubled from then on."""
+
+
+@dataclass(frozen=True, slots=True)
+class Span:
+    """Blocks that were pulled, and the LSNs that they stand for: `first` to `last`, which is below `first` if none.
+
+    An LSN of the span that no block of it has is a block that touches none of the partitions asked for. Where all
+    partitions were asked for it is a block without records.
+    """
+
+    first: int
+    last: int
+    blocks: tuple[Block, ...]
+
+
+class Reader(PageClient):
+    """Reads the hardened log of a database, as a secondary. A failover does not disturb it."""
+
+    role = Role.SECONDARY
+
+    def answers(self, acts: Sequence[Act]) -> list[Reply]:
+        """The replies to gets, pulls and statuses that are asked together. None is turned into an exception."""
+        return self._ask_all(acts)
+
+    def applied(self, partition: int) -> int:
+        """The applied LSN of a partition, 0 where no page server has advanced it."""
+        return self.page(partition * 65536, 0, exact=False).at
+
+    def pull(self, lsn: int, *, max: int = PULL_MAX, partitions: tuple[int, int] = ALL_PARTITIONS) -> Blocks:
+        """One pull: at most `max` blocks, 1 to 16, from this LSN on that touch one of the partitions, both included.
+
+        Raises `AboveTheEnd` where the LSN is above the hardened end.
+        """
+        blocks = expect(Blocks, self._ask(Pull(lsn, max, *partitions)))
+        self._saw_hard_at_least(blocks.next - 1)
+        return blocks
+
+    def span(self, lsn: int, *, pulls: int = 64, partitions: tuple[int, int] = ALL_PARTITIONS) -> Span:
+        """All that is hardened from this LSN on, as far as so many pulls (1 or more) reach, all in flight together.
+
+        A span that ends below its beginning says that nothing new is hardened. Raises `LogWentBack` where the log has
+        become shorter than it was.
+        """
+        first = self._span_of((lsn,), partitions)
+        if pulls == 1 or first.last < lsn + PULL_MAX - 1 or self.hard_seen <= first.last:
+            return first
+        # Each serves at least the blocks of the sixteen LSNs from its own on, so that the next may begin behind them.
+        starts = range(first.last + 1, min(first.last + 1 + PULL_MAX * (pulls - 1), self.hard_seen + 1), PULL_MAX)
+        rest = self._span_of(starts, partitions)
+        return Span(lsn, rest.last, first.blocks + rest.blocks)
+
+    def _span_of(self, starts: Sequence[int], partitions: tuple[int, int]) -> Span:
+        blocks: list[Block] = []
+        last = starts[0] - 1
+        for start, reply in zip(starts, self._ask_all([Pull(start, PULL_MAX, *partitions) for start in starts])):
+            if self._is_at_end(reply, start):
+                break
+            pulled = expect(Blocks, reply)
+            blocks.extend(block for block in pulled.blocks if block.lsn > last)
+            last = max(last, pulled.next - 1)
+            self._saw_hard_at_least(last)
+        return Span(starts[0], last, tuple(blocks))
+
+    def _is_at_end(self, reply: Reply, lsn: int) -> bool:
+        """Whether the reply to a pull says that nothing from its LSN on is hardened. Then the log ends just below it."""
+        if not isinstance(reply, Denied) or (reply.section, reply.row) != (Section.C, 1):
+            return False
+        if reply.value < lsn - 1 and reply.value < self.hard_seen:
+            raise LogWentBack(f"{reply.value} blocks where {self.hard_seen} were seen: the service was started anew")
+        if reply.value < lsn - 1:
+            raise AboveTheEnd(reply.section, reply.row, reply.value)
+        return True
+
+    def _saw_hard_at_least(self, hard: int) -> None:
+        self.hard_seen = max(self.hard_seen, hard)
+
+    def blocks(
+        self,
+        lsn: int = 1,
+        *,
+        follow: bool = True,
+        partitions: tuple[int, int] = ALL_PARTITIONS,
+        idle: float = 0.5,
+        stop: Callable[[], bool] = lambda: False,
+    ) -> Iterator[Block]:
+        """The hardened blocks from this LSN on, in order, each once.
+
+        With `follow` it goes on for ever, or until `stop` says so: at the end of the log it waits, at most `idle`
+        seconds, and asks again. Each such question makes an entry in the audit list. Without, it ends at the end that
+        the log has when it gets there. A block without records is never served, so LSNs may be missing.
+        """
+        for span in self.spans(lsn, follow=follow, partitions=partitions, idle=idle, stop=stop):
+            yield from span.blocks
+
+    def spans(
+        self,
+        lsn: int = 1,
+        *,
+        follow: bool = True,
+        pulls: int = 64,
+        partitions: tuple[int, int] = ALL_PARTITIONS,
+        idle: float = 0.5,
+        stop: Callable[[], bool] = lambda: False,
+    ) -> Iterator[Span]:
+        """As `blocks`, span by span. Each begins where the one before it ended, so they leave no LSN out."""
+        wait = QUICKEST
+        while not stop():
+            span = self.span(lsn, pulls=pulls, partitions=partitions)
+            if span.last >= lsn:
+                lsn, wait = span.last + 1, QUICKEST
+                yield span
+            elif not follow:
+                return
+            else:
+                time.sleep(min(wait, idle))
+                wait = min(wait * 2, idle)

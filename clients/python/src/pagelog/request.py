@@ -1,0 +1,331 @@
+"""Requests and their bytes: who asks, of which database, in which epoch, and for what."""
+
+from __future__ import annotations
+
+import struct
+from dataclasses import dataclass, field
+from enum import IntEnum
+from typing import ClassVar, Union
+
+from pagelog.block import HIGHEST_LSN, HIGHEST_PAGE, HIGHEST_PARTITION, Block
+from pagelog.faults import (
+    ArgumentOutOfRange, BlockFault, BodyEndsInArgument, BodyTooShort, BytesAfterArguments, FaultyBlock, UnknownOperation,
+    UnknownRole,
+)  # fmt: skip
+
+HEAD_SIZE = 30
+"""Bytes of a body before its arguments."""
+TEXT_SIZE = 65506
+"""The most bytes of the text of a set_table."""
+PULL_MAX = 16
+"""The most blocks of a pull."""
+AUDIT_MAX = 1024
+"""The most lines of an audit."""
+STEPS_MAX = 1024
+"""The most blocks of an advance."""
+HIGHEST_EPOCH = (1 << 32) - 1
+"""Epochs are 1 to this one."""
+
+
+class Role(IntEnum):
+    """As what a principal asks; the number is that of the wire."""
+
+    PRIMARY = 1
+    SECONDARY = 2
+    PAGE_SERVER = 3
+    OPERATOR = 4
+
+    @property
+    def word(self) -> str:
+        """Its word in the text of a table."""
+        return self.name.lower()
+
+
+class Operation(IntEnum):
+    """What is asked for; the number is that of the wire."""
+
+    WRITE = 1
+    OFFER = 2
+    REPORT = 3
+    GET = 4
+    PULL = 5
+    ADVANCE = 6
+    STATUS = 7
+    FAILOVER = 8
+    SET_TABLE = 9
+    AUDIT = 10
+    TIDY = 11
+
+    @property
+    def word(self) -> str:
+        """Its word in the text of a table."""
+        return self.name.lower()
+
+
+def _number(name: str, value: int, least: int, most: int, size: int) -> bytes:
+    if not least <= value <= most:
+        raise ArgumentOutOfRange(f"{name} {value} is not {least} to {most}")
+    return value.to_bytes(size, "big")
+
+
+@dataclass(frozen=True, slots=True)
+class Write:
+    """Puts a block into a copy, 0 to 2. May be repeated: the same block again changes nothing."""
+
+    copy: int
+    block: Block
+    operation: ClassVar[Operation] = Operation.WRITE
+    repeatable: ClassVar[bool] = True
+
+    def arguments(self) -> bytes:
+        """Its bytes behind the head. Raises `ArgumentOutOfRange` where the copy is not 0 to 255."""
+        return _number("copy", self.copy, 0, 255, 1) + self.block.data
+
+
+@dataclass(frozen=True, slots=True)
+class Offer:
+    """Puts a block into the pending area, which counts for no quorum. May be repeated."""
+
+    block: Block
+    operation: ClassVar[Operation] = Operation.OFFER
+    repeatable: ClassVar[bool] = True
+
+    def arguments(self) -> bytes:
+        """Its bytes behind the head."""
+        return self.block.data
+
+
+@dataclass(frozen=True, slots=True)
+class Report:
+    """Hardens all blocks up to `lsn`, 0 to 2^48. May be repeated."""
+
+    lsn: int
+    operation: ClassVar[Operation] = Operation.REPORT
+    repeatable: ClassVar[bool] = True
+
+    def arguments(self) -> bytes:
+        """Its bytes behind the head. Raises `ArgumentOutOfRange`."""
+        return _number("LSN", self.lsn, 0, HIGHEST_LSN, 8)
+
+
+@dataclass(frozen=True, slots=True)
+class Get:
+    """A page, 0 to 2^32 - 1, at `lsn`, 0 to 2^48: exactly there, or as far as its partition is applied above it."""
+
+    page: int
+    lsn: int
+    exact: bool = True
+    operation: ClassVar[Operation] = Operation.GET
+    repeatable: ClassVar[bool] = True
+
+    def arguments(self) -> bytes:
+        """Its bytes behind the head. Raises `ArgumentOutOfRange`."""
+        exact = bytes([1 if self.exact else 0])
+        return _number("page", self.page, 0, HIGHEST_PAGE, 4) + _number("LSN", self.lsn, 0, HIGHEST_LSN, 8) + exact
+
+
+@dataclass(frozen=True, slots=True)
+class Pull:
+    """The first `max` (1 to 16) hardened blocks from `lsn` (1 to 2^48) on that touch a partition from `lo` to `hi`."""
+
+    lsn: int
+    max: int = PULL_MAX
+    lo: int = 0
+    hi: int = HIGHEST_PARTITION
+    operation: ClassVar[Operation] = Operation.PULL
+    repeatable: ClassVar[bool] = True
+
+    def arguments(self) -> bytes:
+        """Its bytes behind the head. Raises `ArgumentOutOfRange`."""
+        hi = _number("hi", self.hi, 0, HIGHEST_PARTITION, 2)
+        lo = _number("lo", self.lo, 0, self.hi, 2)
+        return lo + hi + _number("LSN", self.lsn, 1, HIGHEST_LSN, 8) + _number("max", self.max, 1, PULL_MAX, 2)
+
+
+@dataclass(frozen=True, slots=True)
+class Advance:
+    """Raises the applied LSN of a partition by `steps`, 1 to 1,024. A repetition would raise it once more."""
+
+    partition: int
+    steps: int
+    operation: ClassVar[Operation] = Operation.ADVANCE
+    repeatable: ClassVar[bool] = False
+
+    def arguments(self) -> bytes:
+        """Its bytes behind the head. Raises `ArgumentOutOfRange`."""
+        partition = _number("partition", self.partition, 0, HIGHEST_PARTITION, 2)
+        return partition + _number("steps", self.steps, 1, STEPS_MAX, 2)
+
+
+@dataclass(frozen=True, slots=True)
+class Status:
+    """Epoch, primary and hardened end."""
+
+    operation: ClassVar[Operation] = Operation.STATUS
+    repeatable: ClassVar[bool] = True
+
+    def arguments(self) -> bytes:
+        """No bytes."""
+        return b""
+
+
+@dataclass(frozen=True, slots=True)
+class Failover:
+    """Ends the epoch, and makes a principal the primary of the next. A repetition would end the next one too."""
+
+    principal: int
+    operation: ClassVar[Operation] = Operation.FAILOVER
+    repeatable: ClassVar[bool] = False
+
+    def arguments(self) -> bytes:
+        """Its bytes behind the head. Raises `ArgumentOutOfRange`."""
+        return _number("principal", self.principal, 0, HIGHEST_EPOCH, 4)
+
+
+@dataclass(frozen=True, slots=True)
+class SetTable:
+    """Puts a table in force; its text has at most 65,506 bytes. Not repeated: another one may have come between."""
+
+    text: bytes
+    operation: ClassVar[Operation] = Operation.SET_TABLE
+    repeatable: ClassVar[bool] = False
+
+    def arguments(self) -> bytes:
+        """Its bytes behind the head. Raises `ArgumentOutOfRange`."""
+        if len(self.text) > TEXT_SIZE:
+            raise ArgumentOutOfRange(f"a text of {len(self.text)} bytes, above {TEXT_SIZE}")
+        return self.text
+
+
+@dataclass(frozen=True, slots=True)
+class Audit:
+    """The lines `first` (from 1) to `first + max - 1` of the audit list; `max` is 1 to 1,024."""
+
+    first: int
+    max: int = AUDIT_MAX
+    operation: ClassVar[Operation] = Operation.AUDIT
+    repeatable: ClassVar[bool] = True
+
+    def arguments(self) -> bytes:
+        """Its bytes behind the head. Raises `ArgumentOutOfRange`."""
+        return _number("first", self.first, 1, (1 << 64) - 1, 8) + _number("max", self.max, 1, AUDIT_MAX, 2)
+
+
+@dataclass(frozen=True, slots=True)
+class Tidy:
+    """Moves hardened blocks to the segments, where they take less memory. May be repeated."""
+
+    operation: ClassVar[Operation] = Operation.TIDY
+    repeatable: ClassVar[bool] = True
+
+    def arguments(self) -> bytes:
+        """No bytes."""
+        return b""
+
+
+Act = Union[Write, Offer, Report, Get, Pull, Advance, Status, Failover, SetTable, Audit, Tidy]
+
+
+@dataclass(frozen=True)
+class Head:
+    """Who asks, as what, of which database and in which epoch. The token has 16 bytes and is in no debug text."""
+
+    principal: int
+    token: bytes = field(repr=False)
+    role: Role
+    database: int
+    epoch: int
+    prefix: bytes = field(init=False, repr=False, compare=False)
+
+    def __post_init__(self) -> None:
+        if len(self.token) != 16:
+            raise ArgumentOutOfRange(f"a token of {len(self.token)} bytes")
+        principal = _number("principal", self.principal, 0, HIGHEST_EPOCH, 4)
+        database = _number("database", self.database, 0, HIGHEST_EPOCH, 4)
+        epoch = _number("epoch", self.epoch, 0, HIGHEST_EPOCH, 4)
+        object.__setattr__(self, "prefix", principal + self.token + bytes([Role(self.role)]) + database + epoch)
+
+
+@dataclass(frozen=True, slots=True)
+class Request:
+    """A request: its head, and what it asks for."""
+
+    head: Head
+    act: Act
+
+    def encode(self) -> bytes:
+        """Its body, 30 to 65,536 bytes. Raises `ArgumentOutOfRange`."""
+        return self.head.prefix + bytes((self.act.operation,)) + self.act.arguments()
+
+
+_HEAD = struct.Struct(">I16sBIIB")
+_GET = struct.Struct(">IQB")
+_PULL = struct.Struct(">HHQH")
+_ADVANCE = struct.Struct(">HH")
+_AUDIT = struct.Struct(">QH")
+_ROLES = frozenset(Role)
+_OPERATIONS = frozenset(Operation)
+
+
+def decode_request(body: bytes) -> Request:
+    """The request of a body. Raises the `RequestFault` of the least code that applies."""
+    if len(body) < HEAD_SIZE:
+        raise BodyTooShort(f"{len(body)} bytes")
+    principal, token, role, database, epoch, operation = _HEAD.unpack_from(body)
+    if role not in _ROLES:
+        raise UnknownRole(str(role))
+    if operation not in _OPERATIONS:
+        raise UnknownOperation(str(operation))
+    act = _decode_act(Operation(operation), body[HEAD_SIZE:])
+    return Request(Head(principal, token, Role(role), database, epoch), act)
+
+
+def _decode_act(operation: Operation, rest: bytes) -> Act:
+    if operation is Operation.WRITE:
+        if not rest:
+            raise BodyEndsInArgument()
+        return Write(rest[0], _decode_block(rest[1:]))
+    if operation is Operation.OFFER:
+        return Offer(_decode_block(rest))
+    if operation is Operation.SET_TABLE:
+        return _in_range(SetTable(rest))
+    return _in_range(_decode_numbers(operation, rest))
+
+
+def _decode_block(data: bytes) -> Block:
+    try:
+        return Block.decode(data)
+    except BlockFault as fault:
+        raise FaultyBlock(fault.code + 6) from fault
+
+
+def _decode_numbers(operation: Operation, rest: bytes) -> Act:
+    sizes = {Operation.REPORT: 8, Operation.GET: 13, Operation.PULL: 14, Operation.ADVANCE: 4, Operation.FAILOVER: 4,
+             Operation.AUDIT: 10, Operation.STATUS: 0, Operation.TIDY: 0}  # fmt: skip
+    if len(rest) < sizes[operation]:
+        raise BodyEndsInArgument()
+    if len(rest) > sizes[operation]:
+        raise BytesAfterArguments()
+    if operation is Operation.REPORT:
+        return Report(int.from_bytes(rest, "big"))
+    if operation is Operation.GET:
+        page, lsn, exact = _GET.unpack(rest)
+        if exact > 1:
+            raise ArgumentOutOfRange(f"exact {exact}")
+        return Get(page, lsn, exact == 1)
+    if operation is Operation.PULL:
+        lo, hi, lsn, most = _PULL.unpack(rest)
+        return Pull(lsn, most, lo, hi)
+    if operation is Operation.ADVANCE:
+        return Advance(*_ADVANCE.unpack(rest))
+    if operation is Operation.FAILOVER:
+        return Failover(int.from_bytes(rest, "big"))
+    if operation is Operation.AUDIT:
+        return Audit(*_AUDIT.unpack(rest))
+    return Status() if operation is Operation.STATUS else Tidy()
+
+
+def _in_range(act: Act) -> Act:
+    """The act, whose numbers are tested by writing them."""
+    act.arguments()
+    return act
