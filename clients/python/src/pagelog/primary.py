@@ -226,24 +226,34 @@ class Primary(PageClient):
     def _harden(self, groups: Iterable[Sequence[Block]], in_flight: int) -> Iterator[int]:
         """Writes and reports group by group, and yields the LSN of each group's end when the service has said so."""
         plan: deque[_Step] = deque()
-        for answer in self.connection.answers(self._requests(groups, plan), in_flight):
+        told: list[tuple[Refusal, bool]] = []
+        reports: list[int] = []
+        for answer in self.connection.answers(self._requests(groups, plan, told), in_flight):
             step = plan.popleft()
             refusal = self._refusal(step, answer)
             if refusal is not None:
-                error = self._settle(refusal, answer.repeated)
-                reports = [step.sent.block.lsn for step in (step, *plan) if step.copy is None]
-                yield from (lsn for lsn in reports if lsn <= self.durable)
-                if error is not None:
-                    raise error
-                return
-            if step.copy is not None:
+                # Nothing more is sent. What is in flight is read, so that it is known where each block stands.
+                told.append((refusal, answer.repeated))
+                if step.copy is None:
+                    reports.append(step.sent.block.lsn)
+            elif step.copy is not None:
                 step.sent.copies.add(step.copy)
             else:
                 yield self._hardened(step.sent.block.lsn)
+        if told:
+            error = self._settle(*told[0])
+            yield from (lsn for lsn in reports if lsn <= self.durable)
+            if error is not None:
+                raise error
 
-    def _requests(self, groups: Iterable[Sequence[Block]], plan: deque[_Step]) -> Iterator[Request]:
+    def _requests(
+        self, groups: Iterable[Sequence[Block]], plan: deque[_Step], told: Sequence[object]
+    ) -> Iterator[Request]:
+        """Two or three writes for each block, and a report for each group, until a refusal was told."""
         known = {sent.block.lsn: sent for sent in self._unhardened}
         for group in groups:
+            if told:
+                return
             sending = [known.get(block.lsn) or self._new(block) for block in group]
             for sent in sending:
                 sent.attempts += 1

@@ -1,0 +1,73 @@
+"""Runs the tests part by part: a line for each, and a count at the end. Called by the script `test` beside this folder."""
+
+from __future__ import annotations
+
+import importlib
+import sys
+import time
+import unittest
+from pathlib import Path
+
+sys.path.insert(0, str(Path(__file__).resolve().parent.parent / "src"))
+
+PARTS = {
+    "test_bytes": "blocks, requests and replies against the stored trial and the pages",
+    "test_replies": "every reply, rule and fault of the service",
+    "test_connection": "connections that are cut, silent or refused",
+    "test_primary": "commits, epochs and doubts",
+    "test_reader": "readers, page servers and operators",
+    "test_credentials": "credentials",
+}
+
+
+class Quiet(unittest.TestResult):
+    """Counts, and keeps the texts of what failed."""
+
+    def __init__(self) -> None:
+        super().__init__()
+        self.texts: list[str] = []
+
+    def addFailure(self, test: unittest.TestCase, error: object) -> None:
+        super().addFailure(test, error)  # type: ignore[arg-type]
+        self.texts.append(f"{test.id()}: {self.failures[-1][1]}")
+
+    def addError(self, test: unittest.TestCase, error: object) -> None:
+        super().addError(test, error)  # type: ignore[arg-type]
+        self.texts.append(f"{test.id()}: {self.errors[-1][1]}")
+
+
+def play(module: str, words: str, only: str | None) -> tuple[int, int]:
+    began = time.monotonic()
+    result = Quiet()
+    loader = unittest.TestLoader()
+    if only:
+        loader.testNamePatterns = [f"*{only}*"]
+    try:
+        suite = loader.loadTestsFromModule(importlib.import_module(module))
+        suite.run(result)
+    except Exception as error:  # a module that cannot be imported is a failed test
+        result.texts.append(f"{module}: {type(error).__name__}: {error}")
+        result.testsRun += 1
+    failed = len(result.texts)
+    passed = result.testsRun - failed - len(result.skipped)
+    for text in result.texts:
+        print(text, file=sys.stderr)
+    if result.testsRun:
+        left = f", {len(result.skipped)} left to --long" if result.skipped else ""
+        print(f"{module[5:]}: {words}: {passed} passed, {failed} failed{left}, {time.monotonic() - began:.1f} s", flush=True)
+    return passed, failed
+
+
+def main(arguments: list[str]) -> int:
+    names = [name for name in PARTS if not arguments or name[5:] in arguments or f"test_{arguments[0]}" == name]
+    only = arguments[1] if len(arguments) > 1 else None
+    passed = failed = 0
+    for name in names:
+        good, bad = play(name, PARTS[name], only)
+        passed, failed = passed + good, failed + bad
+    print(f"clients/python: {passed} passed, {failed} failed")
+    return 0 if failed == 0 and passed > 0 else 1
+
+
+if __name__ == "__main__":
+    sys.exit(main(sys.argv[1:]))

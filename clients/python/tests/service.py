@@ -1,0 +1,194 @@
+"""What the tests stand on: the real program, started on a free port, and a proxy that cuts connections."""
+
+from __future__ import annotations
+
+import os
+import random
+import resource
+import select
+import shutil
+import socket
+import subprocess
+import sys
+import tempfile
+import threading
+from pathlib import Path
+
+HERE = Path(__file__).resolve().parent
+TOP = HERE.parent.parent.parent
+SOURCE = HERE.parent / "src"
+sys.path.insert(0, str(SOURCE))
+
+import pagelog  # noqa: E402
+
+PROGRAM = os.environ.get("PAGELOG") or str(TOP / "crates" / "pagelog" / "out" / "pagelog")
+TABLE = TOP / "crates" / "pagelog" / "data" / "t0.toml"
+IS_LONG = os.environ.get("PAGELOG_TEST_LONG") == "1"
+
+# The start table with rights that a restore, a move and a new primary need: principal 2 is a secondary as well.
+WIDE_TABLE = TABLE.read_text() + '\n[[row]]\nverdict = "allow"\nwho = 2\nrole = "secondary"\n'
+
+
+def token(principal: int) -> str:
+    return str(principal) * 32
+
+
+class Service:
+    """A running `serve`. It ends with the `with`, or with `stop`."""
+
+    def __init__(
+        self, *, table: str | None = None, dbs: int = 1, workers: int = 12, audit: int = 1_000_000, listen: str = "127.0.0.1:0",
+        connections: int = 4_000_000_000, primary: int = 2,
+    ) -> None:  # fmt: skip
+        self.folder = Path(tempfile.mkdtemp(prefix="pagelog-test-"))
+        self.table = TABLE
+        if table is not None:
+            self.table = self.folder / "table.toml"
+            self.table.write_text(table)
+        words = [PROGRAM, "serve", "--listen", listen, "--table", self.table, "--primary", primary, "--dbs", dbs,
+                 "--workers", workers, "--connections", connections, "--audit", audit]  # fmt: skip
+        self.words = [str(word) for word in words]
+        self.start()
+
+    def start(self) -> None:
+        self.process = subprocess.Popen(self.words, stdout=subprocess.PIPE, stderr=subprocess.STDOUT, text=True)
+        assert self.process.stdout is not None
+        line = self.process.stdout.readline()
+        if not line.startswith("listening "):
+            raise AssertionError(f"the service did not start: {line!r}")
+        self.address = line.split()[1]
+
+    def restart(self) -> None:
+        """A new service, which knows nothing, at the same address."""
+        self.stop()
+        self.words[3] = self.address
+        self.start()
+
+    def stop(self) -> None:
+        self.process.kill()
+        self.process.wait()
+        assert self.process.stdout is not None
+        self.process.stdout.close()
+
+    def __enter__(self) -> Service:
+        return self
+
+    def __exit__(self, *_: object) -> None:
+        self.stop()
+        shutil.rmtree(self.folder, ignore_errors=True)
+
+    def limit_memory(self, more: int) -> None:
+        """From now on it gets so many bytes more of address space at most."""
+        pages = int(Path(f"/proc/{self.process.pid}/statm").read_text().split()[0])
+        most = pages * resource.getpagesize() + more
+        resource.prlimit(self.process.pid, resource.RLIMIT_AS, (most, resource.RLIM_INFINITY))
+
+    def unlimit_memory(self) -> None:
+        resource.prlimit(self.process.pid, resource.RLIMIT_AS, (resource.RLIM_INFINITY, resource.RLIM_INFINITY))
+
+    # Clients of it.
+
+    def primary(self, id: int = 2, db: int = 0, **options: object) -> pagelog.Primary:
+        return pagelog.Primary(self.connection(), pagelog.Credentials.of(id, token(id)), db, **options)  # type: ignore[arg-type]
+
+    def reader(self, id: int = 3, db: int = 0) -> pagelog.Reader:
+        return pagelog.Reader(self.connection(), pagelog.Credentials.of(id, token(id)), db)
+
+    def operator(self, db: int = 0) -> pagelog.Operator:
+        return pagelog.Operator(self.connection(), pagelog.Credentials.of(1, token(1)), db)
+
+    def page_server(self, db: int = 0, partitions: tuple[int, ...] = (0,)) -> pagelog.PageServer:
+        return pagelog.PageServer(self.connection(), pagelog.Credentials.of(4, token(4)), db, partitions)
+
+    def connection(self) -> pagelog.Connection:
+        return pagelog.Connection(self.address, timeout=10.0, attempts=20, pause=0.01)
+
+    def credentials_file(self, *, name: str = "credentials.toml", url: str | None = None, audit: int | None = None) -> Path:
+        """A file with a section for each role, for all at this service."""
+        ids = {"primary": 2, "secondary": 3, "page_server": 4, "operator": 1}
+        text = "".join(f'[{role}]\nto = "{self.address}"\nid = {id}\ntoken = "{token(id)}"\n' for role, id in ids.items())
+        text += f'[archive]\nurl = "{url}"\n' if url else ""
+        text += f"[service]\naudit = {audit}\n" if audit else ""
+        file = self.folder / name
+        file.touch(mode=0o600)
+        file.write_text(text)
+        return file
+
+
+def put(page: int, text: bytes, offset: int = 0) -> pagelog.Put:
+    return pagelog.Put(page, offset, text)
+
+
+def fill(primary: pagelog.Primary, count: int, *, seed: int = 1, empties: bool = True) -> None:
+    """So many blocks of a few records each, some of them large, and some without records."""
+    chance = random.Random(seed)
+
+    def transactions():  # type: ignore[no-untyped-def]
+        for _ in range(count):
+            if empties and chance.random() < 0.1:
+                yield ()
+                continue
+            size = 8000 if chance.random() < 0.02 else chance.randrange(1, 120)
+            records = [put(chance.randrange(40) + 65536 * chance.randrange(3), chance.randbytes(size), chance.randrange(190))
+                       for _ in range(chance.randrange(1, 4))]  # fmt: skip
+            yield records + ([pagelog.Zero(chance.randrange(40))] if chance.random() < 0.1 else [])
+
+    for _ in primary.stream(transactions()):
+        pass
+
+
+class CuttingProxy:
+    """Passes bytes on to a service, and cuts each connection behind a number of bytes, drawn from a seed."""
+
+    def __init__(self, address: str, *, least: int = 50, most: int = 5000, seed: int = 1) -> None:
+        self.target = pagelog.Address.parse(address)
+        self.least, self.most = least, most
+        self.chance = random.Random(seed)
+        self.cuts = 0
+        self.is_cutting = True
+        self.listener = socket.create_server(("127.0.0.1", 0))
+        self.address = f"127.0.0.1:{self.listener.getsockname()[1]}"
+        self.thread = threading.Thread(target=self._accept, daemon=True)
+        self.thread.start()
+
+    def __enter__(self) -> CuttingProxy:
+        return self
+
+    def __exit__(self, *_: object) -> None:
+        self.listener.close()
+
+    def _accept(self) -> None:
+        while True:
+            try:
+                client, _ = self.listener.accept()
+            except OSError:
+                return
+            threading.Thread(target=self._serve, args=(client,), daemon=True).start()
+
+    def _serve(self, client: socket.socket) -> None:
+        left = self.chance.randrange(self.least, self.most) if self.is_cutting else 1 << 60
+        try:
+            server = socket.create_connection((self.target.host, self.target.port), 10)
+        except OSError:
+            client.close()
+            return
+        try:
+            while left > 0:
+                ready, _, _ = select.select([client, server], [], [])
+                for side in ready:
+                    data = side.recv(min(left, 65536))
+                    if not data:
+                        return
+                    (server if side is client else client).sendall(data)
+                    left -= len(data)
+                    if left <= 0:
+                        break
+            self.cuts += 1
+        except (OSError, ValueError):
+            pass
+        finally:
+            client.close()
+            server.close()
+
+    def connection(self, **options: object) -> pagelog.Connection:
+        return pagelog.Connection(self.address, timeout=10.0, attempts=60, pause=0.001, **options)  # type: ignore[arg-type]

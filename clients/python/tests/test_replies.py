@@ -1,0 +1,160 @@
+"""Every reply, every rule and every fault that the real service answers with, as the exception that it becomes.
+
+Three replies cannot be had from a service in a test: Spent and the rule LastEpoch come after 2^62 and 2^32 requests; their
+bytes are read in test_bytes.
+"""
+
+from __future__ import annotations
+
+import unittest
+from dataclasses import dataclass
+
+import pagelog
+from pagelog import Block, Put, faults, rules
+from pagelog.connection import Connection
+from pagelog.reply import Done, Malformed, Reply, expect
+from pagelog.request import Audit, Get, Head, Offer, Pull, Report, Request, Role, SetTable, Status, Tidy, Write
+from service import Service, put, token
+
+LSN_1 = Block.of(1, [Put(0, 0, b"a")])
+
+
+@dataclass(frozen=True)
+class RawAct:
+    operation: pagelog.Operation = pagelog.Operation.STATUS
+    repeatable: bool = True
+
+
+@dataclass(frozen=True)
+class Raw:
+    """A body that the library would not write."""
+
+    body: bytes
+    act: RawAct = RawAct()
+
+    def encode(self) -> bytes:
+        return self.body
+
+
+class EachReply(unittest.TestCase):
+    def setUp(self) -> None:
+        self.service = self.enterContext(Service(audit=1000))
+        self.connection = self.enterContext(Connection(self.service.address))
+
+    def ask(self, act: object, *, id: int = 2, role: Role = Role.PRIMARY, db: int = 0, epoch: int = 1, key: int | None = None) -> Reply:
+        head = Head(id, bytes.fromhex(token(key or id)), role, db, epoch)
+        return self.connection.ask(Request(head, act))  # type: ignore[arg-type]
+
+    def denied(self, kind: type[rules.Denial], place: str, value: int, act: object, **head: object) -> rules.Denial:
+        with self.assertRaises(kind) as raised:
+            expect(Done, self.ask(act, **head))  # type: ignore[arg-type]
+        denial = raised.exception
+        self.assertEqual((f"{denial.section.name}{denial.row}", denial.value, denial.rule), (place, value, kind.__name__))
+        self.assertIn(place, str(denial))
+        return denial
+
+    def test_each_rule(self) -> None:
+        two = Block.of(2, [Put(0, 0, b"b")])
+        self.denied(rules.UnknownPrincipal, "A1", 0, Status(), key=3)
+        self.denied(rules.OlderEpoch, "A2", 1, Status(), epoch=0)
+        self.denied(rules.NewerEpoch, "A3", 1, Status(), epoch=2)
+        self.denied(rules.OtherPrimary, "A4", 0, Status(), id=5)
+        self.denied(rules.RoleLacksOperation, "A5", 0, Tidy())
+        self.denied(rules.TableRow, "B3", 0, Get(7 * 65536, 0), id=3, role=Role.SECONDARY)
+        self.denied(rules.NoRowMatches, "B0", 0, Status(), id=2, role=Role.SECONDARY)
+        self.denied(rules.AboveTheEnd, "C1", 0, Pull(1), id=3, role=Role.SECONDARY)
+        self.denied(rules.AboveTheWindow, "C3", 0, Offer(Block.of(65)))
+        self.denied(rules.NoSuchCopy, "C5", 0, Write(3, LSN_1))
+        self.denied(rules.BelowQuorum, "C6", 0, Report(1))
+        for copy in (0, 2):
+            self.assertEqual(self.ask(Write(copy, LSN_1)), Done())
+        self.denied(rules.OtherContent, "C4", 0, Write(0, Block.of(1)))
+        self.assertEqual(self.ask(Report(1)), Done())
+        self.denied(rules.HardenedAlready, "C2", 1, Write(0, LSN_1))
+        self.assertEqual(self.ask(Offer(two)), Done())
+        no_table = self.denied(rules.NoTable, "C7", 3, SetTable(b""), id=1, role=Role.OPERATOR)
+        self.assertIs(no_table.fault, rules.TableFault.COUNT_OF_PRINCIPALS)  # type: ignore[attr-defined]
+        self.denied(rules.UnlistedPrimary, "C8", 0, pagelog.request.Failover(99), id=1, role=Role.OPERATOR)
+
+    def test_each_fault_of_a_body(self) -> None:
+        head = Head(2, bytes.fromhex(token(2)), Role.PRIMARY, 0, 1).prefix
+        lsn = bytes(7) + b"\x01"
+        bodies = {
+            1: head, 2: head[:20] + b"\x05" + head[21:] + b"\x07", 3: head + b"\x0c", 4: head + b"\x01", 5: head + b"\x07\x00",
+            6: head + b"\x03" + b"\xff" * 8, 7: head + b"\x02", 8: head + b"\x02" + bytes(8),
+            9: head + b"\x02" + lsn + bytes.fromhex("000200010001"), 10: head + b"\x02" + lsn + bytes.fromhex("0000000103"),
+            11: head + b"\x02" + lsn + bytes.fromhex("000100000001010000000000000000"),
+            12: head + b"\x02" + lsn + bytes.fromhex("000100000001010000000020000001"),
+            13: head + b"\x02" + lsn + bytes(5), 14: head + b"\x02" + lsn + bytes.fromhex("000100000000"),
+            15: head + b"\x02" + lsn + bytes(32761),
+        }  # fmt: skip
+        replies = list(self.connection.exchange(Raw(body) for body in bodies.values()))  # type: ignore[misc]
+        self.assertEqual(replies, [Malformed(code) for code in bodies])
+        for code, body in bodies.items():
+            with self.subTest(code), self.assertRaises(faults.RequestFault) as raised:
+                pagelog.request.decode_request(body)
+            self.assertEqual(raised.exception.code, code)
+            with self.assertRaises(faults.MalformedRequest) as refused:
+                expect(Done, Malformed(code))
+            self.assertIs(type(refused.exception.fault), type(raised.exception))
+
+    def test_no_database(self) -> None:
+        with self.assertRaises(pagelog.UnknownDatabase):
+            expect(Done, self.ask(Status(), db=1))
+        with self.assertRaises(pagelog.UnknownDatabase):
+            self.service.reader(db=7).status()
+
+    def test_audit_list_full(self) -> None:
+        with self.service.operator() as operator:
+            asked = [Status()] * 998
+            list(self.connection.exchange(Request(Head(3, bytes.fromhex(token(3)), Role.SECONDARY, 0, 1), act) for act in asked))
+            self.assertEqual(len(operator.audit(1)), 998)
+            self.assertEqual(operator.status().epoch, 1)
+            for asks in (operator.status, lambda: operator.failover(5), lambda: self.service.reader().pull(1)):
+                with self.assertRaises(pagelog.AuditListFull):
+                    asks()
+
+    def test_a_reply_of_another_kind_is_unexpected(self) -> None:
+        with self.assertRaises(pagelog.UnexpectedReply):
+            expect(Done, self.ask(Audit(1), id=1, role=Role.OPERATOR))
+
+    def test_each_table_fault(self) -> None:
+        good = '[[principal]]\nid = 1\ntoken = "' + token(1) + '"\n'
+        row = '[[row]]\nverdict = "allow"\nwho = 1\nrole = "operator"\n'
+        texts = {
+            1: "[[principal]", 2: "other = 1\n", 3: "", 4: good + row * 257, 5: "[[principal]]\nid = 1\n",
+            6: good.replace("1\n", "-1\n", 1), 7: good.replace("11", "1g"), 8: good + good, 9: good + "[[row]]\n",
+            10: good + row.replace("allow", "permit"), 11: good + row.replace("who = 1", "who = 2"), 12: good,
+        }  # fmt: skip
+        with self.service.operator() as operator:
+            for code, text in texts.items():
+                with self.subTest(code), self.assertRaises(pagelog.NoTable) as raised:
+                    operator.set_table(text)
+                self.assertEqual((raised.exception.value, raised.exception.fault), (code, rules.TableFault(code)))
+            operator.set_table(good + row)
+            self.assertEqual(operator.status().hard, 0)
+            with self.assertRaises(pagelog.UnknownPrincipal):
+                self.service.reader().status()
+
+
+class OutOfMemory(unittest.TestCase):
+    def test_no_memory_changes_nothing_and_may_be_repeated(self) -> None:
+        with Service() as service, service.primary() as primary, service.reader() as reader:
+            primary.append(put(0, b"first"))
+            primary.commit()
+            service.limit_memory(0)
+            with self.assertRaises((pagelog.OutOfMemory, pagelog.ConnectionLost)) as raised:
+                for _ in primary.stream([put(at % 9, b"ten bytes.")] for at in range(4000)):
+                    pass
+            self.assertIsInstance(raised.exception, pagelog.OutOfMemory)
+            before = primary.durable
+            service.unlimit_memory()
+            self.assertGreater(primary.commit(), before)
+            self.assertEqual(reader.status().hard, primary.durable)
+            self.assertEqual(len(list(reader.blocks(1, follow=False))), primary.durable)
+
+
+if __name__ == "__main__":
+    unittest.main()
+
+
