@@ -7,6 +7,7 @@ import socket
 import time
 from collections import deque
 from dataclasses import dataclass
+from itertools import islice
 from types import TracebackType
 from typing import Iterable, Iterator, NamedTuple
 
@@ -62,7 +63,8 @@ class Connection:
     """A connection that is made when it is needed, and again when it is lost.
 
     Where it is lost with requests in flight, those without a reply are sent again over a new one, in the same order,
-    if all of them may be: a write, an offer or a report that is repeated changes nothing. Else `InDoubt` is raised.
+    if all of them may be: a write, an offer or a report that is repeated changes nothing. Else `InDoubt` is raised. Half
+    as many are then in flight at first, so that a line that is cut again and again still lets some through.
 
     `timeout` is in seconds: the longest wait for a connection, and the longest without a byte in either direction.
     `attempts` is how often in a row, 1 or more, a connection is tried before `Unreachable` or `ConnectionLost`; a
@@ -85,6 +87,9 @@ class Connection:
         self._in = bytearray()
         self._failures = 0
         self._in_use = False
+        self._waiting: deque[_Waiting] = deque()
+        self._in_flight = 0
+        self._most = 64
 
     def __enter__(self) -> Connection:
         return self
@@ -97,6 +102,7 @@ class Connection:
         if self._socket is not None:
             self._socket.close()
         self._socket = None
+        self._in_flight = 0
         self._out.clear()
         self._in.clear()
 
@@ -121,49 +127,51 @@ class Connection:
         if self._in_use:
             raise RuntimeError("the connection is in use: end the exchange that was begun on it first")
         self._in_use = True
-        source, more = iter(requests), True
-        waiting: deque[_Waiting] = deque()
+        self._most = in_flight
+        source = map(_Waiting, requests)
         try:
             while True:
-                while more and len(waiting) < in_flight:
-                    request = next(source, None)
-                    if request is None:
-                        more = False
-                    else:
-                        self._put(_Waiting(request), waiting)
-                if not waiting:
+                self._waiting.extend(islice(source, in_flight - len(self._waiting)))
+                if not self._waiting:
                     return
-                reply = self._reply_to(waiting)
-                first = waiting.popleft()
-                yield Answer(reply, first.sent > 1)
+                reply = self._first_reply(in_flight)
+                yield Answer(reply, self._waiting.popleft().sent > 1)
         finally:
             self._in_use = False
-            if waiting:
+            if self._waiting:
+                self._waiting.clear()
                 self.close()
 
-    def _put(self, asked: _Waiting, waiting: deque[_Waiting]) -> None:
-        waiting.append(asked)
-        if self._socket is not None:
-            asked.sent += 1
-            self._out += asked.frame
-
-    def _reply_to(self, waiting: deque[_Waiting]) -> Reply:
+    def _first_reply(self, in_flight: int) -> Reply:
         """The reply to the first that waits, over as many connections as it takes."""
         while True:
             try:
                 if self._socket is None:
                     self._connect()
-                    self._send_again(waiting)
+                self._send_waiting()
                 reply = decode_reply(self._body())
-                self._failures = 0
-                return reply
             except (ConnectionLost, Unreachable) as error:
                 self.close()
-                self._give_up_or_wait(error, waiting)
+                self._most = max(1, self._most // 2)
+                self._give_up_or_wait(error)
+            else:
+                self._failures = 0
+                self._in_flight -= 1
+                self._most = min(in_flight, self._most * 2)
+                return reply
 
-    def _give_up_or_wait(self, error: PagelogError, waiting: deque[_Waiting]) -> None:
+    def _send_waiting(self) -> None:
+        """Puts as many of those that wait on their way as may be in flight."""
+        upto = min(self._most, len(self._waiting))
+        if self._in_flight < upto:
+            for asked in islice(self._waiting, self._in_flight, upto):
+                asked.sent += 1
+                self._out += asked.frame
+            self._in_flight = upto
+
+    def _give_up_or_wait(self, error: PagelogError) -> None:
         self._failures += 1
-        for asked in waiting:
+        for asked in self._waiting:
             if asked.sent and not asked.request.act.repeatable:
                 self._failures = 0
                 raise InDoubt(f"{asked.request.act.operation.word} may have been done: {error}") from error
@@ -181,11 +189,6 @@ class Connection:
         made.setblocking(False)
         self._socket = made
         self.connects += 1
-
-    def _send_again(self, waiting: deque[_Waiting]) -> None:
-        for asked in waiting:
-            asked.sent += 1
-            self._out += asked.frame
 
     def _body(self) -> bytes:
         """The body of the next frame. What is to be sent is sent meanwhile, so that neither side waits for the other."""

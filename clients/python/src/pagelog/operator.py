@@ -7,7 +7,7 @@ from typing import Callable, Iterator
 
 from pagelog.client import Client, told_epoch
 from pagelog.reply import Done, Entries, Entry, expect
-from pagelog.request import AUDIT_MAX, Audit, Failover, Role, SetTable, Tidy
+from pagelog.request import AUDIT_MAX, Audit, Failover, Head, Request, Role, SetTable, Tidy
 
 
 class Operator(Client):
@@ -23,8 +23,8 @@ class Operator(Client):
         """
         if epoch is None:
             epoch = self.status().epoch
-        self.epoch = epoch
-        reply = self.connection.ask(self._request(Failover(to)))
+        head = Head(self.credentials.id, self.credentials.token, self.role, self.database, epoch)
+        reply = self.connection.ask(Request(head, Failover(to)))
         told = told_epoch(reply)
         if told is not None:
             self._take_over(told)

@@ -1,0 +1,182 @@
+"""One socket with many requests in flight: order, cuts, time-outs, doubts, and what is left behind."""
+
+from __future__ import annotations
+
+import socket
+import threading
+import time
+import unittest
+
+import pagelog
+from pagelog import Address, Block, Connection, Put
+from pagelog.reply import Done, Page, State
+from pagelog.request import Failover, Get, Head, Report, Request, Role, Status, Write
+from service import CuttingProxy, Service, put, token
+
+PRIMARY = Head(2, bytes.fromhex(token(2)), Role.PRIMARY, 0, 1)
+SECONDARY = Head(3, bytes.fromhex(token(3)), Role.SECONDARY, 0, 1)
+OPERATOR = Head(1, bytes.fromhex(token(1)), Role.OPERATOR, 0, 1)
+
+
+def hardened(connection: Connection, count: int) -> None:
+    """Blocks that each write their LSN to page 0."""
+    asked = []
+    for lsn in range(1, count + 1):
+        block = Block.of(lsn, [Put(0, 0, lsn.to_bytes(8, "big"))])
+        asked += [Request(PRIMARY, Write(0, block)), Request(PRIMARY, Write(1, block)), Request(PRIMARY, Report(lsn))]
+    assert set(connection.exchange(asked)) == {Done()}
+
+
+class InOrder(unittest.TestCase):
+    def setUp(self) -> None:
+        self.service = self.enterContext(Service())
+        self.connection = self.enterContext(self.service.connection())
+
+    def gets(self, count: int) -> list[Request]:
+        return [Request(SECONDARY, Get(0, lsn)) for lsn in range(1, count + 1)]
+
+    def test_replies_come_in_the_order_of_the_requests(self) -> None:
+        hardened(self.connection, 100)
+        pages = list(self.connection.exchange(self.gets(100)))
+        self.assertEqual([int.from_bytes(page.data[:8], "big") for page in pages if isinstance(page, Page)], list(range(1, 101)))
+
+    def test_no_more_than_asked_for_are_in_flight(self) -> None:
+        hardened(self.connection, 30)
+        taken = 0
+
+        def counted():  # type: ignore[no-untyped-def]
+            nonlocal taken
+            for request in self.gets(30):
+                taken += 1
+                yield request
+
+        for count, _ in enumerate(self.connection.exchange(counted(), in_flight=7)):
+            self.assertLessEqual(taken - count, 7)
+        self.assertEqual(taken, 30)
+
+    def test_an_exchange_that_is_left_takes_its_replies_with_it(self) -> None:
+        hardened(self.connection, 50)
+        replies = self.connection.exchange(self.gets(50))
+        self.assertEqual(next(replies).data[:8], (1).to_bytes(8, "big"))  # type: ignore[union-attr]
+        replies.close()  # type: ignore[attr-defined]
+        self.assertIsInstance(self.connection.ask(Request(SECONDARY, Status())), State)
+        self.assertEqual(self.connection.connects, 2)
+
+    def test_a_second_exchange_before_the_end_of_the_first_is_refused(self) -> None:
+        replies = self.connection.exchange([Request(PRIMARY, Status())] * 2)
+        next(replies)
+        with self.assertRaises(RuntimeError):
+            self.connection.ask(Request(PRIMARY, Status()))
+        self.assertIsInstance(next(replies), State)
+
+    def test_large_requests_and_large_replies_do_not_wait_for_each_other(self) -> None:
+        hardened(self.connection, 1)
+        block = Block.of(2, [Put(page, 0, b"x" * 8000) for page in range(4)])
+        mixed = [Request(SECONDARY, Get(0, 1)), Request(PRIMARY, Write(0, block))] * 60
+        replies = list(self.connection.exchange(mixed, in_flight=1000))
+        self.assertEqual([type(reply) for reply in replies], [Page, Done] * 60)
+        self.assertEqual(self.connection.connects, 1)
+
+
+class Cuts(unittest.TestCase):
+    def test_what_may_be_repeated_survives_cuts_at_any_byte(self) -> None:
+        with Service() as service, CuttingProxy(service.address, least=30, most=1500) as proxy, proxy.connection() as connection:
+            credentials = pagelog.Credentials.of(2, token(2))
+            primary = pagelog.Primary(connection, credentials, alone=True)
+            lsns = list(primary.stream([put(0, lsn.to_bytes(8, "big"))] for lsn in range(1, 301)))
+            self.assertEqual(lsns, list(range(1, 301)))
+            self.assertGreater(proxy.cuts, 20)
+            with service.reader() as reader:
+                blocks = list(reader.blocks(1, follow=False))
+            self.assertEqual([int.from_bytes(block.records[0].data, "big") for block in blocks], lsns)  # type: ignore[union-attr]
+
+    def test_reads_survive_cuts_and_stay_in_order(self) -> None:
+        with Service() as service, service.connection() as direct:
+            hardened(direct, 60)
+            with CuttingProxy(service.address, least=9000, most=60000, seed=3) as proxy, proxy.connection() as connection:
+                pages = connection.exchange(Request(SECONDARY, Get(0, 1 + at % 60)) for at in range(240))
+                self.assertEqual([int.from_bytes(page.data[:8], "big") for page in pages],  # type: ignore[union-attr]
+                                 [1 + at % 60 for at in range(240)])  # fmt: skip
+                self.assertGreater(proxy.cuts, 10)
+
+    def test_a_failover_whose_reply_is_lost_is_in_doubt_and_not_repeated(self) -> None:
+        with Service() as service, service.operator() as direct:
+            for size in (20, 40):  # cut in the request, and behind it in the reply
+                before = direct.status().epoch
+                with CuttingProxy(service.address, least=size, most=size + 1) as proxy, proxy.connection() as connection:
+                    head = Head(1, OPERATOR.token, Role.OPERATOR, 0, before)
+                    with self.assertRaises(pagelog.InDoubt):
+                        connection.ask(Request(head, Failover(2)))
+                    self.assertEqual(connection.connects, 1)
+                deadline = time.monotonic() + 5
+                while size == 40 and direct.status().epoch == before and time.monotonic() < deadline:
+                    time.sleep(0.01)
+                self.assertEqual(direct.status().epoch, before + (size == 40))
+
+    def test_a_service_that_comes_back_is_found_again(self) -> None:
+        with Service() as service, service.connection() as connection:
+            self.assertIsInstance(connection.ask(Request(PRIMARY, Status())), State)
+            service.stop()
+            threading.Timer(0.3, service_start_again, (service,)).start()
+            self.assertIsInstance(connection.ask(Request(PRIMARY, Status())), State)
+            self.assertEqual(connection.connects, 2)
+
+
+def service_start_again(service: Service) -> None:
+    service.words[3] = service.address
+    service.start()
+
+
+class Refused(unittest.TestCase):
+    def test_nobody_listens(self) -> None:
+        with socket.create_server(("127.0.0.1", 0)) as listener:
+            port = listener.getsockname()[1]
+        began = time.monotonic()
+        with self.assertRaises(pagelog.Unreachable):
+            Connection(Address("127.0.0.1", port), attempts=3, pause=0.05).ask(Request(PRIMARY, Status()))
+        self.assertGreater(time.monotonic() - began, 0.14)
+
+    def test_all_workers_are_held(self) -> None:
+        with Service(workers=1) as service, service.connection() as first:
+            first.ask(Request(PRIMARY, Status()))
+            with Connection(service.address, timeout=0.3) as second:
+                with self.assertRaises(pagelog.TimedOut) as raised:
+                    second.ask(Request(PRIMARY, Status()))
+                self.assertIn("workers", str(raised.exception))
+                first.close()
+                self.assertIsInstance(second.ask(Request(PRIMARY, Status())), State)
+
+    def test_a_service_that_ends_its_connections(self) -> None:
+        with Service(connections=1) as service, Connection(service.address, attempts=2, pause=0.01) as connection:
+            connection.ask(Request(PRIMARY, Status()))
+            connection.close()
+            service.process.wait(10)
+            with self.assertRaises(pagelog.Unreachable):
+                connection.ask(Request(PRIMARY, Status()))
+
+    def test_an_answer_that_is_no_reply(self) -> None:
+        for words, kind in ((b"SSH-2.0-OpenSSH_9.2\r\n", pagelog.FrameFault), (b"\0\0\0\x01\x0b", pagelog.ReplyFault)):
+            with socket.create_server(("127.0.0.1", 0)) as listener:
+                threading.Thread(target=answer_once, args=(listener, words), daemon=True).start()
+                with Connection(Address("127.0.0.1", listener.getsockname()[1]), attempts=1) as connection:
+                    with self.assertRaises(kind):
+                        connection.ask(Request(PRIMARY, Status()))
+
+    def test_addresses(self) -> None:
+        self.assertEqual(Address.parse("127.0.0.1:7400"), Address("127.0.0.1", 7400))
+        self.assertEqual(str(Address.parse("[::1]:7400")), "[::1]:7400")
+        for text in ("", "7400", "host:", ":7400", "host:0", "host:65536", "host:x"):
+            with self.subTest(text), self.assertRaises(ValueError):
+                Address.parse(text)
+
+
+def answer_once(listener: socket.socket, words: bytes) -> None:
+    client, _ = listener.accept()
+    client.recv(100)
+    client.sendall(words)
+    time.sleep(0.2)
+    client.close()
+
+
+if __name__ == "__main__":
+    unittest.main()

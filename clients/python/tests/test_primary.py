@@ -1,0 +1,317 @@
+"""A primary: commits, windows, epochs that end, and what is told of blocks whose replies were lost."""
+
+from __future__ import annotations
+
+import unittest
+from collections import deque
+
+import pagelog
+from pagelog import Block, Put, Zero, faults, rules
+from pagelog.primary import Primary
+from pagelog.request import Report, Write
+from service import WIDE_TABLE, CuttingProxy, Service, put, token
+
+
+class Commits(unittest.TestCase):
+    def setUp(self) -> None:
+        self.service = self.enterContext(Service())
+        self.primary = self.enterContext(self.service.primary())
+        self.reader = self.enterContext(self.service.reader())
+
+    def test_a_commit_is_in_the_log_at_its_lsn(self) -> None:
+        self.assertEqual(self.primary.commit(), 0)
+        self.assertEqual(self.primary.append(put(3, b"one"), put(3, b"two", 100)), 1)
+        self.assertEqual(self.reader.status().hard, 0)
+        self.assertEqual(self.primary.commit(), 1)
+        page = self.reader.page(3, 1)
+        self.assertEqual((page.at, page.data[:3], page.data[100:103]), (1, b"one", b"two"))
+        self.primary.append(Zero(3))
+        self.assertEqual(self.primary.commit(), 2)
+        self.assertEqual(self.primary.commit(), 2)
+        self.assertEqual(self.reader.page(3, 2).data, bytes(8192))
+        self.assertEqual(self.primary.page(3, 1).data[:3], b"one")
+
+    def test_records_fill_blocks_to_the_brim(self) -> None:
+        # A block of Puts of 8,180 bytes on one page has room for four: 14 + 4 * 8,189 = 32,770 is two bytes too many.
+        self.assertEqual(self.primary.append(*[put(0, bytes([at]) * 8179) for at in range(1, 9)]), 2)
+        self.assertEqual(self.primary.commit(), 2)
+        blocks = list(self.reader.blocks(1, follow=False))
+        self.assertEqual([(block.lsn, len(block.records), len(block.data)) for block in blocks], [(1, 4, 32766), (2, 4, 32766)])
+        self.primary.append(*[put(0, bytes([at]) * 8180) for at in range(1, 5)])
+        self.assertEqual(self.primary.commit(), 4)
+        self.primary.append(*[Zero(at * 65536) for at in range(4684)])
+        self.assertEqual(self.primary.commit(), 6)
+        self.assertEqual([len(block.records) for block in self.reader.blocks(5, follow=False)], [4679, 5])
+
+    def test_more_than_a_window_is_hardened_group_by_group(self) -> None:
+        self.primary.append(*[put(at, bytes([at % 256]) * 8179) for at in range(4 * 70)])
+        self.assertEqual(self.primary.commit(), 70)
+        self.assertEqual(self.reader.status().hard, 70)
+        self.assertEqual(self.reader.page(279, 70).data[:1], bytes([279 % 256]))
+
+    def test_a_faulty_record_is_not_taken(self) -> None:
+        for record, kind in ((put(0, b""), faults.EmptyPut), (put(0, b"ab", 8191), faults.PutPastPage), (Zero(-1), ValueError)):
+            with self.assertRaises(kind):
+                self.primary.append(record)
+        self.primary.append(put(0, b"good"))
+        self.assertEqual(self.primary.commit(), 1)
+
+    def test_a_stream_tells_each_lsn(self) -> None:
+        self.primary.append(put(0, b"before"))
+        lsns = list(self.primary.stream([put(at % 5, b"x")] if at % 3 else [] for at in range(150)))
+        self.assertEqual(lsns, list(range(2, 152)))
+        self.assertEqual(self.primary.append(put(0, b"behind")), 152)
+        self.assertEqual(self.primary.commit(), 152)
+
+    def test_a_transaction_that_is_too_long_ends_a_stream_and_not_the_primary(self) -> None:
+        long = [put(at, b"x" * 8179) for at in range(5)]
+        with self.assertRaises(faults.BlockTooLong):
+            list(self.primary.stream([[put(0, b"a")], [put(0, b"b")], long]))
+        self.assertEqual(self.primary.commit(), 2)
+        self.assertEqual(self.reader.status().hard, 2)
+
+    def test_blocks_with_lsns_of_their_own(self) -> None:
+        blocks = [Block.of(lsn, [put(0, bytes([lsn]))] if lsn % 4 else []) for lsn in range(1, 131)]
+        self.assertEqual(list(self.primary.harden(blocks)), [64, 128, 130])
+        with self.assertRaises(ValueError):
+            list(self.primary.harden([Block.of(132)]))
+        self.assertEqual([block.lsn for block in self.reader.blocks(1, follow=False)], [lsn for lsn in range(1, 131) if lsn % 4])
+
+    def test_all_three_copies(self) -> None:
+        with self.service.primary(copies=(2, 0, 1)) as three:
+            three.append(put(0, b"thrice"))
+            self.assertEqual(three.commit(), 1)
+        with self.service.operator() as operator:
+            writes = [entry.b for entry in operator.audit(1) if entry.operation == pagelog.Operation.WRITE]
+        self.assertEqual(writes, [2, 0, 1])
+        for copies in ((0,), (0, 0), (0, 3)):
+            with self.assertRaises(ValueError):
+                self.service.primary(copies=copies)
+
+
+class Epochs(unittest.TestCase):
+    def setUp(self) -> None:
+        self.service = self.enterContext(Service())
+        self.operator = self.enterContext(self.service.operator())
+        self.primary = self.enterContext(self.service.primary())
+        self.reader = self.enterContext(self.service.reader())
+
+    def test_a_failover_ends_a_primary(self) -> None:
+        self.primary.append(put(0, b"kept"))
+        self.primary.commit()
+        self.assertEqual(self.operator.failover(5), 2)
+        self.primary.append(put(0, b"lost"))
+        for asks in (self.primary.commit, self.primary.commit, lambda: self.primary.append(put(0, b"more")), self.primary.begin):
+            with self.assertRaises(pagelog.OlderEpoch) as raised:
+                asks()
+            self.assertEqual(raised.exception.epoch, 2)
+        self.assertEqual(self.reader.status().hard, 1)
+
+    def test_another_principal_is_not_the_primary(self) -> None:
+        other = self.enterContext(self.service.primary(5))
+        for _ in range(2):
+            with self.assertRaises(pagelog.OtherPrimary):
+                other.append(put(0, b"x"))
+        self.operator.failover(5)
+        self.assertEqual(self.enterContext(self.service.primary(5)).commit(), 0)
+
+    def test_it_learns_the_epoch_once(self) -> None:
+        for _ in range(3):
+            self.operator.failover(2)
+        self.primary.append(put(0, b"x"))
+        self.assertEqual((self.primary.commit(), self.primary.epoch), (1, 4))
+        self.operator.failover(2)
+        with self.assertRaises(pagelog.OlderEpoch):
+            self.primary.status()
+
+    def test_an_epoch_that_was_given_is_not_changed(self) -> None:
+        self.operator.failover(2)
+        with self.service.primary(epoch=1) as old, self.assertRaises(pagelog.OlderEpoch):
+            old.begin()
+
+    def test_taking_over_fences_the_one_before(self) -> None:
+        self.primary.append(put(0, b"a"))
+        self.primary.commit()
+        connection = self.enterContext(self.service.connection())
+        second = Primary.take_over(connection, pagelog.Credentials.of(2, token(2)), self.operator)
+        second.append(put(0, b"b"))
+        self.assertEqual((second.commit(), second.epoch), (2, 2))
+        self.primary.append(put(0, b"c"))
+        with self.assertRaises(pagelog.OlderEpoch):
+            self.primary.commit()
+
+    def test_two_who_write_in_one_epoch_meet(self) -> None:
+        with self.service.primary() as second:
+            self.primary.append(put(0, b"first"))
+            second.append(put(0, b"second"))
+            self.primary.commit()
+            with self.assertRaises(pagelog.HardenedAlready):
+                second.commit()
+
+    def test_what_stands_in_two_copies_is_kept_by_the_failover(self) -> None:
+        """The failover comes between the writes of a commit and its report: the commit succeeds, the next one ends."""
+        requests = self.primary._requests
+
+        def with_a_failover(*arguments):  # type: ignore[no-untyped-def]
+            for request in requests(*arguments):
+                if isinstance(request.act, Report):
+                    self.assertEqual(wait_for_writes(self.operator, 2), 2)
+                    self.operator.failover(5)
+                yield request
+
+        self.primary._requests = with_a_failover  # type: ignore[method-assign]
+        self.primary.append(put(0, b"kept"))
+        self.primary._prepare()
+        self.primary._close_block()
+        lsns = list(self.primary._harden([[sent.block for sent in self.primary._unhardened]], in_flight=1))
+        self.assertEqual(lsns, [1])
+        self.assertEqual(self.reader.page(0, 1).data[:4], b"kept")
+        with self.assertRaises(pagelog.OlderEpoch):
+            self.primary.append(put(0, b"no"))
+
+    def test_what_stands_in_one_copy_is_not(self) -> None:
+        requests = self.primary._requests
+
+        def with_a_failover(*arguments):  # type: ignore[no-untyped-def]
+            for request in requests(*arguments):
+                if isinstance(request.act, Write) and request.act.copy == 1:
+                    self.operator.failover(5)
+                yield request
+
+        self.primary._requests = with_a_failover  # type: ignore[method-assign]
+        self.primary.append(put(0, b"lost"))
+        self.primary._prepare()
+        self.primary._close_block()
+        with self.assertRaises(pagelog.OlderEpoch):
+            list(self.primary._harden([[sent.block for sent in self.primary._unhardened]], in_flight=1))
+        self.assertEqual((self.primary.durable, self.reader.status().hard), (0, 0))
+
+    def test_a_service_that_was_started_anew(self) -> None:
+        for count in (3, 70):
+            with Service() as service, service.primary() as primary, service.reader() as reader, service.operator() as operator:
+                list(primary.stream([put(0, b"x")] for _ in range(count)))
+                self.assertEqual((reader.status().hard, operator.failover(2)), (count, 2))
+                fresh = service.primary()
+                self.assertEqual(fresh.append(put(0, b"y")), count + 1)
+                service.restart()
+                for asks in (fresh.commit, reader.status, lambda: reader.span(count + 1), operator.status):
+                    with self.assertRaises(pagelog.LogWentBack):
+                        asks()
+                fresh.close()
+
+    def test_a_primary_of_the_first_epoch_notices_it_too(self) -> None:
+        for count in (3, 70):
+            with Service() as service, service.primary() as primary:
+                list(primary.stream([put(0, b"x")] for _ in range(count)))
+                primary.append(put(0, b"y"))
+                service.restart()
+                with self.assertRaises(pagelog.LogWentBack):
+                    primary.commit()
+
+
+def wait_for_writes(operator: pagelog.Operator, count: int) -> int:
+    """How many writes the audit list has, once it has so many."""
+    return sum(1 for entry in operator.audit(1) if entry.operation == pagelog.Operation.WRITE and entry.is_allowed)
+
+
+class Doubts(unittest.TestCase):
+    """The connection is cut behind the writes, and what happened to them is found out."""
+
+    def setUp(self) -> None:
+        self.service = self.enterContext(Service(table=WIDE_TABLE))
+        self.operator = self.enterContext(self.service.operator())
+        self.proxy = self.enterContext(CuttingProxy(self.service.address, least=10**9, most=2 * 10**9))
+        self.credentials = pagelog.Credentials.of(2, token(2))
+
+    def primary(self, **options: object) -> Primary:
+        made = Primary(self.proxy.connection(), self.credentials, **options)  # type: ignore[arg-type]
+        self.enterContext(made)
+        made.begin()
+        return made
+
+    def lose_replies(self, primary: Primary) -> None:
+        """The requests of the next commit reach the service, and none of their replies comes back."""
+        primary._prepare()
+        primary._close_block()
+        body = [sent.block for sent in primary._unhardened]
+        with self.service.connection() as other:
+            requests = list(primary._requests([body], deque(), []))
+            for sent in primary._unhardened:
+                sent.attempts = 1
+            list(other.exchange(requests))
+
+    def test_alone_in_its_epoch_it_knows_its_own_blocks(self) -> None:
+        primary = self.primary(alone=True)
+        primary.append(put(0, b"mine"))
+        self.lose_replies(primary)
+        self.assertEqual(primary.commit(), 1)
+
+    def test_a_witness_tells_whose_block_it_is(self) -> None:
+        with self.service.reader() as witness:
+            primary = self.primary(witness=witness)
+            primary.append(put(0, b"mine"))
+            self.lose_replies(primary)
+            self.assertEqual(primary.commit(), 1)
+            other = self.primary(witness=witness)
+            other.append(put(0, b"other"))
+            primary.append(put(0, b"first"))
+            primary.commit()
+            other._prepare()
+            other._close_block()
+            other._unhardened[0].attempts = 1
+            with self.assertRaises(pagelog.HardenedAlready):
+                other.commit()
+
+    def test_without_either_it_is_in_doubt(self) -> None:
+        primary = self.primary()
+        primary.append(put(0, b"mine"))
+        self.lose_replies(primary)
+        with self.assertRaises(pagelog.InDoubt):
+            primary.commit()
+
+    def test_an_epoch_that_ended_meanwhile(self) -> None:
+        with self.service.reader() as witness:
+            for options, kind in (({}, pagelog.InDoubt), ({"witness": witness}, None)):
+                primary = self.primary(**options)
+                primary.append(put(0, b"mine"))
+                self.lose_replies(primary)
+                self.operator.failover(2)
+                if kind is None:
+                    self.assertEqual(primary.commit(), self.operator.status().hard)
+                else:
+                    with self.assertRaises(kind):
+                        primary.commit()
+
+    def test_a_block_without_records_is_known_by_its_gap(self) -> None:
+        with self.service.reader() as witness:
+            primary = self.primary(witness=witness)
+            list(primary.stream([[put(0, b"a")], [], [put(0, b"b")]]))
+            list(primary.harden([Block.of(4)]))
+            self.assertTrue(pagelog.primary._is_in_log(witness, Block.of(2)))
+            self.assertTrue(pagelog.primary._is_in_log(witness, Block.of(4)))
+            self.assertFalse(pagelog.primary._is_in_log(witness, Block.of(5)))
+            self.assertFalse(pagelog.primary._is_in_log(witness, Block.of(3)))
+            self.assertTrue(pagelog.primary._is_in_log(witness, Block.of(3, [Put(0, 0, b"b")])))
+
+    def test_a_stream_over_a_connection_that_is_cut_loses_nothing(self) -> None:
+        with CuttingProxy(self.service.address, least=100, most=3000, seed=5) as proxy, self.service.reader() as witness:
+            primary = Primary(proxy.connection(), self.credentials, witness=witness)
+            told = []
+            try:
+                for lsn in primary.stream([put(0, at.to_bytes(8, "big"))] for at in range(1, 401)):
+                    told.append(lsn)
+                    if lsn == 250:
+                        self.operator.failover(5)
+            except pagelog.OlderEpoch:
+                pass
+            self.assertGreater(proxy.cuts, 10)
+            self.assertEqual(told, list(range(1, primary.durable + 1)))
+            self.assertGreaterEqual(primary.durable, 250)
+            with self.service.reader() as reader:
+                blocks = list(reader.blocks(1, follow=False))
+            self.assertEqual([int.from_bytes(block.records[0].data, "big") for block in blocks], told)  # type: ignore[union-attr]
+            self.assertIsInstance(primary._ended, rules.OlderEpoch)
+
+
+if __name__ == "__main__":
+    unittest.main()
