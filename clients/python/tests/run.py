@@ -3,6 +3,7 @@
 from __future__ import annotations
 
 import importlib
+import os
 import sys
 import time
 import unittest
@@ -26,6 +27,15 @@ class Quiet(unittest.TestResult):
     def __init__(self) -> None:
         super().__init__()
         self.texts: list[str] = []
+
+    def startTest(self, test: unittest.TestCase) -> None:
+        super().startTest(test)
+        self.began = time.monotonic()
+
+    def stopTest(self, test: unittest.TestCase) -> None:
+        super().stopTest(test)
+        if os.environ.get("PAGELOG_TEST_TIMES"):
+            print(f"{time.monotonic() - self.began:6.2f} s {test.id()}")
 
     def addFailure(self, test: unittest.TestCase, error: object) -> None:
         super().addFailure(test, error)  # type: ignore[arg-type]

@@ -1,0 +1,228 @@
+"""An archive: the hardened blocks of a log, by LSN, in a database that SQLAlchemy reaches by a URL.
+
+One archive can keep many logs, each under a name. Of each it has every block from LSN 1 to the *archived LSN*, also those
+without records, which no pull serves. A batch of blocks and the archived LSN are one transaction, so whatever ends the
+archiver, all blocks up to the archived LSN are there, and none twice.
+"""
+
+from __future__ import annotations
+
+import zlib
+from dataclasses import dataclass
+from typing import Any, Iterator, Sequence
+
+import sqlalchemy as sql
+from sqlalchemy.engine import Engine
+
+from pagelog.block import HIGHEST_LSN, Block
+from pagelog.errors import PagelogError
+from pagelog.faults import BlockFault
+
+DEFAULT_URL = "sqlite:///pagelog-archive.db"
+"""Where an archive is kept if nothing else is said: one file of SQLite in the folder that one is in."""
+FORMAT = 1
+"""The number of the tables' form, which each log of an archive carries."""
+_READ_SIZE = 512
+
+_metadata = sql.MetaData()
+_logs = sql.Table(
+    "pagelog_log",
+    _metadata,
+    sql.Column("id", sql.Integer, primary_key=True),
+    sql.Column("name", sql.String(200), nullable=False, unique=True),
+    sql.Column("format", sql.Integer, nullable=False),
+    sql.Column("archived", sql.BigInteger, nullable=False),
+    sql.Column("epoch", sql.BigInteger, nullable=False),
+)
+_blocks = sql.Table(
+    "pagelog_block",
+    _metadata,
+    sql.Column("log", sql.Integer, sql.ForeignKey("pagelog_log.id"), primary_key=True, autoincrement=False),
+    sql.Column("lsn", sql.BigInteger, primary_key=True, autoincrement=False),
+    sql.Column("crc", sql.BigInteger, nullable=False),
+    sql.Column("data", sql.LargeBinary, nullable=False),
+)
+
+
+class ArchiveError(PagelogError):
+    """Something is wrong with an archive, or with what it is to be used for."""
+
+
+class NoArchive(ArchiveError):
+    """There is no log of this name in the archive, or no archive at the URL."""
+
+
+class OtherArchiver(ArchiveError):
+    """Another archiver has moved the archived LSN meanwhile. Nothing of the batch was kept."""
+
+
+class BrokenArchive(ArchiveError):
+    """A block of the archive is missing, or is not the one that was kept. `lsn` is its LSN."""
+
+    def __init__(self, lsn: int, what: str) -> None:
+        self.lsn = lsn
+        super().__init__(f"the archive is broken at LSN {lsn}: {what}")
+
+
+@dataclass(frozen=True)
+class Sizes:
+    """How much an archive has of a log: `blocks`, of which `empty` have no records, and their `bytes`."""
+
+    blocks: int
+    empty: int
+    bytes: int
+
+
+class Archive:
+    """The archive of one log. A database error is an exception of SQLAlchemy, and then nothing of a batch was kept."""
+
+    def __init__(self, url: str, log: str = "0", *, create: bool = False) -> None:
+        """Opens the archive of the log of this name; with `create` makes what is not there. Raises `NoArchive`."""
+        self.log = log
+        self.engine = _engine(url)
+        if create:
+            _metadata.create_all(self.engine)
+        self._id = self._find(create)
+
+    def close(self) -> None:
+        """Closes all connections to the database."""
+        self.engine.dispose()
+
+    def __enter__(self) -> Archive:
+        return self
+
+    def __exit__(self, *_: object) -> None:
+        self.close()
+
+    def _find(self, create: bool) -> int:
+        try:
+            with self.engine.begin() as connection:
+                row: Any = connection.execute(sql.select(_logs).where(_logs.c.name == self.log)).first()
+                if row is None and create:
+                    values = {"name": self.log, "format": FORMAT, "archived": 0, "epoch": 0}
+                    connection.execute(_logs.insert().values(values))
+                    row = connection.execute(sql.select(_logs).where(_logs.c.name == self.log)).first()
+        except (sql.exc.OperationalError, sql.exc.ProgrammingError) as error:
+            if create or not _tables_are_missing(self.engine):
+                raise
+            raise NoArchive("there is no archive at this URL") from error
+        if row is None:
+            raise NoArchive(f"the archive has no log {self.log!r}: it has {', '.join(self._names()) or 'none'}")
+        if row.format != FORMAT:
+            raise ArchiveError(f"the log has format {row.format}, and this program reads {FORMAT}")
+        return int(row.id)
+
+    def _names(self) -> list[str]:
+        with self.engine.begin() as connection:
+            return [repr(row.name) for row in connection.execute(sql.select(_logs.c.name).order_by(_logs.c.name))]
+
+    @property
+    def archived(self) -> int:
+        """The archived LSN: every block from 1 to it is kept. 0 at the beginning."""
+        return int(self._row().archived)
+
+    @property
+    def epoch(self) -> int:
+        """The epoch of the service when the last batch was kept."""
+        return int(self._row().epoch)
+
+    def _row(self) -> Any:
+        with self.engine.begin() as connection:
+            return connection.execute(sql.select(_logs).where(_logs.c.id == self._id)).one()
+
+    def keep(self, blocks: Sequence[Block], epoch: int) -> int:
+        """Keeps a batch, which has every LSN from the archived one on, in one transaction. Returns the archived LSN.
+
+        Raises `OtherArchiver` where the archive has moved on meanwhile, and `ValueError` where an LSN is left out.
+        """
+        if not blocks:
+            return self.archived
+        first, last = blocks[0].lsn, blocks[-1].lsn
+        if [block.lsn for block in blocks] != list(range(first, last + 1)):
+            raise ValueError(f"the batch does not have every LSN from {first} to {last}")
+        rows = [{"log": self._id, "lsn": block.lsn, "crc": zlib.crc32(block.data), "data": block.data} for block in blocks]
+        with self.engine.begin() as connection:
+            moved = connection.execute(
+                _logs.update()
+                .where(_logs.c.id == self._id, _logs.c.archived == first - 1)
+                .values(archived=last, epoch=epoch)
+            )
+            if moved.rowcount != 1:
+                raise OtherArchiver(f"the archived LSN is not {first - 1} any more")
+            connection.execute(_blocks.insert(), rows)
+        return last
+
+    def blocks(self, first: int = 1, last: int = HIGHEST_LSN) -> Iterator[Block]:
+        """The blocks from LSN `first` to `last`, both included, or to the archived LSN, each of them checked.
+
+        Raises `BrokenArchive` for the first that is missing or damaged.
+        """
+        last = min(last, self.archived)
+        while first <= last:
+            upto = min(last, first + _READ_SIZE - 1)
+            yield from self._read(first, upto)
+            first = upto + 1
+
+    def _read(self, first: int, last: int) -> Iterator[Block]:
+        wanted = sql.select(_blocks.c.lsn, _blocks.c.crc, _blocks.c.data).where(
+            _blocks.c.log == self._id, _blocks.c.lsn >= first, _blocks.c.lsn <= last
+        )
+        with self.engine.begin() as connection:
+            rows = connection.execute(wanted.order_by(_blocks.c.lsn)).fetchall()
+        for lsn, row in zip(range(first, last + 1), rows):
+            yield _block(lsn, row)
+        if len(rows) != last - first + 1:
+            raise BrokenArchive(first + len(rows), "it is missing")
+
+    def check(self) -> Sizes:
+        """Reads every block, and counts them. Raises `BrokenArchive`."""
+        blocks = empty = size = 0
+        for block in self.blocks():
+            blocks, empty, size = blocks + 1, empty + block.is_empty, size + len(block.data)
+        above = sql.select(sql.func.min(_blocks.c.lsn)).where(
+            _logs.c.id == self._id, _blocks.c.log == self._id, _blocks.c.lsn > _logs.c.archived
+        )
+        with self.engine.begin() as connection:
+            lsn = connection.execute(above).scalar_one()
+        if lsn is not None:
+            raise BrokenArchive(int(lsn), "a block is kept above the archived LSN")
+        return Sizes(blocks, empty, size)
+
+
+def _block(lsn: int, row: Any) -> Block:
+    if row.lsn != lsn:
+        raise BrokenArchive(lsn, "it is missing")
+    data = bytes(row.data)
+    if zlib.crc32(data) != row.crc:
+        raise BrokenArchive(lsn, "its bytes are not those that were kept")
+    try:
+        block = Block.decode(data)
+    except BlockFault as fault:
+        raise BrokenArchive(lsn, str(fault)) from fault
+    if block.lsn != lsn:
+        raise BrokenArchive(lsn, f"the block there says that it has LSN {block.lsn}")
+    return block
+
+
+def _engine(url: str) -> Engine:
+    parsed = sql.engine.make_url(url)
+    engine = sql.create_engine(parsed, future=True, pool_pre_ping=parsed.get_backend_name() != "sqlite")
+    if parsed.get_backend_name() == "sqlite":
+        sql.event.listen(engine, "connect", _prepare_sqlite)
+    return engine
+
+
+def _prepare_sqlite(connection: Any, _: object) -> None:
+    """A commit is on the disk before it returns, and readers do not wait for the archiver."""
+    cursor = connection.cursor()
+    cursor.execute("PRAGMA journal_mode=WAL")
+    cursor.execute("PRAGMA synchronous=FULL")
+    cursor.execute("PRAGMA busy_timeout=10000")
+    cursor.close()
+
+
+def _tables_are_missing(engine: Engine) -> bool:
+    try:
+        return not sql.inspect(engine).has_table("pagelog_log")
+    except sql.exc.SQLAlchemyError:
+        return False
