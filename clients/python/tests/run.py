@@ -18,6 +18,7 @@ PARTS = {
     "test_primary": "commits, epochs and doubts",
     "test_reader": "readers, page servers and operators",
     "test_credentials": "credentials",
+    "test_archive": "archives, whole up to their LSN",
 }
 
 

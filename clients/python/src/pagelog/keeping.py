@@ -73,6 +73,8 @@ class Archiver:
         self.archive = archive
         self.archived = archive.archived
         self._checked_connects = 0
+        # What was hardened once is hardened for good: a service with less is another one.
+        reader.hard_seen = max(reader.hard_seen, self.archived)
 
     @property
     def lag(self) -> int:
@@ -85,13 +87,14 @@ class Archiver:
         Raises `OtherLog` or `LogWentBack` where the service has another log, and `OtherArchiver`. Nothing was kept then.
         """
         span = self.reader.span(self.archived + 1, pulls=PULLS)
-        while self._checked_connects != self.reader.connection.connects:
+        if self._checked_connects != self.reader.connection.connects:
             self._check_log()
         blocks = whole(span)
         self.archived = self.archive.keep(blocks, self.reader.epoch) if blocks else self.archived
         return blocks
 
     def _check_log(self) -> None:
+        """Looks at the service behind the pulls of a batch. A connection that is made meanwhile is looked at next time."""
         connects = self.reader.connection.connects
         hard = self.reader.status().hard
         if hard < self.archived:

@@ -1,0 +1,18 @@
+"""`pagelogctl`, or `python3 -m pagelog`: the words, and what a fault of one looks like."""
+
+from __future__ import annotations
+
+import sys
+
+LACKS = "apt-get install python3-click python3-rich python3-sqlalchemy python3-psycopg2 python3-prometheus-client"
+"""The line that installs all that the words need."""
+
+
+def main() -> None:
+    """Runs a word. Exit status: 0 done, 1 a fault or a difference, 2 wrong arguments, 130 interrupted."""
+    try:
+        from pagelog.desk.words import pagelogctl
+    except ModuleNotFoundError as error:
+        print(f"pagelogctl needs {error.name}: {LACKS}", file=sys.stderr)
+        sys.exit(1)
+    pagelogctl(prog_name="pagelogctl")
