@@ -4,7 +4,10 @@ from __future__ import annotations
 
 import importlib
 import os
+import re
+import subprocess
 import sys
+import tempfile
 import time
 import unittest
 from pathlib import Path
@@ -19,6 +22,7 @@ PARTS = {
     "test_reader": "readers, page servers and operators",
     "test_credentials": "credentials",
     "test_archive": "archives, whole up to their LSN",
+    "test_restore": "restore, verify and move",
 }
 
 
@@ -69,13 +73,34 @@ def play(module: str, words: str, only: str | None) -> tuple[int, int]:
     return passed, failed
 
 
-def main(arguments: list[str]) -> int:
-    names = [name for name in PARTS if not arguments or name[5:] in arguments or f"test_{arguments[0]}" == name]
-    only = arguments[1] if len(arguments) > 1 else None
-    passed = failed = 0
+def side_by_side(names: list[str]) -> list[subprocess.Popen[str]]:
+    """Each part in a process of its own, as many at a time as there are processors, and at most three."""
+    running: list[subprocess.Popen[str]] = []
     for name in names:
-        good, bad = play(name, PARTS[name], only)
-        passed, failed = passed + good, failed + bad
+        while sum(process.poll() is None for process in running) >= min(3, os.cpu_count() or 1):
+            time.sleep(0.05)
+        command = [sys.executable, "-B", __file__, name[5:]]
+        output = tempfile.TemporaryFile("w+")
+        running.append(subprocess.Popen(command, stdout=output, text=True))
+        running[-1].output = output  # type: ignore[attr-defined]
+    return running
+
+
+def main(arguments: list[str]) -> int:
+    passed = failed = 0
+    if arguments:
+        only = arguments[1] if len(arguments) > 1 else None
+        passed, failed = play(f"test_{arguments[0]}", PARTS.get(f"test_{arguments[0]}", ""), only)
+    else:
+        # Those that take longest are begun first.
+        for process in side_by_side(list(reversed(PARTS))):
+            process.wait()
+            process.output.seek(0)  # type: ignore[attr-defined]
+            *lines, last = process.output.read().splitlines() or [""]  # type: ignore[attr-defined]
+            print("\n".join(lines), flush=True)
+            counts = re.fullmatch(r"clients/python: (\d+) passed, (\d+) failed", last)
+            good, bad = map(int, counts.groups()) if counts else (0, 1)
+            passed, failed = passed + good, failed + bad
     print(f"clients/python: {passed} passed, {failed} failed")
     return 0 if failed == 0 and passed > 0 else 1
 

@@ -72,9 +72,9 @@ class InOrder(unittest.TestCase):
     def test_large_requests_and_large_replies_do_not_wait_for_each_other(self) -> None:
         hardened(self.connection, 1)
         block = Block.of(2, [Put(page, 0, b"x" * 8000) for page in range(4)])
-        mixed = [Request(SECONDARY, Get(0, 1)), Request(PRIMARY, Write(0, block))] * 60
+        mixed = [Request(SECONDARY, Get(0, 1)), Request(PRIMARY, Write(0, block))] * 40
         replies = list(self.connection.exchange(mixed, in_flight=1000))
-        self.assertEqual([type(reply) for reply in replies], [Page, Done] * 60)
+        self.assertEqual([type(reply) for reply in replies], [Page, Done] * 40)
         self.assertEqual(self.connection.connects, 1)
 
 
@@ -83,8 +83,8 @@ class Cuts(unittest.TestCase):
         with Service() as service, CuttingProxy(service.address, least=30, most=1500) as proxy, proxy.connection() as connection:
             credentials = pagelog.Credentials.of(2, token(2))
             primary = pagelog.Primary(connection, credentials, alone=True)
-            lsns = list(primary.stream([put(0, lsn.to_bytes(8, "big"))] for lsn in range(1, 301)))
-            self.assertEqual(lsns, list(range(1, 301)))
+            lsns = list(primary.stream([put(0, lsn.to_bytes(8, "big"))] for lsn in range(1, 201)))
+            self.assertEqual(lsns, list(range(1, 201)))
             self.assertGreater(proxy.cuts, 20)
             with service.reader() as reader:
                 blocks = list(reader.blocks(1, follow=False))
@@ -94,10 +94,10 @@ class Cuts(unittest.TestCase):
         with Service() as service, service.connection() as direct:
             hardened(direct, 60)
             with CuttingProxy(service.address, least=9000, most=60000, seed=3) as proxy, proxy.connection() as connection:
-                pages = connection.exchange(Request(SECONDARY, Get(0, 1 + at % 60)) for at in range(240))
+                pages = connection.exchange(Request(SECONDARY, Get(0, 1 + at % 60)) for at in range(120))
                 self.assertEqual([int.from_bytes(page.data[:8], "big") for page in pages],  # type: ignore[union-attr]
-                                 [1 + at % 60 for at in range(240)])  # fmt: skip
-                self.assertGreater(proxy.cuts, 10)
+                                 [1 + at % 60 for at in range(120)])  # fmt: skip
+                self.assertGreater(proxy.cuts, 5)
 
     def test_a_failover_whose_reply_is_lost_is_in_doubt_and_not_repeated(self) -> None:
         with Service() as service, service.operator() as direct:

@@ -170,8 +170,8 @@ class Operators(unittest.TestCase):
 
     def test_its_length_is_found(self) -> None:
         with Service() as service, service.operator() as operator, service.reader() as reader:
-            for more in (0, 1, 2, 700, 1300):
-                reader.answers([Get(0, 0)] * more)
+            for more in (0, 1, 2, 1100):
+                reader.answers([Pull(9)] * more)
                 found = operator.count_of_entries()
                 there = len(list(operator.entries(1)))
                 self.assertLess(found, there)
@@ -179,19 +179,19 @@ class Operators(unittest.TestCase):
 
     def test_following_the_audit_list(self) -> None:
         with Service() as service, service.operator() as operator, service.reader() as reader:
-            reader.answers([Get(0, 0)] * 1500)
+            reader.answers([Pull(9)] * 1500)
             done = threading.Event()
             found: list[int] = []
-            gets: list[int] = []
+            pulls: list[int] = []
             for entry in operator.entries(1, follow=True, idle=0.02, stop=done.is_set):
                 found.append(entry.number)
-                gets += [entry.number] if entry.operation is Operation.GET else []
-                if len(gets) == 1500 and found[-1] == gets[-1]:
-                    reader.answers([Get(1, 0)] * 3)
-                if len(gets) == 1503:
+                pulls += [entry.number] if entry.operation is Operation.PULL else []
+                if len(pulls) == 1500 and found[-1] == pulls[-1]:
+                    reader.answers([Pull(9)] * 3)
+                if len(pulls) == 1503:
                     done.set()
             self.assertEqual(found, list(range(1, len(found) + 1)))
-            self.assertEqual(len(gets), 1503)
+            self.assertEqual(len(pulls), 1503)
 
 
 if __name__ == "__main__":

@@ -110,17 +110,16 @@ class Archiver:
         self._checked_connects = 0
 
     def run(self, *, follow: bool, idle: float = 1.0, told: Progress = no_progress, stop: Callable[[], bool] = lambda: False) -> int:
-        """Keeps all that is hardened; with `follow` also what comes, until `stop`, asking at least each `idle` seconds.
+        """Keeps what is hardened when it begins; with `follow` also what comes, until `stop`, asking at least each `idle`
+        seconds.
 
         `told` is given the archived LSN and the hardened end. Returns the archived LSN.
         """
-        wait = QUICKEST
-        while not stop():
+        wait, end = QUICKEST, self.reader.status().hard
+        while not stop() and (follow or self.archived < end):
             if self.step():
                 wait = QUICKEST
                 told(self.archived, self.reader.hard_seen)
-            elif not follow:
-                break
             else:
                 time.sleep(min(wait, idle))
                 wait = min(wait * 2, idle)

@@ -1,0 +1,348 @@
+"""Restore, verify and move: two services that have one log, LSN for LSN."""
+
+from __future__ import annotations
+
+import signal
+import tempfile
+import threading
+import time
+import unittest
+import zlib
+from pathlib import Path
+
+import pagelog
+from pagelog import Block, Operation, Put
+from pagelog.archive import Archive, BrokenArchive, _blocks, _logs
+from pagelog.keeping import Archiver, Move, NotFenced, OtherLog, all_blocks, restore, verify
+from postgres import postgres
+from service import Service, fill, put, token
+from test_archive import words
+
+
+class Pair(unittest.TestCase):
+    """A source with a log, its archive, and a fresh target."""
+
+    def setUp(self) -> None:
+        self.folder = Path(self.enterContext(tempfile.TemporaryDirectory()))
+        self.url = f"sqlite:///{self.folder}/archive.db"
+        self.source = self.enterContext(Service())
+        self.target = self.enterContext(Service())
+        self.primary = self.enterContext(self.source.primary())
+        self.reader = self.enterContext(self.source.reader())
+        self.archive = self.enterContext(Archive(self.url, create=True))
+
+    def archived(self, count: int, *, seed: int = 1) -> None:
+        fill(self.primary, count, seed=seed)
+        with self.source.reader() as reader:
+            Archiver(reader, self.archive).run(follow=False)
+
+    def restore(self, archive: Archive | None = None) -> pagelog.keeping.Verified:
+        with self.target.primary(alone=True) as primary, self.target.reader() as reader:
+            return restore(archive or self.archive, primary, reader)
+
+    def same_logs(self, count: int) -> None:
+        with self.source.reader() as one, self.target.reader() as other:
+            self.assertEqual((one.status().hard, other.status().hard), (count, count))
+            self.assertEqual(list(all_blocks(one, 1, count)), list(all_blocks(other, 1, count)))
+
+
+class Restoring(Pair):
+    def test_lsn_for_lsn_in_windows(self) -> None:
+        self.archived(300)
+        done = self.restore()
+        self.assertEqual((done.blocks, done.archived, done.hard, done.denied_pages), (300, 300, 300, 0))
+        self.assertGreater(done.pages, 40)
+        self.same_logs(300)
+        with self.target.operator() as operator:
+            entries = [entry for entry in operator.entries(1) if entry.operation is Operation.REPORT]
+        self.assertEqual([entry.a for entry in entries], [64, 128, 192, 256, 300])
+
+    def test_from_postgresql(self) -> None:
+        fill(self.primary, 100, seed=5)
+        with Archive(postgres().url("restored"), create=True) as archive:
+            Archiver(self.reader, archive).run(follow=False)
+            self.assertEqual(self.restore(archive).blocks, 100)
+        self.same_logs(100)
+
+    def test_of_nothing(self) -> None:
+        self.assertEqual(self.restore().blocks, 0)
+
+    def test_what_was_broken_off_goes_on(self) -> None:
+        self.archived(200)
+        with self.target.primary() as primary, self.target.connection() as connection:
+            list(primary.harden(self.archive.blocks(1, 70)))
+            # And a part of the next window stands in one copy, without a report.
+            head = pagelog.request.Head(2, bytes.fromhex(token(2)), pagelog.Role.PRIMARY, 0, 1)
+            writes = [pagelog.request.Request(head, pagelog.request.Write(0, block)) for block in self.archive.blocks(71, 90)]
+            self.assertEqual(set(connection.exchange(writes)), {pagelog.reply.Done()})
+        self.assertEqual(self.restore().blocks, 200)
+        self.assertEqual(self.restore().blocks, 200)
+        self.same_logs(200)
+
+    def test_nothing_is_overwritten(self) -> None:
+        self.archived(40)
+        for count in (3, 60):
+            with Service() as other:
+                with other.primary() as primary, other.reader() as reader:
+                    fill(primary, count, seed=9)
+                    with self.assertRaises(OtherLog):
+                        restore(self.archive, primary, reader)
+                    self.assertEqual(reader.status().hard, count)
+
+    def test_a_broken_archive_is_not_restored(self) -> None:
+        self.archived(100)
+        with self.archive.engine.begin() as connection:
+            connection.execute(_blocks.delete().where(_blocks.c.lsn == 77))
+        with self.assertRaises(BrokenArchive):
+            self.restore()
+        with self.target.reader() as reader:
+            self.assertEqual(reader.status().hard, 0)
+
+    def test_a_loss_of_the_service_is_no_loss_of_what_was_archived(self) -> None:
+        self.archived(120)
+        before = list(self.archive.blocks())
+        fill(self.primary, 5, seed=8)
+        self.source.restart()
+        with self.source.primary(alone=True) as primary, self.source.reader() as reader:
+            self.assertEqual(reader.status().hard, 0)
+            restore(self.archive, primary, reader)
+            self.assertEqual(list(all_blocks(reader, 1, 120)), before)
+            fill(primary, 10, seed=3)
+            Archiver(reader, self.archive).run(follow=False)
+        self.assertEqual((self.archive.archived, self.archive.check().blocks), (130, 130))
+
+    def test_a_table_that_denies_pages_is_told(self) -> None:
+        list(self.primary.stream([[Put(7 * 65536 + at, 0, b"x"), Put(at, 0, b"y")] for at in range(10)]))
+        with self.source.reader() as reader:
+            Archiver(reader, self.archive).run(follow=False)
+        done = self.restore()
+        self.assertEqual((done.pages, done.denied_pages), (15, 15))
+
+
+class Verifying(Pair):
+    def damage(self, lsn: int, records: list[Put]) -> None:
+        """The archive gets another block at this LSN, as sound as the one before."""
+        data = Block.of(lsn, records).data
+        with self.archive.engine.begin() as connection:
+            values = {"data": data, "crc": zlib.crc32(data)}
+            connection.execute(_blocks.update().where(_blocks.c.lsn == lsn).values(values))
+
+    def test_alike(self) -> None:
+        self.archived(80)
+        fill(self.primary, 7, seed=6)
+        with self.source.reader() as reader:
+            done = verify(self.archive, reader)
+        self.assertEqual((done.blocks, done.archived, done.hard), (80, 80, 87))
+
+    def test_each_block_is_compared(self) -> None:
+        self.archived(40)
+        good = {block.lsn: block for block in self.archive.blocks()}
+        for lsn in (1, 17, 40):
+            self.damage(lsn, [put(39, b"another")])
+            with self.assertRaises(OtherLog) as raised, self.source.reader() as reader:
+                verify(self.archive, reader)
+            self.assertEqual(raised.exception.lsn, lsn)
+            self.damage(lsn, list(good[lsn].records))  # type: ignore[arg-type]
+
+    def test_pages_are_compared(self) -> None:
+        """A replay that is wrong is noticed: the sampled pages of the service are those of the log."""
+        self.archived(40)
+        taken = pagelog.keeping._Replay.take
+
+        def skips_some(replay: object, block: Block) -> None:
+            if block.lsn % 3:
+                taken(replay, block)  # type: ignore[arg-type]
+
+        pagelog.keeping._Replay.take = skips_some  # type: ignore[method-assign, assignment]
+        self.addCleanup(setattr, pagelog.keeping._Replay, "take", taken)
+        with self.assertRaisesRegex(OtherLog, "page"), self.source.reader() as reader:
+            verify(self.archive, reader, seed=1)
+
+    def test_a_service_with_less(self) -> None:
+        self.archived(40)
+        with self.assertRaises(pagelog.LogWentBack), self.target.reader() as reader:
+            verify(self.archive, reader)
+
+    def test_the_sample_is_replayed_from_the_first_record(self) -> None:
+        replay = pagelog.keeping._Replay(seed=12345, count=8)
+        plain: dict[int, bytearray] = {}
+        for lsn in range(1, 300):
+            records = [Put(lsn * 7 % 100, lsn % 9, bytes([lsn % 256]) * 3), Put(lsn * 13 % 31, 0, b"z")]
+            records += [pagelog.Zero(lsn * 3 % 100)] if lsn % 5 == 0 else []  # type: ignore[list-item]
+            block = Block.of(lsn, records)
+            replay.take(block)
+            for record in block.records:
+                page = plain.setdefault(record.page, bytearray(8192))
+                if isinstance(record, Put):
+                    page[record.offset : record.offset + len(record.data)] = record.data
+                else:
+                    page[:] = bytes(8192)
+        self.assertEqual(len(replay.pages), 8)
+        self.assertEqual(replay.pages, {number: plain[number] for number in replay.pages})
+
+
+class Moving(Pair):
+    def mover(self, **options: object) -> Move:
+        archiver = Archiver(self.enterContext(self.source.reader()), self.archive)
+        operator = self.enterContext(self.source.operator())
+        target = self.enterContext(self.target.primary(alone=True))
+        check = self.enterContext(self.target.reader())
+        return Move(archiver, operator, target, check, 1, **options)  # type: ignore[arg-type]
+
+    def write_until_denied(self, ended: list[object], pause: float = 0.0) -> None:
+        try:
+            with self.source.primary() as primary:
+                while True:
+                    primary.append(put(1, b"while it moves"))
+                    ended[:] = [primary.commit()]
+                    time.sleep(pause)
+        except pagelog.PagelogError as error:
+            ended.append(error)
+
+    def test_with_a_writer_that_goes_on(self) -> None:
+        fill(self.primary, 200)
+        ended: list[object] = []
+        writer = threading.Thread(target=self.write_until_denied, args=(ended, 0.002))
+        writer.start()
+        done = self.mover().run()
+        writer.join(10)
+        last, error = ended
+        self.assertIsInstance(error, pagelog.OlderEpoch)
+        # All that was acknowledged is in the target; the one in flight may be.
+        self.assertIn(done.hard, (last, last + 1))  # type: ignore[operator]
+        self.assertLessEqual(done.behind, 64 + 16)
+        self.assertEqual(done.epoch, 2)
+        self.same_logs(done.hard)
+        self.assertEqual(self.archive.archived, done.hard)
+        with self.source.operator() as operator, self.target.primary() as primary:
+            self.assertEqual((operator.status().epoch, operator.status().primary), (2, 1))
+            primary.append(put(1, b"on"))
+            self.assertEqual(primary.commit(), done.hard + 1)
+
+    def test_to_another_number_of_the_same_service(self) -> None:
+        with Service(dbs=2) as service:
+            with service.primary() as primary:
+                fill(primary, 50)
+            done = self.words_move(service, service, to_db=1)
+            self.assertRegex(done, r"^moved 50 blocks, alike in both; the source is fenced in epoch 2, 0 blocks before its end; ")
+            with service.reader(db=1) as reader, service.reader() as source:
+                self.assertEqual(list(all_blocks(reader, 1, 50)), list(all_blocks(source, 1, 50)))
+
+    def words_move(self, source: Service, target: Service, *, to_db: int = 0) -> str:
+        old, new = source.credentials_file(name="old.toml"), target.credentials_file(name="new.toml")
+        process = words("move", "--from", old, "--to", new, "--to-db", to_db, "--url", self.url)
+        out, error = process.communicate(timeout=60)
+        self.assertEqual((process.returncode, error), (0, ""))
+        return out
+
+    def test_before_the_audit_list_is_full(self) -> None:
+        """A small audit list fills while a writer goes on; the move is done before, and the writer goes on elsewhere."""
+        with Service(audit=12000) as small:
+            self.source = small
+            ended: list[object] = []
+            writer = threading.Thread(target=self.write_until_denied, args=(ended, 0.005))
+            writer.start()
+            with small.operator() as operator:
+                while operator.status().hard < 300:
+                    time.sleep(0.05)
+                done = self.mover().run()
+                writer.join(20)
+                used = operator.count_of_entries()
+            self.assertLess(used, 12000)
+            self.assertGreater(used, 1200)
+            self.assertIsInstance(ended[1], pagelog.OlderEpoch)
+            self.same_logs(done.hard)
+            with self.target.primary() as primary:
+                primary.append(put(1, b"on"))
+                self.assertEqual(primary.commit(), done.hard + 1)
+
+    def test_where_the_audit_list_is_full_already_the_archive_is_left(self) -> None:
+        with Service(audit=400) as small:
+            with small.primary() as primary:
+                fill(primary, 60)
+            with small.reader() as reader:
+                Archiver(reader, self.archive).run(follow=False)
+                with self.assertRaises(pagelog.AuditListFull):
+                    while True:
+                        reader.status()
+            self.source = small
+            with self.assertRaises(pagelog.AuditListFull):
+                self.mover().run()
+            self.assertEqual(self.restore().blocks, 60)
+
+    def test_a_source_that_is_never_near_is_not_fenced(self) -> None:
+        fill(self.primary, 10)
+        move = self.mover(within=-1, patience=0.2)
+        with self.assertRaises(NotFenced):
+            move.run()
+        self.assertEqual(self.reader.status().epoch, 1)
+        move.within = 64
+        self.assertEqual(move.run().hard, 10)
+
+    def test_a_target_that_is_not_fresh_is_refused_before_the_fence(self) -> None:
+        fill(self.primary, 10)
+        with self.target.primary() as primary:
+            fill(primary, 2, seed=77)
+        with self.assertRaises(OtherLog):
+            self.mover().run()
+        self.assertEqual(self.reader.status().epoch, 1)
+
+    def test_the_check_finds_a_difference(self) -> None:
+        fill(self.primary, 30)
+        move = self.mover()
+        move.run()
+        with self.target.primary() as primary:
+            primary.append(put(0, b"more"))
+            primary.commit()
+        with self.assertRaises(OtherLog):
+            move._check(lambda _, __: None)
+
+
+class Words(Pair):
+    def test_restore_and_verify(self) -> None:
+        self.archived(70)
+        here, there = self.source.credentials_file(), self.target.credentials_file()
+        cases = [
+            (("verify", "--credentials", here), 0, "verified 70 of 70: 70 blocks and "),
+            (("verify", "--credentials", there), 1, "LogWentBack: the service has 0 blocks, and 70 are archived"),
+            (("restore", "--credentials", there), 0, "restored 70: 70 blocks and "),
+            (("verify", "--credentials", there), 0, "verified 70 of 70: 70 blocks and "),
+            (("verify", "--offline"), 0, "sound: 70 blocks, "),
+            (("restore", "--credentials", there, "--db", "5"), 1, "NoArchive: the archive has no log '5': it has '0'"),
+            (("restore", "--credentials", there, "--db", "5", "--log", "0"), 1, "UnknownDatabase"),
+        ]
+        for arguments, status, text in cases:
+            process = words(*arguments, "--url", self.url)
+            out, error = process.communicate(timeout=60)
+            self.assertEqual(process.returncode, status, (arguments, out, error))
+            self.assertIn(text, error if status else out, arguments)
+            self.assertEqual(out if status else error, "", arguments)
+
+    def test_a_restore_that_is_killed_goes_on(self) -> None:
+        self.archived(400)
+        file = self.target.credentials_file()
+        with self.target.reader() as reader:
+            for _ in range(2):
+                process = words("restore", "--credentials", file, "--url", self.url)
+                before = reader.status().hard
+                while reader.status().hard == before and process.poll() is None:
+                    time.sleep(0.01)
+                process.send_signal(signal.SIGKILL)
+                process.communicate()
+            process = words("restore", "--credentials", file, "--url", self.url)
+            out, error = process.communicate(timeout=60)
+            self.assertEqual((process.returncode, error), (0, ""))
+        self.same_logs(400)
+
+    def test_an_archive_of_another_format_is_refused(self) -> None:
+        with self.archive.engine.begin() as connection:
+            connection.execute(_logs.update().values(format=2))
+        process = words("verify", "--offline", "--url", self.url)
+        _, error = process.communicate(timeout=60)
+        self.assertEqual((process.returncode, "format 2" in error), (1, True))
+
+
+if __name__ == "__main__":
+    unittest.main()
+
+
