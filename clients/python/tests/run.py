@@ -23,6 +23,7 @@ PARTS = {
     "test_credentials": "credentials",
     "test_archive": "archives, whole up to their LSN",
     "test_restore": "restore, verify and move",
+    "test_looking": "status, top, audit, metrics and explain",
 }
 
 

@@ -71,6 +71,10 @@ class Client:
         self._saw_hard(state.hard)
         return state
 
+    def forget(self) -> None:
+        """Takes the service to be a new one, of which nothing was seen."""
+        self.epoch, self.hard_seen = FIRST_EPOCH, 0
+
     # The epoch.
 
     def _request(self, act: Act) -> Request:

@@ -9,10 +9,16 @@ import click
 import pagelog
 
 WORDS = {
+    "status": "looking_words",
+    "top": "looking_words",
+    "audit": "looking_words",
+    "metrics": "looking_words",
     "archive": "keeping_words",
     "restore": "keeping_words",
     "verify": "keeping_words",
     "move": "keeping_words",
+    "explain": "explain_words",
+    "completion": "explain_words",
 }
 """In which module of this package each word is, as `WORD_word`."""
 

@@ -1,0 +1,243 @@
+"""Which row of a table decides a request, asked of the program itself: `pagelog play` with that table."""
+
+from __future__ import annotations
+
+import os
+import re
+import shutil
+import subprocess
+import tempfile
+import tomllib
+from dataclasses import dataclass
+from pathlib import Path
+from typing import Any
+
+from pagelog.block import PAGES_OF_PARTITION, Block, Zero
+from pagelog.errors import Fault, PagelogError
+from pagelog.reply import Denied, Reply, decode_reply
+from pagelog.request import Act, Advance, Audit, Failover, Get, Head, Offer, Pull, Report, Request, Role, SetTable, Status, Tidy, Write
+from pagelog.rules import Section, TableFault, rule_of
+
+PROGRAM_VARIABLE = "PAGELOG"
+"""The variable of the environment that names the program."""
+UNKNOWN_TOKEN = bytes(16)
+_ROLES = {
+    "write": Role.PRIMARY, "offer": Role.PRIMARY, "report": Role.PRIMARY, "get": Role.SECONDARY, "pull": Role.SECONDARY,
+    "advance": Role.PAGE_SERVER, "status": Role.OPERATOR, "failover": Role.OPERATOR, "set_table": Role.OPERATOR,
+    "audit": Role.OPERATOR, "tidy": Role.OPERATOR,
+}  # fmt: skip
+
+
+class ExplainError(PagelogError):
+    """A request that cannot be read, a file that is no table, or no program to ask."""
+
+
+@dataclass(frozen=True)
+class Question:
+    """A request in words: `principal 3 pull 0..3`, or `principal 2 as secondary get 70000`."""
+
+    words: str
+    principal: int
+    role: Role
+    operation: str
+    argument: str
+
+    @classmethod
+    def parse(cls, words: str) -> Question:
+        """From words. Raises `ExplainError`."""
+        found = re.fullmatch(r"principal (\d+)(?: as (\w+))? (\w+)(?: ([\d.,]+))?", " ".join(words.split()))
+        if found is None or found[3] not in _ROLES:
+            raise ExplainError(f"{words!r} is not of the form: principal N [as ROLE] OPERATION [ARGUMENT]")
+        role = found[2] or _ROLES[found[3]].word
+        if role.upper() not in Role.__members__:
+            raise ExplainError(f"{role!r} is not primary, secondary, page_server or operator")
+        return cls(words, int(found[1]), Role[role.upper()], found[3], found[4] or "")
+
+    def act(self, text: bytes) -> Act:
+        """What is asked for; a set_table sets this text. Raises `ExplainError`."""
+        try:
+            return self._act(text)
+        except (ValueError, Fault) as error:
+            raise ExplainError(f"{self.words!r}: {error}") from error
+
+    def _act(self, text: bytes) -> Act:
+        number = int(self.argument) if self.argument.isdecimal() else None
+        lo, hi = _range(self.argument or "0..65535")
+        block = Block.of(1, [Zero(at * PAGES_OF_PARTITION) for at in _partitions(self.argument)])
+        acts: dict[str, Act] = {
+            "write": Write(0, block), "offer": Offer(block), "report": Report(0), "get": Get(number or 0, 0), "pull": Pull(1, 1, lo, hi),
+            "advance": Advance(number or 0, 1), "status": Status(), "failover": Failover(self.principal if number is None else number),
+            "set_table": SetTable(text), "audit": Audit(1), "tidy": Tidy(),
+        }  # fmt: skip
+        return acts[self.operation]
+
+
+def _range(text: str) -> tuple[int, int]:
+    first, _, last = text.partition("..")
+    if "," in text or not first.isdecimal():
+        return 0, 0
+    return int(first), int(last or first)
+
+
+def _partitions(text: str) -> list[int]:
+    """Of `0..3`, `1,4` or nothing."""
+    if "," in text:
+        return sorted({int(part) for part in text.split(",")})
+    if not text or int(text.partition("..")[0]) > 65535:
+        return []
+    lo, hi = _range(text)
+    return list(range(lo, min(hi, lo + 4000) + 1))
+
+
+@dataclass(frozen=True)
+class Decision:
+    """How a request is decided: by a rule, or by the row of the table that allows it."""
+
+    is_allowed: bool
+    place: str
+    text: str
+
+    def __str__(self) -> str:
+        return f"{'allowed' if self.is_allowed else 'denied'} by {self.text}"
+
+
+class Table:
+    """A table's file. Raises `ExplainError` where it cannot be read."""
+
+    def __init__(self, file: Path) -> None:
+        try:
+            self.text = file.read_bytes()
+            document = tomllib.loads(self.text.decode())
+        except (OSError, UnicodeDecodeError, tomllib.TOMLDecodeError) as error:
+            raise ExplainError(f"{file.name}: {error}") from error
+        self.name = file.name
+        self.principals = _tables(document.get("principal"))
+        self.rows = _tables(document.get("row"))
+
+    def token(self, principal: int) -> bytes:
+        """The token of a principal; another's where it is not listed, which the program then denies."""
+        found = next((one.get("token") for one in self.principals if one.get("id") == principal), None)
+        try:
+            return bytes.fromhex(found) if isinstance(found, str) and len(found) == 32 else UNKNOWN_TOKEN
+        except ValueError:
+            return UNKNOWN_TOKEN
+
+    def lists(self, principal: int) -> bool:
+        """Whether the principal is listed."""
+        return any(one.get("id") == principal for one in self.principals)
+
+    def beginning(self, rows: int, without: int) -> str:
+        """The text of the first rows, and behind them a row by which another principal than this may set the table."""
+        other = next((one["id"] for one in self.principals if one["id"] != without), None)
+        principals = list(self.principals)
+        if other is None:
+            other = (without + 1) % (1 << 32)
+            principals.append({"id": other, "token": "00" * 16})
+        last = {"verdict": "allow", "who": other, "role": "operator", "op": ["set_table"]}
+        parts = [_toml("principal", one) for one in principals] + [_toml("row", row) for row in (*self.rows[:rows], last)]
+        return "\n".join(parts)
+
+    def row(self, number: int) -> str:
+        """A row in words, from 1."""
+        return " ".join(f"{key} {_words(value)}" for key, value in self.rows[number - 1].items())
+
+
+def _tables(found: Any) -> list[dict[str, Any]]:
+    """An array of tables, as far as it is one: the program says what is wrong with it."""
+    return [one for one in found if isinstance(one, dict)] if isinstance(found, list) else []
+
+
+def _toml(name: str, fields: dict[str, Any]) -> str:
+    def value(found: Any) -> str:
+        if isinstance(found, list):
+            return "[" + ", ".join(map(value, found)) + "]"
+        return str(found) if isinstance(found, int) else f'"{found}"'
+
+    return f"[[{name}]]\n" + "".join(f"{key} = {value(found)}\n" for key, found in fields.items())
+
+
+def _words(value: Any) -> str:
+    return ",".join(map(str, value)) if isinstance(value, list) else str(value)
+
+
+def program() -> str:
+    """The program to ask: of the environment, of the path, or the one that this checkout built. Raises `ExplainError`."""
+    built = Path(__file__).resolve().parents[5] / "crates" / "pagelog" / "out" / "pagelog"
+    found = os.environ.get(PROGRAM_VARIABLE) or shutil.which("pagelog") or (str(built) if built.exists() else None)
+    if found is None:
+        raise ExplainError(f"there is no program pagelog on the path; name one in {PROGRAM_VARIABLE}")
+    return found
+
+
+def explain(table: Table, question: Question) -> Decision:
+    """How the table decides the request in the first epoch of an empty database, whose primary is the one who asks."""
+    reply = _play(table, table.text.decode(), question)
+    if isinstance(reply, Denied) and reply.section is not Section.C:
+        return _denied(table, reply)
+    low, high = 0, len(table.rows)
+    while high - low > 1:
+        middle = (low + high) // 2
+        found = _play(table, table.beginning(middle, question.principal), question)
+        low, high = (middle, high) if isinstance(found, Denied) and found.section is Section.B else (low, middle)
+    return Decision(True, f"row {high}", f"row {high} of the table: {table.row(high)}{_log_words(reply)}")
+
+
+def _denied(table: Table, reply: Denied) -> Decision:
+    rule = rule_of(reply.section, reply.row)
+    place = f"{reply.section.name}{reply.row}"
+    if reply.section is Section.B and reply.row:
+        return Decision(False, place, f"{place} {rule.rule}, row {reply.row} of the table: {table.row(reply.row)}")
+    return Decision(False, place, f"{place} {rule.rule}: {rule.sentence}")
+
+
+def _log_words(reply: Reply) -> str:
+    if not isinstance(reply, Denied):
+        return ""
+    rule = rule_of(reply.section, reply.row)
+    return f" (then the log decides: here C{reply.row} {rule.rule}, as it is empty)" if reply.row == 1 else f" (then C{reply.row} {rule.rule})"
+
+
+def _play(table: Table, text: str, question: Question) -> Reply:
+    """The program's reply to the request, under this text."""
+    act = question.act(table.text)
+    head = Head(question.principal, table.token(question.principal), question.role, 0, 1)
+    primary = question.principal if table.lists(question.principal) else next((one.get("id", 0) for one in table.principals), 0)
+    with tempfile.NamedTemporaryFile("w", suffix=".toml") as file:
+        file.write(text)
+        file.flush()
+        command = [program(), "play", "--table", file.name, "--primary", str(primary)]
+        done = subprocess.run(command, input=Request(head, act).encode().hex() + "\n", capture_output=True, text=True)
+    if done.returncode != 0:
+        raise ExplainError(f"{table.name}: {_fault_words(done.stderr.strip())}")
+    return decode_reply(bytes.fromhex(done.stdout.strip()))
+
+
+def _fault_words(line: str) -> str:
+    code = re.fullmatch(r"fault: table (\d+)", line)
+    if code is None:
+        return line
+    return f"it is no table: fault {code[1]}, {TableFault(int(code[1])).name.lower().replace('_', ' ')}"
+
+
+@dataclass(frozen=True)
+class Difference:
+    """A request that two tables decide otherwise."""
+
+    question: Question
+    old: Decision
+    new: Decision
+
+
+def questions_of(file: Path) -> list[Question]:
+    """The requests of a file, a line each; empty lines and those that begin with # are left out."""
+    try:
+        lines = file.read_text().splitlines()
+    except OSError as error:
+        raise ExplainError(f"{file.name}: {error.strerror}") from error
+    return [Question.parse(line) for line in lines if line.strip() and not line.lstrip().startswith("#")]
+
+
+def differences(old: Table, new: Table, questions: list[Question]) -> list[Difference]:
+    """Those of the requests that one table allows and the other denies."""
+    found = (Difference(question, explain(old, question), explain(new, question)) for question in questions)
+    return [difference for difference in found if difference.old.is_allowed != difference.new.is_allowed]

@@ -1,0 +1,64 @@
+"""explain, and completion."""
+
+from __future__ import annotations
+
+import sys
+from pathlib import Path
+
+import click
+
+from pagelog.desk.explain import Question, Table, differences, explain, questions_of
+from pagelog.desk.options import faults
+
+
+@click.command("explain")
+@click.option("--diff", "is_diff", is_flag=True, help="Compare two tables: OLD NEW FILE, with a request on each line of FILE.")
+@click.argument("arguments", nargs=-1, required=True, metavar="TABLE REQUEST... | --diff OLD NEW FILE")
+@faults
+def explain_word(is_diff: bool, arguments: tuple[str, ...]) -> None:
+    """Say which row of a table decides a request, before the table is set.
+
+    The program itself is asked: `pagelog play`, on an empty database in epoch 1 whose primary is the one who asks. PAGELOG
+    names it where it is not on the path. A request is `principal N [as ROLE] OPERATION [ARGUMENT]`; the argument is the
+    partitions of a write, an offer or a pull (0..3 or 1,4), the page of a get, the partition of an advance, and the
+    principal of a failover.
+
+    With --diff the requests that are decided otherwise are listed, and the exit status is 1 if there are any.
+
+    \b
+    Examples:
+      pagelogctl explain t0.toml "principal 3 pull 0..3"
+      pagelogctl explain t0.toml "principal 2 as secondary get 458752"
+      pagelogctl explain --diff old.toml new.toml requests.txt
+    """
+    if is_diff:
+        if len(arguments) != 3:
+            raise click.UsageError("--diff takes OLD NEW FILE")
+        old, new, file = map(Path, arguments)
+        found = differences(Table(old), Table(new), questions_of(file))
+        for difference in found:
+            click.echo(f"{difference.question.words}\n  {old.name}: {difference.old}\n  {new.name}: {difference.new}")
+        sys.exit(1 if found else 0)
+    if len(arguments) < 2:
+        raise click.UsageError("which request? As: principal 3 pull 0..3")
+    table = Table(Path(arguments[0]))
+    for words in arguments[1:]:
+        click.echo(f"{words}: {explain(table, Question.parse(words))}")
+
+
+@click.command("completion")
+@click.argument("shell", type=click.Choice(["bash", "zsh", "fish"]))
+def completion_word(shell: str) -> None:
+    """Print a script that completes words and options, for a shell to read.
+
+    \b
+    Example:
+      pagelogctl completion bash > ~/.local/share/bash-completion/completions/pagelogctl
+    """
+    from click.shell_completion import get_completion_class
+
+    from pagelog.desk.words import pagelogctl
+
+    kind = get_completion_class(shell)
+    assert kind is not None
+    click.echo(kind(pagelogctl, {}, "pagelogctl", "_PAGELOGCTL_COMPLETE").source())

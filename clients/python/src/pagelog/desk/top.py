@@ -1,0 +1,75 @@
+"""The live page of `top`: a table of databases."""
+
+from __future__ import annotations
+
+from dataclasses import dataclass
+from typing import Mapping
+
+from rich.console import Group, RenderableType
+from rich.panel import Panel
+from rich.table import Table
+from rich.text import Text
+
+from pagelog.desk.watch import Look, duration
+
+
+@dataclass(frozen=True)
+class Line:
+    """What is known of one database: a look or an error, and the archived LSN where an archive is watched."""
+
+    database: int
+    look: Look | None
+    error: str = ""
+    archived: int | None = None
+
+
+def rate(value: float | None) -> str:
+    """A rate as people read it."""
+    return "-" if value is None else f"{value:,.0f}/s" if value >= 10 or value == 0 else f"{value:.1f}/s"
+
+
+def page(address: str, lines: Mapping[int, Line], at: str) -> RenderableType:
+    """The whole page."""
+    table = Table(expand=True, box=None, padding=(0, 1), header_style="bold")
+    for title in ("db", "epoch", "primary", "hardened", "blocks", "reads", "requests", "applied", "archive lag", "audit list", "full in"):
+        table.add_column(title, justify="left" if title in ("applied", "audit list") else "right", no_wrap=True)
+    for line in lines.values():
+        table.add_row(*_cells(line))
+    errors = [Text(f"db {line.database}: {line.error}", style="red") for line in lines.values() if line.error]
+    return Panel(Group(table, *errors, Text(), _denials(lines)), title=f"pagelog {address}", subtitle=f"{at}   q or Ctrl-C ends", title_align="left")
+
+
+def _cells(line: Line) -> list[RenderableType]:
+    look = line.look
+    if look is None:
+        return [str(line.database)]
+    applied = ", ".join(f"{partition}: {lsn:,}" for partition, lsn in sorted(look.applied.items())[:3])
+    lag = "-" if line.archived is None else f"{max(0, look.state.hard - line.archived):,}"
+    behind = "+" if look.is_behind else ""
+    return [
+        str(line.database), str(look.state.epoch), str(look.state.primary), f"{look.state.hard:,}", rate(look.blocks_rate),
+        rate(look.reads_rate), rate(look.requests_rate), applied or "-", lag, _use(look.used, f"{look.entries:,}{behind}"),
+        _when(look),
+    ]  # fmt: skip
+
+
+def _use(used: float, words: str) -> Text:
+    full = round(used * 12)
+    style = "red" if used > 0.9 else "yellow" if used > 0.7 else "green"
+    return Text.assemble(("#" * full, style), ("." * (12 - full), "dim"), f" {used:4.0%} {words}")
+
+
+def _when(look: Look) -> Text:
+    seconds = look.full_in
+    return Text(duration(seconds), style="red" if seconds is not None and seconds < 3600 else "")
+
+
+def _denials(lines: Mapping[int, Line]) -> RenderableType:
+    table = Table(box=None, padding=(0, 1), header_style="bold")
+    table.add_column("db", justify="right")
+    table.add_column("denied by", min_width=24)
+    table.add_column("times", justify="right")
+    for line in lines.values():
+        for rule, count in sorted((line.look.denials if line.look else {}).items(), key=lambda found: -found[1])[:6]:
+            table.add_row(str(line.database), rule, f"{count:,}")
+    return table if table.row_count else Text("nothing was denied since this page began", style="dim")
