@@ -27,12 +27,8 @@ PARTS = {
 }
 
 
-class Quiet(unittest.TestResult):
-    """Counts, and keeps the texts of what failed."""
-
-    def __init__(self) -> None:
-        super().__init__()
-        self.texts: list[str] = []
+class Timed(unittest.TestResult):
+    """Counts, and with PAGELOG_TEST_TIMES in the environment says how long each test took."""
 
     def startTest(self, test: unittest.TestCase) -> None:
         super().startTest(test)
@@ -43,18 +39,10 @@ class Quiet(unittest.TestResult):
         if os.environ.get("PAGELOG_TEST_TIMES"):
             print(f"{time.monotonic() - self.began:6.2f} s {test.id()}")
 
-    def addFailure(self, test: unittest.TestCase, error: object) -> None:
-        super().addFailure(test, error)  # type: ignore[arg-type]
-        self.texts.append(f"{test.id()}: {self.failures[-1][1]}")
-
-    def addError(self, test: unittest.TestCase, error: object) -> None:
-        super().addError(test, error)  # type: ignore[arg-type]
-        self.texts.append(f"{test.id()}: {self.errors[-1][1]}")
-
 
 def play(module: str, words: str, only: str | None) -> tuple[int, int]:
     began = time.monotonic()
-    result = Quiet()
+    result, texts = Timed(), []
     loader = unittest.TestLoader()
     if only:
         loader.testNamePatterns = [f"*{only}*"]
@@ -62,12 +50,14 @@ def play(module: str, words: str, only: str | None) -> tuple[int, int]:
         suite = loader.loadTestsFromModule(importlib.import_module(module))
         suite.run(result)
     except Exception as error:  # a module that cannot be imported is a failed test
-        result.texts.append(f"{module}: {type(error).__name__}: {error}")
+        texts.append((module, f"{type(error).__name__}: {error}"))
         result.testsRun += 1
-    failed = len(result.texts)
+    # A test whose cases fail one by one stands here once for each of them.
+    texts += [(str(test), text) for test, text in result.failures + result.errors]
+    failed = min(len(texts), result.testsRun)
     passed = result.testsRun - failed - len(result.skipped)
-    for text in result.texts:
-        print(text, file=sys.stderr)
+    for test, text in texts:
+        print(f"{test}: {text}", file=sys.stderr)
     if result.testsRun:
         left = f", {len(result.skipped)} left to --long" if result.skipped else ""
         print(f"{module[5:]}: {words}: {passed} passed, {failed} failed{left}, {time.monotonic() - began:.1f} s", flush=True)

@@ -7,11 +7,12 @@ import re
 import unittest
 from typing import Iterator
 
+import vectors
 from service import TOP, token
 
 from pagelog import faults
 from pagelog.block import Block, Put, Zero
-from pagelog.connection import Connection
+from pagelog.connection import Connection, _Waiting
 from pagelog.errors import Fault
 from pagelog.reply import (
     AuditFull, Blocks, Denied, Done, Entries, Entry, Malformed, NoDatabase, NoMemory, Page, Reply, Spent, State, decode_reply,
@@ -102,16 +103,44 @@ class Formats(unittest.TestCase):
         self.assertEqual((entry.place, entry.rule, entry.is_allowed), ("A2", "OlderEpoch", False))
 
     def test_the_vectors(self) -> None:
-        fences = re.findall(r"^```vectors\n(.*?)^```", FORMATS, flags=re.S | re.M)
-        for line in "".join(fences).splitlines():
-            kind, name, digits, fields = (line.split(maxsplit=3) + ["{}"])[:4]
-            with self.subTest(name=name):
-                check_vector(self, kind, bytes.fromhex(digits), json.loads(fields))
+        lines = "".join(re.findall(r"^```vectors\n(.*?)^```", FORMATS, flags=re.S | re.M)).splitlines()
+        seen = set()
+        for line in lines:
+            kind, name, digits, fields = line.split(" ", 3)
+            with self.subTest(f"{kind} {name}"):
+                self.check_vector(kind, bytes.fromhex(digits), json.loads(fields))
+            seen.add((kind, json.loads(fields).get("op") or json.loads(fields).get("reply")))
+        wanted = {("request", operation.word) for operation in Operation} | {("reply", word) for word in vectors.WORDS.values()}
+        wanted |= {("reply", word) for word in ("blocks", "page", "entries", "status", "denied", "malformed")}
+        self.assertEqual(seen, wanted | {("block", None), ("frame", None)})
 
+    def check_vector(self, kind: str, data: bytes, fields: dict[str, object]) -> None:
+        """Both directions of one line: its bytes and its fields say the same."""
+        if kind == "block":
+            self.assertEqual(vectors.block_of_fields(fields).data, data)
+            self.assertEqual(vectors.fields_of_block(Block.decode(data)), fields)
+        elif kind == "request":
+            self.assertEqual(vectors.request_of_fields(fields).encode(), data)
+            self.assertEqual(vectors.fields_of_request(decode_request(data)), fields)
+        elif kind == "reply":
+            self.assertEqual(encode_reply(vectors.reply_of_fields(fields)), data)
+            self.assertEqual(vectors.fields_of_reply(decode_reply(data)), fields)
+        else:
+            self.assertEqual(kind, "frame")
+            body = bytes.fromhex(str(fields["body"]))
+            self.check_frame(data, body)
 
-def check_vector(test: unittest.TestCase, kind: str, data: bytes, fields: dict[str, object]) -> None:
-    """Both directions of one line: its bytes and its fields say the same."""
-    raise AssertionError(f"no vectors are known yet: {kind}")
+    def check_frame(self, data: bytes, body: bytes) -> None:
+        """A connection takes the body out of the frame, however its bytes come, and puts a request's body into one."""
+        for cut in range(len(data) + 1):
+            connection = Connection("127.0.0.1:1")
+            connection._in += data[:cut]
+            self.assertEqual(connection._take_frame(), body if cut == len(data) else None)
+            if cut < len(data):
+                connection._in += data[cut:]
+                self.assertEqual(connection._take_frame(), body)
+        if len(body) >= 30:
+            self.assertEqual(_Waiting(decode_request(body)).frame, data)
 
 
 class Replies(unittest.TestCase):
