@@ -4,28 +4,26 @@ from __future__ import annotations
 
 import atexit
 import os
-import pwd
 import shutil
 import subprocess
 import tempfile
 from pathlib import Path
+from typing import Any
 
 _started: list["Postgres"] = []
 
 
 def programs() -> Path:
-    """The folder of PostgreSQL's programs."""
-    found = subprocess.run(["pg_config", "--bindir"], capture_output=True, text=True)
-    if found.returncode == 0 and (Path(found.stdout.strip()) / "initdb").exists():
-        return Path(found.stdout.strip())
+    """The folder of PostgreSQL's programs: the newest beside `psql`, or that of `initdb`."""
     known = shutil.which("psql")
-    if known is None:
-        raise AssertionError("there is no PostgreSQL: apt-get install postgresql")
-    folders = sorted(Path(known).resolve().parents[2].glob("lib/postgresql/*/bin"), reverse=True)
-    servers = [folder for folder in (*folders, Path(known).resolve().parent) if (folder / "initdb").exists()]
-    if not servers:
-        raise AssertionError("there is no PostgreSQL: apt-get install postgresql")
-    return servers[0]
+    tops = {Path(known).parent.parent, Path(known).resolve().parents[2]} if known else set()
+    folders = [folder for top in tops for folder in sorted(top.glob("lib/postgresql/*/bin"), reverse=True)]
+    initdb = shutil.which("initdb")
+    folders += [Path(initdb).resolve().parent] if initdb else []
+    for folder in folders:
+        if (folder / "initdb").exists():
+            return folder
+    raise AssertionError("there is no PostgreSQL: apt-get install postgresql")
 
 
 class Postgres:
@@ -33,21 +31,23 @@ class Postgres:
 
     def __init__(self) -> None:
         self.folder = Path(tempfile.mkdtemp(prefix="pagelog-postgres-"))
-        self.user = "postgres" if os.getuid() == 0 else pwd.getpwuid(os.getuid()).pw_name
-        if os.getuid() == 0:
+        # PostgreSQL does not run as root.
+        self.user = "postgres" if os.getuid() == 0 else None
+        if self.user:
             shutil.chown(self.folder, self.user)
         self.data = self.folder / "data"
-        self.run("initdb", "-D", self.data, "-U", "pagelog", "-A", "trust", "--no-sync", "-E", "UTF8")
+        self.run("initdb", "-D", self.data, "-U", "pagelog", "-A", "trust", "--no-sync", "-E", "UTF8", "--locale=C")
         self.start()
         atexit.register(self.stop)
 
     def run(self, program: str, *arguments: object) -> None:
         words = [str(programs() / program), *map(str, arguments)]
-        if os.getuid() == 0:
-            words = ["runuser", "-u", self.user, "--", *words]
-        done = subprocess.run(words, cwd=self.folder, stdout=subprocess.PIPE, stderr=subprocess.STDOUT, text=True)
-        if done.returncode != 0:
-            raise AssertionError(f"{program} failed: {done.stdout}")
+        groups: dict[str, Any] = {"group": self.user, "extra_groups": []} if self.user else {}
+        with (self.folder / "said").open("a+") as said:
+            done = subprocess.run(words, cwd=self.folder, stdout=said, stderr=said, user=self.user, **groups)
+            if done.returncode != 0:
+                said.seek(0)
+                raise AssertionError(f"{program} failed: {said.read()}")
 
     def start(self) -> None:
         options = f"-k {self.folder} -c listen_addresses= -c max_connections=30"

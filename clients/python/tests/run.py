@@ -5,6 +5,7 @@ from __future__ import annotations
 import importlib
 import os
 import re
+import shutil
 import subprocess
 import sys
 import tempfile
@@ -92,6 +93,10 @@ def main(arguments: list[str]) -> int:
             counts = re.fullmatch(r"clients/python: (\d+) passed, (\d+) failed", last)
             good, bad = map(int, counts.groups()) if counts else (0, 1)
             passed, failed = passed + good, failed + bad
+    if not arguments and os.environ.get("PAGELOG_TEST_LONG") and shutil.which("mypy"):
+        done = subprocess.run(["mypy"], cwd=Path(__file__).resolve().parent.parent, capture_output=True, text=True)
+        print(f"mypy: {done.stdout.strip()}")
+        passed, failed = passed + (done.returncode == 0), failed + (done.returncode != 0)
     print(f"clients/python: {passed} passed, {failed} failed")
     return 0 if failed == 0 and passed > 0 else 1
 

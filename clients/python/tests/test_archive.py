@@ -260,6 +260,15 @@ class Followers(Folder):
         Archiver(self.reader, archive).run(follow=False)
         self.assertEqual(list(archive.blocks()), self.everything())
 
+    def test_it_ends_where_the_audit_list_is_full(self) -> None:
+        with Service(audit=150) as small, small.primary() as primary:
+            fill(primary, 30)
+            process = self.follow(self.url, small.credentials_file())
+            out, error = process.communicate(timeout=30)
+        self.assertEqual((process.returncode, "AuditListFull" in error), (1, True))
+        self.assertEqual(self.archive().archived, 30)
+        self.assertIn("archived 30 of 30", out)
+
     def test_it_outlives_a_crash_of_postgresql_and_a_cut_line(self) -> None:
         server = postgres()
         url = server.url("crashed")

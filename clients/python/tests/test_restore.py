@@ -2,7 +2,11 @@
 
 from __future__ import annotations
 
+import os
+import pty
 import signal
+import subprocess
+import sys
 import tempfile
 import threading
 import time
@@ -15,7 +19,7 @@ from pagelog import Block, Operation, Put
 from pagelog.archive import Archive, BrokenArchive, _blocks, _logs
 from pagelog.keeping import Archiver, Move, NotFenced, OtherLog, all_blocks, restore, verify
 from postgres import postgres
-from service import Service, fill, put, token
+from service import SOURCE, Service, fill, put, token
 from test_archive import words
 
 
@@ -317,6 +321,20 @@ class Words(Pair):
             self.assertEqual(process.returncode, status, (arguments, out, error))
             self.assertIn(text, error if status else out, arguments)
             self.assertEqual(out if status else error, "", arguments)
+
+    def test_a_progress_bar_on_a_terminal(self) -> None:
+        self.archived(300)
+        main, other = pty.openpty()
+        command = [sys.executable, "-B", "-m", "pagelog", "restore", "--url", self.url, "--credentials", str(self.target.credentials_file())]
+        environment = {**os.environ, "PYTHONPATH": str(SOURCE), "TERM": "xterm"}
+        process = subprocess.Popen(command, stdout=subprocess.PIPE, stderr=other, text=True, env=environment)
+        os.close(other)
+        out, _ = process.communicate(timeout=60)
+        drawn = os.read(main, 65536).decode(errors="replace")
+        os.close(main)
+        self.assertEqual(process.returncode, 0)
+        self.assertRegex(drawn, r"restored .*/300")
+        self.assertRegex(out, r"^restored 300: 300 blocks and \d+ pages are alike\n$")
 
     def test_a_restore_that_is_killed_goes_on(self) -> None:
         self.archived(400)
