@@ -113,7 +113,6 @@ class Keeping(Folder):
                 except OtherArchiver:
                     ended.append("other")
 
-        self.archive()
         threads = [threading.Thread(target=run) for _ in range(3)]
         for thread in threads:
             thread.start()

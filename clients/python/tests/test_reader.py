@@ -2,6 +2,10 @@
 
 from __future__ import annotations
 
+import re
+import subprocess
+import sys
+import textwrap
 import threading
 import time
 import unittest
@@ -10,7 +14,7 @@ import pagelog
 from pagelog import Operation, Put
 from pagelog.reply import Denied
 from pagelog.request import Get, Pull
-from service import Service, fill, put
+from service import SOURCE, Service, fill, put
 
 
 class Reading(unittest.TestCase):
@@ -45,6 +49,18 @@ class Reading(unittest.TestCase):
             self.assertEqual([(spans[0].first, spans[-1].last)], [(1, 500)])
             for before, behind in zip(spans, spans[1:]):
                 self.assertEqual(behind.first, before.last + 1)
+
+    def test_a_span_has_its_pulls_in_flight_together(self) -> None:
+        list(self.primary.stream([put(0, b"x")] for _ in range(300)))
+        with self.service.operator() as operator:
+            for pulls, wanted in ((1, 16), (4, 64), (64, 300)):
+                reader = self.enterContext(self.service.reader())
+                self.assertEqual(reader.span(1, pulls=pulls).last, wanted)
+                before = operator.count_of_entries()
+                span = reader.span(1, pulls=pulls)
+                self.assertEqual((span.last, len(span.blocks)), (wanted, wanted))
+                entries = list(operator.entries(before + 1))
+                self.assertEqual(sum(entry.operation is Operation.PULL for entry in entries), -(-wanted // 16))
 
     def test_partitions(self) -> None:
         fill(self.primary, 200, seed=2)
@@ -103,6 +119,18 @@ class Reading(unittest.TestCase):
                 operator.failover(2)
                 self.assertEqual([block.lsn for block in self.reader.blocks(lsn, follow=False)], [lsn])
                 self.assertEqual(self.reader.status().epoch, epoch)
+
+
+class Pages(unittest.TestCase):
+    def test_the_lines_of_the_readme_and_of_the_package_run(self) -> None:
+        readme = (SOURCE.parent / "README.md").read_text()
+        lines = re.findall(r"^```python\n(.*?)^```", readme, flags=re.S | re.M)[0]
+        docstring = textwrap.dedent((pagelog.__doc__ or "").split("\n\n", 1)[1].split("\n\n`Primary`")[0])
+        self.assertEqual(docstring.strip(), lines.strip())
+        with Service() as service:
+            code = lines.replace("127.0.0.1:7400", service.address)
+            done = subprocess.run([sys.executable, "-B", "-c", code], env={"PYTHONPATH": str(SOURCE)}, capture_output=True, text=True)
+        self.assertEqual((done.stdout, done.stderr), ("b'hello'\n1 (Put(page=0, offset=0),)\n", ""))
 
 
 class PageServers(unittest.TestCase):

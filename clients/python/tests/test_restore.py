@@ -138,6 +138,20 @@ class Verifying(Pair):
             done = verify(self.archive, reader)
         self.assertEqual((done.blocks, done.archived, done.hard), (80, 80, 87))
 
+    def test_while_the_archive_grows(self) -> None:
+        self.archived(30)
+        with self.source.reader() as reader:
+            status = reader.status
+
+            def archives_more() -> pagelog.State:
+                state = status()
+                self.archived(10, seed=4)
+                return state
+
+            reader.status = archives_more  # type: ignore[method-assign]
+            done = verify(self.archive, reader)
+        self.assertEqual((done.blocks, done.hard, self.archive.archived), (30, 30, 40))
+
     def test_each_block_is_compared(self) -> None:
         self.archived(40)
         good = {block.lsn: block for block in self.archive.blocks()}

@@ -80,9 +80,13 @@ class Archive:
         """Opens the archive of the log of this name; with `create` makes what is not there. Raises `NoArchive`."""
         self.log = log
         self.engine = _engine(url)
-        if create:
-            _metadata.create_all(self.engine)
-        self._id = self._find(create)
+        try:
+            self._id = self._made() if create else self._find(False)
+        except (sql.exc.IntegrityError, sql.exc.ProgrammingError, sql.exc.OperationalError):
+            if not create:
+                raise
+            # Another has made the tables, or the log, at the same time.
+            self._id = self._made()
 
     def close(self) -> None:
         """Closes all connections to the database."""
@@ -93,6 +97,10 @@ class Archive:
 
     def __exit__(self, *_: object) -> None:
         self.close()
+
+    def _made(self) -> int:
+        _metadata.create_all(self.engine)
+        return self._find(True)
 
     def _find(self, create: bool) -> int:
         try:
@@ -215,9 +223,9 @@ def _engine(url: str) -> Engine:
 def _prepare_sqlite(connection: Any, _: object) -> None:
     """A commit is on the disk before it returns, and readers do not wait for the archiver."""
     cursor = connection.cursor()
+    cursor.execute("PRAGMA busy_timeout=10000")
     cursor.execute("PRAGMA journal_mode=WAL")
     cursor.execute("PRAGMA synchronous=FULL")
-    cursor.execute("PRAGMA busy_timeout=10000")
     cursor.close()
 
 

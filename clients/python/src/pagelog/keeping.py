@@ -206,7 +206,7 @@ def verify(archive: Archive, reader: Reader, *, seed: int | None = None, told: P
 
     def replayed() -> Iterator[Block]:
         nonlocal pages, denied
-        for block in archive.blocks():
+        for block in archive.blocks(1, archived):
             yield block
             replay.take(block)
             if block.lsn in (archived, archived // 2):

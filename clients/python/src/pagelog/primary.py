@@ -319,11 +319,11 @@ class Primary(PageClient):
         return refusal if self._unhardened else None
 
     def _take_over(self, epoch: int) -> None:
-        super()._take_over(epoch) if not self._is_fixed or epoch < self.epoch else self._end(epoch)
-
-    def _end(self, epoch: int) -> None:
-        self._ended = OlderEpoch(Section.A, 2, epoch)
-        raise self._ended
+        """A primary takes over no epoch behind the one that it began in."""
+        if self._is_fixed and epoch >= self.epoch:
+            self._ended = OlderEpoch(Section.A, 2, epoch)
+            raise self._ended
+        super()._take_over(epoch)
 
 
 def _is_in_log(witness: Reader, block: Block) -> bool:

@@ -59,7 +59,9 @@ class Reader(PageClient):
         become shorter than it was.
         """
         first = self._span_of((lsn,), partitions)
-        if pulls == 1 or first.last < lsn + PULL_MAX - 1 or self.hard_seen <= first.last:
+        if pulls > 1 and len(first.blocks) == PULL_MAX and self.hard_seen <= first.last:
+            self.status()
+        if pulls == 1 or self.hard_seen <= first.last:
             return first
         # Each serves at least the blocks of the sixteen LSNs from its own on, so that the next may begin behind them.
         starts = range(first.last + 1, min(first.last + 1 + PULL_MAX * (pulls - 1), self.hard_seen + 1), PULL_MAX)

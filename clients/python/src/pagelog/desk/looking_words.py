@@ -43,7 +43,8 @@ def watch_of(accounts: Accounts, db: int, limit: int | None, stack: ExitStack, *
 def status_word(accounts: Accounts, dbs: tuple[int, ...], limit: int | None, as_json: bool, seconds: float) -> None:
     """Show epoch, primary and hardened end of databases, and when their audit lists are full. Needs [operator].
 
-    Exit status 1 where one does not answer.
+    Exit status 1 where one does not answer. It costs each database some 30 entries of its audit list, by which the end of
+    the list is found.
 
     \b
     Example:

@@ -7,6 +7,7 @@ from typing import Iterable, Mapping
 
 from prometheus_client.core import CounterMetricFamily, GaugeMetricFamily, Metric
 from prometheus_client.registry import Collector
+from sqlalchemy.exc import SQLAlchemyError
 
 from pagelog.archive import Archive
 from pagelog.desk.watch import Watch
@@ -46,8 +47,11 @@ class DatabaseCollector(Collector):
         )  # fmt: skip
         for database, watch in self._watches.items():
             db = str(database)
-            if database in self._archives:
-                gauges["archived_blocks"].add_metric([db], self._archives[database].archived)
+            try:
+                if database in self._archives:
+                    gauges["archived_blocks"].add_metric([db], self._archives[database].archived)
+            except SQLAlchemyError:
+                pass  # the archive does not answer: its number is left out, and an alert on it says so
             try:
                 look = watch.look()
             except PagelogError:
