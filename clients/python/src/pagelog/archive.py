@@ -7,6 +7,7 @@ archiver, all blocks up to the archived LSN are there, and none twice.
 
 from __future__ import annotations
 
+import time
 import zlib
 from dataclasses import dataclass
 from typing import Any, Iterator, Sequence
@@ -23,6 +24,7 @@ DEFAULT_URL = "sqlite:///pagelog-archive.db"
 FORMAT = 1
 """The number of the tables' form, which each log of an archive carries."""
 _READ_SIZE = 512
+_TRIES = 5
 
 _metadata = sql.MetaData()
 _logs = sql.Table(
@@ -80,13 +82,7 @@ class Archive:
         """Opens the archive of the log of this name; with `create` makes what is not there. Raises `NoArchive`."""
         self.log = log
         self.engine = _engine(url)
-        try:
-            self._id = self._made() if create else self._find(False)
-        except (sql.exc.IntegrityError, sql.exc.ProgrammingError, sql.exc.OperationalError):
-            if not create:
-                raise
-            # Another has made the tables, or the log, at the same time.
-            self._id = self._made()
+        self._id = self._make() if create else self._find(False)
 
     def close(self) -> None:
         """Closes all connections to the database."""
@@ -98,7 +94,14 @@ class Archive:
     def __exit__(self, *_: object) -> None:
         self.close()
 
-    def _made(self) -> int:
+    def _make(self) -> int:
+        """Makes what is not there. Where another does so at the same time, it is looked for again."""
+        for _ in range(_TRIES):
+            try:
+                _metadata.create_all(self.engine)
+                return self._find(True)
+            except (sql.exc.IntegrityError, sql.exc.ProgrammingError, sql.exc.OperationalError):
+                time.sleep(0.05)
         _metadata.create_all(self.engine)
         return self._find(True)
 
