@@ -185,6 +185,13 @@ class Looks(unittest.TestCase):
         self.assertIn("UnknownDatabase", out)
         self.assertIn("full in", out)
 
+    def test_top_on_a_narrow_terminal_leaves_columns_out(self) -> None:
+        fill(self.primary, 30)
+        out = ends(words("top", "--credentials", self.file, "--count", "1", COLUMNS="80"))
+        self.assertRegex(out, r"db +epoch +primary +hardened +requests +audit list +full in")
+        self.assertRegex(out, r"0 +1 +2 +30 ")
+        self.assertNotIn("…", out)
+
     def test_top_on_a_terminal_until_q(self) -> None:
         fill(self.primary, 33)
         with self.service.page_server() as server:

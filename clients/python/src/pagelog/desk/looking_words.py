@@ -169,7 +169,7 @@ def top_word(
             return lines
 
         console = Console()
-        for screen in _screens(lambda: page(address, looks(), time.strftime("%H:%M:%S")), interval, count, stop, console):
+        for screen in _screens(lambda: page(address, looks(), time.strftime("%H:%M:%S"), console.width), interval, count, stop, console):
             if not console.is_terminal:
                 console.print(screen)
 

@@ -28,13 +28,23 @@ def rate(value: float | None) -> str:
     return "-" if value is None else f"{value:,.0f}/s" if value >= 10 or value == 0 else f"{value:.1f}/s"
 
 
-def page(address: str, lines: Mapping[int, Line], at: str) -> RenderableType:
-    """The whole page."""
+_COLUMNS = {
+    "db": 0, "epoch": 0, "primary": 0, "hardened": 0, "blocks": 90, "reads": 110, "requests": 0, "applied": 125, "archive lag": 100,
+    "audit list": 0, "full in": 0,
+}  # fmt: skip
+"""The columns, and how wide the terminal has to be for each of them to be shown."""
+
+
+def page(address: str, lines: Mapping[int, Line], at: str, width: int = 150) -> RenderableType:
+    """The whole page, for a terminal of so many columns."""
     table = Table(expand=True, box=None, padding=(0, 1), header_style="bold")
-    for title in ("db", "epoch", "primary", "hardened", "blocks", "reads", "requests", "applied", "archive lag", "audit list", "full in"):
+    shown = [number for number, least in enumerate(_COLUMNS.values()) if width >= least]
+    for number in shown:
+        title = list(_COLUMNS)[number]
         table.add_column(title, justify="left" if title in ("applied", "audit list") else "right", no_wrap=True)
     for line in lines.values():
-        table.add_row(*_cells(line))
+        cells = _cells(line)
+        table.add_row(*(cells[number] for number in shown if number < len(cells)))
     errors = [Text(f"db {line.database}: {line.error}", style="red") for line in lines.values() if line.error]
     return Panel(Group(table, *errors, Text(), _denials(lines)), title=f"pagelog {address}", subtitle=f"{at}   q or Ctrl-C ends", title_align="left")
 
