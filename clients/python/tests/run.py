@@ -6,6 +6,7 @@ import importlib
 import os
 import re
 import shutil
+import signal
 import subprocess
 import sys
 import tempfile
@@ -15,6 +16,8 @@ from pathlib import Path
 
 sys.path.insert(0, str(Path(__file__).resolve().parent.parent / "src"))
 
+PATIENCE = 1200 if os.environ.get("PAGELOG_TEST_LONG") else 60
+"""So many seconds a test may take."""
 PARTS = {
     "test_bytes": "blocks, requests and replies against the stored trial and the pages",
     "test_replies": "every reply, rule and fault of the service",
@@ -29,20 +32,27 @@ PARTS = {
 
 
 class Timed(unittest.TestResult):
-    """Counts, and with PAGELOG_TEST_TIMES in the environment says how long each test took."""
+    """Counts, ends a test that hangs, and with PAGELOG_TEST_TIMES in the environment says how long each took."""
 
     def startTest(self, test: unittest.TestCase) -> None:
         super().startTest(test)
         self.began = time.monotonic()
+        signal.alarm(PATIENCE)
 
     def stopTest(self, test: unittest.TestCase) -> None:
+        signal.alarm(0)
         super().stopTest(test)
         if os.environ.get("PAGELOG_TEST_TIMES"):
             print(f"{time.monotonic() - self.began:6.2f} s {test.id()}")
 
 
+def hangs(_: int, __: object) -> None:
+    raise TimeoutError(f"the test did not end in {PATIENCE} s")
+
+
 def play(module: str, words: str, only: str | None) -> tuple[int, int]:
     began = time.monotonic()
+    signal.signal(signal.SIGALRM, hangs)
     result, texts = Timed(), []
     loader = unittest.TestLoader()
     if only:

@@ -317,8 +317,9 @@ class Move:
 
     def _rest(self, told: Progress) -> None:
         end = self.operator.status().hard
-        while self.primary.durable < end:
-            self._pass_on(told)
+        while (before := self.primary.durable) < end:
+            if self._pass_on(told) == before:
+                raise OtherLog(before + 1, f"the source has {end} blocks, and nothing more comes")
 
     def _check(self, told: Progress) -> int:
         source, hard = self.archiver.reader, self.operator.status().hard

@@ -49,15 +49,18 @@ class Packer:
 
 @dataclass(slots=True)
 class _Sent:
-    """A block that is not known to be hardened: in which copies it stands, and whether it may stand in others too."""
+    """A block that is not known to be hardened: in which copies it stands, and whether it may stand in others too.
+
+    `copies` has for each copy over which connection, counted from 1, the service said so.
+    """
 
     block: Block
-    copies: set[int] = field(default_factory=set)
+    copies: dict[int, int] = field(default_factory=dict)
     attempts: int = 0
 
-    @property
-    def stands(self) -> bool:
-        return len(self.copies) >= QUORUM
+    def stands(self, connection: int) -> bool:
+        """Whether it stands in two copies of the service that this connection leads to. Another may be a new one."""
+        return sum(1 for told in self.copies.values() if told == connection) >= QUORUM
 
 
 @dataclass(frozen=True, slots=True)
@@ -237,7 +240,7 @@ class Primary(PageClient):
                 if step.copy is None:
                     reports.append(step.sent.block.lsn)
             elif step.copy is not None:
-                step.sent.copies.add(step.copy)
+                step.sent.copies[step.copy] = self.connection.connects
             else:
                 yield self._hardened(step.sent.block.lsn)
         if told:
@@ -308,12 +311,13 @@ class Primary(PageClient):
 
     def _count_what_the_failover_kept(self, refusal: OlderEpoch, was_repeated: bool) -> Exception | None:
         """A failover hardens what stood in two copies. Of a write without a reply only the log can tell."""
-        while self._unhardened and self._unhardened[0].stands:
+        connection = self.connection.connects
+        while self._unhardened and self._unhardened[0].stands(connection):
             self._hardened(self._unhardened[0].block.lsn)
-        if any(was_repeated or sent.attempts > 1 for sent in self._unhardened):
+        if any(was_repeated or sent.attempts > 1 or len(sent.copies) >= QUORUM for sent in self._unhardened):
             if self.witness is None:
                 lsn = self._unhardened[0].block.lsn
-                return InDoubt(f"epoch {self.epoch} ended while LSN {lsn} was repeated over a new connection")
+                return InDoubt(f"epoch {self.epoch} ended while LSN {lsn} was sent over more than one connection")
             while self._unhardened and _is_in_log(self.witness, self._unhardened[0].block):
                 self._hardened(self._unhardened[0].block.lsn)
         return refusal if self._unhardened else None
