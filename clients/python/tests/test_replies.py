@@ -139,14 +139,26 @@ class EachReply(unittest.TestCase):
 
 class OutOfMemory(unittest.TestCase):
     def test_no_memory_changes_nothing_and_may_be_repeated(self) -> None:
-        with Service() as service, service.primary() as primary, service.reader() as reader:
+        for _ in range(6):
+            with Service() as service:
+                try:
+                    self.runs_out_of_memory(service)
+                    return
+                except (pagelog.ConnectionLost, pagelog.Unreachable):
+                    # A build with a sanitizer may be ended by that, where the sanitizer itself gets no memory.
+                    service.process.kill()
+                    assert service.process.stdout is not None
+                    self.assertIn("Sanitizer", service.process.stdout.read())
+        self.fail("the sanitizer of this build ended the service each time")
+
+    def runs_out_of_memory(self, service: Service) -> None:
+        with service.primary() as primary, service.reader() as reader:
             primary.append(put(0, b"first"))
             primary.commit()
             service.limit_memory(0)
-            with self.assertRaises((pagelog.OutOfMemory, pagelog.ConnectionLost)) as raised:
+            with self.assertRaises(pagelog.OutOfMemory):
                 for _ in primary.stream([put(at % 9, b"ten bytes.")] for at in range(4000)):
                     pass
-            self.assertIsInstance(raised.exception, pagelog.OutOfMemory)
             before = primary.durable
             service.unlimit_memory()
             self.assertGreater(primary.commit(), before)

@@ -56,7 +56,9 @@ class Question:
     def act(self, text: bytes) -> Act:
         """What is asked for; a set_table sets this text. Raises `ExplainError`."""
         try:
-            return self._act(text)
+            act = self._act(text)
+            act.arguments()
+            return act
         except (ValueError, Fault) as error:
             raise ExplainError(f"{self.words!r}: {error}") from error
 
