@@ -121,17 +121,21 @@ def test_what_an_update_costs():
 
 
 class CutsOff:
-    """A proxy's rule. Once it is armed it cuts the connection at the first report, so that the group is halved, lets the
-    next report pass, and then cuts all: the first half of a transaction is in the log, without an end mark."""
+    """A proxy's rule. Once it is armed it cuts the connection behind the first two blocks, so that the group is halved, lets
+    the next report pass, and then cuts all: the first half of a transaction is in the log, without an end mark, and no other
+    block of it has come to the service."""
 
     def __init__(self):
-        self.is_armed, self.reports = False, 0
+        self.is_armed, self.writes, self.reports = False, 0, 0
 
     def __call__(self, frame):
-        if self.is_armed and frame[33] == wire.REPORT:
-            self.reports += 1
-            return None if self.reports == 1 else frame
-        return None if self.is_armed and self.reports > 1 else frame
+        if not self.is_armed:
+            return frame
+        if self.reports == 1:
+            return None
+        self.writes += frame[33] == wire.WRITE
+        self.reports += frame[33] == wire.REPORT
+        return None if frame[33] == wire.WRITE and self.writes == 5 else frame
 
 
 def cut_off(service, principal=2):
@@ -303,28 +307,28 @@ def test_nothing_is_built_upon_half_a_transaction():
     before the file has begun again."""
     denied = TABLE.read_text().replace('[[row]]', '[[row]]\nverdict = "deny"\nwho = 2\nop = ["write"]\n\n[[row]]', 1)
     with Service() as service, service.operator() as operator:
-        reports, wanted = [-100], b"a" * 150000
+        step, writes, wanted = ["rest"], [0], b"a" * 150000
 
         def between(frame):
-            if frame[33] == wire.REPORT:
-                reports[0] += 1
-            if reports[0] == 3 and frame[33] == wire.WRITE:
-                reports[0] = -100
+            """Cuts behind the first two blocks, lets the report of the halved group pass, and has the next write denied."""
+            if step[0] == "cut" and frame[33] == wire.WRITE:
+                writes[0] += 1
+                if writes[0] == 5:
+                    step[0] = "halve"
+                    return None
+            elif step[0] == "halve" and frame[33] == wire.REPORT:
+                step[0] = "deny"
+            elif step[0] == "deny" and frame[33] == wire.WRITE:
+                step[0] = "rest"
                 time.sleep(0.1)
                 operator.set_table(denied)
-            return None if reports[0] == 1 and frame[33] == wire.REPORT else frame
+            return frame
 
-        def between_groups(frame):
-            carried = between(frame)
-            if frame[33] == wire.REPORT and reports[0] == 2:
-                reports[0] = 3
-            return carried
-
-        with Proxy(service.address, between=between_groups) as proxy, opened(proxy.address, 2) as file:
+        with Proxy(service.address, between=between) as proxy, opened(proxy.address, 2) as file:
             same("commit", (DONE, DONE, DONE), (file.begin(), file.write(0, wanted), file.commit()))
             same("begin", DONE, file.begin())
             same("write", DONE, file.write(0, random.Random(5).randbytes(150000)))
-            reports[0] = 0
+            step[0] = "cut"
             same("denied", (DENIED, True), (file.commit(), file.state.is_broken))
             true("half of it is in the log", file.state.end > file.state.lsn)
             operator.set_table(TABLE.read_text())

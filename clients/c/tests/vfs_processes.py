@@ -28,9 +28,9 @@ class Started:
         return self.process.poll() is None
 
     def lines(self):
-        """The whole lines that it has written so far."""
-        self.said.seek(0)
-        return [line.rstrip("\n") for line in self.said.readlines() if line.endswith("\n")]
+        """The whole lines that it has written so far. The file is opened anew, since a place in it would be the writer's too."""
+        with open(f"/proc/self/fd/{self.said.fileno()}") as said:
+            return [line.rstrip("\n") for line in said.readlines() if line.endswith("\n")]
 
     def wait_for(self, word):
         while self.is_on() and not any(line.startswith(word) for line in self.lines()):

@@ -271,6 +271,8 @@ def failing_over(service, operation, count, to):
         if frame[33] == operation:
             left[0] -= 1
             if left[0] == 0:
+                # The frames before it are on another connection, and the service has to have taken them.
+                time.sleep(0.1)
                 with service.operator() as operator:
                     operator.failover(to)
         return frame

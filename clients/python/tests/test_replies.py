@@ -157,7 +157,8 @@ class OutOfMemory(unittest.TestCase):
             primary.commit()
             service.limit_memory(0)
             with self.assertRaises(pagelog.OutOfMemory):
-                for _ in primary.stream([put(at % 9, b"ten bytes.")] for at in range(4000)):
+                # A thread of the service may have 64 MiB of addresses in reserve, so that small blocks never fill them.
+                for _ in primary.stream([put(page, bytes(8000)) for page in range(3)] for at in range(8000)):
                     pass
             before = primary.durable
             service.unlimit_memory()

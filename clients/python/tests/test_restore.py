@@ -267,7 +267,8 @@ class Moving(Pair):
                 writer.join(20)
                 used = operator.count_of_entries()
             self.assertLess(used, 12000)
-            self.assertGreater(used, 1200)
+            # Each of 300 blocks at least had three requests, and the move had some.
+            self.assertGreater(used, 900)
             self.assertIsInstance(ended[1], pagelog.OlderEpoch)
             self.same_logs(done.hard)
             with self.target.primary() as primary:
