@@ -8,18 +8,23 @@
  * Parameters of the URI; those that it lacks are looked for in the file that `credentials` names, a line
  * "NAME VALUE" for each, and then in the environment, as PAGELOG_TOKEN:
  *
- *   to=ADDRESS      the service, as 127.0.0.1:7400
- *   db=N            the number of the database; 0
- *   id=N            the principal
- *   token=HEX       its token, 32 digits
- *   op=N            with these a writer begins an epoch of its own when it opens, in this operator's name,
- * and a writer optoken=HEX     elsewhere is fenced by it; without them it writes in the current epoch, if
- * that is its principal's mode=ro         a secondary: it follows what is committed at=LSN          a
- * secondary that reads the newest transaction that ended at this LSN or before, for ever check=MS        how
- * old may be what a transaction begins with; 0: each one asks stale=1         a secondary that gets no answer
- * goes on with what it has cache=PAGES     pages of 8,192 bytes that are kept besides SQLite's own; 4096
- *   copies=N        2 or 3; 2
- *   timeout=MS      of a connect, of a reply, and of the patience with lost connections; 5000, 10000, 10000
+ *   to=ADDRESS       the service, as 127.0.0.1:7400
+ *   db=N             the number of the database; 0
+ *   id=N             the principal
+ *   token=HEX        its token, 32 digits
+ *   op=N             an operator, and
+ *   optoken=HEX      its token: a writer that has both begins an epoch of its own when it opens,
+ *                    and a writer elsewhere is fenced by it; one that has not writes in the
+ *                    current epoch, if that is its principal's
+ *   mode=ro          a secondary: it follows what is committed
+ *   at=LSN           a secondary that reads the newest transaction that ended at this LSN or
+ *                    before, for ever
+ *   check=MS         how old may be what a transaction begins with; 0: each one asks
+ *   stale=1          a secondary that gets no answer goes on with what it has
+ *   cache=PAGES      pages of 8,192 bytes that are kept besides SQLite's own; 4096
+ *   copies=N         2 or 3; 2
+ *   timeout=MS       of a connect, of a reply, and of the patience with lost connections;
+ *                    5000, 10000, 10000
  *
  * A transaction is committed by SQLITE_FCNTL_SYNC, which SQLite sends once for each, whatever `synchronous`
  * and `journal_mode` are: what was written since then becomes one transaction of the file. The journal, by
@@ -27,13 +32,16 @@
  *
  * What an error means:
  *
- *   SQLITE_READONLY      another writer has begun an epoch: the transaction is not in the database and never
- * will be; the connection goes on as a reader SQLITE_IOERR         the service is not there, or was started
- * anew: the transaction is not in the database SQLITE_IOERR_FSYNC   of a COMMIT: in doubt; the next
- * transaction sees whether it is in the database SQLITE_FULL          the audit list or the service's memory
- * is full SQLITE_PERM          the table denies it, or there is no such database SQLITE_PROTOCOL      another
- * session writes in this epoch, or what answers is no such service SQLITE_NOTADB        page 0 of the
- * database has something else SQLITE_MISUSE        the URI lacks a parameter, or has one that cannot be read
+ *   SQLITE_READONLY      another writer has begun an epoch: the transaction is not in the database
+ *                        and never will be; the connection goes on as a reader
+ *   SQLITE_IOERR         the service is not there, or was started anew: the transaction is not in
+ *                        the database
+ *   SQLITE_IOERR_FSYNC   of a COMMIT: in doubt; the next transaction sees whether it is in it
+ *   SQLITE_FULL          the audit list or the service's memory is full
+ *   SQLITE_PERM          the table denies it, or there is no such database
+ *   SQLITE_PROTOCOL      another session writes in this epoch, or what answers is no such service
+ *   SQLITE_NOTADB        page 0 of the database has something else
+ *   SQLITE_MISUSE        the URI lacks a parameter, or has one that cannot be read
  *
  * `PRAGMA pagelog` tells where the connection stands; `PRAGMA pagelog_lsn` and the like one number of it;
  * `PRAGMA pagelog_error` the last error in words; `PRAGMA pagelog_check = 50` changes `check`.
