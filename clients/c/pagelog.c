@@ -22,9 +22,18 @@ static bool split_address(struct pagelog *log, const char *address) {
     return log->host && log->port;
 }
 
+/* The landing zone of the options; false where no table can have it. */
+static bool read_zone(const struct pagelog_options *options, struct pagelog_zone *zone) {
+    zone->copies = options->copies ? options->copies : 3;
+    zone->quorum = options->quorum ? options->quorum : zone->copies == 6 ? 4 : 2;
+    return (zone->copies == 3 && zone->quorum == 2) || (zone->copies == 6 && zone->quorum == 4);
+}
+
 struct pagelog *pagelog_new(const struct pagelog_options *options) {
-    struct pagelog *log = calloc(1, sizeof *log);
+    struct pagelog_zone zone = {0};
+    struct pagelog *log = read_zone(options, &zone) ? calloc(1, sizeof *log) : NULL;
     if (!log) return NULL;
+    log->zone = zone;
     log->options = *options;
     log->options.address = NULL;
     log->socket = -1;
@@ -74,6 +83,10 @@ uint64_t pagelog_end(const struct pagelog *log) {
     return log->end;
 }
 
+struct pagelog_zone pagelog_zone_of(const struct pagelog *log) {
+    return log->zone;
+}
+
 /* ---- Outcomes ---- */
 
 enum pagelog_outcome pagelog_fail(struct pagelog *log, enum pagelog_outcome outcome) {
@@ -94,6 +107,10 @@ void pagelog_explain(const struct pagelog *log, char *text, size_t room) {
         snprintf(text, room, "%s: spent", name);
     else if (reply->kind == PAGELOG_REPLY_NO_DATABASE)
         snprintf(text, room, "%s: no database", name);
+    else if (reply->kind == PAGELOG_REPLY_NO_MEMORY && log->last != PAGELOG_NO_MEMORY)
+        snprintf(text, room, "%s: no memory", name);
+    else if (reply->kind == PAGELOG_REPLY_AUDIT_FULL && log->last != PAGELOG_AUDIT_FULL)
+        snprintf(text, room, "%s: audit list full", name);
     else if (reply->kind == PAGELOG_REPLY_MALFORMED)
         snprintf(text, room, "%s: fault %u of the request", name, reply->code);
     else

@@ -35,6 +35,7 @@ enum {
     PAGELOG_AUDIT_LINES = 1024, /* lines of one audit, at most */
     PAGELOG_AUDIT_LINE_BYTES = 53,
     PAGELOG_IN_FLIGHT = 1024, /* requests that may wait for their replies, at most */
+    PAGELOG_MOST_COPIES = 6,  /* of a block, in the landing zone */
 };
 
 #define PAGELOG_LAST_LSN (UINT64_C(1) << 48)
@@ -239,6 +240,16 @@ struct pagelog_options {
     unsigned reply_ms;   /* 0: 10,000 */
     unsigned
         patience_ms; /* how long a call opens lost connections again while nothing gets done; 0: 10,000 */
+    /* The landing zone that the table gave the epoch: 3 copies and quorum 2, or 6 and 4; 0 and 0: 3 and 2. No
+     * reply tells it, but a denial C5 or C6 does tell that it is the other one: then the object goes by that.
+     */
+    unsigned copies, quorum;
+};
+
+/* The landing zone that an object goes by. */
+struct pagelog_zone {
+    unsigned copies, quorum;
+    bool is_seen; /* replies of its writing epoch have shown that this is the one */
 };
 
 /* What an object has done since it was made. */
@@ -249,7 +260,8 @@ struct pagelog_counts {
     uint64_t connects;
 };
 
-/* An object that is not connected yet; NULL where memory runs out. */
+/* An object that is not connected yet; NULL where memory runs out, or where no table can have these copies
+ * and this quorum. */
 struct pagelog *pagelog_new(const struct pagelog_options *options);
 void pagelog_free(struct pagelog *log);
 
@@ -281,6 +293,8 @@ uint32_t pagelog_writing_epoch(const struct pagelog *log);
 
 /* The highest LSN that the object knows to be in the log. */
 uint64_t pagelog_end(const struct pagelog *log);
+
+struct pagelog_zone pagelog_zone_of(const struct pagelog *log);
 
 /* ---- Requests in flight ---- */
 
@@ -316,7 +330,8 @@ enum pagelog_outcome pagelog_get(struct pagelog *log, enum pagelog_role role, ui
 
 /* The blocks from an LSN on, at most `max` (1 to 16), as a secondary, over all partitions. At the end of the
  * log it is DONE with a count of 0 and `next` as it was asked. `hard` is the end of the log where the blocks
- * go so far, else 0. The blocks stand until the next call. After a lost connection fewer are asked for. */
+ * go so far, else 0; where the table ends this principal's row at an LSN, that LSN, and a pull from the next
+ * one is DENIED. The blocks stand until the next call. After a lost connection fewer are asked for. */
 enum pagelog_outcome pagelog_pull(struct pagelog *log, uint64_t from, unsigned max,
                                   struct pagelog_reply *blocks);
 
@@ -337,8 +352,10 @@ enum pagelog_outcome pagelog_take_over(struct pagelog *log, uint32_t operator_pr
  */
 enum pagelog_outcome pagelog_join(struct pagelog *log);
 
-/* Appends ended blocks, the first of which has the LSN pagelog_end() + 1, to two copies or to three. Up to 64
- * blocks take one round trip. A lost connection is opened again and the rest is repeated, in smaller groups.
+/* Appends ended blocks, the first of which has the LSN pagelog_end() + 1, each to `copies` copies of the
+ * landing zone: 0 for as many as the quorum, else 2 to 6, but never fewer than the quorum and never more than
+ * there are. Up to 64 blocks take one round trip. A lost connection is opened again and the rest is repeated,
+ * in smaller groups.
  *
  * DONE: all blocks are in the log, even if the epoch has ended in the meantime; then the next call is FENCED.
  * IN_DOUBT: the last block may be in the log or come into it; a look in a later epoch tells.

@@ -5,16 +5,21 @@
  *   - The content of an LSN is fixed in an epoch. So a block may be written again, and a write that was Done
  * says that the content is this block.
  *   - A report says nothing about whose blocks it hardens. So the reply to each write is read.
- *   - A failover hardens the longest run of blocks that are in two copies. So blocks that were Done in two
- * copies are in the log once their epoch is over, whatever became of their report.
- *   - Nothing of an epoch that is over can be written any more. So a block that was then in fewer than two
- * copies, and was not hardened, never will be.
+ *   - A failover hardens the longest run of blocks that are in a quorum of copies. So blocks that were Done
+ * in a quorum are in the log once their epoch is over, whatever became of their report.
+ *   - Nothing of an epoch that is over can be written any more. So a block that was then in fewer copies than
+ * a quorum, and was not hardened, never will be.
+ *   - A landing zone has three copies and quorum two, or six and four, and keeps them for an epoch. Which of
+ * the two it is no reply says, and the object may have been told the wrong one. So what holds of one of them
+ * alone is said once the replies have shown the zone, or after a look at the log.
  */
 #include "pagelog_inside.h"
 
 #include <string.h>
 
 enum { MEMORY_TRIES = 5 };
+
+static const struct pagelog_zone three_copies = {3, 2, true}, six_copies = {6, 4, true};
 
 /* What is known of a block above the end of the log: of each copy a bit. */
 struct marks {
@@ -26,14 +31,15 @@ struct append {
     struct pagelog *log;
     const struct pagelog_blocks *blocks;
     size_t count;
-    unsigned copies;
+    unsigned wanted;                    /* to how many copies the caller wants them written; 0: the quorum */
     uint64_t base;                      /* the LSN of block 0 */
     size_t first;                       /* the blocks before it are in the log */
     struct marks marks[PAGELOG_WINDOW]; /* of block i, first <= i < first + 64, at i % 64 */
     bool is_report_unsure;              /* a report of the last block was sent, and its reply was lost */
     /* What the last group was answered. */
-    bool is_reported, is_ahead;   /* the report was Done; a write met an LSN in the log (C2) */
-    enum pagelog_outcome refusal; /* the first refusal of a write, else that of the report, or DONE */
+    bool is_reported, is_ahead;    /* the report was Done; a write met an LSN in the log (C2) */
+    bool has_fourth, lacks_fourth; /* a write to the fourth copy or above was Done; was denied C5 */
+    enum pagelog_outcome refusal;  /* the first refusal of a write, else that of the report, or DONE */
     struct pagelog_reply refused;
 };
 
@@ -42,7 +48,28 @@ static struct marks *marks_of(struct append *append, size_t index) {
 }
 
 static unsigned count_of(unsigned bits) {
-    return (bits & 1) + (bits >> 1 & 1) + (bits >> 2 & 1);
+    unsigned count = 0;
+    for (; bits > 0; bits >>= 1)
+        count += bits & 1;
+    return count;
+}
+
+/* To how many copies the blocks are written. */
+static unsigned copies_of(const struct append *append) {
+    const struct pagelog_zone *zone = &append->log->zone;
+    unsigned copies = append->wanted > zone->quorum ? append->wanted : zone->quorum;
+    return copies < zone->copies ? copies : zone->copies;
+}
+
+/* The smallest and the largest quorum that the zone may have. */
+static unsigned least_quorum(const struct append *append) {
+    const struct pagelog_zone *zone = &append->log->zone;
+    return zone->is_seen ? zone->quorum : three_copies.quorum;
+}
+
+static unsigned most_quorum(const struct append *append) {
+    const struct pagelog_zone *zone = &append->log->zone;
+    return zone->is_seen ? zone->quorum : six_copies.quorum;
 }
 
 /* In how many copies the last block may stand. */
@@ -74,7 +101,7 @@ static void advance(struct append *append, size_t count) {
 static enum pagelog_outcome send_writes(struct append *append, size_t index) {
     struct pagelog_request request = {.role = PAGELOG_PRIMARY, .operation = PAGELOG_WRITE};
     request.bytes = pagelog_blocks_at(append->blocks, index, &request.length);
-    for (unsigned copy = 0; copy < append->copies; copy++) {
+    for (unsigned copy = 0; copy < copies_of(append); copy++) {
         if (marks_of(append, index)->done >> copy & 1) continue;
         request.copy = (uint8_t)copy;
         enum pagelog_outcome outcome = pagelog_send(append->log, &request);
@@ -89,11 +116,15 @@ static enum pagelog_outcome send_report(struct append *append, size_t count) {
     return pagelog_send(append->log, &request);
 }
 
+/* Whether a refusal is this row of section C. */
+static bool is_row(const struct pagelog_reply *refused, unsigned row) {
+    return refused->kind == PAGELOG_REPLY_DENIED && refused->section == SECTION_C && refused->row == row;
+}
+
 /* Notes what a write or the report was answered; false where the connection is gone. */
 static bool note(struct append *append, enum pagelog_outcome outcome) {
     const struct pagelog_reply *refused = pagelog_refused(append->log);
-    bool hardened = outcome == PAGELOG_CONFLICT && refused->row == 2;
-    if (hardened) append->is_ahead = true;
+    if (outcome == PAGELOG_CONFLICT && is_row(refused, 2)) append->is_ahead = true;
     if (outcome != PAGELOG_DONE && append->refusal == PAGELOG_DONE) {
         append->refusal = outcome;
         append->refused = *refused;
@@ -105,11 +136,15 @@ static bool note(struct append *append, enum pagelog_outcome outcome) {
 static bool receive_writes(struct append *append, size_t index, bool connected) {
     struct marks *marks = marks_of(append, index);
     struct pagelog_reply reply;
-    for (unsigned copy = 0; copy < append->copies; copy++) {
+    for (unsigned copy = 0; copy < copies_of(append); copy++) {
         if (marks->done >> copy & 1) continue;
         enum pagelog_outcome outcome = connected ? pagelog_receive(append->log, &reply) : PAGELOG_LOST;
         if (connected) connected = note(append, outcome);
         if (outcome == PAGELOG_DONE) marks->done |= (uint8_t)(1u << copy);
+        if (outcome == PAGELOG_DONE && copy >= three_copies.copies) append->has_fourth = true;
+        if (outcome == PAGELOG_DENIED && copy >= three_copies.copies &&
+            is_row(pagelog_refused(append->log), 5))
+            append->lacks_fourth = true;
         if (!connected) marks->unsure |= (uint8_t)(1u << copy);
     }
     return connected;
@@ -119,7 +154,7 @@ static enum pagelog_outcome exchange_group(struct append *append, size_t count) 
     enum pagelog_outcome outcome = PAGELOG_DONE;
     struct pagelog_reply reply;
     bool has_last = append->first + count == append->count, connected = true;
-    append->is_reported = append->is_ahead = false;
+    append->is_reported = append->is_ahead = append->has_fourth = append->lacks_fourth = false;
     append->refusal = PAGELOG_DONE;
     for (size_t i = 0; i < count && outcome == PAGELOG_DONE; i++)
         outcome = send_writes(append, append->first + i);
@@ -140,13 +175,23 @@ static enum pagelog_outcome exchange_group(struct append *append, size_t count) 
     return append->refusal;
 }
 
-/* ---- A look at what is in the log ---- */
-
-/* Whether the last refusal says that the log ends before what was asked for. */
-static bool ends_before(const struct pagelog *log) {
-    const struct pagelog_reply *refused = pagelog_refused(log);
-    return refused->kind == PAGELOG_REPLY_DENIED && refused->section == SECTION_C && refused->row == 1;
+/* Learns from the replies to a group which landing zone the epoch has. Whether it is not the one that the
+ * group was written for. */
+static bool learn_zone(struct append *append, size_t count) {
+    struct pagelog *log = append->log;
+    struct pagelog_zone old = log->zone;
+    bool in_fewer = copies_of(append) < six_copies.quorum;
+    bool too_few = in_fewer && append->refusal == PAGELOG_CONFLICT && is_row(&append->refused, 6) &&
+                   are_done(append, count, copies_of(append));
+    if (log->zone.is_seen) return false;
+    if (append->has_fourth || too_few)
+        log->zone = six_copies;
+    else if (append->lacks_fourth || (append->is_reported && in_fewer && log->owns_epoch))
+        log->zone = three_copies;
+    return log->zone.copies != old.copies;
 }
+
+/* ---- A look at what is in the log ---- */
 
 /* Whether the log has just these blocks from the first one on, `count` of them: DONE, CONFLICT where another
  * stands in its place or the log ends before, else why it could not be learned. */
@@ -158,7 +203,7 @@ static enum pagelog_outcome look(struct append *append, size_t first, size_t cou
         const uint8_t *block;
         unsigned max = count - seen < PAGELOG_PULL_BLOCKS ? (unsigned)(count - seen) : PAGELOG_PULL_BLOCKS;
         enum pagelog_outcome outcome = pagelog_pull(append->log, append->base + first + seen, max, &pulled);
-        if (outcome == PAGELOG_DENIED && ends_before(append->log)) return PAGELOG_CONFLICT;
+        if (outcome == PAGELOG_DENIED && is_row(pagelog_refused(append->log), 1)) return PAGELOG_CONFLICT;
         if (outcome != PAGELOG_DONE) return outcome;
         while (seen < count && (block = pagelog_next_block(&pulled, &at, &length))) {
             const uint8_t *own = pagelog_blocks_at(append->blocks, first + seen, &own_length);
@@ -205,14 +250,16 @@ static enum pagelog_outcome give_up(struct append *append, enum pagelog_outcome 
 /* The epoch is over, so that what became of the last block is decided. */
 static enum pagelog_outcome conclude_after_epoch(struct append *append) {
     size_t left = append->count - append->first;
-    if (are_done(append, left, 2)) {
-        advance(append, left);
-        return PAGELOG_DONE;
+    enum pagelog_outcome outcome = PAGELOG_DONE;
+    if (copies_of_last(append) < least_quorum(append)) return give_up(append, PAGELOG_FENCED);
+    if (!are_done(append, left, most_quorum(append))) {
+        outcome = look(append, append->count - 1, 1);
+        if (outcome == PAGELOG_CONFLICT || append->log->anew) return give_up(append, PAGELOG_FENCED);
+        if (outcome == PAGELOG_DONE) outcome = look(append, append->first, left);
+        /* Who may not look goes by the zone that it was told. */
+        if (outcome != PAGELOG_CONFLICT && are_done(append, left, append->log->zone.quorum))
+            outcome = PAGELOG_DONE;
     }
-    if (copies_of_last(append) < 2) return give_up(append, PAGELOG_FENCED);
-    enum pagelog_outcome outcome = look(append, append->count - 1, 1);
-    if (outcome == PAGELOG_CONFLICT || append->log->anew) return give_up(append, PAGELOG_FENCED);
-    if (outcome == PAGELOG_DONE) outcome = look(append, append->first, left);
     if (outcome != PAGELOG_DONE) return give_up(append, PAGELOG_IN_DOUBT);
     advance(append, left);
     return PAGELOG_DONE;
@@ -231,7 +278,7 @@ static enum pagelog_outcome conclude(struct append *append, enum pagelog_outcome
     if (append->log->anew) return give_up(append, PAGELOG_FENCED);
     if (is_epoch_over(&append->refused)) return conclude_after_epoch(append);
     if (is_dead(&append->refused) && !append->is_report_unsure) return give_up(append, cause);
-    return give_up(append, copies_of_last(append) < 2 ? cause : PAGELOG_IN_DOUBT);
+    return give_up(append, copies_of_last(append) < least_quorum(append) ? cause : PAGELOG_IN_DOUBT);
 }
 
 /* Keeps the refusal of a call within the append as its own. */
@@ -255,12 +302,14 @@ static enum pagelog_outcome run(struct append *append) {
         size_t left = append->count - append->first, count = left < most ? left : most;
         size_t before = append->first;
         enum pagelog_outcome outcome = exchange_group(append, count);
+        bool is_other_zone = learn_zone(append, count);
         if (is_in_log(append, count)) {
             advance(append, count);
             pagelog_progress(&patience);
             most = most * 2 < PAGELOG_WINDOW ? most * 2 : PAGELOG_WINDOW;
             continue;
         }
+        if (is_other_zone) continue;
         if (outcome == PAGELOG_LOST && pagelog_may_try_again(&patience)) {
             most = count > 1 ? count / 2 : 1;
             outcome = taken_from_log(append, catch_up(append));
@@ -278,12 +327,12 @@ static enum pagelog_outcome run(struct append *append) {
 
 enum pagelog_outcome pagelog_append(struct pagelog *log, const struct pagelog_blocks *blocks,
                                     unsigned copies) {
-    struct append append = {.log = log, .blocks = blocks, .copies = copies};
+    struct append append = {.log = log, .blocks = blocks, .wanted = copies};
     size_t length;
     append.count = pagelog_blocks_count(blocks);
     if (log->anew) return pagelog_fail(log, PAGELOG_FENCED);
     if (log->stuck) return pagelog_fail(log, PAGELOG_CONFLICT);
-    if (log->writing_epoch == 0 || log->asked_count > 0 || copies < 2 || copies > 3)
+    if (log->writing_epoch == 0 || log->asked_count > 0 || copies == 1 || copies > PAGELOG_MOST_COPIES)
         return pagelog_fail(log, PAGELOG_MALFORMED);
     if (append.count == 0) return PAGELOG_DONE;
     append.base = pagelog_read_number(pagelog_blocks_at(blocks, 0, &length), 8);

@@ -3,10 +3,12 @@
 
 #include <stdlib.h>
 #include <string.h>
+#ifdef __SSE2__
+#include <emmintrin.h>
+#endif
 
 /* Bytes of a Put that are worth the end of a block: a shorter piece goes into the next one as a whole. */
 enum { SHORTEST_PIECE = 64 };
-
 struct pagelog_blocks {
     uint64_t next_lsn; /* of the block that is being filled */
     /* Ended blocks, one behind the other; block i ends at ends[i], counted from the start of `bytes`. */
@@ -171,22 +173,39 @@ enum pagelog_outcome pagelog_blocks_zero(struct pagelog_blocks *blocks, uint32_t
     return PAGELOG_DONE;
 }
 
-/* The first byte from `at` on that differs, or the end of the page. */
-static size_t first_difference(const uint8_t *old, const uint8_t *now, size_t at) {
-    while (at + 8 <= PAGELOG_PAGE_BYTES && memcmp(old + at, now + at, 8) == 0)
-        at += 8;
-    while (at < PAGELOG_PAGE_BYTES && old[at] == now[at])
+/* Which of the 16 bytes from `at` on are the same in both pages, a bit for each. */
+static unsigned same_bytes(const uint8_t *old, const uint8_t *now, size_t at) {
+#ifdef __SSE2__
+    __m128i one = _mm_loadu_si128((const __m128i *)(old + at));
+    __m128i other = _mm_loadu_si128((const __m128i *)(now + at));
+    return (unsigned)_mm_movemask_epi8(_mm_cmpeq_epi8(one, other));
+#else
+    unsigned bits = 0;
+    if (memcmp(old + at, now + at, 16) == 0) return 0xffff;
+    for (unsigned i = 0; i < 16; i++)
+        bits |= (unsigned)(old[at + i] == now[at + i]) << i;
+    return bits;
+#endif
+}
+
+/* The first byte from `at` on that differs, or that is the same; the end of the page where there is none. */
+static size_t first_byte(const uint8_t *old, const uint8_t *now, size_t at, bool differs) {
+    for (; at + 16 <= PAGELOG_PAGE_BYTES; at += 16) {
+        unsigned bits = same_bytes(old, now, at) ^ (differs ? 0xffffu : 0);
+        if (bits) return at + (size_t)__builtin_ctz(bits);
+    }
+    while (at < PAGELOG_PAGE_BYTES && (old[at] != now[at]) != differs)
         at++;
     return at;
 }
 
 enum pagelog_outcome pagelog_blocks_difference(struct pagelog_blocks *blocks, uint32_t page,
                                                const uint8_t *old, const uint8_t *new_bytes) {
-    for (size_t at = first_difference(old, new_bytes, 0); at < PAGELOG_PAGE_BYTES;) {
-        size_t end = at + 1, next = at + 1; /* `end` is behind the last byte that differs */
-        while ((next = first_difference(old, new_bytes, next)) < PAGELOG_PAGE_BYTES &&
+    for (size_t at = first_byte(old, new_bytes, 0, true); at < PAGELOG_PAGE_BYTES;) {
+        size_t end = first_byte(old, new_bytes, at + 1, false), next;
+        while ((next = first_byte(old, new_bytes, end, true)) < PAGELOG_PAGE_BYTES &&
                next - end <= PUT_HEAD_BYTES)
-            end = ++next;
+            end = first_byte(old, new_bytes, next + 1, false);
         enum pagelog_outcome outcome =
             pagelog_blocks_put(blocks, page, (uint16_t)at, new_bytes + at, (uint16_t)(end - at));
         if (outcome != PAGELOG_DONE) return outcome;

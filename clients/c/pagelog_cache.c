@@ -3,7 +3,7 @@
 #include <stdlib.h>
 #include <string.h>
 
-enum { LEAST_CHAINS = 1024, LEAST_PAGES = 16 };
+enum { LEAST_CHAINS = 1024, LEAST_PAGES = 16, MOST_SPARE = 64 };
 
 /* Frames from the one used last to the one used longest ago. */
 struct list {
@@ -16,7 +16,21 @@ struct pagelog_cache {
     struct pagelog_frame **chains;
     size_t chain_count; /* a power of two */
     struct list changed, unchanged;
+    uint8_t *spare[MOST_SPARE]; /* pages of 8,192 bytes that nobody uses */
+    size_t spare_count;
 };
+
+/* A page of any bytes, or NULL where memory runs out. */
+static uint8_t *take_page(struct pagelog_cache *cache) {
+    return cache->spare_count > 0 ? cache->spare[--cache->spare_count] : malloc(PAGELOG_PAGE_BYTES);
+}
+
+static void give_back_page(struct pagelog_cache *cache, uint8_t *page) {
+    if (page && cache->spare_count < MOST_SPARE)
+        cache->spare[cache->spare_count++] = page;
+    else
+        free(page);
+}
 
 struct pagelog_cache *pagelog_cache_new(size_t most) {
     struct pagelog_cache *cache = calloc(1, sizeof *cache);
@@ -75,7 +89,7 @@ static void link_newest(struct pagelog_cache *cache, struct pagelog_frame *frame
 /* Gives the frame this page as its changed one, or none. */
 static void set_changed(struct pagelog_cache *cache, struct pagelog_frame *frame, uint8_t *changed) {
     unlink_frame(cache, frame);
-    if (!changed) free(frame->changed);
+    if (!changed) give_back_page(cache, frame->changed);
     frame->changed = changed;
     link_newest(cache, frame);
 }
@@ -86,8 +100,8 @@ static void drop_frame(struct pagelog_cache *cache, struct pagelog_frame *frame)
         at = &(*at)->next_in_chain;
     *at = frame->next_in_chain;
     unlink_frame(cache, frame);
-    free(frame->changed);
-    free(frame->base);
+    give_back_page(cache, frame->changed);
+    give_back_page(cache, frame->base);
     free(frame);
 }
 
@@ -101,6 +115,8 @@ void pagelog_cache_clear(struct pagelog_cache *cache) {
 void pagelog_cache_free(struct pagelog_cache *cache) {
     if (!cache) return;
     pagelog_cache_clear(cache);
+    while (cache->spare_count > 0)
+        free(take_page(cache));
     free(cache->chains);
     free(cache);
 }
@@ -129,7 +145,7 @@ struct pagelog_frame *pagelog_cache_make(struct pagelog_cache *cache, uint32_t p
     if (pagelog_cache_count(cache) >= 2 * cache->chain_count) spread(cache);
     frame = calloc(1, sizeof *frame);
     if (!frame) return NULL;
-    frame->base = malloc(PAGELOG_PAGE_BYTES);
+    frame->base = take_page(cache);
     if (!frame->base) {
         free(frame);
         return NULL;
@@ -140,11 +156,14 @@ struct pagelog_frame *pagelog_cache_make(struct pagelog_cache *cache, uint32_t p
     return frame;
 }
 
-bool pagelog_cache_change(struct pagelog_cache *cache, struct pagelog_frame *frame) {
+bool pagelog_cache_change(struct pagelog_cache *cache, struct pagelog_frame *frame, bool whole) {
     if (frame->changed) return true;
-    uint8_t *changed = calloc(1, PAGELOG_PAGE_BYTES);
+    uint8_t *changed = take_page(cache);
     if (!changed) return false;
-    if (frame->has_base) memcpy(changed, frame->base, PAGELOG_PAGE_BYTES);
+    if (!whole && frame->has_base)
+        memcpy(changed, frame->base, PAGELOG_PAGE_BYTES);
+    else if (!whole)
+        memset(changed, 0, PAGELOG_PAGE_BYTES);
     set_changed(cache, frame, changed);
     return true;
 }

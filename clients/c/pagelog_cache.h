@@ -27,9 +27,9 @@ struct pagelog_frame *pagelog_cache_find(struct pagelog_cache *cache, uint32_t p
  * out. */
 struct pagelog_frame *pagelog_cache_make(struct pagelog_cache *cache, uint32_t page);
 
-/* Gives a frame a changed page, which is its base at first, or zeros where it has none. False where memory
- * runs out. */
-bool pagelog_cache_change(struct pagelog_cache *cache, struct pagelog_frame *frame);
+/* Gives a frame a changed page, if it has none: its base at first, or zeros where it has no base; where
+ * `whole` is true the caller replaces all of its bytes, whatever they are. False where memory runs out. */
+bool pagelog_cache_change(struct pagelog_cache *cache, struct pagelog_frame *frame, bool whole);
 
 /* The changed frames, by rising page; `*frames` is to be freed. False where memory runs out. */
 bool pagelog_cache_changed(const struct pagelog_cache *cache, struct pagelog_frame ***frames, size_t *count);

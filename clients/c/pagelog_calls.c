@@ -168,6 +168,7 @@ static enum pagelog_outcome begin_epoch(struct pagelog *log, uint32_t epoch, boo
     struct pagelog_reply status;
     log->writing_epoch = epoch;
     log->owns_epoch = owns;
+    log->zone.is_seen = false;
     log->stuck = true;
     if (epoch > log->epoch) log->epoch = epoch;
     enum pagelog_outcome outcome = pagelog_status(log, PAGELOG_PRIMARY, &status);

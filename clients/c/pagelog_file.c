@@ -22,7 +22,6 @@ struct pagelog_file *pagelog_file_new(const struct pagelog_file_options *options
     struct pagelog_file *file = calloc(1, sizeof *file);
     if (!file) return NULL;
     file->options = *options;
-    if (file->options.copies == 0) file->options.copies = 2;
     file->log = pagelog_new(&options->service);
     file->cache = pagelog_cache_new(options->cache_pages ? options->cache_pages : DEFAULT_CACHE);
     file->blocks = pagelog_blocks_new();
@@ -240,14 +239,15 @@ enum pagelog_outcome pagelog_file_read(struct pagelog_file *file, uint64_t offse
 static enum pagelog_outcome change_page(struct pagelog_file *file, uint32_t page, size_t start,
                                         const uint8_t *bytes, size_t length) {
     const uint8_t *found = NULL;
-    if (length < PAGELOG_PAGE_BYTES) {
+    bool whole = length == PAGELOG_PAGE_BYTES;
+    if (!whole) {
         enum pagelog_outcome outcome = look_up(file, page, &found);
         if (outcome != PAGELOG_DONE) return outcome;
     }
     struct pagelog_frame *frame = pagelog_cache_make(file->cache, page);
     bool is_new = frame && !frame->changed;
-    if (!frame || !pagelog_cache_change(file->cache, frame)) return out_of_memory(file);
-    if (is_new && is_fresh(file, page)) memset(frame->changed, 0, PAGELOG_PAGE_BYTES);
+    if (!frame || !pagelog_cache_change(file->cache, frame, whole)) return out_of_memory(file);
+    if (is_new && !whole && is_fresh(file, page)) memset(frame->changed, 0, PAGELOG_PAGE_BYTES);
     if (bytes)
         memcpy(frame->changed + start, bytes, length);
     else
@@ -320,6 +320,7 @@ struct pagelog_file_state pagelog_file_state_of(const struct pagelog_file *file)
         .transaction = file->mark.transaction,
         .epoch = pagelog_epoch(file->log),
         .writing_epoch = pagelog_writing_epoch(file->log),
+        .zone = pagelog_zone_of(file->log),
         .cached_pages = pagelog_cache_count(file->cache),
         .check_ms = file->options.check_ms,
         .commits = file->commits,

@@ -33,7 +33,7 @@ struct pagelog_file_options {
     bool has_operator; /* a writer begins an epoch of its own, in this operator's name */
     uint32_t operator_principal;
     uint8_t operator_token[PAGELOG_TOKEN_BYTES];
-    unsigned copies; /* 2 or 3; 0: 2 */
+    unsigned written; /* to how many copies each block is written; 0: as many as the quorum */
     unsigned
         check_ms; /* how old may be what a transaction begins with: the newest end that a reader knows, the
                    * proof that a writer's epoch is not over. 0: each transaction asks, one round trip */
@@ -55,13 +55,15 @@ struct pagelog_file_state {
     uint64_t size;        /* bytes, as committed at `lsn` */
     uint64_t transaction; /* the number of the transaction at `lsn`, from 1 */
     uint32_t epoch, writing_epoch;
+    struct pagelog_zone zone;
     size_t cached_pages;
     unsigned check_ms;
     uint64_t commits, repairs, pages_fetched, blocks_written;
     struct pagelog_counts wire;
 };
 
-/* A file that is not open yet; NULL where memory runs out. */
+/* A file that is not open yet; NULL where memory runs out, or where no table can have the landing zone of
+ * `service`. */
 struct pagelog_file *pagelog_file_new(const struct pagelog_file_options *options);
 
 /* Frees it. A transaction that was not committed is undone: nothing of it has been sent. */

@@ -39,6 +39,7 @@ struct pagelog {
     uint32_t epoch;               /* the newest that was heard of; 0: none yet */
     uint32_t writing_epoch;       /* 0: no writer */
     uint64_t end;                 /* the highest LSN known to be in the log */
+    struct pagelog_zone zone;     /* of the writing epoch, as far as is known */
     bool owns_epoch;              /* it was begun for this object alone */
     uint32_t lost_failovers;      /* whose replies were lost since the writing epoch began */
     bool anew;                    /* the service was started anew */

@@ -38,7 +38,7 @@ bool pagelog_has_mark(const uint8_t *block, struct mark *mark) {
 enum pagelog_outcome pagelog_append_ended(struct pagelog_file *file) {
     size_t count = pagelog_blocks_count(file->blocks);
     uint64_t asked = pagelog_now();
-    enum pagelog_outcome outcome = pagelog_append(file->log, file->blocks, file->options.copies);
+    enum pagelog_outcome outcome = pagelog_append(file->log, file->blocks, file->options.written);
     if (outcome != PAGELOG_DONE) return outcome;
     pagelog_blocks_drop(file->blocks, count);
     file->blocks_written += count;

@@ -22,9 +22,11 @@
  *   check=MS         how old may be what a transaction begins with; 0: each one asks
  *   stale=1          a secondary that gets no answer goes on with what it has
  *   cache=PAGES      pages of 8,192 bytes that are kept besides SQLite's own; 4096
- *   copies=N         2 or 3; 2
- *   timeout=MS       of a connect, of a reply, and of the patience with lost connections;
- *                    5000, 10000, 10000
+ *   copies=N         of the landing zone, as the table has it: 3, or 6
+ *   quorum=N         of the landing zone: 2 of 3, or 4 of 6
+ *   written=N        to how many copies a block is written; as many as the quorum
+ *   timeout=MS       of a connect and of a reply; 5000, 10000
+ *   patience=MS      how long lost connections are opened again; as `timeout`, 10000
  *
  * A transaction is committed by SQLITE_FCNTL_SYNC, which SQLite sends once for each, whatever `synchronous`
  * and `journal_mode` are: what was written since then becomes one transaction of the file. The journal, by
@@ -63,7 +65,7 @@
 SQLITE_EXTENSION_INIT1
 #endif
 
-enum { SECTOR_BYTES = 8192, NAME_BYTES = 1024, VALUE_BYTES = 256, ERROR_BYTES = 160 };
+enum { SECTOR_BYTES = 8192, NAME_BYTES = 1024, VALUE_BYTES = 256, ERROR_BYTES = 160, JOURNAL_BYTES = 65536 };
 
 /* A database, as the connections of this process share it. A reader has one of its own. */
 struct database {
@@ -210,25 +212,34 @@ static bool read_operator(sqlite3_filename uri, struct pagelog_file_options *opt
 
 /* Reads all settings; the name of the first one that is missing or cannot be read, or NULL. */
 static const char *read_settings(sqlite3_filename uri, struct pagelog_file_options *options, char *address) {
-    uint64_t database = 0, id = UINT64_MAX, copies = 2, check = 0, cache = 0, at = 0, timeout = 0, stale = 0;
+    uint64_t database = 0, id = UINT64_MAX, copies = 3, quorum = 0, written = 0, check = 0, cache = 0, at = 0,
+             timeout = 0, patience, stale = 0;
     if (!find_setting(uri, "to", address)) return "to";
     if (!read_setting(uri, "id", UINT32_MAX, &id) || id == UINT64_MAX) return "id";
     if (!read_token(uri, "token", options->service.token)) return "token";
     if (!read_setting(uri, "db", UINT32_MAX, &database)) return "db";
     if (!read_setting(uri, "at", PAGELOG_LAST_LSN, &at)) return "at";
-    if (!read_setting(uri, "copies", 3, &copies) || copies < 2) return "copies";
+    if (!read_setting(uri, "copies", 6, &copies) || (copies != 3 && copies != 6)) return "copies";
+    quorum = copies == 6 ? 4 : 2;
+    if (!read_setting(uri, "quorum", 4, &quorum) || quorum != (copies == 6 ? 4 : 2)) return "quorum";
+    if (!read_setting(uri, "written", copies, &written) || (written > 0 && written < quorum))
+        return "written";
     if (!read_setting(uri, "check", 3600000, &check)) return "check";
     if (!read_setting(uri, "cache", UINT32_MAX, &cache)) return "cache";
     if (!read_setting(uri, "timeout", 3600000, &timeout)) return "timeout";
+    patience = timeout;
+    if (!read_setting(uri, "patience", 3600000, &patience)) return "patience";
     if (!read_setting(uri, "stale", 1, &stale)) return "stale";
     options->reads_only = options->reads_only || at > 0;
     if (!read_operator(uri, options)) return "op";
     options->service.address = address;
     options->service.principal = (uint32_t)id;
     options->service.database = (uint32_t)database;
-    options->service.connect_ms = options->service.reply_ms = options->service.patience_ms =
-        (unsigned)timeout;
-    options->copies = (unsigned)copies;
+    options->service.connect_ms = options->service.reply_ms = (unsigned)timeout;
+    options->service.patience_ms = (unsigned)patience;
+    options->service.copies = (unsigned)copies;
+    options->service.quorum = (unsigned)quorum;
+    options->written = (unsigned)written;
     options->check_ms = (unsigned)check;
     options->cache_pages = (size_t)cache;
     options->at = at;
@@ -483,6 +494,8 @@ static bool number_of(const struct pagelog_file_state *state, const char *name, 
         {"epoch", state->epoch},
         {"writing_epoch", state->writing_epoch},
         {"check", state->check_ms},
+        {"copies", state->zone.copies},
+        {"quorum", state->zone.quorum},
         {"stale", state->is_stale},
         {"commits", state->commits},
         {"repairs", state->repairs},
@@ -590,7 +603,8 @@ static int memory_write(sqlite3_file *file, const void *bytes, int length, sqlit
     struct memory *memory = (struct memory *)file;
     sqlite3_int64 end = offset + length;
     if (end > memory->room) {
-        sqlite3_int64 room = end > 2 * memory->room ? end + SECTOR_BYTES : 2 * memory->room;
+        sqlite3_int64 room = memory->room > 0 ? 2 * memory->room : JOURNAL_BYTES;
+        if (room < end) room = end + SECTOR_BYTES;
         unsigned char *grown = sqlite3_realloc64(memory->bytes, (sqlite3_uint64)room);
         if (!grown) return SQLITE_IOERR_NOMEM;
         memory->bytes = grown;

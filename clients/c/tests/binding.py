@@ -53,7 +53,12 @@ class Records(Structure):
 
 class Options(Structure):
     _fields_ = [("address", c_char_p), ("principal", c_uint32), ("token", Token), ("database", c_uint32),
-                ("connect_ms", c_uint), ("reply_ms", c_uint), ("patience_ms", c_uint)]
+                ("connect_ms", c_uint), ("reply_ms", c_uint), ("patience_ms", c_uint), ("copies", c_uint),
+                ("quorum", c_uint)]
+
+
+class Zone(Structure):
+    _fields_ = [("copies", c_uint), ("quorum", c_uint), ("is_seen", c_bool)]
 
 
 class Counts(Structure):
@@ -87,6 +92,7 @@ declare("pagelog_records_begin", None, POINTER(Records), c_char_p)
 declare("pagelog_records_next", c_bool, POINTER(Records), POINTER(Record))
 declare("pagelog_next_block", c_void_p, POINTER(Reply), POINTER(c_size_t), POINTER(c_size_t))
 declare("pagelog_end", c_uint64, c_void_p)
+declare("pagelog_zone_of", Zone, c_void_p)
 declare("pagelog_epoch", c_uint32, c_void_p)
 declare("pagelog_writing_epoch", c_uint32, c_void_p)
 declare("pagelog_is_anew", c_bool, c_void_p)
@@ -197,9 +203,10 @@ class Blocks:
 class Log:
     """An object of the wire."""
 
-    def __init__(self, address, principal, database=0, key=None, connect_ms=0, reply_ms=0, patience_ms=0):
+    def __init__(self, address, principal, database=0, key=None, connect_ms=0, reply_ms=300000, patience_ms=0, copies=0,
+                 quorum=0):
         options = Options(address.encode(), principal, key or token(principal), database, connect_ms, reply_ms,
-                          patience_ms)
+                          patience_ms, copies, quorum)
         self.made = lib.pagelog_new(byref(options))
 
     def __enter__(self):
@@ -243,11 +250,17 @@ class Log:
     def join(self):
         return name(lib.pagelog_join(self.made))
 
-    def append(self, blocks, copies=2):
+    def append(self, blocks, copies=0):
         return name(lib.pagelog_append(self.made, blocks.made, copies))
 
     def disconnect(self):
         lib.pagelog_disconnect(self.made)
+
+    @property
+    def zone(self):
+        """Copies, quorum, and whether replies have shown them."""
+        zone = lib.pagelog_zone_of(self.made)
+        return zone.copies, zone.quorum, zone.is_seen
 
     end = property(lambda self: lib.pagelog_end(self.made))
     epoch = property(lambda self: lib.pagelog_epoch(self.made))
@@ -269,7 +282,7 @@ class Log:
 
 class FileOptions(Structure):
     _fields_ = [("service", Options), ("reads_only", c_bool), ("has_operator", c_bool), ("operator", c_uint32),
-                ("operator_token", Token), ("copies", c_uint), ("check_ms", c_uint), ("cache_pages", c_size_t),
+                ("operator_token", Token), ("written", c_uint), ("check_ms", c_uint), ("cache_pages", c_size_t),
                 ("at", c_uint64), ("may_be_stale", c_bool)]
 
 
@@ -277,7 +290,8 @@ class State(Structure):
     _fields_ = [("is_writer", c_bool), ("is_fenced", c_bool), ("is_broken", c_bool), ("is_stale", c_bool),
                 ("is_anew", c_bool), ("is_foreign", c_bool),
                 ("lsn", c_uint64), ("end", c_uint64), ("size", c_uint64), ("transaction", c_uint64),
-                ("epoch", c_uint32), ("writing_epoch", c_uint32), ("cached_pages", c_size_t), ("check_ms", c_uint), ("commits", c_uint64),
+                ("epoch", c_uint32), ("writing_epoch", c_uint32), ("zone", Zone), ("cached_pages", c_size_t),
+                ("check_ms", c_uint), ("commits", c_uint64),
                 ("repairs", c_uint64), ("pages_fetched", c_uint64), ("blocks_written", c_uint64), ("wire", Counts)]
 
 
@@ -298,10 +312,10 @@ declare("pagelog_file_explain", None, c_void_p, c_char_p, c_size_t)
 class File:
     """A file with transactions."""
 
-    def __init__(self, address, principal, reads_only=False, operator=None, copies=0, check_ms=0, cache_pages=0, at=0,
-                 may_be_stale=False, database=0, reply_ms=0, patience_ms=0):
-        service = Options(address.encode(), principal, token(principal), database, 0, reply_ms, patience_ms)
-        options = FileOptions(service, reads_only, operator is not None, operator or 0, token(operator or 0), copies,
+    def __init__(self, address, principal, reads_only=False, operator=None, written=0, check_ms=0, cache_pages=0, at=0,
+                 may_be_stale=False, database=0, reply_ms=300000, patience_ms=0, copies=0, quorum=0):
+        service = Options(address.encode(), principal, token(principal), database, 0, reply_ms, patience_ms, copies, quorum)
+        options = FileOptions(service, reads_only, operator is not None, operator or 0, token(operator or 0), written,
                               check_ms, cache_pages, at, may_be_stale)
         self.made = lib.pagelog_file_new(byref(options))
 

@@ -1,10 +1,13 @@
 """Runs the tests of a part: the functions of its module whose names begin with `test_`, in the order of the file."""
 
+import faulthandler
 import sys
 import time
 import traceback
 
 LONG = "--long" in sys.argv
+# A test that hangs ends its part, which shows then where it was.
+faulthandler.dump_traceback_later(7200 if LONG else 900, exit=True)
 
 
 def same(what, wanted, found):

@@ -19,7 +19,8 @@ def load():
 
 def uri(address, principal=2, operator=1, name="test", **more):
     """Of a writer with an operator, of one without where it is None, of a reader with mode="ro"."""
-    parts = {"vfs": "pagelog", "to": address, "id": principal, "token": TOKENS[principal]}
+    parts = {"vfs": "pagelog", "to": address, "id": principal, "token": TOKENS[principal], "timeout": 300000,
+             "patience": 10000}
     if operator and "mode" not in more and "at" not in more:
         parts.update(op=operator, optoken=TOKENS[operator])
     parts.update(more)

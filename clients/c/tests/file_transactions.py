@@ -1,7 +1,6 @@
 """The file with transactions, against the real service, beside a plain bytearray."""
 
 import random
-import time
 
 from binding import (AUDIT_FULL, CONFLICT, DENIED, DONE, FENCED, IN_DOUBT, LOST, MALFORMED, File, Log, PRIMARY, SECONDARY,
                      Blocks)
@@ -40,9 +39,9 @@ def change(file, model, numbers, most):
 def test_transactions_beside_a_plain_file():
     """Random changes, undone or committed; a reader sees each commit as a whole, and what a new reader sees is the same."""
     rounds, most = (2000, 2200000) if LONG else (50, 120000)
-    for seed, cache, copies in ((1, 0, 2), (2, 16, 3)):
+    for seed, cache, written in ((1, 0, 0), (2, 16, 3)):
         numbers = random.Random(seed)
-        with Service() as service, opened(service.address, cache_pages=cache, copies=copies) as file, \
+        with Service() as service, opened(service.address, cache_pages=cache, written=written) as file, \
                 opened(service.address, 3, reads_only=True, cache_pages=cache) as reader:
             model, committed, lsns = bytearray(), bytearray(), {}
             for _ in range(rounds):
@@ -219,24 +218,22 @@ def test_a_commit_in_doubt_is_settled():
     """The report is never answered, once since it was not carried and once since its reply was not."""
     for carried in (False, True):
         with Service() as service:
-            stop = [None]
+            cuts = [None]
 
             def between(frame):
-                if frame[33] == wire.REPORT and stop[0] is None:
-                    stop[0] = time.monotonic()
+                """Cuts at the first report, and at the nine requests after it."""
+                if frame[33] == wire.REPORT and cuts[0] is None:
+                    cuts[0] = 10
                     if carried:
                         with service.operator() as operator:
-                            body = bytes(frame[4:])
-                            operator.socket.sendall(frame)
-                            length = int.from_bytes(operator.socket.recv(4), "big")
-                            operator.socket.recv(length)
-                    return None
-                if stop[0] is not None and time.monotonic() - stop[0] < 0.4:
-                    return None
-                return frame
+                            operator.carry(frame)
+                if not cuts[0]:
+                    return frame
+                cuts[0] -= 1
+                return None
 
             with Proxy(service.address, between=between) as proxy, \
-                    opened(proxy.address, 2, patience_ms=1000) as file:
+                    opened(proxy.address, 2, patience_ms=600000) as file:
                 same("commit", (DONE, DONE, DONE), (file.begin(), file.write(0, b"x" * 100), file.commit()))
                 same("once more", (DONE, DONE, DONE), (file.begin(), file.write(0, b"y" * 50), file.commit()))
                 with opened(service.address, 3, reads_only=True) as reader:
@@ -258,7 +255,7 @@ def test_a_commit_in_doubt_is_looked_for_later():
                 return None if away[0] else frame
 
             with Proxy(service.address, between=between) as proxy, \
-                    opened(proxy.address, 2, patience_ms=1, reply_ms=300) as file:
+                    opened(proxy.address, 2, patience_ms=1) as file:
                 same("first", (DONE, DONE, DONE), (file.begin(), file.write(0, b"a" * 100), file.commit()))
                 same("begin", DONE, file.begin())
                 file.write(0, b"b" * 50)
@@ -320,7 +317,6 @@ def test_nothing_is_built_upon_half_a_transaction():
                 step[0] = "deny"
             elif step[0] == "deny" and frame[33] == wire.WRITE:
                 step[0] = "rest"
-                time.sleep(0.1)
                 operator.set_table(denied)
             return frame
 
@@ -397,12 +393,12 @@ def test_a_service_that_was_started_anew():
 
 def test_cut_connections():
     """Connections that are cut at any byte: each commit survives its cuts, and the file is what was committed."""
-    seconds = 20 if LONG else 3
+    wanted = 300 if LONG else 20
     with Service(workers=64) as service:
         with Proxy(service.address, plan=random_plan(3, 2000, 120000)) as proxy:
-            with opened(proxy.address, 2) as file:
-                model, numbers, end, commits = bytearray(), random.Random(4), time.monotonic() + seconds, 0
-                while time.monotonic() < end or proxy.cuts < 5:
+            with opened(proxy.address, 2, patience_ms=600000) as file:
+                model, numbers, commits = bytearray(), random.Random(4), 0
+                while commits < wanted or proxy.cuts < 5:
                     same("begin", DONE, file.begin())
                     for _ in range(3):
                         change(file, model, numbers, 300000)
@@ -412,6 +408,75 @@ def test_cut_connections():
                 same("begin", DONE, reader.begin())
                 same("what was committed", bytes(model), reader.whole())
             return f"{commits} commits over {proxy.cuts} cuts"
+
+
+class Fault:
+    """A proxy's rule: at a request that the seed picks, the connection is cut, or the epoch ends, or both."""
+
+    KINDS = ("cut", "carried and cut", "failover", "failover and cut", "carried, failover and cut", "away", "carried and away")
+
+    def __init__(self, operator, numbers):
+        self.operator, self.kind = operator, numbers.choice(self.KINDS)
+        self.to, self.left, self.is_away = numbers.choice([2, 5]), numbers.randrange(1, 25), False
+
+    def __call__(self, frame):
+        self.left -= 1
+        if self.is_away:
+            return None
+        if self.left != 0:
+            return frame
+        if self.kind.startswith("carried"):
+            self.operator.carry(frame)
+        if "failover" in self.kind:
+            self.operator.failover(self.to)
+        self.is_away = "away" in self.kind
+        return frame if self.kind == "failover" else None
+
+
+def write_until_refused(file, model, numbers):
+    """Some commits of random changes to a model of the file; the last one's outcome, and what it would have made of it."""
+    for _ in range(numbers.randrange(1, 4)):
+        changed = bytearray(model)
+        if file.begin() != DONE:
+            return LOST, model
+        for _ in range(numbers.randrange(1, 4)):
+            offset = numbers.randrange(60000)
+            data = numbers.randbytes(numbers.choice([1, 30, 3000, 60000 if numbers.random() < 0.3 else 100]))
+            if file.write(offset, data) != DONE:
+                return LOST, model
+            changed.extend(bytes(max(offset - len(changed), 0)))
+            changed[offset : offset + len(data)] = data
+        outcome = file.commit()
+        if outcome != DONE:
+            return outcome, changed
+        model[:] = changed
+    return DONE, model
+
+
+def test_faults_from_seeds():
+    """Hundreds of writers, each of which meets a fault at some request and goes without a word: what was acknowledged is
+    there, what was refused is not, and what was in doubt is there as a whole or not at all."""
+    model, outcomes = bytearray(), {}
+    with Service(workers=64) as service, service.operator() as operator:
+        for seed in range(4000 if LONG else 300):
+            numbers = random.Random(seed)
+            rule, principal = Fault(operator, numbers), numbers.choice([2, 5])
+            with Proxy(service.address, between=rule) as proxy, File(proxy.address, principal, operator=1,
+                                                                     patience_ms=1) as file:
+                outcome = file.open()
+                outcome, changed = write_until_refused(file, model, numbers) if outcome == DONE else (LOST, model)
+                is_undone = file.state.is_anew
+            true(f"seed {seed}: {outcome}", outcome in (DONE, LOST, FENCED, IN_DOUBT) and not is_undone)
+            outcomes[outcome] = outcomes.get(outcome, 0) + 1
+            if outcome == IN_DOUBT:
+                operator.failover(5)
+            with opened(service.address, 3, reads_only=True) as reader:
+                same("begin", DONE, reader.begin())
+                found = reader.whole()
+            if outcome == IN_DOUBT and found == changed:
+                model[:] = changed
+            true(f"seed {seed}, {rule.kind}: what is there after {outcome}", found == model)
+    return f"seeds: {outcomes}"
 
 
 if __name__ == "__main__":

@@ -209,7 +209,7 @@ static void append_some(struct pagelog *log, uint64_t *state) {
     for (unsigned i = 0; i < 1 + below(state, 12); i++)
         pagelog_blocks_put(blocks, (uint32_t)below(state, 200000), 0, bytes, PAGELOG_PAGE_BYTES);
     pagelog_blocks_end(blocks);
-    pagelog_append(log, blocks, 2 + (unsigned)below(state, 2));
+    pagelog_append(log, blocks, 2 + (unsigned)below(state, 5));
     pagelog_blocks_free(blocks);
 }
 

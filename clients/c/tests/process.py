@@ -1,24 +1,32 @@
-"""A writer or a reader in a process of its own, for the tests of the VFS.
+"""A writer or a reader in a process of its own, for the tests of the VFS. Each goes on until its standard input ends.
 
-Usage: process.py accounts ADDRESS              moves money for ever; a line for each commit
-       process.py looks ADDRESS SECONDS         reads the accounts again and again; a line at the end, or why not
-       process.py rows ADDRESS PRINCIPAL SECONDS SEED BIG
+Usage: process.py accounts ADDRESS              moves money; a line for each commit
+       process.py looks ADDRESS                 reads the accounts again and again; a line for each look, or why not
+       process.py rows ADDRESS PRINCIPAL SEED BIG
                                                 inserts rows, and says of each what SQLite said of its COMMIT; opens again
-                                                once it is fenced, until the seconds are over
+                                                once it is fenced
 """
 
 import random
 import sqlite3
 import sys
+import threading
 import time
 
 from database import connect, one, reader
 
+PATIENCE = 600000
+is_over = threading.Event()
+
+
+def wait_for_the_end():
+    sys.stdin.read()
+    is_over.set()
+
 
 def accounts(address):
     connection, numbers = connect(address), random.Random(1)
-    print("open")
-    while True:
+    while not is_over.is_set():
         connection.execute("begin immediate")
         for _ in range(numbers.choice([1, 2, 30, 300])):
             amount = numbers.randrange(1, 100)
@@ -27,13 +35,12 @@ def accounts(address):
             connection.execute("update account set money = money + ?, note = randomblob(300) where id = ?", (amount, to))
         connection.execute("update moment set number = number + 1")
         connection.execute("commit")
-        print(one(connection, "select number from moment"))
+        print("moment", one(connection, "select number from moment"))
 
 
-def looks(address, seconds):
-    connection, looked, moments, last = reader(address), 0, set(), 0
-    end = time.monotonic() + seconds
-    while time.monotonic() < end:
+def looks(address):
+    connection, looked, last = reader(address), 0, 0
+    while not is_over.is_set():
         connection.execute("begin")
         money, moment = one(connection, "select sum(money) from account"), one(connection, "select number from moment")
         again = one(connection, "select sum(money) from account")
@@ -45,45 +52,44 @@ def looks(address, seconds):
         if moment < last:
             sys.exit(f"backwards: {moment} after {last}")
         looked, last = looked + 1, moment
-        moments.add(moment)
-    print(f"{looked} looks {len(moments)} moments")
+        print("look", moment)
 
 
-def rows(address, principal, seconds, seed, big):
-    numbers, end, connection, count = random.Random(seed), None, None, 0
-    while end is None or time.monotonic() < end:
+def insert_row(connection, name, epoch, body):
+    connection.execute("begin immediate")
+    connection.execute("insert into row(name, epoch, body) values (?, ?, ?)", (name, epoch, body))
+    print(f"tries {name}")
+    connection.execute("commit")
+    print(f"done {name}")
+
+
+def rows(address, principal, seed, big):
+    numbers, connection, count, epoch = random.Random(seed), None, 0, 0
+    while not is_over.is_set():
+        name = f"{seed}-{count}"
         try:
             if connection is None:
-                connection = connect(address, principal, check=1000, timeout=3000)
-                epoch = one(connection, "pragma pagelog_writing_epoch")
+                connection = connect(address, principal, check=1000, patience=PATIENCE)
+                epoch = int(one(connection, "pragma pagelog_writing_epoch"))
                 print(f"epoch {epoch}")
-                end = end or time.monotonic() + seconds
-            name = f"{seed}-{count}"
             count += 1
-            size = big if numbers.random() < 0.1 else numbers.randrange(2000)
-            connection.execute("begin immediate")
-            connection.execute("insert into row(name, epoch, body) values (?, ?, ?)",
-                               (name, int(epoch), numbers.randbytes(size)))
-            print(f"tries {name}")
-            connection.execute("commit")
-            print(f"done {name}")
+            insert_row(connection, name, epoch, numbers.randbytes(big if numbers.random() < 0.1 else numbers.randrange(2000)))
         except sqlite3.Error as error:
-            if connection is None:
-                time.sleep(0.02)
-                continue
-            code = error.sqlite_errorname
-            print(f"{'doubt' if code == 'SQLITE_IOERR_FSYNC' else 'refused'} {name} {code}")
-            connection.close()
+            if connection is not None:
+                code = error.sqlite_errorname
+                print(f"{'doubt' if code == 'SQLITE_IOERR_FSYNC' else 'refused'} {name} {code}")
+                connection.close()
             connection = None
-            time.sleep(numbers.random() * 0.2)
+            time.sleep(numbers.random() * 0.1)
     print("end")
 
 
 if __name__ == "__main__":
+    threading.Thread(target=wait_for_the_end, daemon=True).start()
     kind, address, *words = sys.argv[1:]
     if kind == "accounts":
         accounts(address)
     elif kind == "looks":
-        looks(address, float(words[0]))
+        looks(address)
     else:
-        rows(address, int(words[0]), float(words[1]), int(words[2]), int(words[3]))
+        rows(address, int(words[0]), int(words[1]), int(words[2]))

@@ -8,12 +8,14 @@ import socket
 import struct
 import subprocess
 import sys
+import tempfile
 import threading
 
 HERE = pathlib.Path(__file__).resolve().parent
 CLIENT = HERE.parent
 ROOT = CLIENT.parent.parent
 TABLE = CLIENT / "table.toml"
+SIX_COPIES = "copies = 6\nquorum = 4\n\n" + TABLE.read_text()
 START_TABLE = ROOT / "crates" / "pagelog" / "data" / "t0.toml"
 PROGRAM = os.environ.get("PAGELOG") or str(ROOT / "crates" / "pagelog" / "out" / "pagelog")
 
@@ -32,7 +34,12 @@ class Service:
     """Ends with the block that it is used in."""
 
     def __init__(self, table=TABLE, primary=2, dbs=1, workers=16, connections=4294967295, audit=16777216, listen=None,
-                 prefix=(), quiet=False):
+                 prefix=(), quiet=False, text=None):
+        """`text` is that of the table, in place of a file."""
+        if text is not None:
+            self.file = tempfile.NamedTemporaryFile("w", suffix=".toml")
+            self.file.write(text), self.file.flush()
+            table = self.file.name
         words = ["serve", "--listen", listen or "127.0.0.1:0", "--table", table, "--primary", primary, "--dbs", dbs,
                  "--workers", workers, "--connections", connections, "--audit", audit]
         words = list(prefix) + [PROGRAM] + [str(word) for word in words]
@@ -58,6 +65,15 @@ class Service:
         return Asker(self.address, 1, wire.OPERATOR, database)
 
 
+def starts_with(text):
+    """Whether the service knows what a table of this text says."""
+    try:
+        Service(text=text, quiet=True).end()
+    except RuntimeError:
+        return False
+    return True
+
+
 class Asker:
     """Plain requests, one at a time, in a hand of this test's own, so that no error of the client hides in it."""
 
@@ -77,9 +93,11 @@ class Asker:
 
     def once(self, op, rest=b"", epoch=None):
         body = wire.head(self.principal, self.role, op, self.epoch if epoch is None else epoch, self.database) + rest
-        self.socket.sendall(struct.pack(">I", len(body)) + body)
-        (length,) = struct.unpack(">I", exactly(self.socket, 4))
-        return exactly(self.socket, length)
+        return self.carry(framed(body))[4:]
+
+    def carry(self, frame):
+        """Another's frame, carried out over this connection: the frame of its reply."""
+        return exchange(self.socket, frame)
 
     def ask(self, op, rest=b""):
         """The reply, in the epoch that is current."""
@@ -138,10 +156,18 @@ def exactly(client, count):
     return bytes(parts)
 
 
+class Answer(bytes):
+    """What a proxy's rule returns to answer a request itself: the body of a reply."""
+
+
 class Proxy:
-    """Carries bytes between clients and a service. A plan says for each connection after how many bytes, of both
-    directions together, it is cut; `between` is called with each whole frame of a request before it is carried on, and
-    may return bytes to be carried in its place, or None to cut."""
+    """Carries bytes between clients and a service.
+
+    A plan says for each connection after how many bytes, of both directions together, it is cut.
+
+    A rule, `between`, is called with each whole frame of a request, once the service has answered all frames before it. What
+    it returns is carried in the frame's place; an Answer is given to the client in the service's place; at None the connection
+    is cut, and the replies to what came from the client together with this frame are lost."""
 
     def __init__(self, address, plan=None, between=None):
         host, port = address.rsplit(":", 1)
@@ -178,43 +204,61 @@ class Proxy:
             return
         for end in (client, server):
             end.setsockopt(socket.IPPROTO_TCP, socket.TCP_NODELAY, 1)
-        left = self.plan() if self.plan else None
         try:
-            self.pump(client, server, left)
+            if self.between:
+                self.carry_frames(client, server)
+            else:
+                self.carry_bytes(client, server, self.plan() if self.plan else None)
         except OSError:
             pass
         for end in (client, server):
             end.close()
 
-    def pump(self, client, server, left):
-        pending = b""
+    def carry_bytes(self, client, server, left):
         while self.is_on:
             for source in select.select([client, server], [], [], 1.0)[0]:
+                target = server if source is client else client
                 data = source.recv(65536)
                 if not data:
                     return
                 if left is not None and len(data) >= left:
-                    (server if source is client else client).sendall(data[:left])
+                    target.sendall(data[:left])
                     self.cuts += 1
                     for end in (client, server):
                         end.setsockopt(socket.SOL_SOCKET, socket.SO_LINGER, struct.pack("ii", 1, 0))
                     return
                 if left is not None:
                     left -= len(data)
-                if source is server:
-                    client.sendall(data)
-                elif not self.between:
-                    server.sendall(data)
-                else:
-                    pending += data
-                    while len(pending) >= 4 and len(pending) >= 4 + int.from_bytes(pending[:4], "big"):
-                        length = 4 + int.from_bytes(pending[:4], "big")
-                        frame, pending = pending[:length], pending[length:]
-                        carried = self.between(frame)
-                        if carried is None:
-                            self.cuts += 1
-                            return
-                        server.sendall(carried)
+                target.sendall(data)
+
+    def carry_frames(self, client, server):
+        pending = b""
+        while self.is_on:
+            data = client.recv(65536)
+            if not data:
+                return
+            pending += data
+            replies = []
+            while len(pending) >= 4 and len(pending) >= 4 + int.from_bytes(pending[:4], "big"):
+                length = 4 + int.from_bytes(pending[:4], "big")
+                frame, pending = pending[:length], pending[length:]
+                carried = self.between(frame)
+                if carried is None:
+                    self.cuts += 1
+                    return
+                replies.append(framed(carried) if isinstance(carried, Answer) else exchange(server, carried))
+            client.sendall(b"".join(replies))
+
+
+def framed(body):
+    return struct.pack(">I", len(body)) + body
+
+
+def exchange(server, frame):
+    """Sends a frame, and returns the frame that answers it."""
+    server.sendall(frame)
+    head = exactly(server, 4)
+    return head + exactly(server, int.from_bytes(head, "big"))
 
 
 def random_plan(seed, least, most):

@@ -1,5 +1,6 @@
 """SQLite over the service, in several processes: torn transactions, failovers, killed writers, cut connections."""
 
+import contextlib
 import pathlib
 import random
 import signal
@@ -22,30 +23,39 @@ class Started:
     def __init__(self, *words):
         self.said = tempfile.TemporaryFile("w+")
         self.process = subprocess.Popen([sys.executable, "-B", str(PROCESS)] + [str(word) for word in words],
-                                        stdout=self.said, stderr=subprocess.STDOUT)
-
-    def is_on(self):
-        return self.process.poll() is None
+                                        stdin=subprocess.PIPE, stdout=self.said, stderr=subprocess.STDOUT)
 
     def lines(self):
         """The whole lines that it has written so far. The file is opened anew, since a place in it would be the writer's too."""
         with open(f"/proc/self/fd/{self.said.fileno()}") as said:
             return [line.rstrip("\n") for line in said.readlines() if line.endswith("\n")]
 
-    def wait_for(self, word):
-        while self.is_on() and not any(line.startswith(word) for line in self.lines()):
-            time.sleep(0.02)
+    def count(self, *words):
+        return sum(line.partition(" ")[0] in words for line in self.lines())
 
     def kill(self):
         self.process.send_signal(signal.SIGKILL)
         self.process.wait()
+        self.process.stdin.close()
         return self.lines()
 
-    def finish(self, seconds=60):
-        """Its lines, once it has ended by itself."""
-        status = self.process.wait(seconds)
+    def finish(self):
+        """Its lines, once it was told to end, and has ended by itself."""
+        with contextlib.suppress(BrokenPipeError):
+            self.process.stdin.close()
+        status = self.process.wait()
         same(f"exit status, {self.lines()[-3:]}", 0, status)
         return self.lines()
+
+
+def wait_until(holds, processes):
+    """Until it holds, or one of the processes has ended, which is told when it is finished."""
+    while not holds() and all(process.process.poll() is None for process in processes):
+        time.sleep(0.02)
+
+
+def counted(processes, *words):
+    return sum(process.count(*words) for process in processes)
 
 
 class Said:
@@ -81,7 +91,7 @@ class Said:
 
 
 def test_no_reader_sees_a_torn_transaction():
-    seconds = 20 if LONG else 3
+    wanted = 3000 if LONG else 150
     with Service() as service:
         connection = connect(service.address)
         connection.executescript(
@@ -91,51 +101,56 @@ def test_no_reader_sees_a_torn_transaction():
             "insert into account select v, 1000, randomblob(100) from g;")
         connection.close()
         writer = Started("accounts", service.address)
-        lookers = [Started("looks", service.address, seconds) for _ in range(2)]
-        said = [looker.finish(seconds + 60) for looker in lookers]
-        lines = writer.kill()
-        acknowledged = int(lines[-1]) if len(lines) > 1 else 0
-        true("the writer went on", acknowledged > 1)
+        lookers = [Started("looks", service.address) for _ in range(2)]
+        wait_until(lambda: writer.count("moment") >= wanted and all(looker.count("look") >= wanted for looker in lookers),
+                   [writer, *lookers])
+        said = [looker.finish() for looker in lookers]
+        acknowledged = int(writer.kill()[-1].split()[1])
         there = one(reader(service.address), "select number from moment")
         true("the last commit is there", there in (acknowledged, acknowledged + 1))
-        true("readers saw it move", all(int(lines[-1].split()[2]) > 1 for lines in said))
-        return f"{acknowledged} transactions, {', '.join(lines[-1] for lines in said)}"
+        moments = [len(set(lines)) for lines in said]
+        true("readers saw it move", all(count > 1 for count in moments))
+        return (f"{acknowledged} transactions, readers looked {[len(lines) for lines in said]} times "
+                f"and saw {moments} states")
 
 
 def test_failovers():
     """Two writers that both want to write all the time, and an operator that moves the epoch between them."""
-    seconds = 120 if LONG else 4
+    wanted, refused = (3000, 300) if LONG else (100, 10)
     with Service() as service:
         connect(service.address).execute(ROW)
-        writers = [Started("rows", service.address, principal, seconds, principal, 2300000) for principal in (2, 5)]
+        writers = [Started("rows", service.address, principal, principal, 2300000) for principal in (2, 5)]
         numbers, failovers = random.Random(7), 0
         with service.operator() as operator:
-            while any(writer.is_on() for writer in writers):
-                time.sleep(numbers.random() * 0.3)
+            while counted(writers, "done") < wanted or counted(writers, "refused", "doubt") < refused:
+                before, more = counted(writers, "done"), numbers.randrange(8)
+                wait_until(lambda: counted(writers, "done") >= before + more, writers)
+                time.sleep(numbers.random() * 0.05)
                 operator.failover(numbers.choice([2, 5]))
                 failovers += 1
+                true("both go on", all(writer.process.poll() is None for writer in writers))
         said = Said()
         for writer in writers:
-            said.read(writer.finish(seconds + 60))
+            said.read(writer.finish())
         rows = said.compare(service.address)
-        true("some were done, and some refused", len(said.done) > 0 and len(said.refused) > 0)
         true(f"codes {said.codes}", said.codes <= {"SQLITE_READONLY", "SQLITE_IOERR_FSYNC", "SQLITE_IOERR"})
         return (f"{failovers} failovers beside those of the writers: {len(said.done)} acknowledged, "
                 f"{len(said.refused)} refused, {len(said.doubt)} in doubt, {rows} rows")
 
 
 def test_killed_writers():
-    rounds = 100 if LONG else 5
+    rounds = 100 if LONG else 6
     with Service(workers=64) as service:
         connect(service.address).execute(ROW)
         said, numbers = Said(), random.Random(8)
         for i in range(rounds):
-            writer = Started("rows", service.address, 2, 60, 1000 + i, 2300000)
-            writer.wait_for("epoch")
-            time.sleep(0.2 + numbers.random() * 0.8)
+            writer = Started("rows", service.address, 2, 1000 + i, 2300000)
+            wanted = numbers.randrange(1, 20)
+            wait_until(lambda: writer.count("done") >= wanted, [writer])
+            time.sleep(numbers.random() * 0.05)
             said.read(writer.kill())
         rows = said.compare(service.address)
-        true("some were done", len(said.done) > 0)
+        true("each had some done", len(said.done) >= rounds)
         with service.operator() as operator:
             hard = operator.status()[2]
         return f"{rounds} killed: {len(said.done)} acknowledged, {rows} rows in {hard} blocks"
@@ -143,28 +158,30 @@ def test_killed_writers():
 
 def test_cut_connections():
     """Each connection is cut after a random number of bytes; no commit fails by it."""
-    seconds = 60 if LONG else 4
+    wanted = 1500 if LONG else 60
     with Service(workers=64) as service, \
             Proxy(service.address, plan=random_plan(9, 3000, 400000)) as proxy:
         connect(service.address).execute(ROW)
-        writer = Started("rows", proxy.address, 2, seconds, 1, 300000)
+        writer = Started("rows", proxy.address, 2, 1, 300000)
+        wait_until(lambda: writer.count("done") >= wanted and proxy.cuts >= 10, [writer])
         said = Said()
-        said.read(writer.finish(seconds + 60))
+        said.read(writer.finish())
         rows = said.compare(service.address)
-        true(f"cuts {proxy.cuts}", proxy.cuts > 0)
         same("in doubt or refused", set(), said.doubt | said.refused)
         return f"{proxy.cuts} cuts: {len(said.done)} acknowledged, {rows} rows"
 
 
 def test_failovers_and_cuts_at_once():
-    seconds = 60 if LONG else 4
+    wanted = 1500 if LONG else 60
     with Service(workers=64) as service, \
             Proxy(service.address, plan=random_plan(10, 3000, 200000)) as proxy:
         connect(service.address).execute(ROW)
-        writers = [Started("rows", proxy.address, principal, seconds, principal, 300000) for principal in (2, 5)]
+        writers = [Started("rows", proxy.address, principal, principal, 300000) for principal in (2, 5)]
+        wait_until(lambda: counted(writers, "done") >= wanted and counted(writers, "refused", "doubt") >= 3 and
+                   proxy.cuts >= 10, writers)
         said = Said()
         for writer in writers:
-            said.read(writer.finish(seconds + 60))
+            said.read(writer.finish())
         rows = said.compare(service.address)
         return (f"{proxy.cuts} cuts and failovers: {len(said.done)} acknowledged, {len(said.refused)} refused, "
                 f"{len(said.doubt)} in doubt, {rows} rows")
@@ -172,15 +189,15 @@ def test_failovers_and_cuts_at_once():
 
 def test_two_writers_of_one_principal():
     """Two processes that write as one principal: each open begins an epoch, so that they never share one."""
-    seconds = 30 if LONG else 3
+    wanted, refused = (2000, 200) if LONG else (60, 10)
     with Service() as service:
         connect(service.address).execute(ROW)
-        writers = [Started("rows", service.address, 2, seconds, seed, 100000) for seed in (1, 2)]
+        writers = [Started("rows", service.address, 2, seed, 100000) for seed in (1, 2)]
+        wait_until(lambda: counted(writers, "done") >= wanted and counted(writers, "refused") >= refused, writers)
         said = Said()
         for writer in writers:
-            said.read(writer.finish(seconds + 60))
+            said.read(writer.finish())
         rows = said.compare(service.address)
-        true("some were refused", len(said.refused) > 0)
         return f"{len(said.done)} acknowledged, {len(said.refused)} refused, {rows} rows"
 
 

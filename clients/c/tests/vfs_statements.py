@@ -7,13 +7,12 @@ import sqlite3
 import subprocess
 import tempfile
 import threading
-import time
 
 from check import LONG, run, same, true
 from database import EXTENSION, TOKENS, code_of, connect, one, reader, uri
-from service import CLIENT, Proxy, START_TABLE, Service, exactly, plain_environment, wire
+from service import CLIENT, Answer, Proxy, START_TABLE, Service, plain_environment, wire
 
-COUNT = 10000 if LONG else 400
+COUNT = 40000 if LONG else 10000
 
 
 def mixed(numbers, count):
@@ -40,7 +39,7 @@ def mixed(numbers, count):
         elif kind < 0.995:
             yield [f"update account set note = note || '{a}' where id % 7 = {a % 7}"]
         else:
-            yield [f"insert into blob(data) select randomized({a}, value) from generate({numbers.randrange(2200 if LONG else 200)})"]
+            yield [f"insert into blob(data) select randomized({a}, value) from generate({numbers.randrange(2200 if LONG else 700)})"]
         if i == count // 2:
             yield ["vacuum"]
 
@@ -145,15 +144,15 @@ def test_connections_of_one_process_lock():
 
 
 def test_threads_of_one_process():
-    seconds, errors, counts = 8.0 if LONG else 2.0, [], [0, 0]
+    wanted, errors, counts = 2000 if LONG else 150, [], [0, 0]
     with Service() as service:
         connect(service.address).executescript("create table account(id integer primary key, money int);"
                                                "insert into account values (1, 500), (2, 500);")
-        end = time.monotonic() + seconds
+        start = connect(service.address)
 
         def write():
-            connection = connect(service.address, check=5, busy=30)
-            while time.monotonic() < end:
+            connection = connect(service.address, check=5, busy=600)
+            for _ in range(wanted):
                 connection.execute("begin immediate")
                 connection.execute("update account set money = money - 1 where id = 1")
                 connection.execute("update account set money = money + 1 where id = 2")
@@ -161,8 +160,8 @@ def test_threads_of_one_process():
                 counts[0] += 1
 
         def read():
-            connection = connect(service.address, check=5, busy=30)
-            while time.monotonic() < end:
+            connection = connect(service.address, check=5, busy=600)
+            while counts[0] < 2 * wanted and not errors or counts[1] < 20:
                 if one(connection, "select sum(money) from account") != 1000:
                     errors.append("torn")
                 counts[1] += 1
@@ -179,9 +178,8 @@ def test_threads_of_one_process():
         for thread in threads:
             thread.join()
         same("errors", [], errors)
-        moved = one(connect(service.address), "select money from account where id = 2") - 500
-        same("each commit is there", counts[0], moved)
-        true("both went on", counts[0] > 10 and counts[1] > 10)
+        moved = one(start, "select money from account where id = 2") - 500
+        same("each commit is there", (2 * wanted, 2 * wanted), (counts[0], moved))
 
 
 def test_a_second_writer_fences_the_first():
@@ -248,6 +246,12 @@ def test_settings():
         for text, code in (("id=9", "SQLITE_MISUSE"), ("id=3&token=zz", "SQLITE_MISUSE"),
                            (f"id=3&token={TOKENS[3]}&db=x", "SQLITE_MISUSE"),
                            (f"id=3&token={TOKENS[3]}&copies=1", "SQLITE_MISUSE"),
+                           (f"id=3&token={TOKENS[3]}&copies=4", "SQLITE_MISUSE"),
+                           (f"id=3&token={TOKENS[3]}&copies=6&quorum=2", "SQLITE_MISUSE"),
+                           (f"id=3&token={TOKENS[3]}&quorum=4", "SQLITE_MISUSE"),
+                           (f"id=3&token={TOKENS[3]}&written=1", "SQLITE_MISUSE"),
+                           (f"id=3&token={TOKENS[3]}&written=4", "SQLITE_MISUSE"),
+                           (f"id=3&token={TOKENS[3]}&copies=6&written=3", "SQLITE_MISUSE"),
                            (f"id=3&token={TOKENS[3]}&op=1", "SQLITE_MISUSE"),
                            (f"id=3&token={TOKENS[4]}&mode=ro", "SQLITE_PERM"),
                            (f"id=3&token={TOKENS[3]}&mode=ro&db=2", "SQLITE_PERM"),
@@ -304,7 +308,7 @@ def test_at_the_limits():
         same("the snapshot of a reader that may be stale", (0, "1"),
              (one(follower, "select count(*) from t"), one(follower, "pragma pagelog_stale")))
     with Service() as service:
-        connection, follower = connect(service.address, timeout=200), reader(service.address, timeout=200)
+        connection, follower = connect(service.address, patience=200), reader(service.address, patience=200)
         connection.executescript("create table t(a); insert into t values (1);")
         same("a row", 1, one(follower, "select count(*) from t"))
         follower.execute("begin")
@@ -332,17 +336,15 @@ def test_a_commit_in_doubt():
                 if is_armed[0] and frame[33] == wire.REPORT:
                     is_away[0] = True
                     if is_carried:
-                        time.sleep(0.05)
-                        operator.socket.sendall(frame)
-                        exactly(operator.socket, int.from_bytes(exactly(operator.socket, 4), "big"))
+                        operator.carry(frame)
                 return None if is_away[0] else frame
 
             with Proxy(service.address, between=between) as proxy:
-                writer = connect(proxy.address, timeout=300, check=60000)
+                writer = connect(proxy.address, patience=300, check=3600000)
                 writer.executescript("create table t(a); insert into t values (1);")
                 is_armed[0] = True
                 same("in doubt", "SQLITE_IOERR_FSYNC", code_of(lambda: writer.execute("insert into t values (2)")))
-                same("not there", "SQLITE_CANTOPEN", code_of(lambda: connect(proxy.address, 5, timeout=50)))
+                same("not there", "SQLITE_CANTOPEN", code_of(lambda: connect(proxy.address, 5, patience=50)))
                 is_armed[0] = is_away[0] = False
                 rows = writer.execute("select a from t").fetchall()
                 same("as a reader sees it", rows, reader(service.address).execute("select a from t").fetchall())
@@ -353,21 +355,49 @@ def test_a_commit_in_doubt():
     true(f"a report that was carried out is a commit: {found}", (True, 2) in found)
 
 
+def test_replies_of_a_service_at_its_end():
+    """Its turns are spent, its memory or its audit list is full: each is an error of its own to a reader and to a writer, and
+    a reader's snapshot stays readable."""
+    for body, name, words in ((b"\x08", "SQLITE_FULL", "denied: spent"), (b"\x06", "SQLITE_FULL", "no memory"),
+                              (b"\x07", "SQLITE_FULL", "audit list full"), (b"\x09", "SQLITE_PERM", "denied: no database"),
+                              (b"\x05\x02\0\0" + bytes(8), "SQLITE_PERM", "denied: denied B0, value 0")):
+        is_over = [False]
+        with Service() as service, Proxy(service.address, between=lambda frame: Answer(body) if is_over[0] else frame) as proxy:
+            writer, follower = connect(proxy.address, patience=200), reader(proxy.address, patience=200)
+            writer.executescript("create table t(a); insert into t values (1);")
+            follower.execute("begin")
+            same("a row", 1, one(follower, "select count(*) from t"))
+            writer.execute("begin immediate")
+            writer.execute("insert into t values (2)")
+            is_over[0] = True
+            same(f"a commit, {words}", name, code_of(lambda: writer.execute("commit")))
+            same("why", words, one(writer, "pragma pagelog_error"))
+            same("a snapshot", 1, one(follower, "select count(*) from t"))
+            follower.execute("commit")
+            same(f"a reader, {words}", name, code_of(lambda: one(follower, "select count(*) from t")))
+            same("why", words, one(follower, "pragma pagelog_error"))
+            same(f"who comes now, {words}", name, code_of(lambda: reader(proxy.address, patience=200)))
+            is_over[0] = False
+            same("a row", 1, one(follower, "select count(*) from t"))
+
+
 def test_no_memory():
     """A service with little memory: it says so, and what was committed before is there."""
-    prefix = ["prlimit", "--as=400000000"]
+    prefix = ["prlimit", "--as=200000000"]
     try:
         service = Service(prefix=prefix, quiet=True)
     except RuntimeError:
         return "no memory: not tried, this build does not start with so little"
     with service:
-        connection = connect(service.address, check=1000, timeout=3000)
+        connection = connect(service.address, check=3600000, patience=1000)
         connection.execute("create table t(a)")
         rows, code = 0, None
         while code is None and rows < 4000:
             code = code_of(lambda: connection.execute("insert into t values (randomblob(300000))"))
             rows += code is None
-        true(f"an error of the right kind, and not {code}", code in ("SQLITE_FULL", "SQLITE_IOERR", "SQLITE_IOERR_FSYNC"))
+        words = one(connection, "pragma pagelog_error")
+        true(f"an error of the right kind, and not {code}, {words}",
+             code in ("SQLITE_FULL", "SQLITE_IOERR_FSYNC") and words in ("no memory", "in doubt: no memory"))
         return f"no memory: {code} after {rows} rows"
 
 

@@ -5,6 +5,7 @@ from __future__ import annotations
 import importlib
 import os
 import re
+import resource
 import shutil
 import signal
 import subprocess
@@ -16,8 +17,8 @@ from pathlib import Path
 
 sys.path.insert(0, str(Path(__file__).resolve().parent.parent / "src"))
 
-PATIENCE = 1200 if os.environ.get("PAGELOG_TEST_LONG") else 60
-"""So many seconds a test may take."""
+PATIENCE = 3600 if os.environ.get("PAGELOG_TEST_LONG") else 600
+"""So many seconds a test may take before it is taken to hang. Most take less than one where the machine is idle."""
 PARTS = {
     "test_bytes": "blocks, requests and replies against the stored trial and the pages",
     "test_replies": "every reply, rule and fault of the service",
@@ -26,24 +27,31 @@ PARTS = {
     "test_reader": "readers, page servers and operators",
     "test_credentials": "credentials",
     "test_archive": "archives, whole up to their LSN",
+    "test_followers": "archivers that are killed, cut off and told to end",
     "test_restore": "restore, verify and move",
+    "test_zones": "six copies, and rows that end at an LSN",
     "test_looking": "status, top, audit, metrics and explain",
 }
 
 
 class Timed(unittest.TestResult):
-    """Counts, ends a test that hangs, and with PAGELOG_TEST_TIMES in the environment says how long each took."""
+    """Counts, ends a test that hangs, and with PAGELOG_TEST_TIMES in the environment says what each took."""
 
     def startTest(self, test: unittest.TestCase) -> None:
         super().startTest(test)
-        self.began = time.monotonic()
+        self.began, self.spent = time.monotonic(), processor_time()
         signal.alarm(PATIENCE)
 
     def stopTest(self, test: unittest.TestCase) -> None:
         signal.alarm(0)
         super().stopTest(test)
         if os.environ.get("PAGELOG_TEST_TIMES"):
-            print(f"{time.monotonic() - self.began:6.2f} s {test.id()}")
+            print(f"{time.monotonic() - self.began:6.2f} s, {processor_time() - self.spent:6.2f} s of a processor: {test.id()}")
+
+
+def processor_time() -> float:
+    """What this process has taken of processors, and those that it has waited for."""
+    return sum(resource.getrusage(who).ru_utime + resource.getrusage(who).ru_stime for who in (resource.RUSAGE_SELF, resource.RUSAGE_CHILDREN))
 
 
 def hangs(_: int, __: object) -> None:
@@ -70,16 +78,17 @@ def play(module: str, words: str, only: str | None) -> tuple[int, int]:
     for test, text in texts:
         print(f"{test}: {text}", file=sys.stderr)
     if result.testsRun:
-        left = f", {len(result.skipped)} left to --long" if result.skipped else ""
+        reasons = sorted({reason for _, reason in result.skipped})
+        left = f", {len(result.skipped)} left out: {'; '.join(reasons)}" if reasons else ""
         print(f"{module[5:]}: {words}: {passed} passed, {failed} failed{left}, {time.monotonic() - began:.1f} s", flush=True)
     return passed, failed
 
 
 def side_by_side(names: list[str]) -> list[subprocess.Popen[str]]:
-    """Each part in a process of its own, as many at a time as there are processors, and at most three."""
+    """Each part in a process of its own, as many at a time as there are processors, and at most four."""
     running: list[subprocess.Popen[str]] = []
     for name in names:
-        while sum(process.poll() is None for process in running) >= min(3, os.cpu_count() or 1):
+        while sum(process.poll() is None for process in running) >= min(4, os.cpu_count() or 1):
             time.sleep(0.05)
         command = [sys.executable, "-B", __file__, name[5:]]
         output = tempfile.TemporaryFile("w+")

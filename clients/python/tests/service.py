@@ -23,6 +23,8 @@ import pagelog  # noqa: E402
 
 PROGRAM = os.environ.get("PAGELOG") or str(TOP / "crates" / "pagelog" / "out" / "pagelog")
 TABLE = TOP / "crates" / "pagelog" / "data" / "t0.toml"
+PATIENCE = 300.0
+"""So many seconds a test waits for what has to come: on a machine with much else to do anything may take its time."""
 IS_LONG = os.environ.get("PAGELOG_TEST_LONG") == "1"
 
 # The start table with rights that a restore, a move and a new primary need: principal 2 is a secondary as well.
@@ -78,13 +80,13 @@ class Service:
         shutil.rmtree(self.folder, ignore_errors=True)
 
     def limit_memory(self, more: int) -> None:
-        """From now on it gets so many bytes more of address space at most."""
-        pages = int(Path(f"/proc/{self.process.pid}/statm").read_text().split()[0])
-        most = pages * resource.getpagesize() + more
-        resource.prlimit(self.process.pid, resource.RLIMIT_AS, (most, resource.RLIM_INFINITY))
+        """From now on it gets so many bytes more of memory that may be written at most."""
+        text = Path(f"/proc/{self.process.pid}/status").read_text()
+        most = 1024 * int(text.split("VmData:")[1].split()[0]) + more
+        resource.prlimit(self.process.pid, resource.RLIMIT_DATA, (most, resource.RLIM_INFINITY))
 
     def unlimit_memory(self) -> None:
-        resource.prlimit(self.process.pid, resource.RLIMIT_AS, (resource.RLIM_INFINITY, resource.RLIM_INFINITY))
+        resource.prlimit(self.process.pid, resource.RLIMIT_DATA, (resource.RLIM_INFINITY, resource.RLIM_INFINITY))
 
     # Clients of it.
 
@@ -100,8 +102,8 @@ class Service:
     def page_server(self, db: int = 0, partitions: tuple[int, ...] = (0,)) -> pagelog.PageServer:
         return pagelog.PageServer(self.connection(), pagelog.Credentials.of(4, token(4)), db, partitions)
 
-    def connection(self) -> pagelog.Connection:
-        return pagelog.Connection(self.address, timeout=10.0, attempts=20, pause=0.01)
+    def connection(self, attempts: int = 20) -> pagelog.Connection:
+        return pagelog.Connection(self.address, timeout=PATIENCE, attempts=attempts, pause=0.01)
 
     def credentials_file(self, *, name: str = "credentials.toml", url: str | None = None, audit: int | None = None) -> Path:
         """A file with a section for each role, for all at this service."""
@@ -137,6 +139,18 @@ def fill(primary: pagelog.Primary, count: int, *, seed: int = 1, empties: bool =
         pass
 
 
+def all_that_is_drawn(main: int) -> str:
+    """What is written to a terminal until its last process ends. A terminal that nobody reads would stop it."""
+    drawn = b""
+    try:
+        while part := os.read(main, 65536):
+            drawn += part
+    except OSError:
+        pass  # the other end is closed
+    os.close(main)
+    return drawn.decode(errors="replace")
+
+
 class CuttingProxy:
     """Passes bytes on to a service, and cuts each connection behind a number of bytes, drawn from a seed."""
 
@@ -168,7 +182,7 @@ class CuttingProxy:
     def _serve(self, client: socket.socket) -> None:
         left = self.chance.randrange(self.least, self.most) if self.is_cutting else 1 << 60
         try:
-            server = socket.create_connection((self.target.host, self.target.port), 10)
+            server = socket.create_connection((self.target.host, self.target.port), PATIENCE)
         except OSError:
             client.close()
             return
@@ -191,4 +205,4 @@ class CuttingProxy:
             server.close()
 
     def connection(self, **options: object) -> pagelog.Connection:
-        return pagelog.Connection(self.address, timeout=10.0, attempts=60, pause=0.001, **options)  # type: ignore[arg-type]
+        return pagelog.Connection(self.address, timeout=PATIENCE, attempts=60, pause=0.001, **options)  # type: ignore[arg-type]

@@ -11,7 +11,7 @@ import pagelog
 from pagelog import Address, Block, Connection, Put
 from pagelog.reply import Done, Page, State
 from pagelog.request import Failover, Get, Head, Report, Request, Role, Status, Write
-from service import CuttingProxy, Service, put, token
+from service import PATIENCE, CuttingProxy, Service, put, token
 
 PRIMARY = Head(2, bytes.fromhex(token(2)), Role.PRIMARY, 0, 1)
 SECONDARY = Head(3, bytes.fromhex(token(3)), Role.SECONDARY, 0, 1)
@@ -108,7 +108,7 @@ class Cuts(unittest.TestCase):
                     with self.assertRaises(pagelog.InDoubt):
                         connection.ask(Request(head, Failover(2)))
                     self.assertEqual(connection.connects, 1)
-                deadline = time.monotonic() + 5
+                deadline = time.monotonic() + PATIENCE
                 while size == 40 and direct.status().epoch == before and time.monotonic() < deadline:
                     time.sleep(0.01)
                 self.assertEqual(direct.status().epoch, before + (size == 40))
@@ -117,9 +117,14 @@ class Cuts(unittest.TestCase):
         with Service() as service, service.connection() as connection:
             self.assertIsInstance(connection.ask(Request(PRIMARY, Status())), State)
             service.stop()
-            threading.Timer(0.3, service_start_again, (service,)).start()
+            timer = threading.Timer(0.3, service_start_again, (service,))
+            timer.start()
+            self.addCleanup(timer.join)
+            connection.attempts = 1000
             self.assertIsInstance(connection.ask(Request(PRIMARY, Status())), State)
-            self.assertEqual(connection.connects, 2)
+            timer.join()
+            # A service that is ending may still take a connection, and drop it.
+            self.assertGreaterEqual(connection.connects, 2)
 
 
 def service_start_again(service: Service) -> None:
@@ -144,13 +149,14 @@ class Refused(unittest.TestCase):
                     second.ask(Request(PRIMARY, Status()))
                 self.assertIn("workers", str(raised.exception))
                 first.close()
+                second.timeout = PATIENCE
                 self.assertIsInstance(second.ask(Request(PRIMARY, Status())), State)
 
     def test_a_service_that_ends_its_connections(self) -> None:
         with Service(connections=1) as service, Connection(service.address, attempts=2, pause=0.01) as connection:
             connection.ask(Request(PRIMARY, Status()))
             connection.close()
-            service.process.wait(10)
+            service.process.wait(PATIENCE)
             with self.assertRaises(pagelog.Unreachable):
                 connection.ask(Request(PRIMARY, Status()))
 

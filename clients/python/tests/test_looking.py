@@ -23,10 +23,11 @@ import pagelog
 
 from pagelog.archive import Archive
 from pagelog.desk.explain import ExplainError, Question, Table, differences, explain
+from pagelog.desk.explain_all import all_differences
 from pagelog.desk.watch import Watch, duration
 from pagelog.keeping import Archiver
 from pagelog.request import Pull
-from service import SOURCE, TABLE, Service, fill
+from service import PATIENCE, SOURCE, TABLE, Service, all_that_is_drawn, fill, token
 from test_archive import words
 
 HERE = Path(__file__).resolve().parent
@@ -34,7 +35,7 @@ HERE = Path(__file__).resolve().parent
 
 def ends(process: subprocess.Popen[str], status: int = 0) -> str:
     """What a word wrote, once it has ended with this status and no word on standard error."""
-    out, error = process.communicate(timeout=60)
+    out, error = process.communicate(timeout=PATIENCE)
     if process.returncode != status:
         raise AssertionError(f"status {process.returncode}: {out}{error}")
     return out if status == 0 else out + error
@@ -141,7 +142,7 @@ class Looks(unittest.TestCase):
                 self.service.reader().pull(lsn)
             self.assertEqual(json.loads(process.stdout.readline())["a"], lsn)
         process.send_signal(signal.SIGTERM)
-        self.assertEqual(process.wait(20), 0)
+        self.assertEqual(process.wait(PATIENCE), 0)
         process.communicate()
 
     def test_metrics(self) -> None:
@@ -169,12 +170,14 @@ class Looks(unittest.TestCase):
             self.assertEqual(found['pagelog_requests_total{db="0",operation="pull",role="secondary",verdict="AboveTheEnd"}'], 1)
             again = scrape(address)
             self.assertGreater(again['pagelog_audit_entries{db="0"}'], found['pagelog_audit_entries{db="0"}'])
+            self.assertNotIn('pagelog_audit_full_in_seconds{db="0"}', found)
+            self.assertGreater(again['pagelog_audit_full_in_seconds{db="0"}'], 0)
             check_alerts(self, set(name.partition("{")[0] for name in found))
             self.service.stop()
             self.assertEqual(scrape(address)['pagelog_up{db="0"}'], 0)
             self.service.start()
         process.send_signal(signal.SIGTERM)
-        self.assertEqual(process.wait(20), 0)
+        self.assertEqual(process.wait(PATIENCE), 0)
         process.communicate()
 
     def test_top_where_the_output_is_no_terminal(self) -> None:
@@ -211,7 +214,7 @@ class Looks(unittest.TestCase):
         environment = {**os.environ, "PYTHONPATH": str(SOURCE), "TERM": "xterm-256color"}
         process = subprocess.Popen(command, stdin=other, stdout=other, stderr=other, env=environment)
         os.close(other)
-        drawn, deadline, has_acted = "", time.monotonic() + 30, False
+        drawn, deadline, has_acted = "", time.monotonic() + PATIENCE, False
         while time.monotonic() < deadline and not ("AboveTheEnd" in drawn and "0: 33" in drawn):
             if select.select([main], [], [], 0.2)[0]:
                 drawn += os.read(main, 65536).decode(errors="replace")
@@ -219,17 +222,14 @@ class Looks(unittest.TestCase):
                 meanwhile()  # type: ignore[operator]
                 has_acted = True
         os.write(main, b"q")
-        try:
-            self.assertEqual(process.wait(20), 0)
-        finally:
-            process.kill()
-            os.close(main)
+        drawn += all_that_is_drawn(main)
+        self.assertEqual(process.wait(PATIENCE), 0)
         return drawn
 
 
 def scrape(address: str) -> dict[str, float]:
     """The metrics, by name and labels."""
-    with urllib.request.urlopen(f"http://{address}/metrics", timeout=20) as answer:
+    with urllib.request.urlopen(f"http://{address}/metrics", timeout=PATIENCE) as answer:
         lines = answer.read().decode().splitlines()
     return {name: float(value) for name, value in (line.rsplit(" ", 1) for line in lines if not line.startswith("#"))}
 
@@ -301,6 +301,27 @@ class Explaining(unittest.TestCase):
         self.assertEqual(out.count("principal "), 2)
         self.assertIn("t0.toml: denied by B0 NoRowMatches", out)
         ends(words("explain", "--diff", TABLE, TABLE, self.folder / "requests"))
+
+    def test_what_differs_among_all_requests(self) -> None:
+        """Row 3 denies one partition more, row 5 allows one more, and principal 5 has gone."""
+        text = TABLE.read_text().replace("from = 7\nto = 7", "from = 6\nto = 7").replace("to = 3", "to = 4")
+        gone = text.replace(f'[[principal]]\nid = 5\ntoken = "{token(5)}"\n', "").replace("who = 5\n", "who = 2\n")
+        new = self.table(gone, "new.toml")
+        found = [(one.question.words, one.old.place, one.new.place) for one in all_differences(Table(TABLE), new)]
+        of_four = [(f"principal 4 as page_server {words_}", "B0", "row 5") for words_ in ("pull 4..4", "pull 0..4", "advance 4")]
+        self.assertEqual([one for one in found if one[0].startswith("principal 4")], of_four)
+        self.assertEqual([one for one in found if one[0].startswith("principal 3")],
+                         [("principal 3 as secondary get 393216", "row 4", "B3")])  # fmt: skip
+        of_five = [one for one in found if one[0].startswith("principal 5")]
+        self.assertEqual({one[1:] for one in of_five}, {("row 6", "A1")})
+        self.assertIn("principal 5 as primary status", [one[0] for one in of_five])
+        self.assertEqual({one[0][:11] for one in found}, {"principal 3", "principal 4", "principal 5"})
+        self.assertEqual(list(all_differences(new, new)), [])
+        with self.assertRaisesRegex(ExplainError, "fault 11"):
+            list(all_differences(new, self.table(TABLE.read_text().replace("to = 3", 'to = "x"'), "no_table.toml")))
+        one_more = self.table(TABLE.read_text().replace("to = 3", "to = 4"), "one_more.toml")
+        out = ends(words("explain", "--diff", TABLE, self.folder / one_more.name), status=1)
+        self.assertEqual(out.count("one_more.toml: allowed by row 5"), 3)
 
     def test_what_cannot_be_asked(self) -> None:
         for words_ in ("", "principal x tidy", "principal 3 pulls", "principal 3 as king pull", "principal 3 get 4294967296"):

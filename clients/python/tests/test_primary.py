@@ -84,9 +84,23 @@ class Commits(unittest.TestCase):
         with self.service.operator() as operator:
             writes = [entry.b for entry in operator.audit(1) if entry.operation == pagelog.Operation.WRITE]
         self.assertEqual(writes, [2, 0, 1])
-        for copies in ((0,), (0, 0), (0, 3)):
-            with self.assertRaises(ValueError):
-                self.service.primary(copies=copies)
+
+    def test_which_copies_there_are(self) -> None:
+        for options in ({"copies": (0,)}, {"copies": (0, 0)}, {"copies": (0, 3)}, {"quorum": 3}, {"quorum": 4, "copies": (0, 1, 2)},
+                        {"quorum": 4, "copies": (0, 1, 2, 6)}, {"quorum": 4, "copies": (0, 1, 2, 2)}):  # fmt: skip
+            with self.subTest(options), self.assertRaises(ValueError):
+                self.service.primary(**options)  # type: ignore[arg-type]
+        for options, copies in (({}, (0, 1)), ({"quorum": 4}, (0, 1, 2, 3)), ({"quorum": 4, "copies": range(1, 6)}, (1, 2, 3, 4, 5))):
+            self.assertEqual(self.service.primary(**options).copies, copies)  # type: ignore[arg-type]
+
+    def test_a_quorum_that_is_too_large_is_told(self) -> None:
+        """There is no copy 3 of three. The report that was on its way hardens the block all the same."""
+        with self.service.primary(quorum=4) as primary:
+            primary.append(put(0, b"a"))
+            with self.assertRaises(pagelog.NoSuchCopy):
+                primary.commit()
+            self.assertEqual((primary.durable, self.reader.status().hard), (1, 1))
+            self.assertFalse(primary._is_quorum_shown)
 
 
 class Epochs(unittest.TestCase):
@@ -155,19 +169,52 @@ class Epochs(unittest.TestCase):
         def with_a_failover(*arguments):  # type: ignore[no-untyped-def]
             for request in requests(*arguments):
                 if isinstance(request.act, Report):
-                    self.assertEqual(wait_for_writes(self.operator, 2), 2)
+                    self.assertEqual(count_of_writes(self.operator), 4)
                     self.operator.failover(5)
                 yield request
 
+        self.primary.append(put(0, b"before"))
+        self.primary.commit()
         self.primary._requests = with_a_failover  # type: ignore[method-assign]
         self.primary.append(put(0, b"kept"))
         self.primary._prepare()
         self.primary._close_block()
         lsns = list(self.primary._harden([[sent.block for sent in self.primary._unhardened]], in_flight=1))
-        self.assertEqual(lsns, [1])
-        self.assertEqual(self.reader.page(0, 1).data[:4], b"kept")
+        self.assertEqual(lsns, [2])
+        self.assertEqual(self.reader.page(0, 2).data[:4], b"kept")
         with self.assertRaises(pagelog.OlderEpoch):
             self.primary.append(put(0, b"no"))
+
+    def test_before_a_commit_has_shown_the_quorum_the_log_is_asked(self) -> None:
+        """Whatever the primary was told of the quorum: a block in two or three copies may be in the log, or not."""
+        for options in ({}, {"copies": (0, 1, 2)}, {"quorum": 4}):
+            for witness in (None, self.reader):
+                with Service(table=WIDE_TABLE) as service, service.operator() as operator:
+                    reader = self.enterContext(service.reader()) if witness else None
+                    with service.primary(witness=reader, **options) as primary:  # type: ignore[arg-type]
+                        self.fail_over_before_the_third_copy(primary, operator)
+                        primary.append(put(0, b"kept"))
+                        primary._prepare()
+                        primary._close_block()
+                        harden = primary._harden([[sent.block for sent in primary._unhardened]], in_flight=1)
+                        if reader is None:
+                            with self.assertRaises(pagelog.InDoubt):
+                                list(harden)
+                        else:
+                            list(harden)
+                            self.assertEqual(primary.durable, 1)
+
+    def fail_over_before_the_third_copy(self, primary: Primary, operator: pagelog.Operator) -> None:
+        """The epoch ends as soon as a block stands in the copies 0 and 1."""
+        requests = primary._requests
+
+        def with_a_failover(*arguments):  # type: ignore[no-untyped-def]
+            for at, request in enumerate(requests(*arguments)):
+                if at == 2:
+                    operator.failover(5)
+                yield request
+
+        primary._requests = with_a_failover  # type: ignore[method-assign]
 
     def test_what_stands_in_one_copy_is_not(self) -> None:
         requests = self.primary._requests
@@ -209,8 +256,8 @@ class Epochs(unittest.TestCase):
                     primary.commit()
 
 
-def wait_for_writes(operator: pagelog.Operator, count: int) -> int:
-    """How many writes the audit list has, once it has so many."""
+def count_of_writes(operator: pagelog.Operator) -> int:
+    """How many writes the audit list has."""
     return sum(1 for entry in operator.audit(1) if entry.operation == pagelog.Operation.WRITE and entry.is_allowed)
 
 

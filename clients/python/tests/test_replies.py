@@ -8,11 +8,12 @@ from __future__ import annotations
 
 import unittest
 from dataclasses import dataclass
+from typing import Callable
 
 import pagelog
-from pagelog import Block, Put, faults, rules
+from pagelog import Block, Credentials, Primary, Put, Reader, faults, rules
 from pagelog.connection import Connection
-from pagelog.reply import Done, Malformed, Reply, expect
+from pagelog.reply import Denied, Done, Malformed, NoMemory, Page, Reply, expect
 from pagelog.request import Audit, Get, Head, Offer, Pull, Report, Request, Role, SetTable, Status, Tidy, Write
 from service import Service, put, token
 
@@ -137,34 +138,85 @@ class EachReply(unittest.TestCase):
                 self.service.reader().status()
 
 
+ENDED = (pagelog.OutOfMemory, pagelog.ConnectionLost, pagelog.Unreachable)
+"""How a service whose memory is used up may answer: NoMemory, or an end of the connection."""
+
+
 class OutOfMemory(unittest.TestCase):
+    """A request that was answered NoMemory changed nothing, and one whose connection ended either all or nothing.
+
+    Both may be asked again.
+    """
+
     def test_no_memory_changes_nothing_and_may_be_repeated(self) -> None:
+        self.with_a_service(self.goes_on_when_there_is_memory_again)
+
+    def test_what_was_answered_no_memory_left_no_trace(self) -> None:
+        self.with_a_service(self.leaves_no_trace)
+
+    def with_a_service(self, runs: Callable[[Service], None]) -> None:
         for _ in range(6):
             with Service() as service:
                 try:
-                    self.runs_out_of_memory(service)
-                    return
-                except (pagelog.ConnectionLost, pagelog.Unreachable):
+                    runs(service)
+                except ENDED:
+                    if service.process.poll() is None:
+                        raise
                     # A build with a sanitizer may be ended by that, where the sanitizer itself gets no memory.
-                    service.process.kill()
                     assert service.process.stdout is not None
                     self.assertIn("Sanitizer", service.process.stdout.read())
+                else:
+                    return
         self.fail("the sanitizer of this build ended the service each time")
 
-    def runs_out_of_memory(self, service: Service) -> None:
-        with service.primary() as primary, service.reader() as reader:
-            primary.append(put(0, b"first"))
-            primary.commit()
-            service.limit_memory(0)
-            with self.assertRaises(pagelog.OutOfMemory):
-                # A thread of the service may have 64 MiB of addresses in reserve, so that small blocks never fill them.
-                for _ in primary.stream([put(page, bytes(8000)) for page in range(3)] for at in range(8000)):
-                    pass
+    def goes_on_when_there_is_memory_again(self, service: Service) -> None:
+        with Primary(service.connection(1), Credentials.of(2, token(2)), alone=True) as primary, service.reader() as reader:
+            # Each of twenty pages as it was at twenty LSNs: more versions than the memory that is left has room for.
+            list(primary.stream([put(at % 20, b"first")] for at in range(400)))
+            service.limit_memory(1 << 20)
+            with Reader(service.connection(1), Credentials.of(3, token(3))) as other, self.assertRaises(ENDED):
+                for at in range(4000):
+                    other.page(at % 20, 400 - at // 10)
+            with self.assertRaises(ENDED):
+                # Far more than the memory that is left.
+                list(primary.stream([put(20 + page, at.to_bytes(2, "big") * 4000) for page in range(3)] for at in range(401, 4400)))
+            if service.process.poll() is not None:
+                raise pagelog.ConnectionLost("the service has ended")
             before = primary.durable
             service.unlimit_memory()
             self.assertGreater(primary.commit(), before)
+            blocks = list(reader.blocks(1, follow=False))
+            self.assertEqual([block.lsn for block in blocks], list(range(1, primary.durable + 1)))
+            self.assertEqual([int.from_bytes(block.records[0].data[:2], "big") for block in blocks[400:]],  # type: ignore[union-attr]
+                             list(range(401, primary.durable + 1)))  # fmt: skip
             self.assertEqual(reader.status().hard, primary.durable)
-            self.assertEqual(len(list(reader.blocks(1, follow=False))), primary.durable)
+            self.assertEqual({page.data[:5] for page in reader.pages(range(20), 400)}, {b"first"})
+
+    def leaves_no_trace(self, service: Service) -> None:
+        """Where nothing stands at an LSN, any block may be written there; where one does, no other may."""
+        head = Head(2, bytes.fromhex(token(2)), Role.PRIMARY, 0, 1)
+        with service.connection(1) as connection, service.primary() as primary:
+            list(primary.stream([put(0, b"first")] for _ in range(20)))
+            end = primary.durable
+            service.limit_memory(0)
+            replies: dict[int, Reply | None] = {}
+            with self.assertRaises(ENDED):
+                for page in range(2000):
+                    expect(Page, connection.ask(Request(head, Get(page, end))))
+            for lsn in range(end + 1, end + 65):
+                # A small request finds memory to be read and none to be carried out; a large one is not even read.
+                block = Block.of(lsn, [Put(page, 0, bytes(100 if lsn < end + 30 else 8000)) for page in range(4)])
+                try:
+                    replies[lsn] = connection.ask(Request(head, Write(0, block)))
+                except ENDED:
+                    replies[lsn] = None
+            self.assertNotEqual(set(replies.values()), {Done()})
+            service.unlimit_memory()
+            stands = Denied(pagelog.Section.C, 4, 0)
+            for lsn, reply in replies.items():
+                other = connection.ask(Request(head, Write(0, Block.of(lsn, [Put(0, 0, b"another")]))))
+                wanted = {Done(): {stands}, NoMemory(): {Done()}, None: {stands, Done()}}[reply]
+                self.assertIn(other, wanted, (lsn, reply))
 
 
 if __name__ == "__main__":

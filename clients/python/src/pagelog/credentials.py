@@ -21,7 +21,7 @@ from typing import Any, Mapping
 
 from pagelog.connection import Address
 from pagelog.errors import CredentialsError
-from pagelog.request import Role
+from pagelog.request import COPIES_OF_QUORUM, QUORUM, Role
 
 FILE_VARIABLE = "PAGELOG_CREDENTIALS"
 """The variable of the environment that names the file."""
@@ -63,13 +63,14 @@ class Account:
 class Accounts:
     """The accounts of a file and of the environment, by role, and what else the file says.
 
-    `archive_url` is the `url` of the section `archive`, and `audit_limit` the `audit` of the section `service`: how many
-    entries an audit list holds, which no reply of a service tells.
+    `archive_url` is the `url` of the section `archive`. The section `service` says what no reply of a service tells:
+    `audit_limit` is its `audit`, how many entries an audit list holds, and `quorum` its `quorum`, 2 or 4.
     """
 
     of_role: Mapping[Role, Account]
     archive_url: str | None = None
     audit_limit: int | None = None
+    quorum: int = QUORUM
 
     def account(self, role: Role) -> Account:
         """The account of this role. Raises `CredentialsError` where there is none."""
@@ -92,10 +93,13 @@ def load(file: str | Path | None = None, environment: Mapping[str, str] | None =
         raise CredentialsError(f"{name}: there is no section [{sorted(unknown)[0]}]")
     sections = {role: {**_section(document, role.word), **_variables(environment, role)} for role in Role}
     accounts = {role: _account(role, section) for role, section in sections.items() if section}
-    limit = _section(document, "service").get("audit")
+    service = _section(document, "service")
+    limit, quorum = service.get("audit"), service.get("quorum", QUORUM)
     if limit is not None and (not isinstance(limit, int) or not 1 <= limit <= 1 << 24):
         raise CredentialsError("[service]: audit is a number from 1 to 16777216")
-    return Accounts(accounts, _section(document, "archive").get("url"), limit)
+    if quorum not in COPIES_OF_QUORUM:
+        raise CredentialsError("[service]: quorum is 2 or 4")
+    return Accounts(accounts, _section(document, "archive").get("url"), limit, quorum)
 
 
 def _read(file: Path) -> dict[str, Any]:

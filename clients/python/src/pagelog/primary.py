@@ -15,15 +15,13 @@ from pagelog.errors import InDoubt, LogWentBack, Refusal, UnexpectedReply
 from pagelog.operator import Operator
 from pagelog.reader import Reader
 from pagelog.reply import Done, State, expect, refusal_of
-from pagelog.request import Report, Request, Role, Status, Write
+from pagelog.request import COPIES_OF_QUORUM, QUORUM, Report, Request, Role, Status, Write
 from pagelog.rules import (
     AboveTheWindow, BelowQuorum, HardenedAlready, NewerEpoch, OlderEpoch, OtherPrimary, Section, UnknownPrincipal,
 )  # fmt: skip
 
 WINDOW = 64
 """So many LSNs above the hardened end may be written."""
-QUORUM = 2
-"""In so many copies a block has to stand before it is hardened."""
 _MOST_RECORDS = 65535
 
 
@@ -58,9 +56,9 @@ class _Sent:
     copies: dict[int, int] = field(default_factory=dict)
     attempts: int = 0
 
-    def stands(self, connection: int) -> bool:
-        """Whether it stands in two copies of the service that this connection leads to. Another may be a new one."""
-        return sum(1 for told in self.copies.values() if told == connection) >= QUORUM
+    def stands(self, connection: int, quorum: int) -> bool:
+        """Whether it stands in so many copies of the service that this connection leads to. Another may be a new one."""
+        return sum(1 for told in self.copies.values() if told == connection) >= quorum
 
 
 @dataclass(frozen=True, slots=True)
@@ -85,6 +83,12 @@ class Primary(PageClient):
     their blocks, so begin with `take_over`, unless nobody else has the credentials. Where a connection is lost, the
     writes behind it are repeated; to tell one's own block from another's then needs an epoch of one's own, or a
     `witness` that may pull. Without either it is `InDoubt`.
+
+    No reply tells how many copies there are and what their quorum is: three and two, unless the table that was in force
+    when the epoch began says `copies = 6` and `quorum = 4`. Say `quorum=4` then. Where that is wrong the first commit
+    is denied: `NoSuchCopy` for a quorum that is too large (what was hardened all the same is `durable`), `BelowQuorum`
+    for one that is too small. A commit that succeeded has shown that it is right; where a failover comes before the
+    first one has, what stood in some copies is looked up by the witness, and else `InDoubt`.
     """
 
     role = Role.PRIMARY
@@ -97,23 +101,25 @@ class Primary(PageClient):
         *,
         epoch: int | None = None,
         alone: bool = False,
-        copies: Sequence[int] = (0, 1),
+        quorum: int = QUORUM,
+        copies: Sequence[int] | None = None,
         witness: Reader | None = None,
     ) -> None:
         """`epoch` is the one to write in, by default that of the first request. `alone` says that nobody else does.
 
-        `copies` are at least two of 0, 1 and 2; a `ValueError` otherwise.
+        `quorum` is 2 or 4. `copies` are those that are written, by default the first `quorum`: at least so many, of
+        0 to 2 with quorum 2 and of 0 to 5 with quorum 4; a `ValueError` otherwise.
         """
         super().__init__(connection, credentials, database)
-        if len(set(copies)) != len(copies) or not {0, 1, 2}.issuperset(copies) or len(copies) < QUORUM:
-            raise ValueError("copies are two or three of 0, 1 and 2")
-        self.copies = tuple(copies)
+        self.quorum = quorum
+        self.copies = _checked_copies(quorum, copies)
         self.witness = witness
         self.durable = 0
         """The LSN up to which the log is known to be hardened."""
         self._alone = alone
         self._is_fixed = epoch is not None
         self._has_begun = False
+        self._is_quorum_shown = False
         self._ended: Refusal | None = None
         self._packer = Packer()
         self._unhardened: deque[_Sent] = deque()
@@ -127,12 +133,16 @@ class Primary(PageClient):
         credentials: Credentials,
         operator: Operator,
         *,
-        copies: Sequence[int] = (0, 1),
+        quorum: int = QUORUM,
+        copies: Sequence[int] | None = None,
         witness: Reader | None = None,
     ) -> Primary:
         """The primary of a new epoch, which the operator begins for it. Whoever wrote before is denied from then on."""
+        _checked_copies(quorum, copies)
         epoch = operator.failover(credentials.id)
-        made = cls(connection, credentials, operator.database, epoch=epoch, alone=True, copies=copies, witness=witness)
+        made = cls(
+            connection, credentials, operator.database, epoch=epoch, alone=True, quorum=quorum, copies=copies, witness=witness
+        )
         made.begin()
         return made
 
@@ -184,7 +194,7 @@ class Primary(PageClient):
         """Commits each transaction as a block of its own, with so many requests in flight, and yields its LSN once it
         is hardened.
 
-        Three requests are made for each, with two copies. Raises `BlockTooLong` for one that does not fit into a block:
+        A request is made for each copy, and one more. Raises `BlockTooLong` for one that does not fit into a block:
         those before it were sent. What was appended before is committed first.
         """
         self.commit()
@@ -241,7 +251,10 @@ class Primary(PageClient):
                     reports.append(step.sent.block.lsn)
             elif step.copy is not None:
                 step.sent.copies[step.copy] = self.connection.connects
+                # Only with a quorum of 4 there is such a copy.
+                self._is_quorum_shown |= step.copy >= COPIES_OF_QUORUM[QUORUM]
             else:
+                self._is_quorum_shown |= self.quorum == QUORUM
                 yield self._hardened(step.sent.block.lsn)
         if told:
             error = self._settle(*told[0])
@@ -252,7 +265,7 @@ class Primary(PageClient):
     def _requests(
         self, groups: Iterable[Sequence[Block]], plan: deque[_Step], told: Sequence[object]
     ) -> Iterator[Request]:
-        """Two or three writes for each block, and a report for each group, until a refusal was told."""
+        """A write for each block and copy, and a report for each group, until a refusal was told."""
         known = {sent.block.lsn: sent for sent in self._unhardened}
         for group in groups:
             if told:
@@ -310,14 +323,15 @@ class Primary(PageClient):
         return self._count_what_the_failover_kept(refusal, was_repeated)
 
     def _count_what_the_failover_kept(self, refusal: OlderEpoch, was_repeated: bool) -> Exception | None:
-        """A failover hardens what stood in two copies. Of a write without a reply only the log can tell."""
+        """A failover hardens what stood in a quorum. Of a write without a reply only the log can tell."""
         connection = self.connection.connects
-        while self._unhardened and self._unhardened[0].stands(connection):
+        while self._is_quorum_shown and self._unhardened and self._unhardened[0].stands(connection, self.quorum):
             self._hardened(self._unhardened[0].block.lsn)
-        if any(was_repeated or sent.attempts > 1 or len(sent.copies) >= QUORUM for sent in self._unhardened):
+        doubtful = self.quorum if self._is_quorum_shown else QUORUM
+        if any(was_repeated or sent.attempts > 1 or len(sent.copies) >= doubtful for sent in self._unhardened):
             if self.witness is None:
                 lsn = self._unhardened[0].block.lsn
-                return InDoubt(f"epoch {self.epoch} ended while LSN {lsn} was sent over more than one connection")
+                return InDoubt(f"epoch {self.epoch} ended, and whether LSN {lsn} is in the log was not told")
             while self._unhardened and _is_in_log(self.witness, self._unhardened[0].block):
                 self._hardened(self._unhardened[0].block.lsn)
         return refusal if self._unhardened else None
@@ -328,6 +342,17 @@ class Primary(PageClient):
             self._ended = OlderEpoch(Section.A, 2, epoch)
             raise self._ended
         super()._take_over(epoch)
+
+
+def _checked_copies(quorum: int, copies: Sequence[int] | None) -> tuple[int, ...]:
+    """The copies that are written, by default the first `quorum`."""
+    if quorum not in COPIES_OF_QUORUM:
+        raise ValueError("a quorum is 2 or 4")
+    chosen = tuple(range(quorum) if copies is None else copies)
+    there = COPIES_OF_QUORUM[quorum]
+    if len(set(chosen)) != len(chosen) or not set(range(there)).issuperset(chosen) or len(chosen) < quorum:
+        raise ValueError(f"copies are {quorum} to {there} different ones of 0 to {there - 1}")
+    return chosen
 
 
 def _is_in_log(witness: Reader, block: Block) -> bool:

@@ -9,7 +9,7 @@ from typing import Callable, Iterator, Sequence
 from pagelog.block import Block
 from pagelog.client import ALL_PARTITIONS, PageClient
 from pagelog.errors import LogWentBack
-from pagelog.reply import Blocks, Denied, Reply, expect
+from pagelog.reply import Blocks, Denied, Reply, expect, refusal_of
 from pagelog.request import PULL_MAX, Act, Pull, Role
 from pagelog.rules import AboveTheEnd, Section
 
@@ -55,8 +55,8 @@ class Reader(PageClient):
     def span(self, lsn: int, *, pulls: int = 64, partitions: tuple[int, int] = ALL_PARTITIONS) -> Span:
         """All that is hardened from this LSN on, as far as so many pulls (1 or more) reach, all in flight together.
 
-        A span that ends below its beginning says that nothing new is hardened. Raises `LogWentBack` where the log has
-        become shorter than it was.
+        A span that ends below its beginning says that nothing new is hardened. What a later pull of it is refused for is
+        left to the next span: this one ends before. Raises `LogWentBack` where the log has become shorter than it was.
         """
         first = self._span_of((lsn,), partitions)
         if pulls > 1 and len(first.blocks) == PULL_MAX and self.hard_seen <= first.last:
@@ -65,15 +65,17 @@ class Reader(PageClient):
             return first
         # Each serves at least the blocks of the sixteen LSNs from its own on, so that the next may begin behind them.
         starts = range(first.last + 1, min(first.last + 1 + PULL_MAX * (pulls - 1), self.hard_seen + 1), PULL_MAX)
-        rest = self._span_of(starts, partitions)
+        rest = self._span_of(starts, partitions, behind=first)
         return Span(lsn, rest.last, first.blocks + rest.blocks)
 
-    def _span_of(self, starts: Sequence[int], partitions: tuple[int, int]) -> Span:
+    def _span_of(self, starts: Sequence[int], partitions: tuple[int, int], *, behind: Span | None = None) -> Span:
         blocks: list[Block] = []
         last = starts[0] - 1
         for start, reply in zip(starts, self._ask_all([Pull(start, PULL_MAX, *partitions) for start in starts])):
             if self._is_at_end(reply, start):
                 break
+            if (blocks or behind) and refusal_of(reply) is not None:
+                break  # rows of a table may end at an LSN, and memory may run out; what was served is not lost
             pulled = expect(Blocks, reply)
             blocks.extend(block for block in pulled.blocks if block.lsn > last)
             last = max(last, pulled.next - 1)

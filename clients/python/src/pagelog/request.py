@@ -23,6 +23,10 @@ AUDIT_MAX = 1024
 """The most lines of an audit."""
 STEPS_MAX = 1024
 """The most blocks of an advance."""
+COPIES_OF_QUORUM = {2: 3, 4: 6}
+"""How many copies there are, by the quorum: in so many of them a block has to stand before it is hardened."""
+QUORUM = 2
+"""The quorum where a table says nothing else."""
 HIGHEST_EPOCH = (1 << 32) - 1
 """Epochs are 1 to this one."""
 
@@ -70,7 +74,7 @@ def _number(name: str, value: int, least: int, most: int, size: int) -> bytes:
 
 @dataclass(frozen=True, slots=True)
 class Write:
-    """Puts a block into a copy, 0 to 2. May be repeated: the same block again changes nothing."""
+    """Puts a block into a copy: 0 to 2, or to 5 with a table of six. May be repeated: it changes nothing then."""
 
     copy: int
     block: Block

@@ -31,6 +31,7 @@ class TableFault(IntEnum):
     WORD = 10
     RANGE = 11
     NOBODY_MAY_SET_THE_TABLE = 12
+    COPIES_AND_QUORUM = 13
 
 
 class Denial(Refusal):
@@ -137,17 +138,17 @@ class OtherContent(Denial):
 
 
 class NoSuchCopy(Denial):
-    """C5. There are the copies 0, 1 and 2."""
+    """C5. There are the copies 0 to 2, or to 5 where the table of the epoch's beginning says six."""
 
     rule = "NoSuchCopy"
     sentence = "there is no copy of this number"
 
 
 class BelowQuorum(Denial):
-    """C6. Some LSN of the report is in fewer than two copies; `value` is the hardened end."""
+    """C6. Some LSN of the report is in fewer copies than the quorum, 2 or 4; `value` is the hardened end."""
 
     rule = "BelowQuorum"
-    sentence = "some block up to this LSN is in fewer than two copies"
+    sentence = "some block up to this LSN is in fewer copies than the quorum"
 
 
 class NoTable(Denial):

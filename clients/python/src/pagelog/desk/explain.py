@@ -10,7 +10,7 @@ import tempfile
 import tomllib
 from dataclasses import dataclass
 from pathlib import Path
-from typing import Any
+from typing import Any, Sequence
 
 from pagelog.block import PAGES_OF_PARTITION, Block, Zero
 from pagelog.errors import Fault, PagelogError
@@ -21,6 +21,8 @@ from pagelog.rules import Section, TableFault, rule_of
 PROGRAM_VARIABLE = "PAGELOG"
 """The variable of the environment that names the program."""
 UNKNOWN_TOKEN = bytes(16)
+_WITH_LSN = ("write", "offer", "report", "get", "pull")
+_ZONE_KEYS = ("copies", "quorum")
 _ROLES = {
     "write": Role.PRIMARY, "offer": Role.PRIMARY, "report": Role.PRIMARY, "get": Role.SECONDARY, "pull": Role.SECONDARY,
     "advance": Role.PAGE_SERVER, "status": Role.OPERATOR, "failover": Role.OPERATOR, "set_table": Role.OPERATOR,
@@ -34,24 +36,27 @@ class ExplainError(PagelogError):
 
 @dataclass(frozen=True)
 class Question:
-    """A request in words: `principal 3 pull 0..3`, or `principal 2 as secondary get 70000`."""
+    """A request in words: `principal 3 pull 0..3`, or `principal 2 as secondary get 70000 at 500`, which is its LSN."""
 
     words: str
     principal: int
     role: Role
     operation: str
     argument: str
+    lsn: int | None = None
 
     @classmethod
     def parse(cls, words: str) -> Question:
         """From words. Raises `ExplainError`."""
-        found = re.fullmatch(r"principal (\d+)(?: as (\w+))? (\w+)(?: ([\d.,]+))?", " ".join(words.split()))
+        found = re.fullmatch(r"principal (\d+)(?: as (\w+))? (\w+)(?: ([\d.,]+))?(?: at (\d+))?", " ".join(words.split()))
         if found is None or found[3] not in _ROLES:
-            raise ExplainError(f"{words!r} is not of the form: principal N [as ROLE] OPERATION [ARGUMENT]")
+            raise ExplainError(f"{words!r} is not of the form: principal N [as ROLE] OPERATION [ARGUMENT] [at LSN]")
+        if found[5] and found[3] not in _WITH_LSN:
+            raise ExplainError(f"{words!r}: {found[3]} has no LSN")
         role = found[2] or _ROLES[found[3]].word
         if role.upper() not in Role.__members__:
             raise ExplainError(f"{role!r} is not primary, secondary, page_server or operator")
-        return cls(words, int(found[1]), Role[role.upper()], found[3], found[4] or "")
+        return cls(words, int(found[1]), Role[role.upper()], found[3], found[4] or "", int(found[5]) if found[5] else None)
 
     def act(self, text: bytes) -> Act:
         """What is asked for; a set_table sets this text. Raises `ExplainError`."""
@@ -65,9 +70,11 @@ class Question:
     def _act(self, text: bytes) -> Act:
         number = int(self.argument) if self.argument.isdecimal() else None
         lo, hi = _range(self.argument or "0..65535")
-        block = Block.of(1, [Zero(at * PAGES_OF_PARTITION) for at in _partitions(self.argument)])
+        first, least = (1, 0) if self.lsn is None else (self.lsn, self.lsn)
+        records = [Zero(at * PAGES_OF_PARTITION) for at in _partitions(self.argument)]
+        block = Block.of(first if self.operation in ("write", "offer") else 1, records)
         acts: dict[str, Act] = {
-            "write": Write(0, block), "offer": Offer(block), "report": Report(0), "get": Get(number or 0, 0), "pull": Pull(1, 1, lo, hi),
+            "write": Write(0, block), "offer": Offer(block), "report": Report(least), "get": Get(number or 0, least), "pull": Pull(first, 1, lo, hi),
             "advance": Advance(number or 0, 1), "status": Status(), "failover": Failover(self.principal if number is None else number),
             "set_table": SetTable(text), "audit": Audit(1), "tidy": Tidy(),
         }  # fmt: skip
@@ -115,6 +122,7 @@ class Table:
         self.name = file.name
         self.principals = _tables(document.get("principal"))
         self.rows = _tables(document.get("row"))
+        self.zone = {key: document[key] for key in _ZONE_KEYS if isinstance(document.get(key), int)}
 
     def token(self, principal: int) -> bytes:
         """The token of a principal; another's where it is not listed, which the program then denies."""
@@ -137,7 +145,7 @@ class Table:
             principals.append({"id": other, "token": "00" * 16})
         last = {"verdict": "allow", "who": other, "role": "operator", "op": ["set_table"]}
         parts = [_toml("principal", one) for one in principals] + [_toml("row", row) for row in (*self.rows[:rows], last)]
-        return "\n".join(parts)
+        return "\n".join([_fields(self.zone), *parts])
 
     def row(self, number: int) -> str:
         """A row in words, from 1."""
@@ -150,12 +158,16 @@ def _tables(found: Any) -> list[dict[str, Any]]:
 
 
 def _toml(name: str, fields: dict[str, Any]) -> str:
+    return f"[[{name}]]\n" + _fields(fields)
+
+
+def _fields(fields: dict[str, Any]) -> str:
     def value(found: Any) -> str:
         if isinstance(found, list):
             return "[" + ", ".join(map(value, found)) + "]"
         return str(found) if isinstance(found, int) else f'"{found}"'
 
-    return f"[[{name}]]\n" + "".join(f"{key} = {value(found)}\n" for key, found in fields.items())
+    return "".join(f"{key} = {value(found)}\n" for key, found in fields.items())
 
 
 def _words(value: Any) -> str:
@@ -173,18 +185,40 @@ def program() -> str:
 
 def explain(table: Table, question: Question) -> Decision:
     """How the table decides the request in the first epoch of an empty database, whose primary is the one who asks."""
-    reply = _play(table, table.text.decode(), question)
-    if isinstance(reply, Denied) and reply.section is not Section.C:
-        return _denied(table, reply)
-    low, high = 0, len(table.rows)
-    while high - low > 1:
-        middle = (low + high) // 2
-        found = _play(table, table.beginning(middle, question.principal), question)
-        low, high = (middle, high) if isinstance(found, Denied) and found.section is Section.B else (low, middle)
-    return Decision(True, f"row {high}", f"row {high} of the table: {table.row(high)}{_log_words(reply)}")
+    [decision] = explain_each(table, question.principal, [question])
+    return decision
 
 
-def _denied(table: Table, reply: Denied) -> Decision:
+def explain_each(table: Table, principal: int, questions: Sequence[Question]) -> list[Decision]:
+    """As `explain`, of requests of one principal: all of them at once, of which only the last may be a failover."""
+    replies = play(table, table.text.decode(), principal, questions)
+    # For each that is allowed: with the first rows up to `low` it is not, with those up to `high` it is.
+    open_ones = {at: (0, len(table.rows)) for at, reply in enumerate(replies) if is_allowed(reply)}
+    while True:
+        middles = {at: (low + high) // 2 for at, (low, high) in open_ones.items() if high - low > 1}
+        if not middles:
+            break
+        for middle in set(middles.values()):
+            group = [at for at, found in middles.items() if found == middle]
+            asked = [questions[at] for at in group]
+            for at, reply in zip(group, play(table, table.beginning(middle, principal), principal, asked), strict=True):
+                low, high = open_ones[at]
+                open_ones[at] = (low, middle) if is_allowed(reply) else (middle, high)
+    rows = {at: high for at, (_, high) in open_ones.items()}
+    return [_allowed(table, rows[at], reply) if at in rows else _denied(table, reply) for at, reply in enumerate(replies)]
+
+
+def is_allowed(reply: Reply) -> bool:
+    """By sections A and B. What the log says then is no matter of the table."""
+    return not isinstance(reply, Denied) or reply.section is Section.C
+
+
+def _allowed(table: Table, row: int, reply: Reply) -> Decision:
+    return Decision(True, f"row {row}", f"row {row} of the table: {table.row(row)}{_log_words(reply)}")
+
+
+def _denied(table: Table, reply: Reply) -> Decision:
+    assert isinstance(reply, Denied)
     rule = rule_of(reply.section, reply.row)
     place = f"{reply.section.name}{reply.row}"
     if reply.section is Section.B and reply.row:
@@ -201,17 +235,23 @@ def _log_words(reply: Reply) -> str:
 
 def _play(table: Table, text: str, question: Question) -> Reply:
     """The program's reply to the request, under this text."""
-    act = question.act(table.text)
-    head = Head(question.principal, table.token(question.principal), question.role, 0, 1)
-    primary = question.principal if table.lists(question.principal) else next((one.get("id", 0) for one in table.principals), 0)
+    [reply] = play(table, text, question.principal, [question])
+    return reply
+
+
+def play(table: Table, text: str, principal: int, questions: Sequence[Question]) -> list[Reply]:
+    """The program's replies to requests of one principal, one after the other over one database, under this text."""
+    primary = principal if table.lists(principal) else next((one.get("id", 0) for one in table.principals), 0)
+    token = table.token(principal)
+    bodies = (Request(Head(principal, token, one.role, 0, 1), one.act(text.encode())).encode() for one in questions)
     with tempfile.NamedTemporaryFile("w", suffix=".toml") as file:
         file.write(text)
         file.flush()
         command = [program(), "play", "--table", file.name, "--primary", str(primary)]
-        done = subprocess.run(command, input=Request(head, act).encode().hex() + "\n", capture_output=True, text=True)
+        done = subprocess.run(command, input="".join(f"{body.hex()}\n" for body in bodies), capture_output=True, text=True)
     if done.returncode != 0:
         raise ExplainError(f"{table.name}: {_fault_words(done.stderr.strip())}")
-    return decode_reply(bytes.fromhex(done.stdout.strip()))
+    return [decode_reply(bytes.fromhex(line)) for line in done.stdout.split()]
 
 
 def _fault_words(line: str) -> str:

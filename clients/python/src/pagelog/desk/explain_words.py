@@ -8,37 +8,42 @@ from pathlib import Path
 import click
 
 from pagelog.desk.explain import Question, Table, differences, explain, questions_of
+from pagelog.desk.explain_all import all_differences
 from pagelog.desk.options import faults
 
 
 @click.command("explain")
-@click.option("--diff", "is_diff", is_flag=True, help="Compare two tables: OLD NEW FILE, with a request on each line of FILE.")
-@click.argument("arguments", nargs=-1, required=True, metavar="TABLE REQUEST... | --diff OLD NEW FILE")
+@click.option("--diff", "is_diff", is_flag=True, help="Compare two tables: by the requests on the lines of FILE, or by all kinds of requests.")
+@click.argument("arguments", nargs=-1, required=True, metavar="TABLE REQUEST... | --diff OLD NEW [FILE]")
 @faults
 def explain_word(is_diff: bool, arguments: tuple[str, ...]) -> None:
     """Say which row of a table decides a request, before the table is set.
 
     The program itself is asked: `pagelog play`, on an empty database in epoch 1 whose primary is the one who asks. PAGELOG
-    names it where it is not on the path. A request is `principal N [as ROLE] OPERATION [ARGUMENT]`; the argument is the
-    partitions of a write, an offer or a pull (0..3 or 1,4), the page of a get, the partition of an advance, and the
-    principal of a failover.
+    names it where it is not on the path. A request is `principal N [as ROLE] OPERATION [ARGUMENT] [at LSN]`; the argument is
+    the partitions of a write, an offer or a pull (0..3 or 1,4), the page of a get, the partition of an advance, and the
+    principal of a failover. The LSN, by default the lowest, tells rows apart that end at one (`through`).
 
-    With --diff the requests that are decided otherwise are listed, and the exit status is 1 if there are any.
+    With --diff the requests that are decided otherwise are listed, and the exit status is 1 if there are any. Without a FILE
+    of requests they are those of each principal, role and operation, at the first and last partition of each row's range, at
+    the ones beside it, and at each LSN that a row ends at and the next.
 
     \b
     Examples:
       pagelogctl explain t0.toml "principal 3 pull 0..3"
       pagelogctl explain t0.toml "principal 2 as secondary get 458752"
+      pagelogctl explain --diff old.toml new.toml
       pagelogctl explain --diff old.toml new.toml requests.txt
     """
     if is_diff:
-        if len(arguments) != 3:
-            raise click.UsageError("--diff takes OLD NEW FILE")
-        old, new, file = map(Path, arguments)
-        found = differences(Table(old), Table(new), questions_of(file))
-        for difference in found:
+        if len(arguments) not in (2, 3):
+            raise click.UsageError("--diff takes OLD NEW, and FILE if need be")
+        old, new = Table(Path(arguments[0])), Table(Path(arguments[1]))
+        found = differences(old, new, questions_of(Path(arguments[2]))) if arguments[2:] else all_differences(old, new)
+        count = 0
+        for count, difference in enumerate(found, 1):
             click.echo(f"{difference.question.words}\n  {old.name}: {difference.old}\n  {new.name}: {difference.new}")
-        sys.exit(1 if found else 0)
+        sys.exit(1 if count else 0)
     if len(arguments) < 2:
         raise click.UsageError("which request? As: principal 3 pull 0..3")
     table = Table(Path(arguments[0]))

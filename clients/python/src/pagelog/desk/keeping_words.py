@@ -10,8 +10,10 @@ from sqlalchemy.exc import OperationalError
 
 from pagelog.archive import Archive
 from pagelog.credentials import Accounts, load
-from pagelog.desk.options import bar, client, credentials_option, db_option, fail, faults, stopping, url_of, url_options
-from pagelog.errors import ConnectionLost, Unreachable
+from pagelog.desk.options import (
+    bar, client, credentials_option, db_option, fail, faults, quorum_of, quorum_option, stopping, url_of, url_options,
+)  # fmt: skip
+from pagelog.errors import ConnectionLost, OutOfMemory, Unreachable
 from pagelog.keeping import Archiver, Move, Verified, restore, verify
 from pagelog.operator import Operator
 from pagelog.primary import WINDOW, Primary
@@ -58,7 +60,7 @@ def _follow(archiver: Archiver, idle: float, stop: Callable[[], bool]) -> None:
     try:
         archiver.resume()
         archiver.run(follow=True, idle=idle, told=tell, stop=stop)
-    except (ConnectionLost, Unreachable) as error:
+    except (ConnectionLost, Unreachable, OutOfMemory) as error:
         _wait(f"service: {error}")
     except OperationalError as error:
         _wait(f"archive: {str(error).splitlines()[0]}")
@@ -73,8 +75,9 @@ def _wait(text: str) -> None:
 @credentials_option
 @db_option
 @url_options
+@quorum_option
 @faults
-def restore_word(accounts: Accounts, db: int, url: str | None, log: str | None) -> None:
+def restore_word(accounts: Accounts, db: int, url: str | None, log: str | None, quorum: str | None) -> None:
     """Fill a fresh database from an archive, LSN for LSN. Needs [primary] and [secondary].
 
     Nothing is overwritten: a database that has anything but the beginning of the archived log is refused. A restore that
@@ -85,7 +88,8 @@ def restore_word(accounts: Accounts, db: int, url: str | None, log: str | None) 
       pagelogctl restore --credentials c.toml --db 0 --url sqlite:///db0.db
     """
     with Archive(url_of(url, accounts), log or str(db)) as archive, client(Reader, accounts, db) as reader:
-        with client(Primary, accounts, db, alone=True) as primary, bar("restored") as told:
+        writes = client(Primary, accounts, db, alone=True, quorum=quorum_of(quorum, accounts))
+        with writes as primary, bar("restored") as told:
             done = restore(archive, primary, reader, told=told)
     click.echo(f"restored {done.archived}: {_words(done)}")
 
@@ -130,10 +134,11 @@ def _words(done: Verified) -> str:
               "does not write. [default: the operator]")  # fmt: skip
 @click.option("--within", default=WINDOW, show_default=True, metavar="BLOCKS", help="How near the target has to be before the fence.")
 @click.option("--patience", default=600.0, show_default=True, metavar="SECONDS", help="How long it may take to come so near.")
+@quorum_option
 @faults
 def move_word(
     source: str, from_db: int, target: str, to_db: int, url: str | None, log: str | None, fence_to: int | None, within: int,
-    patience: float,
+    patience: float, quorum: str | None,
 ) -> None:  # fmt: skip
     """Take a database to a fresh one, from the archive and the live log.
 
@@ -149,7 +154,8 @@ def move_word(
     if old.account(Reader.role).to == new.account(Primary.role).to and from_db == to_db:
         fail("source and target are the same database")
     with Archive(url_of(url, old), log or str(from_db), create=True) as archive, client(Reader, old, from_db) as reader:
-        with client(Operator, old, from_db) as operator, client(Primary, new, to_db, alone=True) as primary:
+        writes = client(Primary, new, to_db, alone=True, quorum=quorum_of(quorum, new))
+        with client(Operator, old, from_db) as operator, writes as primary:
             with client(Reader, new, to_db) as check, bar("moved") as told:
                 fence = operator.credentials.id if fence_to is None else fence_to
                 move = Move(Archiver(reader, archive), operator, primary, check, fence, within, patience)

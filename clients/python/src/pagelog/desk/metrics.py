@@ -37,6 +37,7 @@ class DatabaseCollector(Collector):
                 ("hardened_blocks", "Blocks in the log, which is the LSN of its end."),
                 ("audit_entries", "Entries of the audit list that were read."),
                 ("audit_limit", "How many entries the audit list holds; then the database answers nothing."),
+                ("audit_full_in_seconds", "In how many seconds the audit list is full, at the rate since the scrape before."),
                 ("archived_blocks", "The archived LSN."),
             )
         }
@@ -61,6 +62,8 @@ class DatabaseCollector(Collector):
             for name, value in (("epoch", look.state.epoch), ("primary", look.state.primary), ("hardened_blocks", look.state.hard),
                                 ("audit_entries", look.entries), ("audit_limit", look.limit)):  # fmt: skip
                 gauges[name].add_metric([db], value)
+            if look.full_in is not None:
+                gauges["audit_full_in_seconds"].add_metric([db], look.full_in)
             for partition, lsn in look.applied.items():
                 applied.add_metric([db, str(partition)], lsn)
             for (role, operation, verdict), count in sorted(look.requests.items()):

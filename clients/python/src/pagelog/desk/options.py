@@ -70,6 +70,17 @@ def url_of(url: str | None, accounts: Accounts) -> str:
     return url or accounts.archive_url or DEFAULT_URL
 
 
+def quorum_option(word: Word) -> Word:
+    """--quorum 2 or 4."""
+    return click.option("--quorum", type=click.Choice(["2", "4"]), help="In so many copies the database that is filled hardens a "
+                        "block, as its table says. [default: quorum of [service] in its credentials, or 2]")(word)  # fmt: skip
+
+
+def quorum_of(quorum: str | None, accounts: Accounts) -> int:
+    """The option's quorum, or the file's."""
+    return accounts.quorum if quorum is None else int(quorum)
+
+
 def client(kind: type[Kind], accounts: Accounts, db: int, **options: Any) -> Kind:
     """A client of this kind, from its section of the credentials."""
     account = accounts.account(kind.role)
