@@ -11,7 +11,6 @@ import subprocess
 import sys
 
 ROOT = pathlib.Path(__file__).resolve().parent.parent
-WORK = ROOT / "bench" / "work"
 
 
 def below(names, lines):
@@ -26,30 +25,31 @@ def below(names, lines):
     return found
 
 
-def program(name, libraries):
-    """The program of bench/NAME, built over these crates."""
+def program(name, libraries, root=ROOT):
+    """The program of bench/NAME of a checkout, built over these crates of it."""
     lines = {}
-    for line in (ROOT / "crates.txt").read_text().splitlines():
+    work = root / "bench" / "work"
+    for line in (root / "crates.txt").read_text().splitlines():
         if not line.startswith("#") and ":" in line:
             crate, _, words = line.partition(":")
             lines[crate] = words
-    tree, crate = WORK / name, f"{name}_bench"
+    tree, crate = work / name, f"{name}_bench"
     kept = tree / "crates" / crate / "out"
-    aside = WORK / f"{name}.out"
+    aside = work / f"{name}.out"
     shutil.rmtree(aside, ignore_errors=True)
     if kept.exists():
         kept.rename(aside)
     shutil.rmtree(tree, ignore_errors=True)
     used = [name for name in lines if name in below(libraries.split(), lines)]
     for one in used:
-        shutil.copytree(ROOT / "crates" / one, tree / "crates" / one, ignore=shutil.ignore_patterns("incremental"))
-    for file in (ROOT / "bench" / name).rglob("*.txt"):
-        to = tree / "crates" / crate / file.relative_to(ROOT / "bench" / name).with_suffix("")
+        shutil.copytree(root / "crates" / one, tree / "crates" / one, ignore=shutil.ignore_patterns("incremental"))
+    for file in (root / "bench" / name).rglob("*.txt"):
+        to = tree / "crates" / crate / file.relative_to(root / "bench" / name).with_suffix("")
         to.parent.mkdir(parents=True, exist_ok=True)
         shutil.copy(file, to)
     if aside.exists():
         aside.rename(kept)
-    shutil.copy(ROOT / "HANDLES", tree)
+    shutil.copy(root / "HANDLES", tree)
     (tree / "crates.txt").write_text("".join(f"{one}:{lines[one]}\n" for one in used) + f"{crate}: {libraries}\n")
     subprocess.run(["git", "init", "-q", tree], check=True)
     built = subprocess.run(["rt", "run", "--jobs", "2"], cwd=kept.parent, stdin=subprocess.DEVNULL, capture_output=True, text=True)

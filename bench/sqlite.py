@@ -3,8 +3,9 @@
 Usage: python3 bench/sqlite.py [SHARE]     (1; a tenth of the work with 0.1)
 
 The service is crates/pagelog/out/pagelog, or the program that PAGELOG names; the client is built by `make -C clients/c`.
-Everything is measured in this one run, by the same statements, in this one process: a table with a text of a hundred bytes
-and an index on a random number. Plain SQLite has its file in bench/work.
+Everything is measured in this one run, by the same statements, in this one process, round after round in turns: a table with
+a text of a hundred bytes and an index on a random number. Plain SQLite has its file in bench/work. Beside each rate stands its
+share of that of plain SQLite in WAL with synchronous=off. Both are medians of all rounds.
 
     inserts     transactions of one row a second
     updates     transactions that change one number
@@ -28,6 +29,7 @@ import os
 import pathlib
 import random
 import shutil
+import statistics
 import subprocess
 import sys
 import time
@@ -37,6 +39,9 @@ CLIENT = ROOT / "clients" / "c"
 WORK = ROOT / "bench" / "work" / "sqlite"
 SHARE = float(sys.argv[1]) if len(sys.argv) > 1 else 1.0
 UPDATE = "update t set value = value + 1 where id = 1"
+ROUNDS = 10
+# How many there are in all rounds together, where the share is 1.
+COLUMNS = {"inserts": 8000, "updates": 8000, "thousands": 40, "warm": 40000, "in one": 80000, "cold": 4000, "scan": 10}
 LOADS = "import sqlite3; sqlite3.Connection.enable_load_extension"
 
 
@@ -110,26 +115,44 @@ class Work:
         connection.execute("commit")
 
 
-def measure(work, opened_to_read):
-    """Each rate by its name, in the order of the columns."""
-    found = {"inserts": rate(count(4000), work.inserts)}
-    found["updates"] = rate(count(2000), work.updates)
-    found["thousands"] = rate(count(40) if SHARE >= 1 else max(int(40 * SHARE), 3), work.thousands)
-    connection = opened_to_read()
-    work.within_one(connection, count(20000))
-    found["warm"] = rate(count(20000), lambda number: work.reads(connection, number))
-    found["in one"] = rate(count(40000), lambda number: work.within_one(connection, number))
-    connection.close()
-    work.connection.close()
-    connection = opened_to_read()
-    found["cold"] = rate(count(1000), lambda number: work.within_one(connection, number))
-    connection.close()
-    connection = opened_to_read()
-    pages = connection.execute("pragma page_count").fetchone()[0]
-    found["scan"] = rate(pages, lambda number: connection.execute("select total(length(text)) from t").fetchone())
-    connection.close()
-    work.connection = opened_to_read()
-    return found
+class System:
+    """A database, how it is opened to be written and to be read, and its rates: of each column one for each round."""
+
+    def __init__(self, name, opened, work=None, shares=False):
+        self.name, self.opened, self.shares = name, opened, shares
+        self.work, self.writes = work or Work(opened), work is None
+        self.rates = {column: [] for column in COLUMNS}
+        self.warm = None
+
+    def once(self, column, number):
+        """One round of a column: so many a second, or None where this is a reader."""
+        if column in ("inserts", "updates", "thousands"):
+            return rate(number, getattr(self.work, column)) if self.writes else None
+        if column in ("warm", "in one"):
+            if not self.warm:
+                self.warm = self.opened()
+                self.work.within_one(self.warm, count(20000))
+            return rate(number, lambda many: (self.work.reads if column == "warm" else self.work.within_one)(self.warm, many))
+        if self.shares:  # connections of a writer share their pages, so that none of them is cold
+            return None
+        connection = self.opened()
+        if column == "cold":
+            found = rate(number, lambda many: self.work.within_one(connection, many))
+        else:
+            pages = connection.execute("pragma page_count").fetchone()[0]
+            found = rate(pages, lambda _: connection.execute("select total(length(text)) from t").fetchone())
+        connection.close()
+        return found
+
+
+def measure(systems):
+    """Each column in so many rounds, and in each round of every system, so that what else the machine does falls on all."""
+    for column, most in COLUMNS.items():
+        for _ in range(ROUNDS):
+            for system in systems:
+                found = system.once(column, max(int(most * SHARE / ROUNDS), 1 if column == "thousands" else 10))
+                if found:
+                    system.rates[column].append(found)
 
 
 def plain(synchronous):
@@ -141,7 +164,19 @@ def plain(synchronous):
         connection.execute(f"pragma synchronous = {synchronous}")
         return connection
 
-    return measure(Work(opened), opened)
+    return System(f"plain, WAL, {synchronous}", opened)
+
+
+def show(systems):
+    """The rates, and beside them what they are of those of plain SQLite with synchronous=off: the medians of all rounds."""
+    print(f"{'a second':20}" + "".join(f"{column:>17}" for column in COLUMNS))
+    for system in systems:
+        cells = []
+        for column in COLUMNS:
+            rates, others = system.rates[column], systems[-1].rates[column]
+            shares = [one / other for one, other in zip(rates, others)]
+            cells.append(f"{statistics.median(rates):>11,.0f} {statistics.median(shares):>5.2f}" if rates else " " * 17)
+        print(f"{system.name:20}" + "".join(cells))
 
 
 def cost(work, name, statement):
@@ -167,20 +202,29 @@ def lag(work, follower):
     return sorted(found)
 
 
-def speedtest(program, uri):
-    """Seconds of speedtest1, over the service and on a file."""
-    size = str(max(int(20 * SHARE), 2))
+def speedtest(program, opened):
+    """Seconds of speedtest1, over the service and on a file, in turns."""
+    size, found = str(max(int(20 * SHARE), 2)), {}
     subprocess.run(["make", "-s", "-C", CLIENT, "out/pagelog_preload.so"], check=True)
-    runs = [("pagelog", ["--vfs", "pagelog", uri], {"LD_PRELOAD": str(CLIENT / "out" / "pagelog_preload.so")}),
-            ("WAL, full", ["--journal", "wal", WORK / "speed_full.db"], {}),
-            ("WAL, off", ["--journal", "wal", "--nosync", WORK / "speed_off.db"], {})]
-    for name, words, more in runs:
-        start = time.perf_counter()
-        ran = subprocess.run([program, "--size", size, "--verify", *words], capture_output=True, text=True,
-                             env={**os.environ, **more})
-        seconds = time.perf_counter() - start
-        told = [line for line in ran.stdout.splitlines() if "Hash" in line]
-        print(f"speedtest1, size {size}, {name}: {seconds:.2f} s, {told[0] if told else ran.stderr[-200:]}")
+    preload = {"LD_PRELOAD": str(CLIENT / "out" / "pagelog_preload.so")}
+    for _ in range(5):
+        with opened() as service:
+            runs = [("pagelog", ["--vfs", "pagelog", service.uri], preload),
+                    ("WAL, full", ["--journal", "wal", WORK / "speed_full.db"], {}),
+                    ("WAL, off", ["--journal", "wal", "--nosync", WORK / "speed_off.db"], {})]
+            for name, words, more in runs:
+                for old in WORK.glob("speed_*"):
+                    old.unlink()
+                start = time.perf_counter()
+                ran = subprocess.run([program, "--size", size, *words], capture_output=True, text=True,
+                                     env={**os.environ, **more})
+                if ran.returncode:
+                    sys.exit(f"speedtest1: {ran.stdout[-300:]}{ran.stderr[-300:]}")
+                found.setdefault(name, []).append(time.perf_counter() - start)
+    for name, seconds in found.items():
+        shares = [one / other for one, other in zip(seconds, found["WAL, off"])]
+        print(f"speedtest1, size {size}, {name}: {statistics.median(seconds):.2f} s, {min(seconds):.2f} at best, "
+              f"{statistics.median(shares):.2f} of WAL, off")
 
 
 def main():
@@ -188,35 +232,32 @@ def main():
     from database import connect, reader, uri
     from service import PROGRAM, Service
 
+    def opened_for_speedtest():
+        service = Service()
+        service.uri = uri(service.address, check=50)
+        return service
+
     shutil.rmtree(WORK, ignore_errors=True)
     WORK.mkdir(parents=True)
-    print(f"{os.cpu_count()} processors, load {os.getloadavg()[0]:.1f}, SQLite {sqlite3.sqlite_version}, share {SHARE}")
-    lines = []
-    for check in (0, 50):
-        with Service() as service:
-            work = Work(lambda: connect(service.address, check=check))
-            lines.append((f"pagelog, check {check}", measure(work, lambda: connect(service.address, check=check))))
-            if check == 50:
-                follower = reader(service.address, check=check)
-                lines.append(("a follower", {
-                    "cold": rate(count(1000), lambda number: work.within_one(follower, number)),
-                    "warm": (work.within_one(follower, count(20000)),
-                             rate(count(20000), lambda number: work.reads(follower, number)))[1]}))
-                costs, lags = work, lag(work, reader(service.address))
-                cost(costs, "an update of one number", UPDATE)
-                cost(costs, "an insert of one row", "insert into t(number, value, text) values (random(), 0, hex(randomblob(50)))")
-                print(f"lag of a follower: median {lags[len(lags) // 2]:.2f} ms, most {lags[-1]:.2f} ms")
-    for synchronous in ("full", "off"):
-        lines.append((f"plain, WAL, {synchronous}", plain(synchronous)))
-    columns = ("inserts", "updates", "thousands", "warm", "in one", "cold", "scan")
-    print(f"{'a second':22}" + "".join(f"{column:>12}" for column in columns))
-    for name, found in lines:
-        print(f"{name:22}" + "".join(f"{found[c]:>12,.0f}" if c in found and found[c] >= 100 else
-                                     f"{found[c]:>12.1f}" if c in found else f"{'':>12}" for c in columns))
+    print(f"{os.cpu_count()} processors, load {os.getloadavg()[0]:.1f}, SQLite {sqlite3.sqlite_version}, share {SHARE}, "
+          f"{ROUNDS} rounds")
+    with Service() as first, Service() as second:
+        checked = System("pagelog, check 0", lambda: connect(first.address), shares=True)
+        trusted = System("pagelog, check 50", lambda: connect(second.address, check=50), shares=True)
+        follower = System("a follower", lambda: reader(second.address, check=50), trusted.work)
+        systems = [checked, trusted, follower, plain("full"), plain("off")]
+        measure(systems)
+        show(systems)
+        cost(trusted.work, "an update of one number", UPDATE)
+        cost(trusted.work, "an insert of one row",
+             "insert into t(number, value, text) values (random(), 0, hex(randomblob(50)))")
+        trusted.work.rows = trusted.work.connection.execute("select count(*) from t").fetchone()[0]
+        lags = lag(trusted.work, reader(second.address))
+        print(f"lag of a follower: median {lags[len(lags) // 2]:.2f} ms, 99 of 100 within {lags[-len(lags) // 100]:.2f} ms, "
+              f"most {lags[-1]:.2f} ms")
     program = os.environ.get("SPEEDTEST1")
     if program:
-        with Service() as service:
-            speedtest(program, uri(service.address, check=50))
+        speedtest(program, opened_for_speedtest)
     else:
         print("speedtest1: not run, SPEEDTEST1 names no program")
     print(f"load at the end {os.getloadavg()[0]:.1f}, service {pathlib.Path(PROGRAM).name}")
