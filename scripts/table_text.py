@@ -8,19 +8,19 @@ import tomllib
 
 import tables
 import wire
-from model import OPS, ROLES, first_match
+from model import OPS, ROLES, SIX, THREE, first_match
 
-LAST_ID, LAST_PARTITION = 2 ** 32 - 1, 2 ** 16 - 1
+LAST_ID, LAST_PARTITION, LAST_LSN = 2 ** 32 - 1, 2 ** 16 - 1, 2 ** 48
 PRINCIPALS, ROWS = 64, 256
 ROLE_NUMBERS = {word: at for at, word in ROLES.items()}
 OP_NUMBERS = {word: at for at, word in OPS.items()}
 
 
 class Read:
-    """A table that was read: the tokens of its principals, and its rows as the model has them."""
+    """A table that was read: the tokens of its principals, its rows as the model has them, and its zone."""
 
-    def __init__(self, tokens, rows):
-        self.tokens, self.rows = tokens, rows
+    def __init__(self, tokens, rows, zone):
+        self.tokens, self.rows, self.zone = tokens, rows, zone
 
 
 class Texts(dict):
@@ -43,7 +43,8 @@ def read(text):
     if not has_small_integers(document):
         return 1
     principals, rows = document.get("principal", []), document.get("row", [])
-    if not set(document) <= {"principal", "row"} or not is_tables(principals) or not is_tables(rows):
+    known = {"principal", "row", "copies", "quorum"}
+    if not set(document) <= known or not is_tables(principals) or not is_tables(rows):
         return 2
     if not 1 <= len(principals) <= PRINCIPALS:
         return 3
@@ -52,8 +53,11 @@ def read(text):
     fault = fault_of_principals(principals) or fault_of_rows(rows, [one.get("id") for one in principals])
     if fault:
         return fault
-    table = Read({one["id"]: bytes.fromhex(one["token"]) for one in principals}, [row_of(row) for row in rows])
-    return table if any(may_set(table, who) for who in table.tokens) else 12
+    table = Read({one["id"]: bytes.fromhex(one["token"]) for one in principals}, [row_of(row) for row in rows],
+                 zone_of(document))
+    if not any(may_set(table, who) for who in table.tokens):
+        return 12
+    return table if table.zone else 13
 
 
 def has_small_integers(value):
@@ -71,6 +75,14 @@ def is_integer(value, last):
     return type(value) is int and 0 <= value <= last
 
 
+def zone_of(document):
+    """The zone of the two keys: three copies without them, and none where they are not a pair that there is."""
+    if "copies" not in document and "quorum" not in document:
+        return THREE
+    said = [document.get("copies"), document.get("quorum")]
+    return next((zone for zone in (THREE, SIX) if list(zone) == said and all(type(one) is int for one in said)), None)
+
+
 def fault_of_principals(principals):
     if any(set(one) != {"id", "token"} for one in principals):
         return 5
@@ -86,7 +98,7 @@ def is_token(token):
 
 
 def fault_of_rows(rows, ids):
-    if not all("verdict" in row and set(row) <= {"verdict", "who", "role", "op", "from", "to"}
+    if not all("verdict" in row and set(row) <= {"verdict", "who", "role", "op", "from", "to", "through"}
                and ("from" in row) == ("to" in row) for row in rows):
         return 9
     if not all(map(has_words, rows)):
@@ -107,6 +119,8 @@ def is_word(value, words):
 def has_numbers(row, ids):
     if "who" in row and not (type(row["who"]) is int and row["who"] in ids):
         return False
+    if not is_integer(row.get("through", 0), LAST_LSN):
+        return False
     ends = [row.get("from", 0), row.get("to", 0)]
     return all(is_integer(end, LAST_PARTITION) for end in ends) and ends[0] <= ends[1]
 
@@ -121,6 +135,8 @@ def row_of(row):
         found["op"] = [OP_NUMBERS[op] for op in row["op"]]
     if "from" in row:
         found.update(lo=row["from"], hi=row["to"])
+    if "through" in row:
+        found["through"] = row["through"]
     return found
 
 

@@ -1,7 +1,8 @@
 """Plays generated request bodies, and compares each reply with that of a model.
 
-Usage: python3 scripts/trial.py [LINES] [SEED]   plays so many lines (20000, seed 1) on the built pagelog
-       python3 scripts/trial.py --write          writes stdin, stdout and data/t0.toml of crates/trial
+Usage: python3 scripts/trial.py [LINES] [SEED]   plays so many lines (20000, seed 1) on the built pagelog; where the seed
+                                                 is a multiple of three, the database begins with six copies
+       python3 scripts/trial.py --write          writes stdin, stdout and the tables in data/ of crates/trial
        python3 scripts/trial.py --check          compares these with what --write would write
 
 The model (model.py) is written from docs/RULES.md and docs/FORMATS.md alone. Lines depend on the seed
@@ -23,6 +24,7 @@ from wire import OPERATOR, PAGE_SERVER, PAGES_OF_A_PARTITION, PRIMARY, SECONDARY
 ROOT = pathlib.Path(__file__).resolve().parent.parent
 STORED = ROOT / "crates" / "trial"
 TABLE = ROOT / "crates" / "pagelog" / "data" / "t0.toml"
+SIX_TABLE = STORED / "data" / "six.toml"
 FAILED = ROOT / "crates" / "pagelog" / "out" / "trial-failed"
 SEED = 20
 RANDOM_LINES = 2600
@@ -41,7 +43,7 @@ def block(chance, model):
 
 
 def write(chance, model):
-    copy = chance.choice([0, 1, 2, 3] if chance.random() < 0.1 else [0, 1, 2])
+    copy = chance.randrange(model.zone.copies + (chance.random() < 0.1))
     return model.primary, PRIMARY, wire.write(copy, block(chance, model))
 
 
@@ -83,7 +85,7 @@ def failover(chance, model):
 
 def set_table(chance, model):
     table = chance.choice(tables.TABLES).text
-    text = table if chance.random() < 0.6 else chance.choice(tables.FAULTY[1 + chance.randrange(12)]).encode()
+    text = table if chance.random() < 0.6 else chance.choice(tables.FAULTY[1 + chance.randrange(13)]).encode()
     return 1, OPERATOR, text if len(text) < 2000 else table
 
 
@@ -155,7 +157,7 @@ def summary(trial):
 
 def files_of(trial):
     stdin, stdout = text_of(trial.lines).encode(), text_of(trial.replies).encode()
-    return {"stdin": stdin, "stdout": stdout, "data/t0.toml": tables.START.text}
+    return {"stdin": stdin, "stdout": stdout, **{f"data/{name}": table.text for name, table in tables.FILES.items()}}
 
 
 def store():
@@ -176,10 +178,11 @@ def check():
 
 
 def play(count, seed):
-    trial = Trial(seed, is_stored=False)
+    file, table = ("t0.toml", TABLE) if seed % 3 else ("six.toml", SIX_TABLE)
+    trial = Trial(seed, is_stored=False, file=file)
     for _ in range(count):
         random_line(trial)
-    run = subprocess.run([ROOT / "scripts" / "pagelog", "play", "--table", TABLE, "--primary", "2"],
+    run = subprocess.run([ROOT / "scripts" / "pagelog", "play", "--table", table, "--primary", "2"],
                          input=text_of(trial.lines), capture_output=True, text=True)
     replies = run.stdout.splitlines()
     for at, (line, reply) in enumerate(zip(trial.lines, trial.replies)):

@@ -31,14 +31,14 @@ class Trial:
     In pagelog each line is digits, under pass 1; in the stored trial it is words, under its own number.
     """
 
-    def __init__(self, seed, is_stored):
+    def __init__(self, seed, is_stored, file="t0.toml"):
         self.chance, self.is_stored = random.Random(seed), is_stored
         self.lines, self.replies, self.met = [], [], Counter()
-        self.model, self.swept = Model(tables.TEXTS, tables.START, 2), 0
+        self.model, self.swept = Model(tables.TEXTS, tables.FILES[file], 2), 0
 
-    def open(self, primary=2, limit=65536):
-        self.model, self.swept = Model(tables.TEXTS, tables.START, primary, limit), 0
-        self.lines.append(f"open t0.toml {primary} {limit}")
+    def open(self, primary=2, limit=65536, file="t0.toml"):
+        self.model, self.swept = Model(tables.TEXTS, tables.FILES[file], primary, limit), 0
+        self.lines.append(f"open {file} {primary} {limit}")
         self.replies.append("opened")
 
     def play(self, body):
@@ -59,11 +59,17 @@ class Trial:
     def offer(self, lsn, records):
         return self.play(self.body(self.model.primary, PRIMARY, OFFER, wire.offer(wire.block(lsn, records))))
 
+    def write_quorum(self, lsn, records):
+        """Writes the block to as many copies as harden it, from the last one down."""
+        zone = self.model.zone
+        for copy in range(zone.copies - zone.quorum, zone.copies):
+            self.write(copy, lsn, records)
+
     def report(self, lsn):
         return self.play(self.body(self.model.primary, PRIMARY, REPORT, wire.report(lsn)))
 
-    def get(self, page, lsn, exact):
-        return self.play(self.body(3, SECONDARY, GET, wire.get(page, lsn, exact)))
+    def get(self, page, lsn, exact, who=3, role=SECONDARY):
+        return self.play(self.body(who, role, GET, wire.get(page, lsn, exact)))
 
     def advance(self, partition, steps):
         return self.play(self.body(4, PAGE_SERVER, ADVANCE, wire.advance(partition, steps)))

@@ -143,14 +143,15 @@ def ask_each_operation(trial, who):
 
 
 def failovers(trial):
-    """Over thirty contents with a gap at the twenty-first, to each primary, and in the old epoch."""
+    """Over thirty contents with a gap at the twenty-first, to each primary, and in the old epoch; with six copies in between."""
     trial.open()
     for primary in (5, 2, 2, 9, 3, 5):
-        hard, old = len(trial.model.log), trial.model.primary
+        hard, old, zone = len(trial.model.log), trial.model.primary, trial.model.zone
         for lsn in range(hard + 1, hard + 31):
-            copies = range(3) if lsn % 4 == 0 else (0, 1)
-            for copy in copies if lsn != hard + 21 else (2,):
+            copies = range(zone.copies if lsn % 4 == 0 else zone.quorum)
+            for copy in copies if lsn != hard + 21 else range(zone.quorum - 1, zone.copies)[1:]:
                 trial.write(copy, lsn, put(lsn))
+        trial.set_table(tables.SIX_COPIES.text if primary == 2 else tables.START.text)
         late = trial.body(old, PRIMARY, REPORT, wire.report(hard + 30))
         trial.fail_over(primary)
         trial.play(late)
@@ -159,6 +160,94 @@ def failovers(trial):
         trial.write(0, len(trial.model.log) + 1, [(7, 8, b"again")])
         if trial.model.primary == 3:
             trial.fail_over(2)
+
+
+def six_copies(trial):
+    """Begins with six copies: blocks in none to six of them, reported, failed over, and copies that there are not."""
+    trial.open(file="six.toml")
+    for lsn in range(1, 8):
+        for copy in trial.chance.sample(range(6), lsn - 1):
+            trial.write(copy, lsn, put(lsn))
+            trial.report(lsn)
+        for copy in (6, 7, 255):
+            trial.write(copy, lsn, put(lsn))
+        trial.offer(lsn, put(lsn))
+        trial.write_quorum(lsn, put(lsn))
+        trial.report(lsn)
+    for lsn in range(8, 72):
+        trial.write_quorum(lsn, put(lsn))
+        if lsn % 9:
+            trial.write(0, lsn, put(lsn))
+    for lsn in (72, 73):
+        trial.write(5, lsn, put(lsn))
+    trial.report(40)
+    for copy in (1, 3, 5):
+        trial.write(copy, 72, put(72))
+    trial.fail_over(2)
+    trial.status()
+    trial.write(0, 72, [(1, 1, b"another")])
+    for lsn in range(1, 73, 16):
+        trial.pull(lsn)
+    trial.sweep()
+
+
+def zones_change(trial):
+    """Tables of three and six copies, set in the middle of a window: only a failover takes them up, and counts by the old one."""
+    trial.open()
+    asked = (tables.SIX_COPIES, tables.SIX_COPIES, tables.START, tables.SIX_AND_ENDS, tables.THREE_COPIES, tables.SIX_COPIES)
+    for at, table in enumerate(asked):
+        hard = len(trial.model.log)
+        trial.write_quorum(hard + 1, put(hard + 1))
+        trial.set_table(table.text)
+        for copy in range(7):
+            trial.write(copy, hard + 2, put(hard + 2))
+        trial.write_quorum(hard + 4, put(hard + 4))
+        for copy in (0, 1, 2)[:at % 3 + 1]:
+            trial.write(copy, hard + 3, put(hard + 3))
+        if at % 2:
+            trial.set_table(tables.FAULTY[13][at].encode())
+            trial.report(hard + 3)
+        trial.status()
+        trial.fail_over(2 if at % 2 else 5)
+        trial.status()
+        trial.pull(max(1, hard))
+    for lsn in (1, 9):
+        trial.pull(lsn)
+    trial.sweep()
+
+
+def rows_that_end(trial):
+    """Reads and writes at each LSN about the ends of a table's rows, as blocks are hardened and the table changes."""
+    trial.open()
+    for lsn in range(1, 51):
+        trial.write_quorum(lsn, put(lsn))
+    trial.report(50)
+    trial.advance(0, 16)
+    trial.advance(1, 1024)
+    for table in (tables.ENDS_AT_2, tables.NO_PULL_ABOVE_3, tables.MANY_ENDS, tables.SIX_AND_ENDS, tables.START):
+        trial.set_table(table.text)
+        read_about_ends(trial)
+        # The same once more: what was decided is cached by now.
+        for lsn in (20, 3, 2, 51, 19, 21):
+            trial.pull(lsn, hi=1, most=1)
+        for lsn in (51, 52):
+            trial.write(0, lsn, put(lsn))
+            trial.offer(lsn, put(lsn))
+    trial.sweep()
+
+
+def read_about_ends(trial):
+    for lsn in (1, 2, 3, 4, 19, 20, 21, 25, 26, 40, 41, 50, 51):
+        trial.pull(lsn)
+        trial.pull(lsn, lo=1, hi=1, most=2)
+        trial.pull(lsn, lo=2, hi=4, most=16)
+    for lsn in (0, 1, 2, 3, 17, 49, 50, 51):
+        for page in (0, PAGES_OF_A_PARTITION):
+            trial.get(page, lsn, False)
+        trial.get(PAGES_OF_A_PARTITION, lsn, True)
+        trial.get(0, lsn, False, 2, PRIMARY)
+    trial.report(50)
+    trial.status()
 
 
 def large_blocks(trial):
@@ -281,5 +370,5 @@ def full_audit_list(trial):
             trial.play(b"")
 
 
-PARTS = (full_windows, three_hundred_blocks, pages, offers, audits, failovers, large_blocks, texts_of_tables,
-         faults_of_bodies, full_audit_list)
+PARTS = (full_windows, three_hundred_blocks, pages, offers, audits, failovers, six_copies, zones_change, rows_that_end,
+         large_blocks, texts_of_tables, faults_of_bodies, full_audit_list)

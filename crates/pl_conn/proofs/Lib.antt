@@ -9,3 +9,4 @@ pub mod Meeting
 pub mod Calling
 pub mod Rounds
 pub mod Reading
+pub mod Filling

@@ -92,17 +92,13 @@ abbrev pub IsToldInPart : Talk → Type 0
 IsToldInPart talk = (next : Reply) × (more : List Reply) × (k : ℕ) × (talk.others ≡ next ∷ more)
     × (k < length (reply_frame next)) × (talk.cut ≡ take k (reply_frame next)) × MayWait talk.others
 
--- all replies but the last are written
-abbrev pub IsToldButLast : Talk → Type 0
-IsToldButLast talk = (last : Reply) × (talk.others ≡ last ∷ []) × (talk.cut ≡ []) × (talk.part ≡ [])
-
 -- why it ended, and what was read and written then; left is what the reader has left
 abbrev pub Ends : Cause → Talk → Option (List ℕ) → Type 0
 Ends causes.Short talk left = IsTold talk × (0 < length talk.part) × IsCut longest_request talk.part × IsAtEnd left
 Ends causes.TooLong talk left = IsTold talk × IsTooLong talk.part
 Ends causes.Read talk left = IsTold talk × IsCut longest_request talk.part
 Ends causes.Write talk left = IsToldInPart talk × (IsCut longest_request talk.part ⊎ IsTooLong talk.part)
-Ends causes.NoMemory talk left = (IsTold talk × IsCut longest_request talk.part) ⊎ IsToldButLast talk
+Ends causes.NoMemory talk left = IsTold talk × IsCut longest_request talk.part
 
 -- all frames of the input are answered, or 2^32 of them; or some, and then a fault
 abbrev pub Converses : {P : Type 0} → Calls P → Scene P → Scene P → Result ℕ ConnFault → Type 0

@@ -30,6 +30,10 @@ pub record Box : Type 0 where
 abbrev pub emptied : ℕ → Box
 emptied whole = record { text = []; lens = []; whole = whole }
 
+-- one reply more may wait: the frames that wait are few, and take less than 256 KiB
+abbrev pub MayGather : Box → Type 0
+MayGather box = (length box.text < 262144) × (length box.lens < 4096)
+
 -- one reply more waits
 abbrev pub gathered : Box → Reply → Box
 gathered box reply = record { text = box.text ++ reply_frame reply; lens = box.lens ++ length (reply_frame reply) ∷ []; whole = box.whole }
@@ -73,38 +77,36 @@ pub record Intake (P : Type 0) : Type 0 where
 abbrev pub intake : {P : Type 0} → Option (List ℕ) → P → Box → Intake P
 intake input pass box = record { input = input; pass = pass; box = box }
 
--- a frame is read and answered
-pub record TakesFrame {P : Type 0} (calls : Calls P) (before after : Intake P) (box : Reply → Box) : Type 0 where
+-- a frame is read and answered, and the reply waits
+pub record TakesFrame {P : Type 0} (calls : Calls P) (before after : Intake P) : Type 0 where
   pub body : List ℕ
   pub reply : Reply
   pub short : length body ≤ longest_request
   pub read : Consumes before.input after.input (frame body)
   pub answers : AnswersBody calls before.pass body reply after.pass
   pub fits : FitsReply reply
-  pub waits : after.box ≡ box reply
+  pub waits : after.box ≡ gathered before.box reply
 
 -- no frame is answered
 pub record TakesNone {P : Type 0} (before after : Intake P) : Type 0 where
   pub pass : after.pass ≡ before.pass
   pub box : after.box ≡ before.box
 
--- the next frame is answered, and its reply waits; or the input is at its end; or there is no frame, or no memory
--- for the reply
+-- the next frame is answered, and its reply waits; or the input is at its end; or there is no frame
 abbrev pub Takes : {P : Type 0} → Calls P → Intake P → Intake P → Result Bool Cause → Type 0
-Takes calls before after (Ok true) = TakesFrame calls before after (λ reply. gathered before.box reply)
+Takes calls before after (Ok true) = TakesFrame calls before after
 Takes calls before after (Ok false) = TakesNone before after × Consumes before.input after.input [] × IsAtEnd after.input
 Takes calls before after (Err causes.Short) = TakesNone before after × StopsFrame longest_request before.input after.input frame_faults.Short
 Takes calls before after (Err causes.TooLong) = TakesNone before after × StopsFrame longest_request before.input after.input frame_faults.TooLong
 Takes calls before after (Err causes.Read) = TakesNone before after × StopsFrame longest_request before.input after.input frame_faults.Io
 Takes calls before after (Err causes.Write) = ⊥
-Takes calls before after (Err causes.NoMemory) = (TakesNone before after × StopsFrame longest_request before.input after.input frame_faults.NoMemory)
-    ⊎ TakesFrame calls before after (λ reply. before.box)
+Takes calls before after (Err causes.NoMemory) = TakesNone before after × StopsFrame longest_request before.input after.input frame_faults.NoMemory
 
 -- what waits may be written, and then the next frame is taken; or a write fails
 pub record TakesNext {P : Type 0} (calls : Calls P) (before : Scene P) (box : Box) (after : Scene P) (left : Box) (result : Result Bool Cause) : Type 0 where
   pub middle : Box
   pub sent : MaySend before.output box after.output middle (Ok tt)
-  pub few : length middle.text < 262144
+  pub few : MayGather middle
   pub takes : Takes calls (intake before.input before.pass middle) (intake after.input after.pass left) result
 
 pub record FailsToSend {P : Type 0} (before : Scene P) (box : Box) (after : Scene P) (left : Box) : Type 0 where
@@ -118,28 +120,27 @@ abbrev pub Turns : {P : Type 0} → Calls P → Scene P → Box → Scene P → 
 Turns calls before box after left result = TakesNext calls before box after left result
     ⊎ ((result ≡ Err causes.Write) × FailsToSend before box after left)
 
--- So far: some replies were written whole, some wait in the box, and those that were lost are behind them.
-pub record Stands {P : Type 0} (calls : Calls P) (before now : Scene P) (box : Box) (part : List ℕ) (lost : List Reply) : Type 0 where
+-- So far: some replies were written whole, and the others wait in the box.
+pub record Stands {P : Type 0} (calls : Calls P) (before now : Scene P) (box : Box) (part : List ℕ) : Type 0 where
   pub bodies : List (List ℕ)
   pub written : List Reply
   pub waiting : List Reply
-  pub talks : Talks calls before now (record { bodies = bodies; whole = written; others = waiting ++ lost; part = part; cut = [] })
+  pub talks : Talks calls before now (record { bodies = bodies; whole = written; others = waiting; part = part; cut = [] })
   pub number : length written ≡ box.whole
   pub text : box.text ≡ text_of waiting
   pub lens : box.lens ≡ map (λ reply. length (reply_frame reply)) waiting
-  pub few : MayWait (waiting ++ lost)
+  pub few : MayWait waiting
 
 -- where the frames end, before what waits is written
 abbrev pub Stops : {P : Type 0} → Calls P → Scene P → Scene P → Box → Result Unit Cause → Type 0
-Stops calls before now box (Ok done) = Stands calls before now box [] [] × (box.whole + length box.lens < 2 ^ 32 → IsAtEnd now.input)
-Stops calls before now box (Err causes.Short) = (part : List ℕ) × Stands calls before now box part []
+Stops calls before now box (Ok done) = Stands calls before now box [] × (box.whole + length box.lens < 2 ^ 32 → IsAtEnd now.input)
+Stops calls before now box (Err causes.Short) = (part : List ℕ) × Stands calls before now box part
     × (0 < length part) × IsCut longest_request part × IsAtEnd now.input
-Stops calls before now box (Err causes.TooLong) = (part : List ℕ) × Stands calls before now box part [] × IsTooLong part
-Stops calls before now box (Err causes.Read) = (part : List ℕ) × Stands calls before now box part [] × IsCut longest_request part
+Stops calls before now box (Err causes.TooLong) = (part : List ℕ) × Stands calls before now box part × IsTooLong part
+Stops calls before now box (Err causes.Read) = (part : List ℕ) × Stands calls before now box part × IsCut longest_request part
 Stops calls before now box (Err causes.Write) = (talk : Talk) × Talks calls before now talk × (length talk.whole ≡ box.whole)
     × IsToldInPart talk × (talk.part ≡ []) × (box.text ≡ []) × (box.lens ≡ [])
-Stops calls before now box (Err causes.NoMemory) = ((part : List ℕ) × Stands calls before now box part [] × IsCut longest_request part)
-    ⊎ ((last : Reply) × Stands calls before now box [] (last ∷ []))
+Stops calls before now box (Err causes.NoMemory) = (part : List ℕ) × Stands calls before now box part × IsCut longest_request part
 
 -- what a conversation returns, by how its frames ended, whether what waited then was written, and how many replies are whole
 abbrev pub ended : Result Unit Cause → Result Unit Cause → ℕ → Result ℕ ConnFault

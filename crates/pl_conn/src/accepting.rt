@@ -1,5 +1,6 @@
 //! Connections, accepted: which failures of an accept pass, and are waited out.
 
+use crate::watch::Watch;
 use std::io;
 use std::net::{TcpListener, TcpStream};
 use std::sync::Wait;
@@ -24,14 +25,26 @@ fn passes(error: &io::Error) -> bool {
 }
 
 /// The next connection. After a failure that passes the listener rests, and accepts again: the connections
-/// that wait at it are kept by the system meanwhile. An error is one of the listener itself.
-pub(crate) fn accept<R: Wait>(rt: &R, listener: &TcpListener) -> io::Result<TcpStream> {
+/// that wait at it are kept by the system meanwhile. The first such failure is told. An error is one of the
+/// listener itself.
+pub(crate) fn accept<R: Wait, W: Watch>(
+    rt: &R,
+    listener: &TcpListener,
+    watch: &W,
+    is_told: &mut bool,
+) -> io::Result<TcpStream> {
     let bell = AtomicU64::new(0);
     for _ in rt.forever() {
         match listener.accept() {
             Ok((socket, _)) => return Ok(socket),
             // Nobody rings: it is the time that ends the rest.
-            Err(error) if passes(&error) => bell.park_timeout(rt, 0, Duration::from_millis(REST)),
+            Err(error) if passes(&error) => {
+                if !*is_told {
+                    watch.accept_rests(&error);
+                    *is_told = true;
+                }
+                bell.park_timeout(rt, 0, Duration::from_millis(REST));
+            }
             Err(error) => return Err(error),
         }
     }

@@ -18,8 +18,8 @@ pub enum Cause {
     /// least one, were read, and their requests handed to the gate: those whose replies waited together,
     /// less than 256 KiB and one reply more. A beginning of the next reply may be written.
     Write,
-    /// An allocation failed, for a body or for a reply. Where it was for a reply, one frame behind the
-    /// answered ones was read, and its request, if it is one, handed to the gate.
+    /// An allocation failed, before the first frame or for the body of the next one, which was not handed
+    /// to the gate. No reply was given that is not written.
     NoMemory,
 }
 

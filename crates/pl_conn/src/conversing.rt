@@ -9,10 +9,11 @@ ghost use Rattle.pl_wire.specs.FrameReading.{StopsFrame};
 ghost use Rattle.pl_wire.specs.Frames.{frame, longest_request};
 ghost use Rattle.pl_wire.specs.Reading.{MayLackMemory, request_reading};
 ghost use Rattle.pl_conn.specs.Conversation.{Converses, scene};
-ghost use Rattle.pl_conn.specs.Gathering.{AnswersRead, MaySend, ReadsBody, Stops, Takes, Turns, emptied, ended, intake};
+ghost use Rattle.pl_conn.specs.Gathering.{AnswersRead, MayGather, MaySend, ReadsBody, Stops, Takes, Turns, emptied, ended, intake};
 
 use crate::cause::{Cause, ConnFault, cause_of};
 use crate::gate::Gate;
+use crate::inbox::LONGEST_FRAME;
 use crate::outbox::Outbox;
 use crate::source::Source;
 use bytes::{Buf, Bytes};
@@ -48,6 +49,35 @@ fn body_in(bytes: &[u8]) -> Option<&[u8]>
     Some(body)
 }
 
+// Whether the bytes are less than a frame, and more may make them one.
+fn is_cut(bytes: &[u8]) -> bool {
+    if bytes.len() < LENGTH_BYTES {
+        return true;
+    }
+    let (mut head, rest) = bytes.split_at(LENGTH_BYTES);
+    let wanted = head.get_u32();
+    wanted <= LONGEST_REQUEST && rest.len() < wanted as usize
+}
+
+// Brings the next frame to hand, as far as the reader can. Each read but the last brings a byte at least.
+#[tactic(auto, using(crate::proofs::Reading::kept_self, crate::proofs::Reading::kept_more))]
+fn fetch<R: Source>(reader: &mut R) -> Result<(), FrameFault>
+    ensures kept { Consumes (R.remaining reader.old) (R.remaining reader.new) [] }
+    ensures err { IfErr result (λ fault. fault ≡ FrameFault.Io) }
+{
+    for _ in 0..LONGEST_FRAME {
+        if !is_cut(reader.at_hand()) {
+            break;
+        }
+        match reader.fill() {
+            Ok(0) => break,
+            Ok(_) => {}
+            Err(_) => return Err(FrameFault::Io),
+        }
+    }
+    Ok(())
+}
+
 // The request that the body spells. A block keeps the bytes of the body, where the count of their
 // owners finds memory, and else a copy.
 fn request_in(alloc: Global, body: Vec<u8>) -> Result<Request, BodyFault>
@@ -60,9 +90,9 @@ fn request_in(alloc: Global, body: Vec<u8>) -> Result<Request, BodyFault>
     }
 }
 
-// Reads the next frame, and what its body spells: where it lies, if all of it is at hand. `None` at
-// the end of input.
-fn next_request<R: Source>(
+// Takes the next frame, and what its body spells: where it lies, if all of it is at hand, and else by reads.
+// `None` at the end of input.
+fn take_request<R: Source>(
     alloc: Global,
     reader: &mut R,
 ) -> Result<Option<Result<Request, BodyFault>>, FrameFault>
@@ -86,6 +116,24 @@ fn next_request<R: Source>(
     Ok(Some(request_in(alloc, body)))
 }
 
+// Takes the next frame, once it is at hand, and what its body spells. `None` at the end of input.
+#[tactic(auto, using(crate::proofs::Reading::reads_then, crate::proofs::Reading::stops_then, crate::proofs::Reading::stops_at_hand, crate::proofs::Reading::kept_more))]
+fn next_request<R: Source>(
+    alloc: Global,
+    reader: &mut R,
+) -> Result<Option<Result<Request, BodyFault>>, FrameFault>
+    ensures some { IfOk result (λ next. IfSome next (λ read.
+        ReadsBody (R.remaining reader.old) (R.remaining reader.new) read)) }
+    ensures none { IfOk result (λ next. IfNone next (
+        Consumes (R.remaining reader.old) (R.remaining reader.new) []
+        × IsAtEnd (R.remaining reader.new))) }
+    ensures err { IfErr result (λ fault.
+        StopsFrame longest_request (R.remaining reader.old) (R.remaining reader.new) fault) }
+{
+    fetch(reader)?;
+    take_request(alloc, reader)
+}
+
 // The reply to what a body spells.
 fn answer<G: Gate>(read: Result<Request, BodyFault>, gate: &G, pass: &mut G::Pass) -> Reply
     requires own { G.owns gate.now pass.old }
@@ -100,7 +148,8 @@ fn answer<G: Gate>(read: Result<Request, BodyFault>, gate: &G, pass: &mut G::Pas
     }
 }
 
-// Reads a frame and answers it. False at the end of input.
+// Takes a frame and answers it: the reply has its room before the request has its step. False at the end of
+// input.
 #[tactic(auto, using(crate::proofs::Reading::answers_body))]
 fn take_next<R: Source, G: Gate>(
     alloc: Global,
@@ -110,6 +159,7 @@ fn take_next<R: Source, G: Gate>(
     outbox: &mut Outbox,
 ) -> Result<bool, Cause>
     requires own { G.owns gate.now pass.old }
+    requires room { MayGather outbox.old }
     ensures own { G.owns gate.now pass.new }
     ensures takes { Takes (G.calls gate.now)
         (intake (R.remaining reader.old) pass.old outbox.old)
@@ -118,10 +168,8 @@ fn take_next<R: Source, G: Gate>(
     match next_request(alloc, reader) {
         Ok(Some(read)) => {
             let reply = answer(read, gate, pass);
-            match outbox.put(&reply) {
-                Ok(()) => Ok(true),
-                Err(_) => Err(Cause::NoMemory),
-            }
+            outbox.put(&reply);
+            Ok(true)
         }
         Ok(None) => Ok(false),
         Err(fault) => Err(cause_of(fault)),
@@ -136,12 +184,12 @@ fn write_before_wait<R: Source, W: Write>(
 ) -> Result<(), Cause>
     requires few { outbox.old.whole + length outbox.old.lens ≤ 2 ^ 32 }
     ensures sends { MaySend (W.contents writer.old) outbox.old (W.contents writer.new) outbox.new result }
-    ensures few { OnOk result (length outbox.new.text < 262144) }
+    ensures room { OnOk result (MayGather outbox.new) }
 {
-    if outbox.is_large() || body_in(reader.at_hand()).is_none() {
-        outbox.write_out(writer)
-    } else {
+    if outbox.may_gather() && body_in(reader.at_hand()).is_some() {
         Ok(())
+    } else {
+        outbox.write_out(writer)
     }
 }
 
@@ -208,17 +256,41 @@ fn ended(end: Result<(), Cause>, sent: Result<(), Cause>, answered: u64) -> Resu
     }
 }
 
+/// The conversation that [`converse`] has, by an outbox that is there already.
+pub(crate) fn converse_by<R: Source, W: Write, G: Gate>(
+    alloc: Global,
+    reader: &mut R,
+    writer: &mut W,
+    gate: &G,
+    pass: &mut G::Pass,
+    outbox: &mut Outbox,
+) -> Result<u64, ConnFault>
+    requires own { G.owns gate.now pass.old }
+    ensures own { G.owns gate.now pass.new }
+    ensures talk { Converses (G.calls gate.now)
+        (scene (R.remaining reader.old) (W.contents writer.old) pass.old)
+        (scene (R.remaining reader.new) (W.contents writer.new) pass.new)
+        result }
+{
+    outbox.restart();
+    let end = answer_all(alloc, reader, writer, gate, pass, outbox);
+    let sent = outbox.write_out(writer);
+    ended(end, sent, outbox.whole())
+}
+
 /// Reads frames until the end of input, or 2^32 of them, hands each body that is a request to the gate
 /// once, and writes the frames of the replies in the same order. It returns how many frames it answered.
 ///
 /// A body that is no request is answered `Malformed` with its code, and one whose block or text finds
-/// no memory `NoMemory`, both without the gate; the conversation goes on. Where the bytes of a body, or
-/// a reply, find no memory, it ends. What is answered is written before the next wait for bytes, and
-/// before the conversation ends for whatever cause. Replies to frames that are at hand go out together,
-/// in one write where the writer takes it at once.
+/// no memory `NoMemory`, both without the gate; the conversation goes on. What is answered is written
+/// before the next wait for bytes, and before the conversation ends for whatever cause. Replies to frames
+/// that are at hand go out together, in one write where the writer takes it at once.
 ///
-/// Beside what a request and its reply need, it keeps the replies that wait, at most 256 KiB and one
-/// reply more, and eight bytes for each.
+/// The replies that wait have their room, less than 256 KiB and one reply more, and eight bytes for each of
+/// 4,096, before a byte is read: where that is refused, nothing was read. A frame is read where the reader
+/// has it at hand; where the reader cannot bring all of it there, its body takes memory, and where that is
+/// refused, the conversation ends in front of it. So no request has its step whose reply finds no room.
+#[tactic(auto, using(crate::proofs::Finishing::converses_none))]
 pub fn converse<R: Source, W: Write, G: Gate>(
     alloc: Global,
     reader: &mut R,
@@ -235,8 +307,11 @@ pub fn converse<R: Source, W: Write, G: Gate>(
         (scene (R.remaining reader.new) (W.contents writer.new) pass.new)
         result }
 {
-    let mut outbox = Outbox::new(alloc);
-    let end = answer_all(alloc, reader, writer, gate, pass, &mut outbox);
-    let sent = outbox.write_out(writer);
-    ended(end, sent, outbox.whole())
+    let Ok(mut outbox) = Outbox::new(alloc) else {
+        return Err(ConnFault {
+            cause: Cause::NoMemory,
+            answered: 0,
+        });
+    };
+    converse_by(alloc, reader, writer, gate, pass, &mut outbox)
 }

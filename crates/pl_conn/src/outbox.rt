@@ -1,12 +1,12 @@
 //! Replies that were given and are not yet written.
 
-ghost use Rattle.std.specs.Prelude.{◌≡◌, ◌+◌, ◌<◌, ◌≤◌, ◌^◌, ◌↔◌, IsTrue, length, OnErr, OnOk};
+ghost use Rattle.std.specs.Prelude.{◌≡◌, ◌+◌, ◌<◌, ◌≤◌, ◌^◌, ◌↔◌, IfOk, IsTrue, length};
 ghost use Rattle.pl_core.specs.Reply.{FitsReply};
-ghost use Rattle.pl_conn.specs.Gathering.{Sends, emptied, gathered, whole_in};
+ghost use Rattle.pl_conn.specs.Gathering.{MayGather, Sends, emptied, gathered, whole_in};
 
 use crate::cause::Cause;
 use pl_core::Reply;
-use pl_wire::{put_reply, write_bytes};
+use pl_wire::{LARGEST_REPLY_FRAME, put_reply, write_bytes};
 use std::alloc::{AllocError, Global};
 use std::io::Write;
 use std::marker::Model;
@@ -14,7 +14,12 @@ use std::marker::Model;
 /// From how many bytes on replies are written, whatever is at hand.
 const MANY_BYTES: usize = 262_144;
 
+/// From how many replies on they are written.
+const MANY_REPLIES: usize = 4_096;
+
 /// The frames of replies that wait to be written, and how many replies were written whole.
+///
+/// The room of all that may wait is there from the start, so that no reply that was given lacks memory.
 #[derive(Drop)]
 pub(crate) struct Outbox {
     text: Vec<u8>,
@@ -24,11 +29,15 @@ pub(crate) struct Outbox {
 }
 
 impl Model for Outbox {
+    ghost use Rattle.std.specs.Prelude.{◌≤◌, vec_capacity};
     ghost use Rattle.pl_conn.specs.Gathering.{Box};
 
     ghost Value = { Box };
 
     ghost view = { λ o. record { text = o.text.items; lens = o.lens.items; whole = o.whole } };
+
+    // Less than 256 KiB and one reply more, and the length of each.
+    ghost invariant = { λ o. (786511 ≤ vec_capacity o.text) × (4096 ≤ vec_capacity o.lens) };
 }
 
 // How many of the frames of these lengths are whole within so many bytes.
@@ -50,15 +59,24 @@ fn whole_in(lens: &[usize], bytes: usize) -> u64
 }
 
 impl Outbox {
-    /// No replies.
-    pub(crate) fn new(alloc: Global) -> Outbox
-        ensures value { result ≡ emptied 0 }
+    /// No replies, and the room of all that may wait.
+    pub(crate) fn new(alloc: Global) -> Result<Outbox, AllocError>
+        ensures value { IfOk result (λ outbox. outbox ≡ emptied 0) }
     {
-        Outbox {
-            text: Vec::new(alloc),
-            lens: Vec::new(alloc),
+        Ok(Outbox {
+            text: Vec::with_capacity(alloc, MANY_BYTES + LARGEST_REPLY_FRAME)?,
+            lens: Vec::with_capacity(alloc, MANY_REPLIES)?,
             whole: 0,
-        }
+        })
+    }
+
+    /// Begins anew, with no replies.
+    pub(crate) fn restart(&mut self)
+        ensures value { self.new ≡ emptied 0 }
+    {
+        self.text.clear();
+        self.lens.clear();
+        self.whole = 0;
     }
 
     /// How many replies were written whole.
@@ -68,24 +86,24 @@ impl Outbox {
         self.whole
     }
 
-    /// Whether there is so much to be written that it is not to wait.
-    pub(crate) fn is_large(&self) -> bool
-        ensures exact { IsTrue result ↔ 262144 ≤ length self.now.text }
+    /// Whether one reply more may wait. Else what waits is to be written first.
+    pub(crate) fn may_gather(&self) -> bool
+        ensures exact { IsTrue result ↔ MayGather self.now }
     {
-        self.text.len() >= MANY_BYTES
+        self.text.len() < MANY_BYTES && self.lens.len() < MANY_REPLIES
     }
 
-    /// Puts the frame of the reply behind the others.
-    pub(crate) fn put(&mut self, reply: &Reply) -> Result<(), AllocError>
+    /// Puts the frame of the reply behind the others. There is no allocation.
+    pub(crate) fn put(&mut self, reply: &Reply)
         requires fits { FitsReply reply.now }
-        ensures ok { OnOk result (self.new ≡ gathered self.old reply.now) }
-        ensures err { OnErr result (self.new ≡ self.old) }
+        requires room { MayGather self.old }
+        ensures value { self.new ≡ gathered self.old reply.now }
     {
-        self.lens.reserve(1)?;
         let before = self.text.len();
-        put_reply(&mut self.text, reply)?;
+        let Ok(()) = put_reply(&mut self.text, reply) else {
+            unreachable!();
+        };
         self.lens.push_reserved(self.text.len() - before);
-        Ok(())
     }
 
     /// Writes all that waits. Where a write fails, the rest is dropped.

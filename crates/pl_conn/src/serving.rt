@@ -6,12 +6,15 @@ ghost use Rattle.pl_conn.specs.Serving.{Reaches, Returned, Serves};
 ghost use Rattle.pl_conn.specs.Workers.{AllOf, each_of};
 
 use crate::accepting::accept;
-use crate::cause::{Cause, ConnFault};
-use crate::conversing::converse;
+use crate::cause::ConnFault;
+use crate::conversing::converse_by;
 use crate::gate::Gate;
+use crate::inbox::Inbox;
+use crate::incoming::Incoming;
+use crate::outbox::Outbox;
+use crate::watch::{Unwatched, Watch};
 use crossbeam_channel::{Receiver, Sender};
-use std::alloc::Global;
-use std::io::BufReader;
+use std::alloc::{AllocError, Global};
 use std::net::{TcpListener, TcpStream};
 use std::snapshot::Snapshot;
 use std::sync::Wait;
@@ -20,9 +23,6 @@ use std::thread::{Promise, PromisedHandle, Scope, Threads};
 
 /// How many accepted sockets wait for a worker at most.
 const WAITING: usize = 64;
-
-/// The bytes that are read ahead of a connection: the longest frame of a request.
-const READ_AHEAD: usize = 65_540;
 
 /// Why no more connections were accepted.
 #[derive(Clone, Copy, Debug, PartialEq, Eq)]
@@ -51,6 +51,22 @@ pub struct Served<P> {
     pub passes: Vec<P>,
 }
 
+// What a worker reads into and writes from, on one connection after the other.
+#[derive(Drop)]
+struct Room {
+    inbox: Inbox,
+    outbox: Outbox,
+}
+
+impl Room {
+    fn new(alloc: Global) -> Result<Room, AllocError> {
+        Ok(Room {
+            inbox: Inbox::new(alloc)?,
+            outbox: Outbox::new(alloc)?,
+        })
+    }
+}
+
 // What a worker leaves.
 #[derive(Drop)]
 struct Outcome<P> {
@@ -77,28 +93,28 @@ impl<G: Gate> Promise<Outcome<G::Pass>> for Kept<G> {
         G.owns p.gate.value work.pass };
 }
 
-// One connection, from its first byte to its last. Small replies are not held back where the system
-// lets that be set.
+// One connection, from its first byte to its last, in this room, which comes back. Small replies are not held
+// back where the system lets that be set.
 #[tactic(auto, using(crate::proofs::Reaching::reaches_self, crate::proofs::Reaching::by_conversation))]
 fn talk<G: Gate>(
     alloc: Global,
     socket: &TcpStream,
     gate: &G,
     pass: &mut G::Pass,
-) -> Result<u64, ConnFault>
+    room: Room,
+) -> (Room, Result<u64, ConnFault>)
     requires own { G.owns gate.now pass.old }
     ensures own { G.owns gate.now pass.new }
     ensures reaches { Reaches (G.calls gate.now) pass.old pass.new }
 {
     let _is_set = socket.set_nodelay(true);
-    let Ok(mut reader) = BufReader::with_capacity(alloc, READ_AHEAD, socket) else {
-        return Err(ConnFault {
-            cause: Cause::NoMemory,
-            answered: 0,
-        });
-    };
+    let Room { inbox, outbox } = room;
+    let mut outbox = outbox;
+    let mut reader = Incoming::new(socket, inbox);
     let mut writer = socket;
-    converse(alloc, &mut reader, &mut writer, gate, pass)
+    let end = converse_by(alloc, &mut reader, &mut writer, gate, pass, &mut outbox);
+    let inbox = reader.into_inbox();
+    (Room { inbox, outbox }, end)
 }
 
 // Serves the sockets that come, one after the other, until no more can come.
@@ -109,25 +125,29 @@ fn work<R: Wait, G: Gate>(
     sockets: &Receiver<TcpStream>,
     gate: &G,
     pass: G::Pass,
+    room: Room,
 ) -> Outcome<G::Pass>
     requires own { G.owns gate.now pass }
     ensures own { G.owns gate.now result.pass }
     ensures reaches { Reaches (G.calls gate.now) pass result.pass }
 {
     let mut now = pass;
+    let mut room = room;
     let mut faults: u64 = 0;
     for _ in rt.forever() {
         let Ok(socket) = sockets.recv(rt) else {
             break;
         };
-        if talk(alloc, &socket, gate, &mut now).is_err() {
+        let (back, end) = talk(alloc, &socket, gate, &mut now, room);
+        room = back;
+        if end.is_err() {
             faults = faults.saturating_add(1);
         }
     }
     Outcome { pass: now, faults }
 }
 
-// A worker with this pass, if one can be started.
+// A worker with this pass, if one can be started: if there is memory for its room, and a thread.
 fn start<'s, E, R: Wait + Sync, G: Gate + Sync>(
     scope: &Scope<'s, E>,
     rt: &'s R,
@@ -142,29 +162,36 @@ where
     ensures of { IfSome result (λ handle. (handle.promise.gate.value ≡ gate.now) ×
         (handle.promise.start.value ≡ pass)) }
 {
+    let Ok(room) = Room::new(alloc) else {
+        return None;
+    };
     let promise = Kept {
         gate: Snapshot::of(gate),
         start: Snapshot::of(&pass),
     };
-    match scope.spawn_with(promise, move || work(rt, alloc, sockets, gate, pass)) {
+    match scope.spawn_with(promise, move || {
+        work(rt, alloc, sockets, gate, pass, room)
+    }) {
         Ok(handle) => Some(handle),
         Err(_) => None,
     }
 }
 
 // Accepts so many connections, and hands their sockets to the workers.
-fn accept_all<R: Wait>(
+fn accept_all<R: Wait, W: Watch>(
     rt: &R,
     listener: &TcpListener,
     sockets: &Sender<TcpStream>,
     connections: u32,
+    watch: &W,
 ) -> (u32, Stop)
     ensures most { result.0 ≤ connections }
     ensures limit { result.1 ≡ Stop.Limit → result.0 ≡ connections }
     ensures started { result.1 ≢ Stop.Start }
 {
+    let mut is_told = false;
     for accepted in 0..connections {
-        let Ok(socket) = accept(rt, listener) else {
+        let Ok(socket) = accept(rt, listener, watch, &mut is_told) else {
             return (accepted, Stop::Accept);
         };
         if sockets.send(rt, socket).is_err() {
@@ -250,7 +277,7 @@ fn stopped<P>(alloc: Global, stop: Stop) -> Served<P>
 }
 
 // Starts the workers, accepts the connections, and waits for the workers.
-fn serve_in<'s, E, R: Threads + Wait + Sync, G: Gate + Sync>(
+fn serve_in<'s, E, R: Threads + Wait + Sync, G: Gate + Sync, W: Watch>(
     scope: &Scope<'s, E>,
     rt: &'s R,
     alloc: Global,
@@ -260,6 +287,7 @@ fn serve_in<'s, E, R: Threads + Wait + Sync, G: Gate + Sync>(
     gate: &'s G,
     passes: Vec<G::Pass>,
     connections: u32,
+    watch: &W,
 ) -> Served<G::Pass>
 where
     G::Pass: Send + Drop + 's,
@@ -273,11 +301,15 @@ where
     ) else {
         return stopped(alloc, Stop::NoMemory);
     };
+    let asked = passes.len();
     let workers = start_all(scope, rt, alloc, sockets, gate, passes, workers);
     if workers.is_empty() {
         return stopped(alloc, Stop::Start);
     }
-    let (accepted, stop) = accept_all(rt, listener, &to, connections);
+    if workers.len() < asked {
+        watch.few_workers(workers.len(), asked);
+    }
+    let (accepted, stop) = accept_all(rt, listener, &to, connections, watch);
     drop(to);
     let (passes, faults) = join_all(rt, gate, workers, ended);
     Served {
@@ -297,6 +329,10 @@ where
 /// is `Start`. A connection that stays silent holds its worker, and nothing else: choose as many passes
 /// as there may be such connections, and some more.
 ///
+/// A worker has all that its connections need from its start: room for the longest frame of a request, and
+/// for the replies that wait. One whose room finds no memory is not started. So a connection that is
+/// accepted is answered, whatever memory is left.
+///
 /// Nothing is promised of how long it waits, or that it returns.
 pub fn serve<R: Threads + Wait + Sync, G: Gate + Sync>(
     rt: &R,
@@ -310,6 +346,25 @@ where
     G::Pass: Send + Drop,
     requires own { All (G.owns gate.now) passes.items }
     // How many were accepted, and each pass that comes back is one that was handed in, after calls.
+    ensures serves { Serves (G.calls gate.now) (G.owns gate.now) passes.items connections
+        result.accepted result.stop result.passes.items }
+{
+    serve_watched(rt, alloc, listener, gate, passes, connections, &Unwatched)
+}
+
+/// Serves as [`serve`] does, and tells the watch what it cannot do meanwhile.
+pub fn serve_watched<R: Threads + Wait + Sync, G: Gate + Sync, W: Watch>(
+    rt: &R,
+    alloc: Global,
+    listener: &TcpListener,
+    gate: &G,
+    passes: Vec<G::Pass>,
+    connections: u32,
+    watch: &W,
+) -> Served<G::Pass>
+where
+    G::Pass: Send + Drop,
+    requires own { All (G.owns gate.now) passes.items }
     ensures serves { Serves (G.calls gate.now) (G.owns gate.now) passes.items connections
         result.accepted result.stop result.passes.items }
 {
@@ -335,6 +390,7 @@ where
                 gate,
                 passes,
                 connections,
+                watch,
             )
         },
     )

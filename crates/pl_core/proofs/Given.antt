@@ -7,13 +7,13 @@ use Rattle.pl_table.specs.declared.request.Act.TheVariants as acts
 use Rattle.pl_table.specs.declared.verdict.Verdict.TheVariants as verdicts
 use Rattle.pl_table.specs.Request.{Query}
 use Rattle.pl_core.specs.declared.reply.Reply.TheVariants as replies
-use Rattle.pl_core.specs.History.{History}
+use Rattle.pl_core.specs.History.{Start, History}
 use Rattle.pl_core.specs.Epoch.{table_of}
 use Rattle.pl_core.specs.Log.{hardened_after, hardened_log, hard_of}
 use Rattle.pl_core.specs.Verdict.{epochs_of, view_of, verdict_of}
 use Rattle.pl_core.specs.Laws.{PagesAreReplays, GetsAreRepeatable}
 use Rattle.pl_core.specs.Performing.{OrderLaws, PageLaws}
-use Rattle.pl_core.proofs.Joining.{grown_log, hardened-same}
+use Rattle.pl_core.proofs.Joining.{grown_log}
 use Rattle.pl_core.proofs.Replies.{answered_page}
 
 same_at : (m n : ℕ) (xs ys : List ℕ) → replies.Page m xs ≡ replies.Page n ys → m ≡ n
@@ -43,12 +43,12 @@ are_replays order h head page lsn exact at bytes may =
     }
 
 pub are_repeatable : OrderLaws → PageLaws → GetsAreRepeatable
-are_repeatable order laws h later added one two page lsn again at exact other bytes same grew first second =
+are_repeatable order laws h later added one two page lsn again at exact other bytes same from_one grew first second =
     let log = hardened_log h in
     let before = are_replays order h one page lsn exact at bytes first in
     let after = are_replays order later two page again other at same second in
     let more = grown_log later.start added h.entries in
-    let whole : hardened_log later ≡ log ++ more.0 = ap (hardened_after later.start) grew ∙ more.1 ∙ ap (λ (l : List Content). l ++ more.0) (hardened-same later.start h.start h.entries) in
+    let whole : hardened_log later ≡ log ++ more.0 = ap (hardened_after later.start) grew ∙ more.1 ∙ ap (λ (l : List Content). l ++ more.0) (ap (λ (s : Start). hardened_after s h.entries) from_one) in
     after.bytes_are
     ∙ ap (λ (l : List Content). page_of page (take at l)) whole
     ∙ laws.stay page at log more.0 before.to

@@ -1,7 +1,11 @@
 -- How far each partition is applied, and the LSN that a get is answered at.
-use Rattle.std.specs.Prelude.{ℕ, ◌+◌, ◌/◌, ◌==◌, Bool, min, List, [], ◌∷◌, if◌then◌else◌}
+use Rattle.std.specs.Prelude.{ℕ, ◌+◌, ◌/◌, ◌==◌, Bool, not, ◌||◌, min, List, [], ◌∷◌, if◌then◌else◌}
 use Rattle.pl_pages.specs.State.{chosen}
+use Rattle.pl_table.specs.Acts.{asked_at}
+use Rattle.pl_table.specs.FirstMatch.{rows_allow}
+use Rattle.pl_table.specs.Request.{Query}
 use Rattle.pl_core.specs.History.{Effect, wrote, offered, hardened, advanced, failed_over, set, nothing, Entry, Start, History}
+use Rattle.pl_core.specs.Epoch.{table_of}
 use Rattle.pl_core.specs.Log.{hard_of}
 
 -- The applied LSN of a partition after an effect on a history. An advance of the partition makes it
@@ -26,7 +30,9 @@ applied_after start (e ∷ es) partition =
 abbrev pub applied_of : History → ℕ → ℕ
 applied_of h partition = applied_after h.start h.entries partition
 
--- the LSN that a get of the page is answered at: its own where it is exact or above the applied one,
--- else the applied one
-abbrev pub choice_of : History → ℕ → ℕ → Bool → ℕ
-choice_of h page lsn exact = chosen (applied_of h (page / 65536)) lsn exact
+-- The LSN that a get of the page is answered at: the applied one where that is not below its own, the
+-- get is not exact, and the rows of the table in force allow the request at it; else its own.
+abbrev pub choice_of : History → Query → ℕ → ℕ → Bool → ℕ
+choice_of h q page lsn exact =
+    let applied = applied_of h (page / 65536) in
+    chosen applied lsn (exact || not (rows_allow (table_of h).rows (asked_at q applied)))

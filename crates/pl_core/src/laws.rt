@@ -2,7 +2,7 @@
 //! hold of all histories, and its body does nothing but call laws of the crates below.
 
 ghost use Rattle.pl_core.specs.Laws.{DenialsChangeNothing, DeniedChangesNothing, LogsOnlyGrow};
-ghost use Rattle.pl_core.specs.Laws.{ReadsReachTheHardenedEnd, ReadsAboveAreDenied};
+ghost use Rattle.pl_core.specs.Laws.{ReadsReachAsRowsAllow, ReachesAreHardened, ReadsAboveAreDenied};
 ghost use Rattle.pl_core.specs.Laws.{AppliedLsnsOnlyRise, PagesAreReplays, GetsAreRepeatable};
 ghost use Rattle.pl_core.specs.Laws.{ServedBlocksAreHardened, HardenedBlocksAreNumbered, HardenedBlocksAreBlocks, PullsMissNothing, PullsJoin};
 ghost use Rattle.pl_core.specs.Laws.{OlderEpochsAreFenced, HistoriesStayLegal};
@@ -33,10 +33,12 @@ pub fn older_epochs_are_fenced()
     order_laws();
 }
 
-/// The hardened end is how far an allowed pull or get goes: asked at each LSN up to it, it is
-/// allowed, and at each LSN above it is denied.
-pub fn reads_reach_the_hardened_end()
-    ensures exact { ReadsReachTheHardenedEnd }
+/// An allowed pull or get goes as far as the rows of the table in force allow it, up to the hardened
+/// end: asked at each LSN up to its reach, it is allowed, and at each LSN above it is denied. Where no
+/// row ends at an LSN, the reach is the hardened end.
+pub fn reads_reach_as_rows_allow()
+    ensures exact { ReadsReachAsRowsAllow }
+    ensures within { ReachesAreHardened }
     ensures only { ReadsAboveAreDenied }
 {
     order_laws();
@@ -84,9 +86,10 @@ pub fn pulls_miss_nothing()
     order_laws();
 }
 
-/// Two pulls in a row, the second asked where the first said to go on, serve what one pull would, also
-/// where the history has grown in between. So whoever goes on pulling where the last reply says gets
-/// each hardened block of the partitions once, in order.
+/// Two pulls in a row, the second asked where the first said to go on, serve what one pull would, up to
+/// the reach of the second, also where the history has grown in between and another table is in force.
+/// So whoever goes on pulling where the last reply says gets each hardened block of the partitions once,
+/// in order, as far as the last pull goes.
 pub fn pulls_join()
     ensures same { PullsJoin }
 {

@@ -11,9 +11,10 @@ pub(crate) fn log_laws()
     pl_log::laws::reports_harden_contents();
     pl_log::laws::failovers_harden_the_longest_run();
     pl_log::laws::accepted_blocks_stay_found();
+    pl_log::laws::failovers_make_a_zone();
 }
 
-/// What the laws of the written order say.
+/// What the laws of the written order, and of the rows of a table, say.
 pub(crate) fn order_laws()
     ensures laws { OrderLaws }
 {
@@ -22,6 +23,7 @@ pub(crate) fn order_laws()
     pl_decide::laws::older_epochs_are_denied();
     pl_decide::laws::views_decide_alike();
     pl_decide::laws::reads_reach_the_end();
+    pl_table::laws::lower_lsns_are_allowed();
 }
 
 /// What the laws of pages say.

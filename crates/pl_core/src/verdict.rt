@@ -8,8 +8,11 @@ ghost use Rattle.pl_audit.specs.Audit.{last_table};
 ghost use Rattle.pl_core.specs.Log.{copies_of, hard_of};
 ghost use Rattle.pl_decide.specs.Asked.{is_known};
 ghost use Rattle.pl_core.specs.Verdict.{agrees, can_harden, verdict_of};
+ghost use Rattle.pl_core.specs.Laws.{RowsAllowTo};
+ghost use Rattle.pl_table.specs.Zone.{copies_in, quorum_in};
 
 use crate::db::Db;
+use crate::kept::ByTable;
 use crate::lower::order_laws;
 use pl_audit::Audit;
 use pl_decide::{View, known};
@@ -78,5 +81,38 @@ impl Db {
         let view = self.view(request);
         let table = in_force(&self.audit, &self.table);
         self.decider.decide_known(table, &epochs, &view, request)
+    }
+
+    // How far the rows of the table in force allow a request that is allowed, up to the hardened end.
+    pub(crate) fn reach(&self, request: &Request, verdict: Verdict) -> u64
+        requires verdict { verdict ≡ verdict_of request.now self.now }
+        ensures within { result ≤ hard_of self.now }
+        ensures exact { verdict ≡ Verdict.Allowed → RowsAllowTo self.now request.now result }
+    {
+        order_laws();
+        let hard = self.hard();
+        match verdict {
+            Verdict::Allowed => self.decider.reach(self.table_in_force(), hard, request),
+            Verdict::Denied { .. } => hard,
+        }
+    }
+
+    // What the table in force says to the request.
+    pub(crate) fn by_table(&self, request: &Request, verdict: Verdict) -> ByTable
+        requires verdict { verdict ≡ verdict_of request.now self.now }
+        ensures within { result.reach ≤ hard_of self.now }
+        ensures exact { verdict ≡ Verdict.Allowed →
+            RowsAllowTo self.now request.now result.reach }
+        ensures copies { result.copies ≡ copies_in (table_of self.now).zone }
+        ensures quorum { result.quorum ≡ quorum_in (table_of self.now).zone }
+        ensures zone { (1 ≤ result.quorum) × (result.quorum ≤ result.copies) × (result.copies ≤ 6) }
+    {
+        let reach = self.reach(request, verdict);
+        let table = self.table_in_force();
+        ByTable {
+            reach,
+            copies: table.copies(),
+            quorum: table.quorum(),
+        }
     }
 }

@@ -1,5 +1,5 @@
 -- Cached verdicts: what a look-up and a put leave of them.
-use Rattle.std.proofs.Common.{◌≡◌, ℕ, ◌+◌, ◌⊎◌, Bool, true, List, [], ◌∷◌, Option, Some, None, Contains, All, sym, ap, subst, ◌∙◌, inl, inr}
+use Rattle.std.proofs.Common.{◌≡◌, ℕ, ◌+◌, ◌⊎◌, Bool, List, [], ◌∷◌, Option, Some, None, Contains, All, sym, ap, subst, ◌∙◌, inl, inr}
 use Rattle.std.specs.Prelude.{cond}
 use Rattle.std.proofs.lemmas.List.Elements.{All-contains, All-contains_itself, All-nil, All-cons, Contains-append_right}
 use Rattle.lru.specs.LruCache.{LruCache}
@@ -8,12 +8,15 @@ use Rattle.pl_table.specs.Request.{Query}
 use Rattle.pl_table.specs.Row.{row_matches}
 use Rattle.pl_table.specs.Table.{WrittenTable}
 use Rattle.pl_table.specs.FirstMatch.{first_match_from}
+use Rattle.pl_table.specs.Acts.{number_of}
+use Rattle.pl_table.specs.Reach.{IsAtOne}
 use Rattle.pl_decide.specs.declared.key.VerdictKey.{VerdictKey}
-use Rattle.pl_decide.specs.Keys.{CachedVerdict, IsKeyOf}
+use Rattle.pl_decide.specs.declared.row_verdict.RowVerdict.{RowVerdict}
+use Rattle.pl_decide.specs.Keys.{CachedVerdict, IsCachedFor, IsKeyOf}
 use Rattle.pl_decide.specs.Agreement.{most_cached, IsOfRows, IsOfRequest, AgreesWith, IsCache}
 
 abbrev pub Cache : Type 0
-Cache = LruCache VerdictKey (Option (ℕ × Bool))
+Cache = LruCache VerdictKey RowVerdict
 
 -- what holds of each member
 all_of : {X : Type 0} (P : X → Type 0) (xs : List X) → ((x : X) → Contains xs x → P x) → All P xs
@@ -52,9 +55,9 @@ cache-stays was now stays cap cache = record {
 }
 
 -- what is found is the verdict of the rows
-pub found-is : (verdicts : List CachedVerdict) (t : WrittenTable) (q : Query) (key : VerdictKey) (found : Option (ℕ × Bool)) → AgreesWith verdicts t → IsKeyOf key q → Contains verdicts (key, found) → found ≡ first_match_from 1 t.rows q
+pub found-is : (verdicts : List CachedVerdict) (t : WrittenTable) (q : Query) (key : VerdictKey) (verdict : RowVerdict) → AgreesWith verdicts t → IsKeyOf key q → IsAtOne verdict.lsns (number_of q.act) → Contains verdicts (key, verdict) → verdict.found ≡ first_match_from 1 t.rows q
 unfolding AgreesWith IsOfRows
-found-is verdicts t q key found agrees is there = sym (All-contains (IsOfRows t.rows) verdicts (key, found) agrees there q is)
+found-is verdicts t q key verdict agrees is at there = sym (All-contains (IsOfRows t.rows) verdicts (key, verdict) agrees there q (record { key = is; at = at }))
 
 -- ---- a put: each verdict was there, or is the new one
 
@@ -65,16 +68,11 @@ either : {X : Type 0} (P : X → Type 0) (was : List X) (e new : X) → All P wa
 either P was e new all p (inl there) = All-contains P was e all there
 either P was e new all p (inr same) = subst P (sym same) p
 
--- a verdict of the rows for one request is theirs for each request of its key
-pub of-rows : ((key : VerdictKey) (q r : Query) → IsKeyOf key q → IsKeyOf key r → (rows : List Row) → first_match_from 1 rows q ≡ first_match_from 1 rows r) → (rows : List Row) (q : Query) (key : VerdictKey) (found : Option (ℕ × Bool)) → IsKeyOf key q → found ≡ first_match_from 1 rows q → IsOfRows rows (key, found)
-unfolding IsOfRows
-of-rows law rows q key found is value r of_r = law key r q of_r is rows ∙ sym value
-
 pub agrees-keeps : (was now : List CachedVerdict) (new : CachedVerdict) (t : WrittenTable) → Keeps was now new → AgreesWith was t → IsOfRows t.rows new → AgreesWith now t
 unfolding AgreesWith
 agrees-keeps was now new t keeps agrees of = all_of (IsOfRows t.rows) now (λ e there. either (IsOfRows t.rows) was e new agrees of (keeps e there))
 
-pub cache-keeps : (was now : Cache) (new : CachedVerdict) (q : Query) → IsKeyOf new.0 q → Keeps was.entries now.entries new → now.cap ≡ was.cap → IsCache was → IsCache now
+pub cache-keeps : (was now : Cache) (new : CachedVerdict) (q : Query) → IsCachedFor new q → Keeps was.entries now.entries new → now.cap ≡ was.cap → IsCache was → IsCache now
 unfolding IsOfRequest
 cache-keeps was now new q is keeps cap cache = record {
   most = cap ∙ cache.most;

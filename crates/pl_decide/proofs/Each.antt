@@ -13,7 +13,7 @@ use Rattle.pl_table.specs.declared.verdict.Verdict.TheVariants as verdicts
 use Rattle.pl_table.specs.Request.{Query}
 use Rattle.pl_table.specs.Table.{WrittenTable, token_of}
 use Rattle.pl_table.specs.TableText.{table_reading}
-use Rattle.pl_table.specs.FirstMatch.{first_match_from}
+use Rattle.pl_table.specs.FirstMatch.{first_match_from, found_allows, rows_allow}
 use Rattle.pl_decide.specs.declared.rule.Rule.{Rule}
 use Rattle.pl_decide.specs.declared.rule.Rule.TheVariants as rules
 use Rattle.pl_decide.specs.declared.view.Epochs.{Epochs}
@@ -21,7 +21,7 @@ use Rattle.pl_decide.specs.declared.view.View.{View}
 use Rattle.pl_decide.specs.Asked.{is_known}
 use Rattle.pl_decide.specs.Rules.{stands_against, place_of}
 use Rattle.pl_decide.specs.WrittenOrder.{section_a, section_b, section_c, order_of, first_denial, decision, NoneStands}
-use Rattle.pl_decide.specs.Laws.{AllowedMeetsNoRule, AllowedMayBeServed, MayBeServed, is_unknown, KnownIsNotUnknown}
+use Rattle.pl_decide.specs.Laws.{RowsAllowTheAllowed, AllowedMeetsNoRule, AllowedMayBeServed, MayBeServed, is_unknown, KnownIsNotUnknown}
 use Rattle.pl_decide.proofs.FirstDenial.{passes, allowed_exactly, denied_by_the_first}
 use Rattle.pl_decide.proofs.Rows.{denies_first-is, none_matches-is, rows-none, rows-deny, denies_at, is_unmatched}
 
@@ -41,13 +41,24 @@ past [] rest q t e v h = h
 past (rule ∷ order) rest q t e v h = past order rest q t e v (passes rule (order ++ rest) q t e v h).1
 
 -- so a row that matches first allows
-found_allows : (q : Query) (t : WrittenTable) (e : Epochs) (v : View) (found : Option (ℕ × Bool)) → first_match_from 1 t.rows q ≡ found → first_denial (section_b (length t.rows) ++ section_c) q t e v ≡ verdicts.Allowed → (row : ℕ) → (denies_at row found ≡ false) × (is_unmatched found ≡ false)
-found_allows q t e v None is h row = absurd (let clash : verdicts.Denied sections.B 0 0 ≡ verdicts.Allowed = sym (rows-none q t e v is) ∙ h in cc)
-found_allows q t e v (Some (number, true)) is h row = (and_right (eqb number row) false refl, refl)
-found_allows q t e v (Some (number, false)) is h row = absurd (let clash : verdicts.Denied sections.B number 0 ≡ verdicts.Allowed = sym (rows-deny q t e v number is) ∙ h in cc)
+first_allows : (q : Query) (t : WrittenTable) (e : Epochs) (v : View) (found : Option (ℕ × Bool)) → first_match_from 1 t.rows q ≡ found → first_denial (section_b (length t.rows) ++ section_c) q t e v ≡ verdicts.Allowed → found_allows found ≡ true
+first_allows q t e v None is h = absurd (let clash : verdicts.Denied sections.B 0 0 ≡ verdicts.Allowed = sym (rows-none q t e v is) ∙ h in cc)
+first_allows q t e v (Some (number, true)) is h = refl
+first_allows q t e v (Some (number, false)) is h = absurd (let clash : verdicts.Denied sections.B number 0 ≡ verdicts.Allowed = sym (rows-deny q t e v number is) ∙ h in cc)
 
-rows_allow : (q : Query) (t : WrittenTable) (e : Epochs) (v : View) → decision q t e v ≡ verdicts.Allowed → (row : ℕ) → (denies_at row (first_match_from 1 t.rows q) ≡ false) × (is_unmatched (first_match_from 1 t.rows q) ≡ false)
-rows_allow q t e v h row = found_allows q t e v (first_match_from 1 t.rows q) refl (past section_a (section_b (length t.rows) ++ section_c) q t e v h) row
+pub rows_allow_own : RowsAllowTheAllowed
+rows_allow_own q t e v h = first_allows q t e v (first_match_from 1 t.rows q) refl (past section_a (section_b (length t.rows) ++ section_c) q t e v h)
+
+allowing : (found : Option (ℕ × Bool)) → found_allows found ≡ true → (row : ℕ) → (denies_at row found ≡ false) × (is_unmatched found ≡ false)
+allowing None h row = absurd cc
+allowing (Some (number, true)) h row = (and_right (eqb number row) false refl, refl)
+allowing (Some (number, false)) h row = absurd cc
+
+-- where the rows allow, none of them stands against the request, and one matches
+pub rows-pass : (q : Query) (t : WrittenTable) (e : Epochs) (v : View) → rows_allow t.rows q ≡ true → (row : ℕ) → (stands_against (rules.TableRow row) q t e v ≡ false) × (stands_against rules.NoRowMatches q t e v ≡ false)
+rows-pass q t e v allow row =
+    let passed = allowing (first_match_from 1 t.rows q) allow row in
+    (denies_first-is row t.rows q ∙ passed.0, none_matches-is 1 t.rows q ∙ passed.1)
 
 -- no rule stands against what is allowed
 stands_not : (rule : Rule) (q : Query) (t : WrittenTable) (e : Epochs) (v : View) → decision q t e v ≡ verdicts.Allowed → stands_against rule q t e v ≡ false
@@ -56,8 +67,8 @@ stands_not rules.OlderEpoch q t e v h = member (order_of t) rules.OlderEpoch q t
 stands_not rules.NewerEpoch q t e v h = member (order_of t) rules.NewerEpoch q t e v ((allowed_exactly (order_of t) q t e v).0 h) (in_a t rules.NewerEpoch (2, omega arith, refl))
 stands_not rules.OtherPrimary q t e v h = member (order_of t) rules.OtherPrimary q t e v ((allowed_exactly (order_of t) q t e v).0 h) (in_a t rules.OtherPrimary (3, omega arith, refl))
 stands_not rules.RoleLacksOperation q t e v h = member (order_of t) rules.RoleLacksOperation q t e v ((allowed_exactly (order_of t) q t e v).0 h) (in_a t rules.RoleLacksOperation (4, omega arith, refl))
-stands_not (rules.TableRow row) q t e v h = denies_first-is row t.rows q ∙ (rows_allow q t e v h row).0
-stands_not rules.NoRowMatches q t e v h = none_matches-is 1 t.rows q ∙ (rows_allow q t e v h 0).1
+stands_not (rules.TableRow row) q t e v h = (rows-pass q t e v (rows_allow_own q t e v h) row).0
+stands_not rules.NoRowMatches q t e v h = (rows-pass q t e v (rows_allow_own q t e v h) 0).1
 stands_not rules.AboveTheEnd q t e v h = member (order_of t) rules.AboveTheEnd q t e v ((allowed_exactly (order_of t) q t e v).0 h) (in_c t rules.AboveTheEnd (0, omega arith, refl))
 stands_not rules.HardenedAlready q t e v h = member (order_of t) rules.HardenedAlready q t e v ((allowed_exactly (order_of t) q t e v).0 h) (in_c t rules.HardenedAlready (1, omega arith, refl))
 stands_not rules.AboveTheWindow q t e v h = member (order_of t) rules.AboveTheWindow q t e v ((allowed_exactly (order_of t) q t e v).0 h) (in_c t rules.AboveTheWindow (2, omega arith, refl))

@@ -12,4 +12,5 @@ pub use Rattle.pl_table.specs.Acts
 pub use Rattle.pl_table.specs.Row
 pub use Rattle.pl_table.specs.Table
 pub use Rattle.pl_table.specs.FirstMatch
+pub use Rattle.pl_table.specs.Reach
 pub use Rattle.pl_table.specs.TableText

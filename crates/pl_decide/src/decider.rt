@@ -1,17 +1,19 @@
 //! The decision: the first rule of the written order that stands against a request.
 
-ghost use Rattle.std.specs.Prelude.{◌≡◌, ◌≢◌, ◌==◌, ◌≤◌, ◌&&◌, ◌↔◌, ◌++◌, not, true, [], length, ℕ, Some, None, IfOk, IfSome, IsTrue, Contains};
+ghost use Rattle.std.specs.Prelude.{◌≡◌, ◌≢◌, ◌==◌, ◌≤◌, ◌&&◌, ◌↔◌, ◌++◌, nat_le, not, true, [], length, ℕ, Some, None, IfOk, IfSome, IsTrue, Contains};
 ghost use Rattle.pl_block.specs.Block.{Content};
 ghost use Rattle.pl_table.specs.Ops.{same_role};
 ghost use Rattle.pl_table.specs.Table.{WrittenTable};
-ghost use Rattle.pl_table.specs.FirstMatch.{first_match_from};
+ghost use Rattle.pl_table.specs.Acts.{asked_at};
+ghost use Rattle.pl_table.specs.FirstMatch.{first_match_from, rows_allow};
 ghost use Rattle.pl_decide.specs.Asked.{is_known};
 ghost use Rattle.pl_decide.specs.WrittenOrder.{decision, section_b, section_c, order_of, first_denial, NoneStands, IsFirstDenial};
 ghost use Rattle.pl_decide.specs.Keys.{IsKeyOf};
 ghost use Rattle.pl_decide.specs.Agreement.{AgreesWith, most_cached};
 
-use crate::cache::{Found, are_of_rows, find, keep};
+use crate::cache::{are_of_rows, find, keep};
 use crate::key::VerdictKey;
+use crate::row_verdict::{Found, RowVerdict};
 use crate::rule::Rule;
 use crate::view::{Epochs, View};
 use lru::LruCache;
@@ -41,10 +43,10 @@ const FEW_ROWS: usize = 16;
 /// Decides on requests, one after the other. What was asked before makes no difference.
 ///
 /// It keeps what the rows of the table said of up to 1,024 keys, those used last, where many rows were
-/// looked at or none matched.
+/// looked at or none matched, and of each key at which LSNs they say so.
 #[derive(Debug, Drop)]
 pub struct Decider {
-    verdicts: LruCache<VerdictKey, Found>,
+    verdicts: LruCache<VerdictKey, RowVerdict>,
 }
 
 impl Model for Decider {
@@ -90,8 +92,8 @@ impl Decider {
         self.verdicts.len()
     }
 
-    /// Whether each cached verdict is that of the table's rows, for all requests of its key. Each row
-    /// is looked at for each of them, up to the first that matches. Nothing is allocated.
+    /// Whether each cached verdict is that of the table's rows, for all requests of its key at its LSNs.
+    /// Each row is looked at for each of them, up to the first that matches. Nothing is allocated.
     pub fn agrees_with(&self, table: &Table) -> bool
         ensures exact { IsTrue result ↔ AgreesWith self.now table.now }
     {
@@ -102,7 +104,8 @@ impl Decider {
     /// against it, or that none does.
     ///
     /// The rows of the table that can match are looked at, up to the first that does, or what they said
-    /// of the same key is looked up. Where it is to be cached and an allocation fails, it is not.
+    /// of the same key is looked up, at LSNs of which the request's is one. Where it is to be cached and an
+    /// allocation fails, it is not.
     pub fn decide(
         &mut self,
         table: &Table,
@@ -146,6 +149,32 @@ impl Decider {
         self.decide_by_head(table, *epochs, *view, request)
     }
 
+    /// How far the rows of the table allow a request that they allow, which is what [`decide`] asks them
+    /// of an allowed one: the greatest LSN up to `hard` at which they do. A request that names no LSN they
+    /// allow at each.
+    ///
+    /// The rows that can match are looked at once. Nothing is allocated.
+    ///
+    /// [`decide`]: Decider::decide
+    pub fn reach(&self, table: &Table, hard: u64, request: &Request) -> u64
+        requires allowed { rows_allow table.now.rows request.now ≡ true }
+        ensures within { result ≤ hard }
+        ensures exact { (lsn : ℕ) → lsn ≤ hard →
+            rows_allow table.now.rows (asked_at request.now lsn) ≡ nat_le lsn result }
+    {
+        table.reach(request, hard)
+    }
+
+    /// Whether the rows of the table allow at this LSN a request that they allow at its own.
+    ///
+    /// The rows that can match are looked at once. Nothing is allocated.
+    pub fn allows_at(&self, table: &Table, request: &Request, lsn: u64) -> bool
+        requires allowed { rows_allow table.now.rows request.now ≡ true }
+        ensures value { result ≡ rows_allow table.now.rows (asked_at request.now lsn) }
+    {
+        lsn <= table.reach(request, lsn)
+    }
+
     // The verdict on a known principal's request.
     fn decide_by_head(
         &mut self,
@@ -185,8 +214,9 @@ impl Decider {
         let Some(key) = VerdictKey::of(request) else {
             return table.first_match(request);
         };
-        if let Some(found) = self.look_up(key) {
-            return found;
+        match self.look_up(key) {
+            Some(verdict) if verdict.is_at(request.act().lsn()) => return verdict.found,
+            _ => {}
         }
         let found = table.first_match(request);
         if is_far(found, table.candidates(request)) {
@@ -196,21 +226,22 @@ impl Decider {
     }
 
     // What is cached under the key.
-    fn look_up(&mut self, key: VerdictKey) -> Option<Found>
-        ensures found { IfSome result (λ found. Contains self.old (key, found)) }
+    fn look_up(&mut self, key: VerdictKey) -> Option<RowVerdict>
+        ensures found { IfSome result (λ verdict. Contains self.old (key, verdict)) }
         ensures agrees { (table : WrittenTable) → AgreesWith self.old table → AgreesWith self.new table }
     {
         find(&mut self.verdicts, key)
     }
 
-    // Caches what was found for the request, which has this key.
+    // Caches what was found for the request, which has this key, with the LSNs at which it is the same.
     fn cache(&mut self, table: &Table, request: &Request, key: VerdictKey, found: Found)
         requires agrees { AgreesWith self.old table.now }
         requires key { IsKeyOf key request.now }
         requires found { found ≡ first_match_from 1 table.now.rows request.now }
         ensures agrees { AgreesWith self.new table.now }
     {
-        keep(&mut self.verdicts, key, found);
+        let lsns = table.lsns_alike(request);
+        keep(&mut self.verdicts, key, RowVerdict { found, lsns });
     }
 }
 

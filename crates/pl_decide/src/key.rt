@@ -1,22 +1,24 @@
 //! The key of a cached verdict.
 
-ghost use Rattle.std.specs.Prelude.{◌≡◌, ◌==◌, ℕ, [], ◌∷◌, ◌≤◌, length, IfSome};
+ghost use Rattle.std.specs.Prelude.{◌≡◌, ◌==◌, ℕ, Bool, true, [], ◌∷◌, ◌≤◌, length, Option, IfSome, IfNone};
 ghost use Rattle.std.specs.List.{list_any};
 ghost use Rattle.std.specs.Option.{option_map_or};
 ghost use Rattle.pl_table.specs.Absent.{part_matches};
-ghost use Rattle.pl_table.specs.Acts.{partitions_of};
+ghost use Rattle.pl_table.specs.Acts.{number_of, partitions_of};
 ghost use Rattle.pl_table.specs.Bounds.{most_rows};
-ghost use Rattle.pl_table.specs.FirstMatch.{first_match_from};
 ghost use Rattle.pl_table.specs.Ops.{role_number, op_number};
 ghost use Rattle.pl_table.specs.Request.{Query};
-ghost use Rattle.pl_table.specs.Row.{range_matches, row_matches};
+ghost use Rattle.pl_table.specs.Reach.{IsAtOne};
+ghost use Rattle.pl_table.specs.Row.{is_about, range_matches, row_matches, through_matches};
+ghost use Rattle.pl_decide.specs.Agreement.{EndsAmong, IsOfRows};
 ghost use Rattle.pl_decide.specs.Keys.{IsKeyOf};
 
+use crate::row_verdict::Found;
 use pl_block::PAGES_PER_PARTITION;
-use pl_table::{Act, Op, Ops, PartitionRange, Request, Role, Row};
+use pl_table::{Act, LsnRange, Op, Ops, PartitionRange, Request, Role, Row};
 
-/// What the rows of a table look at in a request that names one partition or none. Requests with one
-/// key are matched by the same rows.
+/// What the rows of a table look at in a request that names one partition or none, but for its LSN. The
+/// same rows are about requests with one key.
 // The role and the operation are kept by their numbers, since a key is hashed each time that it is
 // looked up.
 #[derive(Clone, Copy, Debug, PartialEq, Eq, Hash)]
@@ -47,31 +49,71 @@ impl VerdictKey {
         })
     }
 
-    // The first of these rows that matches the requests of the key: its number, from 1, and whether it
-    // allows. Each row is looked at once, up to that one.
-    pub(crate) fn first_in(&self, rows: &[Row]) -> Option<(u16, bool)>
+    // The first of these rows that matches the requests of the key at the LSNs, which is found or is
+    // not; `None` where it is not the same one at all of them. Each row is looked at once, up to that one.
+    pub(crate) fn first_in(&self, rows: &[Row], lsns: Option<LsnRange>) -> Option<Found>
         requires few { length rows.now ≤ most_rows }
-        ensures value { (q : Query) → IsKeyOf self.now q →
-            result ≡ first_match_from 1 rows.now q }
+        requires request { (q : Query) × IsKeyOf self.now q × IsAtOne lsns (number_of q.act) }
+        ensures one { IfSome result
+            (λ found. IsOfRows rows.now (self.now, record { found = found; lsns = lsns })) }
+        ensures several { IfNone result ((found : Option (ℕ × Bool))
+            → IsOfRows rows.now (self.now, record { found = found; lsns = lsns }) → ⊥) }
     {
         let mut number = 1;
         for row in rows {
-            if self.matches(row) {
-                return Some((number, row.allows));
+            match self.matches(row, lsns) {
+                Some(true) => return Some(Some((number, row.allows))),
+                Some(false) => number += 1,
+                None => return None,
             }
-            number += 1;
         }
-        None
+        Some(None)
     }
 
-    // Whether the row matches the requests of the key.
-    fn matches(&self, row: &Row) -> bool
-        ensures value { (q : Query) → IsKeyOf self.now q → result ≡ row_matches row.now q }
+    // Whether the row matches the requests of the key at the LSNs; `None` where it matches some of them
+    // and not others.
+    fn matches(&self, row: &Row, lsns: Option<LsnRange>) -> Option<bool>
+        ensures all { IfSome result (λ matches. (q : Query) → IsKeyOf self.now q →
+            IsAtOne lsns (number_of q.act) → row_matches row.now q ≡ matches) }
+        ensures about { IfNone result ((q : Query) → IsKeyOf self.now q → is_about row.now q ≡ true) }
+        ensures some { IfNone result (EndsAmong row.now.through lsns) }
+    {
+        if self.row_is_about(row) {
+            matches_lsns(row.allows, row.through, lsns)
+        } else {
+            Some(false)
+        }
+    }
+
+    // Whether the row is about the requests of the key.
+    fn row_is_about(&self, row: &Row) -> bool
+        ensures value { (q : Query) → IsKeyOf self.now q → result ≡ is_about row.now q }
     {
         matches_who(row.who, self.principal)
             && matches_role(row.role, self.role)
             && matches_op(&row.op, self.op)
             && matches_range(row.allows, row.range, self.partition)
+    }
+}
+
+// Whether a row with this end, which is about a request, matches it at each of the LSNs; `None` where it
+// matches at some of them and not at others.
+fn matches_lsns(allows: bool, through: Option<u64>, lsns: Option<LsnRange>) -> Option<bool>
+    ensures all { IfSome result (λ matches. (lsn : Option ℕ) → IsAtOne lsns lsn →
+        part_matches (through_matches allows lsn) through ≡ matches) }
+    ensures some { IfNone result (EndsAmong through lsns) }
+{
+    match (through, lsns) {
+        (Some(end), Some(lsns)) => {
+            if lsns.to <= end {
+                Some(allows)
+            } else if end < lsns.from {
+                Some(!allows)
+            } else {
+                None
+            }
+        }
+        _ => Some(true),
     }
 }
 

@@ -1,7 +1,7 @@
 //! What follows from the written order. Each function is a law: its clauses hold of all requests,
 //! tables, epochs and views, and its body does nothing.
 
-ghost use Rattle.pl_decide.specs.Laws.{AllowedExactly, DeniedByTheFirst, AllowedMeetsNoRule, AllowedMayBeServed, UnknownIsDenied, KnownIsNotUnknown, OlderEpochIsDenied, ViewsDecideAlike, ReadsReachTheEnd, OneKeyIsMatchedAlike, OneKeyOneVerdict};
+ghost use Rattle.pl_decide.specs.Laws.{AllowedExactly, DeniedByTheFirst, AllowedMeetsNoRule, AllowedMayBeServed, UnknownIsDenied, KnownIsNotUnknown, OlderEpochIsDenied, ViewsDecideAlike, ReadsReachTheEnd, RowsAllowTheAllowed, OneKeyIsMatchedAlike, OneKeyOneVerdict};
 
 /// In any order of rules, a request is allowed exactly where no rule stands against it. Elsewhere
 /// the verdict is the denial of the first rule that does.
@@ -38,14 +38,16 @@ pub fn views_decide_alike()
     ensures same { ViewsDecideAlike }
 {}
 
-/// A pull or a get that is allowed at one LSN is allowed at each up to the hardened end. At each above
-/// it, it is denied as C1.
+/// A pull or a get that is allowed at one LSN is allowed at each LSN up to the hardened end at which the
+/// rows allow it, as they do at its own. At an LSN above the hardened end it is denied as C1, and at one
+/// at which the rows do not allow it, by a row or since none matches.
 pub fn reads_reach_the_end()
     ensures reach { ReadsReachTheEnd }
+    ensures own { RowsAllowTheAllowed }
 {}
 
-/// Requests with one key, which have the principal, the role, the operation and the partition in
-/// common, are matched by the same rows. So the verdict of one is that of all.
+/// The same rows are about requests with one key, which have the principal, the role, the operation and
+/// the partition in common. So where they name one LSN, or none, the verdict of one is that of the other.
 pub fn one_key_has_one_verdict()
     ensures rows { OneKeyIsMatchedAlike }
     ensures first { OneKeyOneVerdict }

@@ -10,10 +10,12 @@ mod cache;
 mod decider;
 mod key;
 pub mod laws;
+mod row_verdict;
 mod rule;
 mod view;
 
 pub use decider::{Decider, known};
 pub use key::VerdictKey;
+pub use row_verdict::RowVerdict;
 pub use rule::Rule;
 pub use view::{Epochs, View};

@@ -1,6 +1,7 @@
 -- The atomic steps of a desk: what each tells the pass that makes it, and the view that it leaves.
 use Rattle.std.specs.Prelude.{◌≡◌, ◌≢◌, ℕ, ◌+◌, ◌<◌, ◌≤◌, Bool, true, false, nat_lt, [], ◌∷◌, length, Option, Some, if◌then◌else◌}
 use Rattle.atomic_table.specs.Table.{Step, Me, rest}
+use Rattle.pl_table.specs.declared.zone.Zone.TheVariants.{Three}
 use Rattle.pl_core.specs.History.{Entry, History, grown}
 use Rattle.pl_core.specs.Legal.{IsLegal}
 use Rattle.pl_desk.specs.declared.rule.Stage.{Stage}
@@ -113,7 +114,7 @@ meeting v w = record v { seen = longer v.seen w.seen; stage = Met v.seen w.seen 
 abbrev pub no_history : History
 no_history = record {
   start = record {
-    table = record { principals = []; rows = [] };
+    table = record { principals = []; rows = []; zone = Three };
     primary = 0;
     limits = record { audit = 0; chunks = 0 };
   };

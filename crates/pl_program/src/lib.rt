@@ -14,6 +14,7 @@ mod run_fault;
 mod running;
 mod service;
 mod serving;
+mod telling;
 
 pub use asking::{credentials_of, exchange, file_of};
 pub use ending::{Ending, Failure};
@@ -24,3 +25,4 @@ pub use service::serve_databases;
 pub use serving::{
     Opening, Tally, databases_of, opening_of, pager_of, result_of, tally_of, token_of,
 };
+pub use telling::Crew;

@@ -8,6 +8,7 @@ use crate::ending::{Ending, Failure};
 use crate::run_fault::RunFault;
 use crate::service::serve_databases;
 use crate::serving::{Opening, opening_of, tally_of};
+use crate::telling::Teller;
 use pl_command::{CommandLine, ServeNumbers, arguments_of, asked};
 use pl_core::{Db, Reply};
 use pl_play::{
@@ -25,7 +26,8 @@ use std::{fmt, fs};
 
 /// Does what the arguments of the process ask for, and tells how the program ends. Help is written;
 /// `play` answers the lines of the standard input on the standard output; `serve` writes its address,
-/// answers connections until so many were accepted, and writes how many; `ask` sends one request and
+/// answers connections until so many were accepted, and writes how many; where it has fewer workers than asked
+/// for, or a connection has to wait to be accepted, it tells that on the standard error and goes on; `ask` sends one request and
 /// writes the text of the reply.
 ///
 /// `Refused` comes where the reply to `ask`, which is written too, is no Done, Status or Entries. Where
@@ -41,7 +43,7 @@ use std::{fmt, fs};
 ///   came back is no reply; or memory ran out. What was answered or sent until then stays so.
 pub fn run<R>(rt: &R) -> Result<Ending, Failure>
 where
-    R: Env + Files + Input + Print + AllocGlobal + Threads + Wait + Sync + Copy + Drop,
+    R: Env + Files + Input + Print + Eprint + AllocGlobal + Threads + Wait + Sync + Copy + Drop,
     R: Net<Listener = TcpListener, Stream = TcpStream>,
 {
     match asked(rt.alloc(), arguments_of(rt))? {
@@ -142,7 +144,7 @@ fn serve_with<R>(
     numbers: ServeNumbers,
 ) -> Result<Ending, Failure>
 where
-    R: Files + Print + AllocGlobal + Threads + Wait + Sync + Copy + Drop,
+    R: Files + Print + Eprint + AllocGlobal + Threads + Wait + Sync + Copy + Drop,
     R: Net<Listener = TcpListener, Stream = TcpStream>,
     requires some { 1 ≤ numbers.dbs }
     requires few { numbers.dbs ≤ 16 }
@@ -164,7 +166,7 @@ fn serve_all<R>(
     connections: u32,
 ) -> Result<(), RunFault>
 where
-    R: Print + AllocGlobal + Threads + Wait + Sync + Copy + Drop,
+    R: Print + Eprint + AllocGlobal + Threads + Wait + Sync + Copy + Drop,
     R: Net<Listener = TcpListener, Stream = TcpStream>,
     requires some { 1 ≤ vec_len opening.dbs }
     requires few { vec_len opening.dbs ≤ 16 }
@@ -180,7 +182,17 @@ where
     println!(rt; "listening {address}").map_err(|_| RunFault::Write)?;
     let Opening { dbs, pager } = opening;
     let alloc = rt.alloc();
-    let served = serve_databases(rt, alloc, &listener, dbs, workers, connections, pager)?;
+    let watch = Teller { rt };
+    let served = serve_databases(
+        rt,
+        alloc,
+        &listener,
+        dbs,
+        workers,
+        connections,
+        pager,
+        &watch,
+    )?;
     show(rt, &tally_of(&served)?)
 }
 

@@ -9,7 +9,7 @@ ghost use Rattle.pl_program.specs.Serving.{ServesDatabases};
 
 use crate::pager::{Pager, start_pager};
 use crate::run_fault::RunFault;
-use pl_conn::{Desks, Passes, Served, serve};
+use pl_conn::{Desks, Passes, Served, Watch, serve_watched};
 use pl_core::Db;
 use std::alloc::Global;
 use std::net::TcpListener;
@@ -30,7 +30,7 @@ struct Paging {
 
 // Serves, and at the same time lets the page server make its rounds, if there is one. `None` where the
 // page server's thread could not be started.
-fn serve_in<'s, E, R: Threads + Wait + Sync + Drop>(
+fn serve_in<'s, E, R: Threads + Wait + Sync + Drop, W: Watch>(
     scope: &Scope<'s, E>,
     rt: &'s R,
     alloc: Global,
@@ -39,6 +39,7 @@ fn serve_in<'s, E, R: Threads + Wait + Sync + Drop>(
     passes: Vec<Passes>,
     paging: Option<Paging>,
     connections: u32,
+    watch: &W,
 ) -> Option<Served<Passes>>
     requires own { All (AreOf desks.now) passes.items }
     requires pager { IfSome paging (λ p. AreOf desks.now p.passes) }
@@ -49,7 +50,7 @@ fn serve_in<'s, E, R: Threads + Wait + Sync + Drop>(
     ensures none { IsNone result → IsSome paging }
 {
     let Some(paging) = paging else {
-        return Some(serve(rt, alloc, listener, desks, passes, connections));
+        return Some(serve_watched(rt, alloc, listener, desks, passes, connections, watch));
     };
     let Paging {
         pager,
@@ -57,7 +58,7 @@ fn serve_in<'s, E, R: Threads + Wait + Sync + Drop>(
         databases,
     } = paging;
     let started = start_pager(scope, desks, own, pager, databases)?;
-    let served = serve(rt, alloc, listener, desks, passes, connections);
+    let served = serve_watched(rt, alloc, listener, desks, passes, connections, watch);
     let _left = started.join(rt);
     Some(served)
 }
@@ -77,7 +78,7 @@ fn take_last<R>(desks: &Desks<R>, passes: &mut Vec<Passes>) -> Passes
 }
 
 // Serves over the desks, with a worker for each of the passes.
-fn serve_over<R: Threads + Wait + Sync + Drop>(
+fn serve_over<R: Threads + Wait + Sync + Drop, W: Watch>(
     rt: &R,
     alloc: Global,
     listener: &TcpListener,
@@ -85,6 +86,7 @@ fn serve_over<R: Threads + Wait + Sync + Drop>(
     passes: Vec<Passes>,
     paging: Option<Paging>,
     connections: u32,
+    watch: &W,
 ) -> Option<Served<Passes>>
     requires own { All (AreOf desks.now) passes.items }
     requires pager { IfSome paging (λ p. AreOf desks.now p.passes) }
@@ -113,17 +115,19 @@ fn serve_over<R: Threads + Wait + Sync + Drop>(
                 passes,
                 paging,
                 connections,
+                watch,
             )
         },
     )
 }
 
 /// Serves connections over the databases, with so many workers, until so many were accepted. Where
-/// there is a pager, it works at the same time, in a thread of its own, and is waited for.
+/// there is a pager, it works at the same time, in a thread of its own, and is waited for. What the service
+/// cannot do meanwhile is told to the watch.
 ///
 /// `NoMemory` where the desks found none, and `Threads` where the page server's thread could not be
 /// started.
-pub fn serve_databases<R: Threads + Wait + Sync + Copy + Drop>(
+pub fn serve_databases<R: Threads + Wait + Sync + Copy + Drop, W: Watch>(
     rt: &R,
     alloc: Global,
     listener: &TcpListener,
@@ -131,6 +135,7 @@ pub fn serve_databases<R: Threads + Wait + Sync + Copy + Drop>(
     workers: u32,
     connections: u32,
     pager: Option<Pager>,
+    watch: &W,
 ) -> Result<Served<Passes>, RunFault>
     requires some { 1 ≤ vec_len dbs }
     requires few { vec_len dbs ≤ 16 }
@@ -153,7 +158,16 @@ pub fn serve_databases<R: Threads + Wait + Sync + Copy + Drop>(
         }),
         None => None,
     };
-    match serve_over(rt, alloc, listener, &desks, passes, paging, connections) {
+    match serve_over(
+        rt,
+        alloc,
+        listener,
+        &desks,
+        passes,
+        paging,
+        connections,
+        watch,
+    ) {
         Some(served) => Ok(served),
         None => Err(RunFault::Threads),
     }

@@ -2,6 +2,8 @@ pub mod Spans
 pub mod Tokens
 pub mod Listed
 pub mod FirstMatch
+pub mod Ends
+pub mod Reached
 pub mod Trees
 pub mod Listings
 pub mod Settings

@@ -21,7 +21,7 @@ use Rattle.pl_table.specs.declared.row.Row.{Row}
 use Rattle.pl_table.specs.Ops.{same_role, op_number, all_ops}
 use Rattle.pl_table.specs.Absent.{part_matches}
 use Rattle.pl_table.specs.Request.{Query, op_of}
-use Rattle.pl_table.specs.Row.{range_matches, row_matches}
+use Rattle.pl_table.specs.Row.{range_matches, is_about, row_matches}
 use Rattle.pl_table.specs.Acts.{partitions_of}
 use Rattle.pl_table.specs.FirstMatch.{first_match_from}
 use Rattle.pl_table.specs.Index.{askers, asker_of, is_asker, can_be, can_be_for, can_match, places_from, places_by_op, lists_of}
@@ -46,10 +46,19 @@ and_unlisted true false c d h = refl
 and_unlisted true true false d h = refl
 and_unlisted true true true d h = absurd cc
 
+-- a row that cannot match is not about the request
+pub not_about : (row : Row) (q : Query) → can_match q row ≡ false → is_about row q ≡ false
+not_about row q fails =
+    and_unlisted (part_matches (λ who. eqb who q.head.principal) row.who) (part_matches (same_role q.head.role) row.role) (can_be_for (op_of q.act) row) (part_matches (range_matches row.allows (partitions_of q.act)) row.range) fails
+
+and_left : (a b : Bool) → a ≡ false → (a && b) ≡ false
+and_left false b h = refl
+and_left true b h = absurd cc
+
 -- a row that cannot match does not
 unlisted : (row : Row) (q : Query) → can_match q row ≡ false → row_matches row q ≡ false
 unlisted row q fails =
-    and_unlisted (part_matches (λ who. eqb who q.head.principal) row.who) (part_matches (same_role q.head.role) row.role) (can_be_for (op_of q.act) row) (part_matches (range_matches row.allows (partitions_of q.act)) row.range) fails
+    and_left _ _ (not_about row q fails)
 
 dropped : {A : Type 0} (xs rest : List A) (k : ℕ) (x : A) → drop k xs ≡ x ∷ rest → (slice_get xs k ≡ Some x) × (drop (k + 1) xs ≡ rest)
 dropped [] rest zero x e = absurd cc

@@ -1,18 +1,18 @@
 -- What a text reads as is a table.
-use Rattle.std.proofs.Common.{◌≡◌, ℕ, ◌<◌, ◌≤◌, ◌==◌, ◌||◌, eqb, nat_lt, Bool, true, false, not, List, length, map, Result, Ok, Err, IfOk, All, refl, arith, if◌then◌else◌}
+use Rattle.std.proofs.Common.{◌≡◌, ℕ, ◌<◌, ◌≤◌, ◌==◌, ◌||◌, eqb, nat_lt, Bool, true, false, not, List, length, map, Result, Ok, Err, ok_or, IfOk, All, refl, arith, if◌then◌else◌}
 use Rattle.std.specs.List.{list_all, filter_map, IsDistinct}
 use Rattle.std.proofs.lemmas.Bool.Decides.{nat_tests}
 use Rattle.toml.specs.Data.{Data}
 use Rattle.pl_table.specs.declared.row.Row.{Row}
 use Rattle.pl_table.specs.declared.table.Principal.{Principal}
 use Rattle.pl_table.specs.declared.fault.TableFault.{TableFault}
-use Rattle.pl_table.specs.declared.fault.TableFault.TheVariants.{PrincipalCount, RowCount, PrincipalKeys, PrincipalId, PrincipalToken, RepeatedId, RowKeys, RowWord, RowNumber, NoOperator}
+use Rattle.pl_table.specs.declared.fault.TableFault.TheVariants.{PrincipalCount, RowCount, PrincipalKeys, PrincipalId, PrincipalToken, RepeatedId, RowKeys, RowWord, RowNumber, NoOperator, BadZone}
 use Rattle.pl_block.specs.Faults.{◌>>=◌}
 use Rattle.pl_table.specs.Setting.{somebody_sets}
 use Rattle.pl_table.specs.Table.{WrittenTable, IsTable, IsRowOf}
 use Rattle.pl_table.specs.Tree.{tree_of, is_row}
 use Rattle.pl_table.specs.Part.{principal_of, has_words, has_numbers, row_of}
-use Rattle.pl_table.specs.TableText.{Listed, listed_in_tree, counts_of, principals_of, rows_of, table_of, table_reading}
+use Rattle.pl_table.specs.TableText.{Listed, listed_in_tree, counts_of, principals_of, rows_of, setter_of, table_of, table_reading}
 use Rattle.pl_table.proofs.Listings.{length-principals, length-filter_map, IsDistinct-own_ids}
 use Rattle.pl_table.proofs.Rows.{All-IsRowOf}
 
@@ -68,9 +68,12 @@ read_of : (ps : List Principal) (ds : List Data) → IfOk (rows_of ps ds) (AreOf
 unfolding rows_of
 read_of ps ds = unless_three (list_all is_row ds) (list_all has_words ds) (list_all (has_numbers ps) ds) RowKeys RowWord RowNumber (Ok (filter_map (row_of ps) ds)) (AreOf ps ds) (length-filter_map (row_of ps) ds, All-IsRowOf (λ d. d) ps ds)
 
-set_by : (ps : List Principal) (rows : List Row) (b : Bool) → (b ≡ true → IsTable (record { principals = ps; rows = rows })) → IfOk (if b then Ok (record { principals = ps; rows = rows }) else Err NoOperator) IsTable
-set_by ps rows true h = h refl
-set_by ps rows false h = tt
+set_if : (b : Bool) (o : Result (Unit {0}) TableFault) (u : Unit {0}) → o ≡ (if b then Ok tt else Err NoOperator) → o ≡ Ok u → b ≡ true
+set_if true o u is e = refl
+set_if false o u is e = absurd cc
+
+set_by : (ps : List Principal) (rows : List Row) (u : Unit {0}) → setter_of ps rows ≡ Ok u → somebody_sets ps rows ≡ true
+set_by ps rows u e = set_if (somebody_sets ps rows) (setter_of ps rows) u refl e
 
 of_lists : (l : Listed) → IfOk (table_of l) IsTable
 unfolding table_of
@@ -78,11 +81,12 @@ of_lists l =
     next (counts_of (length l.principals) (length l.rows)) _ IsTable (λ u c.
     next (principals_of l.principals) _ IsTable (λ ps p.
     next (rows_of ps l.rows) _ IsTable (λ rows r.
-    set_by ps rows (somebody_sets ps rows) (λ s.
+    next (setter_of ps rows) _ IsTable (λ setter s.
+    next (ok_or l.zone BadZone) _ IsTable (λ zone z.
     let counts = of_result _ (λ u. AreFew (length l.principals) (length l.rows)) u (counted (length l.principals) (length l.rows)) c in
     let ids = of_result _ (AreApart l.principals) ps (read_apart l.principals) p in
     let each = of_result _ (AreOf ps l.rows) rows (read_of ps l.rows) r in
-    record { some = omega arith; few = omega arith; few_rows = omega arith; distinct = ids.1; each_row = each.1; setter = s }))))
+    record { some = omega arith; few = omega arith; few_rows = omega arith; distinct = ids.1; each_row = each.1; setter = set_by ps rows setter s })))))
 
 -- a text reads as nothing but tables
 pub reads_as_table : (text : List ℕ) (t : WrittenTable) → table_reading text ≡ Ok t → IsTable t

@@ -1,14 +1,15 @@
--- Each row that is read names a principal that is listed, and a range that has a partition.
-use Rattle.std.proofs.Common.{◌≡◌, ℕ, ◌-◌, ◌^◌, ◌≤◌, codes, nat_le, eqb, ◌==◌, Bool, true, false, List, [], ◌∷◌, map, Option, Some, None, option_map, option_and_then, IfSome, Contains, All, refl, sym, ◌∙◌, arith, if◌then◌else◌}
+-- Each row that is read names a principal that is listed, has a range with a partition, and ends at an LSN.
+use Rattle.std.proofs.Common.{◌≡◌, ℕ, ◌-◌, ◌^◌, ◌≤◌, codes, nat_le, eqb, ◌==◌, Bool, true, false, List, [], ◌∷◌, map, Option, Some, None, option_map, option_and_then, IfSome, Contains, All, pos, negsuc, refl, sym, ◌∙◌, arith, if◌then◌else◌}
 use Rattle.std.specs.List.{AllByRecursion, list_any, filter_map, cons_option}
 use Rattle.std.proofs.lemmas.Bool.{eqb-true}
 use Rattle.std.proofs.lemmas.Bool.Decides.{nat_tests}
 use Rattle.std.proofs.lemmas.List.Elements.{All-from_recursion}
 use Rattle.std.proofs.lemmas.Map.Views.{Contains-from_any}
-use Rattle.toml.specs.Data.{Data, get}
+use Rattle.toml.specs.Data.{Data, string, integer, float, boolean, datetime, array, table, get}
 use Rattle.pl_table.specs.declared.range.PartitionRange.{PartitionRange}
 use Rattle.pl_table.specs.declared.table.Principal.{Principal}
-use Rattle.pl_table.specs.Part.{number_up_to, if_there, listed_in, range_between, range_from, verdict_under, role_under, ops_under, who_under, range_under, row_of}
+use Rattle.pl_block.specs.Bounds.{last_lsn}
+use Rattle.pl_table.specs.Part.{number_up_to, if_there, listed_in, range_between, range_from, verdict_under, role_under, ops_under, who_under, range_under, through_under, row_of}
 use Rattle.pl_table.specs.Table.{IsRowOf}
 
 -- what holds of each result of the next step holds of the result of both
@@ -60,17 +61,35 @@ range_is_some None (Some to) = tt
 range_is_some (Some from) None = tt
 range_is_some (Some from) (Some to) = wrapped _ (λ range. range.from ≤ range.to) (between (number_up_to 65535 from) (number_up_to 65535 to))
 
+up_to_most : (most n : ℕ) (b : Bool) → nat_le n most ≡ b → IfSome (if b then Some n else None) (λ n. n ≤ most)
+up_to_most most n true e = grind (arith, nat_tests)
+up_to_most most n false e = tt
+
+-- a number that is read is at most the most
+up_to : (most : ℕ) (d : Data) → IfSome (number_up_to most d) (λ n. n ≤ most)
+unfolding number_up_to
+up_to most (string s) = tt
+up_to most (integer (pos n)) = up_to_most most n (nat_le n most) refl
+up_to most (integer (negsuc n)) = tt
+up_to most (float x) = tt
+up_to most (boolean b) = tt
+up_to most (datetime d) = tt
+up_to most (array ds) = tt
+up_to most (table ms) = tt
+
 row_is_row_of : (ps : List Principal) (d : Data) → IfSome (row_of ps d) (IsRowOf ps)
-unfolding row_of who_under range_under
+unfolding row_of who_under range_under through_under
 row_is_row_of ps d =
     if_next (verdict_under d) _ (IsRowOf ps) (λ allows a.
     if_next (who_under ps d) _ (IsRowOf ps) (λ who w.
     if_next (role_under d) _ (IsRowOf ps) (λ role r.
     if_next (range_under d) _ (IsRowOf ps) (λ range g.
+    if_next (through_under d) _ (IsRowOf ps) (λ through t.
     if_next (ops_under d) _ (IsRowOf ps) (λ op o. record {
       who = if_read _ (λ who. IfSome who (Contains (map (λ p. p.id) ps))) who (if_part (listed_in ps) _ (id_is_listed ps) (get (codes "who") d)) w;
       range = if_read _ (λ range. IfSome range (λ range. range.from ≤ range.to)) range (range_is_some (get (codes "from") d) (get (codes "to") d)) g;
-    })))))
+      through = if_read _ (λ through. IfSome through (λ lsn. lsn ≤ last_lsn)) through (if_part (number_up_to last_lsn) _ (up_to last_lsn) (get (codes "through") d)) t;
+    }))))))
 
 added : {B : Type 0} (P : B → Type 0) (o : Option B) (ys : List B) → IfSome o P → AllByRecursion P ys → AllByRecursion P (cons_option o ys)
 added P None ys h all = all

@@ -13,9 +13,9 @@ use Rattle.pl_table.specs.declared.table.Principal.{Principal}
 use Rattle.pl_table.specs.Ops.{lists_op}
 use Rattle.pl_table.specs.Absent.{part_matches}
 use Rattle.pl_table.specs.Request.{Query, op_of}
-use Rattle.pl_table.specs.Acts.{partitions_of}
-use Rattle.pl_table.specs.Row.{row_matches, range_matches}
-use Rattle.pl_table.specs.FirstMatch.{first_match_from}
+use Rattle.pl_table.specs.Acts.{number_of, partitions_of}
+use Rattle.pl_table.specs.Row.{row_matches, range_matches, through_matches}
+use Rattle.pl_table.specs.FirstMatch.{first_match_from, found_allows}
 use Rattle.pl_table.specs.Setting.{speaks_of_setting, allows, somebody_sets}
 use Rattle.pl_table.specs.Laws.{AsksToSet, RowsSpeakOfSetting, SomebodyIsAllowed}
 
@@ -33,6 +33,25 @@ names_none (SetTable text) e = refl
 names_none (Audit first max) e = refl
 names_none Tidy e = refl
 
+-- nor an LSN
+has_no_number : (act : Act) → op_of act ≡ ops.SetTable → number_of act ≡ None
+has_no_number (Write copy block) e = cc
+has_no_number (Offer block) e = cc
+has_no_number (Report lsn) e = cc
+has_no_number (Get page lsn exact) e = cc
+has_no_number (Pull lo hi lsn max) e = cc
+has_no_number (Advance partition steps) e = refl
+has_no_number Status e = refl
+has_no_number (Failover primary) e = refl
+has_no_number (SetTable text) e = refl
+has_no_number (Audit first max) e = refl
+has_no_number Tidy e = refl
+
+-- so that a row matches wherever it ends
+each_end : (allows : Bool) (through : Option ℕ) → part_matches (through_matches allows None) through ≡ true
+each_end allows None = refl
+each_end allows (Some end) = refl
+
 -- where none is named each range matches
 each_range : (allows : Bool) (range : Option PartitionRange) → part_matches (range_matches allows []) range ≡ true
 each_range allows None = refl
@@ -41,12 +60,7 @@ each_range false (Some range) = refl
 
 pub row_of_setting : RowsSpeakOfSetting
 row_of_setting id q row asks =
-    rw (asks.who, asks.role, asks.op, names_none q.act asks.op, each_range row.allows row.range, and-true (part_matches (lists_op ops.SetTable) row.op)) refl
-
--- whether the row that is found allows
-abbrev found_allows : Option (ℕ × Bool) → Bool
-found_allows None = false
-found_allows (Some found) = found.1
+    rw (asks.who, asks.role, asks.op, names_none q.act asks.op, each_range row.allows row.range, has_no_number q.act asks.op, each_end row.allows row.through, and-true (part_matches (lists_op ops.SetTable) row.op), and-true _) refl
 
 first_at : (k id : ℕ) (q : Query) (row : Row) (rows : List Row) (b : Bool) → speaks_of_setting id row ≡ b → row_matches row q ≡ b → allows (find (speaks_of_setting id) rows) ≡ found_allows (first_match_from (k + 1) rows q) → allows (find (speaks_of_setting id) (row ∷ rows)) ≡ found_allows (first_match_from k (row ∷ rows) q)
 first_at k id q row rows true speaks matches later = rw (speaks, matches) refl

@@ -3,7 +3,7 @@ use Rattle.std.specs.Prelude.{ℕ, Result, Ok, Err}
 use Rattle.pl_block.specs.declared.fault.Failed.{Failed}
 use Rattle.pl_block.specs.declared.fault.Failed.TheVariants.{Malformed}
 use Rattle.pl_table.specs.declared.fault.TableFault.{TableFault}
-use Rattle.pl_table.specs.declared.fault.TableFault.TheVariants.{NoDocument, UnknownKey, PrincipalCount, RowCount, PrincipalKeys, PrincipalId, PrincipalToken, RepeatedId, RowKeys, RowWord, RowNumber, NoOperator}
+use Rattle.pl_table.specs.declared.fault.TableFault.TheVariants.{NoDocument, UnknownKey, PrincipalCount, RowCount, PrincipalKeys, PrincipalId, PrincipalToken, RepeatedId, RowKeys, RowWord, RowNumber, NoOperator, BadZone}
 
 -- the code of a fault
 abbrev pub fault_number : TableFault → ℕ
@@ -19,6 +19,7 @@ fault_number RowKeys = 9
 fault_number RowWord = 10
 fault_number RowNumber = 11
 fault_number NoOperator = 12
+fault_number BadZone = 13
 
 -- what a reader returns that reads so, where no allocation fails
 abbrev pub returned : {X : Type 0} → Result X TableFault → Result X (Failed TableFault)

@@ -9,6 +9,15 @@ abbrev pub first_match_from : ℕ → List Row → Query → Option (ℕ × Bool
 first_match_from k [] q = None
 first_match_from k (row ∷ rows) q = if row_matches row q then Some (k, row.allows) else first_match_from (k + 1) rows q
 
+-- what is found allows: there is a row, and it does
+abbrev pub found_allows : Option (ℕ × Bool) → Bool
+found_allows None = false
+found_allows (Some found) = found.1
+
+-- the rows allow the request: the first that matches it does
+abbrev pub rows_allow : List Row → Query → Bool
+rows_allow rows q = found_allows (first_match_from 1 rows q)
+
 -- the row with this number matches the request, and allows or denies so; no row above it matches
 pub record IsFirstMatch (rows : List Row) (q : Query) (found : ℕ × Bool) : Type 0 where
   pub number : 0 < found.0

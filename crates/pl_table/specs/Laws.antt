@@ -1,5 +1,5 @@
--- What a text reads as is a table; and who may set the table, by requests and the rows that match them.
-use Rattle.std.specs.Prelude.{◌≡◌, ◌↔◌, ℕ, List, Ok, IsTrue, IsSomeAnd}
+-- What a text reads as is a table; who may set the table, by requests and the rows that match them; and what is allowed at lower LSNs.
+use Rattle.std.specs.Prelude.{◌≡◌, ◌↔◌, ◌≤◌, ℕ, true, List, Ok, IsTrue, IsSomeAnd}
 use Rattle.std.specs.List.{Any}
 use Rattle.pl_table.specs.declared.op.Role.TheVariants.{Operator}
 use Rattle.pl_table.specs.declared.op.Op.TheVariants.{SetTable}
@@ -7,7 +7,8 @@ use Rattle.pl_table.specs.declared.row.Row.{Row}
 use Rattle.pl_table.specs.declared.table.Principal.{Principal}
 use Rattle.pl_table.specs.Request.{Query, op_of}
 use Rattle.pl_table.specs.Row.{row_matches}
-use Rattle.pl_table.specs.FirstMatch.{first_match_from}
+use Rattle.pl_table.specs.Acts.{asked_at}
+use Rattle.pl_table.specs.FirstMatch.{first_match_from, rows_allow}
 use Rattle.pl_table.specs.Table.{WrittenTable, IsTable}
 use Rattle.pl_table.specs.TableText.{table_reading}
 use Rattle.pl_table.specs.Setting.{speaks_of_setting, somebody_sets}
@@ -31,3 +32,8 @@ RowsSpeakOfSetting = (id : ℕ) (q : Query) (row : Row) → AsksToSet id q
 abbrev pub SomebodyIsAllowed : Type 0
 SomebodyIsAllowed = (ps : List Principal) (rows : List Row) → IsTrue (somebody_sets ps rows)
     ↔ Any (λ p. (q : Query) → AsksToSet p.id q → IsSomeAnd (first_match_from 1 rows q) (λ found. IsTrue found.1)) ps
+
+-- rows that allow a request at an LSN allow it at each lower one
+abbrev pub LowerLsnsAreAllowed : Type 0
+LowerLsnsAreAllowed = (rows : List Row) (q : Query) (lsn lower : ℕ) → lower ≤ lsn
+    → rows_allow rows (asked_at q lsn) ≡ true → rows_allow rows (asked_at q lower) ≡ true

@@ -1,4 +1,4 @@
--- What the members of a principal and of a row read as.
+-- What the members of a principal and of a row read as, and the two numbers of a table.
 use Rattle.std.specs.Prelude.{ℕ, ◌-◌, ◌^◌, ◌==◌, Bool, true, false, ◌&&◌, nat_le, pos, List, [], ◌∷◌, length, find, filter_map, Option, Some, None, is_some, option_map, option_and_then, if◌then◌else◌, codes}
 use Rattle.std.specs.Result.{result_ok}
 use Rattle.std.specs.Str.{bytes_eq}
@@ -12,6 +12,9 @@ use Rattle.pl_table.specs.declared.op.Op.TheVariants.{Write, Offer, Report, Get,
 use Rattle.pl_table.specs.declared.range.PartitionRange.{PartitionRange}
 use Rattle.pl_table.specs.declared.row.Row.{Row}
 use Rattle.pl_table.specs.declared.table.Principal.{Principal}
+use Rattle.pl_table.specs.declared.zone.Zone.{Zone}
+use Rattle.pl_table.specs.declared.zone.Zone.TheVariants.{Three, Six}
+use Rattle.pl_block.specs.Bounds.{last_lsn}
 use Rattle.pl_table.specs.Ops.{role_name, op_name}
 use Rattle.pl_table.specs.Tree.{list_of}
 
@@ -105,13 +108,17 @@ range_from _ _ = None
 unfoldable pub range_under : Data → Option (Option PartitionRange)
 range_under row = range_from (get (codes "from") row) (get (codes "to") row)
 
+-- the LSN that a row ends at
+unfoldable pub through_under : Data → Option (Option ℕ)
+through_under row = if_there (number_up_to last_lsn) (get (codes "through") row)
+
 -- the words of a row read: its verdict, its role and its operations
 unfoldable pub has_words : Data → Bool
 has_words row = is_some (verdict_under row) && (is_some (role_under row) && is_some (ops_under row))
 
--- the numbers of a row read: its principal and its range
+-- the numbers of a row read: its principal, its range and the LSN that it ends at
 unfoldable pub has_numbers : List Principal → Data → Bool
-has_numbers ps row = is_some (who_under ps row) && is_some (range_under row)
+has_numbers ps row = is_some (who_under ps row) && (is_some (range_under row) && is_some (through_under row))
 
 -- the next part, where this one reads
 infixl 10 ◌>>=◌
@@ -125,5 +132,19 @@ row_of ps row = do
   who ← who_under ps row
   role ← role_under row
   range ← range_under row
+  through ← through_under row
   op ← ops_under row
-  Some (record { allows = allows; who = who; role = role; op = op; range = range })
+  Some (record { allows = allows; who = who; role = role; op = op; range = range; through = through })
+
+-- the zone that has so many copies, and so many of them as its quorum
+abbrev pub zone_of_numbers : ℕ → ℕ → Option Zone
+zone_of_numbers copies quorum = if copies == 3 && quorum == 2 then Some Three else if copies == 6 && quorum == 4 then Some Six else None
+
+-- the zone of a table, whose two numbers are both there or both absent: three copies where they are absent
+unfoldable pub zone_read : Option Data → Option Data → Option Zone
+zone_read None None = Some Three
+zone_read (Some copies) (Some quorum) = do
+  c ← number_up_to 6 copies
+  q ← number_up_to 4 quorum
+  zone_of_numbers c q
+zone_read _ _ = None

@@ -1,12 +1,12 @@
 -- Which requests a row matches.
-use Rattle.std.specs.Prelude.{ℕ, Bool, ◌&&◌, ◌||◌, ◌==◌, nat_le, List, length, if◌then◌else◌}
+use Rattle.std.specs.Prelude.{ℕ, Bool, true, ◌&&◌, ◌||◌, ◌==◌, nat_le, nat_lt, List, length, Option, Some, None, if◌then◌else◌}
 use Rattle.std.specs.List.{list_all, list_any}
 use Rattle.pl_table.specs.declared.range.PartitionRange.{PartitionRange}
 use Rattle.pl_table.specs.declared.row.Row.{Row}
 use Rattle.pl_table.specs.Ops.{same_role, lists_op}
 use Rattle.pl_table.specs.Absent.{part_matches}
 use Rattle.pl_table.specs.Request.{Query, op_of}
-use Rattle.pl_table.specs.Acts.{partitions_of}
+use Rattle.pl_table.specs.Acts.{number_of, partitions_of}
 
 -- the range has the partition
 abbrev pub is_within : PartitionRange → ℕ → Bool
@@ -17,9 +17,19 @@ is_within range p = nat_le range.from p && nat_le p range.to
 abbrev pub range_matches : Bool → List ℕ → PartitionRange → Bool
 range_matches allows ps range = if allows then list_all (is_within range) ps else length ps == 0 || list_any (is_within range) ps
 
--- the row matches the request
-abbrev pub row_matches : Row → Query → Bool
-row_matches row q = part_matches (λ who. who == q.head.principal) row.who
+-- A row that allows and ends at an LSN matches up to it, one that denies matches above it. A request
+-- that names no LSN is matched by both.
+abbrev pub through_matches : Bool → Option ℕ → ℕ → Bool
+through_matches allows None through = true
+through_matches allows (Some lsn) through = if allows then nat_le lsn through else nat_lt through lsn
+
+-- the row is about the request, whatever LSN that names: its principal, role, operation and range match
+abbrev pub is_about : Row → Query → Bool
+is_about row q = part_matches (λ who. who == q.head.principal) row.who
     && (part_matches (same_role q.head.role) row.role
     && (part_matches (lists_op (op_of q.act)) row.op
     && part_matches (range_matches row.allows (partitions_of q.act)) row.range))
+
+-- the row matches the request: it is about it, and matches its LSN
+abbrev pub row_matches : Row → Query → Bool
+row_matches row q = is_about row q && part_matches (through_matches row.allows (number_of q.act)) row.through

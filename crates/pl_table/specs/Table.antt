@@ -3,18 +3,22 @@ use Rattle.std.specs.Prelude.{ℕ, ◌<◌, ◌≤◌, ◌==◌, nat_eq, List, [
 use Rattle.std.specs.List.{All, Contains, IsDistinct}
 use Rattle.pl_table.specs.declared.row.Row.{Row}
 use Rattle.pl_table.specs.declared.table.Principal.{Principal}
+use Rattle.pl_table.specs.declared.zone.Zone.{Zone}
+use Rattle.pl_block.specs.Bounds.{last_lsn}
 use Rattle.pl_table.specs.Bounds.{most_principals, most_rows}
 use Rattle.pl_table.specs.Setting.{somebody_sets}
 
--- the principals, and the rows in their order
+-- the principals, the rows in their order, and the landing zone of the epochs that begin under the table
 pub record WrittenTable : Type 0 where
   pub principals : List Principal
   pub rows : List Row
+  pub zone : Zone
 
--- the principal that a row names, if it names one, is listed, and its range has a partition
+-- the principal that a row names, if it names one, is listed, its range has a partition, and it ends at an LSN
 pub record IsRowOf (ps : List Principal) (row : Row) : Type 0 where
   pub who : IfSome row.who (Contains (map (λ p. p.id) ps))
   pub range : IfSome row.range (λ range. range.from ≤ range.to)
+  pub through : IfSome row.through (λ lsn. lsn ≤ last_lsn)
 
 -- there are 1 to 64 principals, no two with one id, and at most 256 rows, which let somebody set the table
 pub record IsTable (t : WrittenTable) : Type 0 where

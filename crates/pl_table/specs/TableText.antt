@@ -1,35 +1,37 @@
 -- The table that a text writes down, or the first of its faults.
-use Rattle.std.specs.Prelude.{ℕ, ◌==◌, Bool, true, ◌&&◌, ◌||◌, not, nat_lt, List, [], ◌∷◌, length, filter_map, Option, Some, is_some, Result, Ok, Err, if◌then◌else◌, codes}
+use Rattle.std.specs.Prelude.{ℕ, ◌==◌, Bool, true, ◌&&◌, ◌||◌, not, nat_lt, List, [], ◌∷◌, length, filter_map, Option, Some, is_some, Result, Ok, Err, ok_or, if◌then◌else◌, codes}
 use Rattle.std.specs.List.{list_all, list_any}
 use Rattle.toml.specs.Data.{Data, Members, get_member}
 use Rattle.pl_table.specs.declared.row.Row.{Row}
 use Rattle.pl_table.specs.declared.table.Principal.{Principal}
+use Rattle.pl_table.specs.declared.zone.Zone.{Zone}
 use Rattle.pl_table.specs.declared.fault.TableFault.{TableFault}
-use Rattle.pl_table.specs.declared.fault.TableFault.TheVariants.{UnknownKey, PrincipalCount, RowCount, PrincipalKeys, PrincipalId, PrincipalToken, RepeatedId, RowKeys, RowWord, RowNumber, NoOperator}
+use Rattle.pl_table.specs.declared.fault.TableFault.TheVariants.{UnknownKey, PrincipalCount, RowCount, PrincipalKeys, PrincipalId, PrincipalToken, RepeatedId, RowKeys, RowWord, RowNumber, NoOperator, BadZone}
 use Rattle.pl_table.specs.Bounds.{most_principals, most_rows}
 use Rattle.pl_block.specs.Faults.{◌>>=◌}
 use Rattle.pl_table.specs.Setting.{somebody_sets}
 use Rattle.pl_table.specs.Table.{WrittenTable}
 use Rattle.pl_table.specs.Tree.{tree_of, keys_of, is_one_of, top_keys, tables_under, is_principal, is_row}
-use Rattle.pl_table.specs.Part.{id_under, token_under, principal_of, has_words, has_numbers, row_of}
+use Rattle.pl_table.specs.Part.{id_under, token_under, principal_of, has_words, has_numbers, row_of, zone_read}
 
--- the principals and the rows of a text, each still a table of the tree
+-- the principals and the rows of a text, each still a table of the tree, and the zone, if its numbers read
 pub record Listed : Type 0 where
   pub principals : List Data
   pub rows : List Data
+  pub zone : Option Zone
 
--- the two lists
-abbrev pub listed_of : List Data → List Data → Listed
-listed_of ps rows = record { principals = ps; rows = rows }
+-- the two lists and the zone
+abbrev pub listed_of : List Data → List Data → Option Zone → Listed
+listed_of ps rows zone = record { principals = ps; rows = rows; zone = zone }
 
--- both lists, where each is an array of tables
-abbrev pub both_lists : Option (List Data) → Option (List Data) → Result Listed TableFault
-both_lists (Some ps) (Some rows) = Ok (listed_of ps rows)
-both_lists _ _ = Err UnknownKey
+-- both lists, where each is an array of tables, and the zone
+abbrev pub both_lists : Option (List Data) → Option (List Data) → Option Zone → Result Listed TableFault
+both_lists (Some ps) (Some rows) zone = Ok (listed_of ps rows zone)
+both_lists _ _ _ = Err UnknownKey
 
--- the two lists of a tree that has no other key
+-- the two lists and the zone of a tree that has no other key
 unfoldable pub listed_in_tree : Members → Result Listed TableFault
-listed_in_tree tree = if list_all (is_one_of top_keys) (keys_of tree) then both_lists (tables_under (get_member (codes "principal") tree)) (tables_under (get_member (codes "row") tree)) else Err UnknownKey
+listed_in_tree tree = if list_all (is_one_of top_keys) (keys_of tree) then both_lists (tables_under (get_member (codes "principal") tree)) (tables_under (get_member (codes "row") tree)) (zone_read (get_member (codes "copies") tree) (get_member (codes "quorum") tree)) else Err UnknownKey
 
 -- there are 1 to 64 principals, and at most 256 rows
 unfoldable pub counts_of : ℕ → ℕ → Result (Unit {0}) TableFault
@@ -57,13 +59,19 @@ rows_of ps rows =
     else if not (list_all (has_numbers ps) rows) then Err RowNumber
     else Ok (filter_map (row_of ps) rows)
 
--- the table of its two lists
+-- somebody may set the table
+abbrev pub setter_of : List Principal → List Row → Result (Unit {0}) TableFault
+setter_of ps rows = if somebody_sets ps rows then Ok tt else Err NoOperator
+
+-- the table of its two lists and its zone
 unfoldable pub table_of : Listed → Result WrittenTable TableFault
 table_of listed = do
   counts ← counts_of (length listed.principals) (length listed.rows)
   principals ← principals_of listed.principals
   rows ← rows_of principals listed.rows
-  if somebody_sets principals rows then Ok (record { principals = principals; rows = rows }) else Err NoOperator
+  setter ← setter_of principals rows
+  zone ← ok_or listed.zone BadZone
+  Ok (record { principals = principals; rows = rows; zone = zone })
 
 -- the table of a text
 unfoldable pub table_reading : List ℕ → Result WrittenTable TableFault

@@ -47,7 +47,7 @@ tables_under (Some d) = tables_in d
 
 -- the keys of the whole text
 unfoldable pub top_keys : List (List ℕ)
-top_keys = codes "principal" ∷ codes "row" ∷ []
+top_keys = codes "principal" ∷ codes "row" ∷ codes "copies" ∷ codes "quorum" ∷ []
 
 -- the keys of a principal
 unfoldable pub principal_keys : List (List ℕ)
@@ -55,7 +55,7 @@ principal_keys = codes "id" ∷ codes "token" ∷ []
 
 -- the keys of a row
 unfoldable pub row_keys : List (List ℕ)
-row_keys = codes "verdict" ∷ codes "who" ∷ codes "role" ∷ codes "op" ∷ codes "from" ∷ codes "to" ∷ []
+row_keys = codes "verdict" ∷ codes "who" ∷ codes "role" ∷ codes "op" ∷ codes "from" ∷ codes "to" ∷ codes "through" ∷ []
 
 -- a principal has its id and its token, and no other key
 unfoldable pub is_principal : Data → Bool

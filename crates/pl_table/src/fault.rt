@@ -12,7 +12,8 @@ use pl_block::Failed;
 pub enum TableFault {
     /// The text is not UTF-8, or not a TOML document.
     NoDocument = 1,
-    /// There is a key besides `principal` and `row`, or one of these is not an array of tables.
+    /// There is a key besides `principal`, `row`, `copies` and `quorum`, or one of the first two is not
+    /// an array of tables.
     UnknownKey = 2,
     /// There is no principal, or there are more than 64.
     PrincipalCount = 3,
@@ -31,18 +32,20 @@ pub enum TableFault {
     /// A verdict, a role or an operation is none of the known words, or a row lists no operation.
     RowWord = 10,
     /// The principal of a row is not listed, its `from` or `to` is not an integer from 0 to 65,535,
-    /// or its `from` is above its `to`.
+    /// its `from` is above its `to`, or its `through` is not an integer from 0 to 2^48.
     RowNumber = 11,
     /// Nobody could put another table in force: for no principal does the first row that matches its
     /// set_table as operator allow it.
     NoOperator = 12,
+    /// There is only one of `copies` and `quorum`, or they are neither the integers 3 and 2 nor 6 and 4.
+    BadZone = 13,
 }
 
 impl TableFault {
-    /// The code of the fault, 1 to 12.
+    /// The code of the fault, 1 to 13.
     pub fn code(self) -> u8
         ensures value { result ≡ fault_number self }
-        ensures fits { (1 ≤ result) × (result ≤ 12) }
+        ensures fits { (1 ≤ result) × (result ≤ 13) }
     {
         self as u8
     }

@@ -1,13 +1,15 @@
 //! The index of a table: which rows can match, by the principal that asks and by the operation.
 
-ghost use Rattle.std.specs.Prelude.{◌≡◌, ◌≤◌, IfOk, IfSome, List, Some, filter, length, map, slice_get, All};
+ghost use Rattle.std.specs.Prelude.{◌≡◌, ◌≤◌, ℕ, IfOk, IfSome, IsSome, List, Some, filter, length, map, nat_le, slice_get, true, All};
 ghost use Rattle.pl_table.specs.Index.{askers, asker_of, can_be, can_match, lists_of, places_by_op, places_from, IsIndexOf};
 ghost use Rattle.std.specs.List.{Contains, filter_map};
 ghost use Rattle.std.specs.List.Sorted.{IsStrictlyIncreasing};
 ghost use Rattle.pl_table.specs.Bounds.{most_rows};
-ghost use Rattle.pl_table.specs.FirstMatch.{first_match_from};
+ghost use Rattle.pl_table.specs.Acts.{asked_at, number_of};
+ghost use Rattle.pl_table.specs.FirstMatch.{first_match_from, rows_allow};
 
 use crate::op::Op;
+use crate::reach::listed_reach;
 use crate::request::Request;
 use crate::row::Row;
 use std::alloc::{AllocError, Global};
@@ -48,6 +50,18 @@ impl RowIndex {
         ensures value { result ≡ first_match_from 1 rows.now request.now }
     {
         first_listed(self.listed(request), rows, request)
+    }
+
+    // How far the rows allow a request that they allow: the greatest LSN up to `most` at which they do.
+    pub(crate) fn reach_in(&self, rows: &[Row], request: &Request, most: u64) -> u64
+        requires index { IsIndexOf rows.now self.now }
+        requires allowed { rows_allow rows.now request.now ≡ true }
+        requires number { IsSome (number_of request.now.act) }
+        ensures within { result ≤ most }
+        ensures exact { (lsn : ℕ) → lsn ≤ most →
+            rows_allow rows.now (asked_at request.now lsn) ≡ nat_le lsn result }
+    {
+        listed_reach(self.listed(request), rows, request, most)
     }
 
     // How many rows can match.

@@ -1,7 +1,7 @@
 //! Laws: theorems about the definitions, for the crates above. Each is a function whose body is empty
 //! and whose clauses hold for all texts, requests and rows.
 
-ghost use Rattle.pl_table.specs.Laws.{RowsSpeakOfSetting, SomebodyIsAllowed, TextsReadAsTables};
+ghost use Rattle.pl_table.specs.Laws.{LowerLsnsAreAllowed, RowsSpeakOfSetting, SomebodyIsAllowed, TextsReadAsTables};
 
 /// A table has no fault 12 exactly where some listed principal is allowed to set the table: the first
 /// row that matches its set_table as operator allows it.
@@ -13,4 +13,9 @@ pub fn setting_is_a_first_match()
 /// What a text reads as keeps every rule of a table.
 pub fn texts_read_as_tables()
     ensures table { TextsReadAsTables }
+{}
+
+/// Where the rows allow a request at an LSN, they allow it at each lower one.
+pub fn lower_lsns_are_allowed()
+    ensures lower { LowerLsnsAreAllowed }
 {}

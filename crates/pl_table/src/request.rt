@@ -2,6 +2,7 @@
 
 ghost use Rattle.std.specs.Prelude.{◌≡◌, ◌↔◌, IsSome, IfSome};
 ghost use Rattle.pl_table.specs.Request.{InRange, IsHead, IsRequest, is_in_range, op_of};
+ghost use Rattle.pl_table.specs.Acts.{number_of};
 
 use crate::head::Head;
 use crate::known::{act_fits, head_fits};
@@ -25,7 +26,7 @@ pub const LONGEST_TEXT: usize = 65_506;
 /// An operation with its arguments. It has no debug text, since a text of a table has tokens.
 #[derive(Drop)]
 pub enum Act {
-    /// Write the block to the copy. A database has the copies 0 to 2.
+    /// Write the block to the copy. A landing zone has the copies 0 to 2, or 0 to 5, as the table says.
     Write {
         copy: u8,
         block: Block,
@@ -95,6 +96,23 @@ impl Act {
             Act::SetTable { .. } => Op::SetTable,
             Act::Audit { .. } => Op::Audit,
             Act::Tidy => Op::Tidy,
+        }
+    }
+
+    /// The LSN that the act names: that of its block, the one hardened up to, the one read at, or the first
+    /// one pulled. `None` where it names none.
+    pub fn lsn(&self) -> Option<u64>
+        ensures value { result ≡ number_of self.now }
+    {
+        match self {
+            Act::Write { block, .. } | Act::Offer { block } => Some(block.lsn()),
+            Act::Report { lsn } | Act::Get { lsn, .. } | Act::Pull { lsn, .. } => Some(*lsn),
+            Act::Advance { .. }
+            | Act::Status
+            | Act::Failover { .. }
+            | Act::SetTable { .. }
+            | Act::Audit { .. }
+            | Act::Tidy => None,
         }
     }
 

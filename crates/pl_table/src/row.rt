@@ -6,7 +6,7 @@ ghost use Rattle.pl_table.specs.Request.{InRange};
 ghost use Rattle.pl_table.specs.Acts.{partitions_of};
 ghost use Rattle.pl_table.specs.Absent.{part_matches};
 ghost use Rattle.pl_table.specs.Index.{is_asker, can_be, can_match};
-ghost use Rattle.pl_table.specs.Row.{range_matches, row_matches};
+ghost use Rattle.pl_table.specs.Row.{is_about, range_matches, row_matches, through_matches};
 ghost use Rattle.pl_table.specs.Ops.{same_role, lists_op};
 
 use crate::op::{Op, Role};
@@ -85,6 +85,10 @@ pub struct Row {
     /// that the request names; a row that denies, if it has at least one of them. A request that
     /// names no partition is matched by every range.
     pub range: Option<PartitionRange>,
+    /// The LSN that the row ends at, at most 2^48. A row that allows matches a request only if the
+    /// request's LSN is at most this one; a row that denies, only if it is above. A request that names
+    /// no LSN is not tested by it.
+    pub through: Option<u64>,
 }
 
 impl Row {
@@ -97,6 +101,7 @@ impl Row {
             && matches_role(self.role, head.role)
             && matches_op(&self.op, request.act().op())
             && matches_range(self.allows, self.range, request.act())
+            && matches_through(self.allows, self.through, request.act().lsn())
     }
 
     // An equal row, in memory of its own.
@@ -113,6 +118,7 @@ impl Row {
             role: self.role,
             op,
             range: self.range,
+            through: self.through,
         })
     }
 
@@ -120,6 +126,15 @@ impl Row {
     pub(crate) fn matches_listed(&self, request: &Request) -> bool
         requires listed { IsTrue (can_match request.now self.now) }
         ensures value { result ≡ row_matches self.now request.now }
+    {
+        self.is_about(request) && matches_through(self.allows, self.through, request.act().lsn())
+    }
+
+    // Whether the row is about the request, whatever LSN that names, where it can match by its
+    // principal and its operations.
+    pub(crate) fn is_about(&self, request: &Request) -> bool
+        requires listed { IsTrue (can_match request.now self.now) }
+        ensures value { result ≡ is_about self.now request.now }
     {
         matches_role(self.role, request.head().role)
             && matches_range(self.allows, self.range, request.act())
@@ -186,6 +201,15 @@ fn has_op_of(ops: &[Op], op: Op) -> bool
     ensures value { result ≡ lists_op op ops.now }
 {
     ops.iter().any(|listed| listed.number() == op.number())
+}
+
+fn matches_through(allows: bool, part: Option<u64>, lsn: Option<u64>) -> bool
+    ensures value { result ≡ part_matches (through_matches allows lsn) part }
+{
+    match (part, lsn) {
+        (Some(through), Some(lsn)) => (lsn <= through) == allows,
+        _ => true,
+    }
 }
 
 fn matches_range(allows: bool, part: Option<PartitionRange>, act: &Act) -> bool

@@ -1,14 +1,19 @@
 //! The written table.
 
-ghost use Rattle.std.specs.Prelude.{◌≡◌, ◌↔◌, All, Contains, IfNone, IfOk, IfSome, IsSome, false, filter, length, map};
-ghost use Rattle.pl_table.specs.FirstMatch.{IsFirstMatch, first_match_from};
+ghost use Rattle.std.specs.Prelude.{◌≡◌, ◌↔◌, ◌≤◌, ℕ, All, Contains, IfNone, IfOk, IfSome, IsSome, false, filter, length, map, nat_le, true};
+ghost use Rattle.pl_table.specs.Acts.{asked_at, number_of};
+ghost use Rattle.pl_table.specs.FirstMatch.{IsFirstMatch, first_match_from, rows_allow};
 ghost use Rattle.pl_table.specs.Index.{can_match};
+ghost use Rattle.pl_table.specs.Reach.{any_ends, AreAlike, IsAtOne};
 ghost use Rattle.pl_table.specs.Row.{row_matches};
 ghost use Rattle.pl_table.specs.Table.{IsTable, token_of};
+ghost use Rattle.pl_table.specs.Zone.{copies_in, quorum_in};
 
 use crate::index::RowIndex;
+use crate::reach::{LsnRange, lsns_between_ends};
 use crate::request::Request;
 use crate::row::Row;
+use crate::zone::Zone;
 use std::alloc::{AllocError, Global};
 use std::fmt;
 use std::marker::Model;
@@ -37,12 +42,16 @@ impl fmt::Debug for Principal {
 }
 
 /// The written table: 1 to 64 principals with distinct ids, and at most 256 rows in their order. A row
-/// names only a listed principal, its range has a partition, and somebody may set the table: for some
-/// principal the first row that matches its set_table as operator allows it.
+/// names only a listed principal, its range has a partition, it ends at an LSN if at all, and somebody
+/// may set the table: for some principal the first row that matches its set_table as operator allows
+/// it. And the landing zone that it asks for, of three copies or six.
 #[derive(Drop)]
 pub struct Table {
     principals: Vec<Principal>,
     rows: Vec<Row>,
+    zone: Zone,
+    // Whether some row ends at an LSN.
+    has_ends: bool,
     // Which rows can match, by principal and by operation.
     index: RowIndex,
 }
@@ -52,34 +61,45 @@ impl fmt::Debug for Table {
         f.debug_struct("Table")
             .field("principals", &self.principals)
             .field("rows", &self.rows)
+            .field("zone", &self.zone)
             .finish()
     }
 }
 
 impl Model for Table {
     ghost use Rattle.pl_table.specs.Table.{WrittenTable, IsTable};
+    ghost use Rattle.std.specs.Prelude.{◌≡◌};
     ghost use Rattle.pl_table.specs.Index.{IsIndexOf};
+    ghost use Rattle.pl_table.specs.Reach.{any_ends};
 
     ghost Value = { WrittenTable };
 
-    ghost view = { λ t. record { principals = t.principals.items; rows = t.rows.items } };
+    ghost view = { λ t. record { principals = t.principals.items; rows = t.rows.items; zone = t.zone } };
 
     ghost invariant = { λ t.
-        IsTable (record { principals = t.principals.items; rows = t.rows.items })
-        × IsIndexOf t.rows.items t.index };
+        IsTable (record { principals = t.principals.items; rows = t.rows.items; zone = t.zone })
+        × IsIndexOf t.rows.items t.index
+        × (t.has_ends ≡ any_ends t.rows.items) };
 }
 
 impl Table {
-    // The table of these principals and rows, with its index.
-    pub(crate) fn of_parts(principals: Vec<Principal>, rows: Vec<Row>) -> Result<Table, AllocError>
-        requires { IsTable (record { principals = principals.items; rows = rows.items }) }
+    // The table of these principals, rows and zone, with its index.
+    pub(crate) fn of_parts(
+        principals: Vec<Principal>,
+        rows: Vec<Row>,
+        zone: Zone,
+    ) -> Result<Table, AllocError>
+        requires { IsTable (record { principals = principals.items; rows = rows.items; zone = zone }) }
         ensures ok { IfOk result
-            (λ t. t ≡ record { principals = principals.items; rows = rows.items }) }
+            (λ t. t ≡ record { principals = principals.items; rows = rows.items; zone = zone }) }
     {
         let index = RowIndex::of_rows(*rows.allocator(), &rows)?;
+        let has_ends = any_ends(&rows);
         Ok(Table {
             principals,
             rows,
+            zone,
+            has_ends,
             index,
         })
     }
@@ -100,6 +120,22 @@ impl Table {
         &self.rows
     }
 
+    /// How many copies the landing zone has in the epochs that begin under this table, 3 or 6.
+    pub fn copies(&self) -> u8
+        ensures value { result ≡ copies_in self.now.zone }
+        ensures fits { (1 ≤ result) × (result ≤ 6) }
+    {
+        self.zone.copies()
+    }
+
+    /// How many of these copies harden an LSN, 2 or 4.
+    pub fn quorum(&self) -> u8
+        ensures value { result ≡ quorum_in self.now.zone }
+        ensures fits { (1 ≤ result) × (result ≤ copies_in self.now.zone) }
+    {
+        self.zone.quorum()
+    }
+
     /// An equal table, in memory of its own. `Err` where an allocation failed.
     pub fn clone_table(&self) -> Result<Table, AllocError>
         ensures ok { IfOk result (λ t. t ≡ self.now) }
@@ -107,7 +143,7 @@ impl Table {
         let alloc = *self.rows.allocator();
         let principals = copy_of_principals(alloc, &self.principals)?;
         let rows = copy_of_rows(alloc, &self.rows)?;
-        Table::of_parts(principals, rows)
+        Table::of_parts(principals, rows, self.zone)
     }
 
     /// The first row that matches the request: its number, from 1, and whether it allows. `None`
@@ -121,6 +157,35 @@ impl Table {
         ensures valid { IsTable self.now }
     {
         self.index.first_in(&self.rows, request)
+    }
+
+    /// How far the rows allow a request that they allow: the greatest LSN up to `most` at which they
+    /// do. They allow it at each lower LSN too. Where no row ends, and where the request names no LSN,
+    /// that is `most`. [`Table::first_match`] tells whether they allow it. Nothing is allocated.
+    pub fn reach(&self, request: &Request, most: u64) -> u64
+        requires allowed { rows_allow self.now.rows request.now ≡ true }
+        ensures within { result ≤ most }
+        ensures exact { (lsn : ℕ) → lsn ≤ most →
+            rows_allow self.now.rows (asked_at request.now lsn) ≡ nat_le lsn result }
+    {
+        if !self.has_ends {
+            return most;
+        }
+        match request.act().lsn() {
+            Some(_) => self.index.reach_in(&self.rows, request, most),
+            None => most,
+        }
+    }
+
+    /// A range of LSNs around that of the request, at each of which [`Table::first_match`] finds for it
+    /// what it finds at its own: no row ends between two of them. `None` where the request names no
+    /// LSN.
+    pub fn lsns_alike(&self, request: &Request) -> Option<LsnRange>
+        ensures own { IsAtOne result (number_of request.now.act) }
+        ensures alike { IfSome result (AreAlike self.now.rows request.now) }
+    {
+        let lsn = request.act().lsn()?;
+        Some(lsns_between_ends(&self.rows, lsn))
     }
 
     /// How many rows can match the request: those that name nobody or its principal, and list no operation
@@ -157,6 +222,12 @@ fn copy_of_rows(alloc: Global, rows: &[Row]) -> Result<Vec<Row>, AllocError>
         copy.push(row.clone_row()?)?;
     }
     Ok(copy)
+}
+
+fn any_ends(rows: &[Row]) -> bool
+    ensures value { result ≡ any_ends rows.now }
+{
+    rows.iter().any(|row| row.through.is_some())
 }
 
 fn token_in(principals: &[Principal], id: u32) -> Option<[u8; 16]>

@@ -13,6 +13,10 @@ use Rattle.pl_wire.specs.Spelling.{request_spelling}
 abbrev pub reply_frame : Reply → List ℕ
 reply_frame reply = frame (reply_spelling reply)
 
+-- the most bytes of the frame of a reply
+abbrev pub largest_reply_frame : ℕ
+largest_reply_frame = 524367
+
 -- the frame of a request
 abbrev pub request_frame : Query → List ℕ
 request_frame request = frame (request_spelling request)

@@ -4,7 +4,7 @@ ghost use Rattle.std.specs.Prelude.{◌≡◌, ◌+◌, ◌<◌, ◌≤◌, ◌^
 ghost use Rattle.std.specs.Io.KnownBytes.{Appends};
 ghost use Rattle.pl_block.specs.Spare.{UsesSpare};
 ghost use Rattle.pl_core.specs.Reply.{FitsReply};
-ghost use Rattle.pl_wire.specs.FrameWriting.{WritesText, reply_frame, request_frame};
+ghost use Rattle.pl_wire.specs.FrameWriting.{WritesText, largest_reply_frame, reply_frame, request_frame};
 ghost use Rattle.pl_wire.specs.Replies.{reply_spelling};
 
 use crate::reply_writing::{put_body, reply_len};
@@ -23,6 +23,9 @@ pub enum WriteFault {
     /// There is no memory for the frame: nothing is written.
     NoMemory,
 }
+
+/// The most bytes of the frame of a reply: of one with 16 blocks of 32,768 bytes.
+pub const LARGEST_REPLY_FRAME: usize = 524_367;
 
 /// The bytes of a length.
 const LENGTH_BYTES: usize = 4;
@@ -63,11 +66,14 @@ fn put_frame(out: &mut Vec<u8>, len: usize, reply: &Reply) -> Result<(), AllocEr
 /// a block or of a page is copied once.
 ///
 /// [`Reply::fits`] tests the condition. The only error is a failed allocation: then `out` has what it
-/// had.
+/// had. Where `out` has room for [`LARGEST_REPLY_FRAME`] bytes more, there is no allocation.
 pub fn put_reply(out: &mut Vec<u8>, reply: &Reply) -> Result<(), AllocError>
     requires { FitsReply reply.now }
     ensures ok { OnOk result (out.new.items ≡ out.old.items ++ reply_frame reply.now) }
     ensures err { OnErr result (out.new.items ≡ out.old.items) }
+    // It takes no more of the room than the frame, and fails only where the room is less.
+    ensures room { UsesSpare result out.old out.new (length (reply_frame reply.now)) }
+    ensures fits { length (reply_frame reply.now) ≤ largest_reply_frame }
 {
     let len = reply_len(reply);
     out.reserve(LENGTH_BYTES + len)?;

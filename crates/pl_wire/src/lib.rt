@@ -24,7 +24,9 @@ pub use frame_reading::{
     FrameFault, LONGEST_REPLY, LONGEST_REQUEST, ReplyFault, read_body, read_frame, read_head,
     read_reply,
 };
-pub use frame_writing::{WriteFault, put_reply, write_bytes, write_reply, write_request};
+pub use frame_writing::{
+    LARGEST_REPLY_FRAME, WriteFault, put_reply, write_bytes, write_reply, write_request,
+};
 pub use kind::ReplyKind;
 pub use reply_reading::decode_reply;
 pub use reply_writing::encode_reply;

@@ -101,3 +101,43 @@ annulled 1 31                       = none
 fn failover_over_thirty_contents(rt: HostRuntime) -> Result<(), Fail> {
     plays::<Database>(rt.alloc(), FAILOVER_OVER_THIRTY_CONTENTS)
 }
+
+// The table of six copies is in force at once, and its copies from the next failover on.
+const SIX_COPIES_AFTER_FAILOVER: &str = "\
+open start 2 65536                   = Ok
+1 11 operator 1 set_table six_copies = Done
+2 22 primary 1 write 1:01 3          = Denied C5 0
+2 22 primary 1 fill 1 2 0            = Done
+2 22 primary 1 fill 1 2 1            = Done
+1 11 operator 1 failover 2           = Done
+2 22 primary 2 status                = Status 2 2 2 0 2
+2 22 primary 2 write 3:03 0          = Done
+2 22 primary 2 write 3:03 1          = Done
+2 22 primary 2 write 3:03 5          = Done
+2 22 primary 2 report 3              = Denied C6 2
+2 22 primary 2 write 3:03 3          = Done
+2 22 primary 2 report 3              = Done
+2 22 primary 2 write 4:04 6          = Denied C5 0
+2 22 primary 2 write 4:04 0          = Done
+2 22 primary 2 write 4:04 1          = Done
+2 22 primary 2 write 4:04 2          = Done
+1 11 operator 2 failover 2           = Done
+2 22 primary 3 status                = Status 3 2 3 0 3
+";
+
+#[test]
+fn six_copies_after_failover(rt: HostRuntime) -> Result<(), Fail> {
+    plays::<Database>(rt.alloc(), SIX_COPIES_AFTER_FAILOVER)
+}
+
+const COPIES_OF_START_TABLE: &str = "\
+open six_copies 2 65536         = Ok
+2 22 primary 1 write 1:01 5     = Done
+1 11 operator 1 set_table start = Done
+2 22 primary 1 write 1:01 4     = Done
+";
+
+#[test]
+fn copies_of_start_table(rt: HostRuntime) -> Result<(), Fail> {
+    plays::<Database>(rt.alloc(), COPIES_OF_START_TABLE)
+}

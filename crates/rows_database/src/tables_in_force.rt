@@ -106,3 +106,39 @@ open start 2 65536                      = Ok
 fn partitions_of_a_new_table(rt: HostRuntime) -> Result<(), Fail> {
     plays::<Database>(rt.alloc(), PARTITIONS_OF_A_NEW_TABLE)
 }
+
+const ROWS_END_AT_A_NUMBER: &str = "\
+open start 2 65536                    = Ok
+2 22 primary 1 fill 1 5 0             = Done
+2 22 primary 1 fill 1 5 1             = Done
+2 22 primary 1 report 5               = Done
+4 44 page_server 1 advance 0 16       = Done
+1 11 operator 1 set_table ends_at_two = Done
+3 33 secondary 1 pull 0 65535 1 16    = Blocks 3 1:01 2:02
+3 33 secondary 1 pull 0 65535 3 16    = Denied B0 0
+3 33 secondary 1 pull 0 65535 6 16    = Denied B0 0
+3 33 secondary 1 get 0 1              = Page 1 01+0
+3 33 secondary 1 get 0 3              = Denied B0 0
+2 22 primary 1 get 0 1                = Page 5 05+0
+";
+
+#[test]
+fn rows_end_at_a_number(rt: HostRuntime) -> Result<(), Fail> {
+    plays::<Database>(rt.alloc(), ROWS_END_AT_A_NUMBER)
+}
+
+const DENY_ABOVE_A_NUMBER: &str = "\
+open start 2 65536                           = Ok
+2 22 primary 1 fill 1 5 0                    = Done
+2 22 primary 1 fill 1 5 1                    = Done
+2 22 primary 1 report 5                      = Done
+4 44 page_server 1 advance 0 16              = Done
+1 11 operator 1 set_table denies_above_three = Done
+3 33 secondary 1 pull 0 65535 1 16           = Blocks 4 1:01 2:02 3:03
+3 33 secondary 1 pull 0 65535 4 16           = Denied B3 0
+";
+
+#[test]
+fn deny_above_a_number(rt: HostRuntime) -> Result<(), Fail> {
+    plays::<Database>(rt.alloc(), DENY_ABOVE_A_NUMBER)
+}

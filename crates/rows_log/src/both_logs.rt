@@ -4,7 +4,7 @@
 ghost use Rattle.std.specs.Prelude.{◌<◌, ◌≤◌};
 ghost use Rattle.pl_log.specs.Change.{ArePast};
 
-use crate::plain::PlainLog;
+use crate::plain::{PlainLog, Zone};
 use crate::stores::{Row, Size, Stop, block, meets_refusal, plays, wants};
 use pl_block::Block;
 use pl_log::DbLog;
@@ -12,6 +12,26 @@ use pl_log::laws::failovers_harden_the_longest_run;
 use rand_core::utils::NextWord;
 use rand_pcg::Pcg32;
 use std::alloc::Global;
+
+/// The zones that failovers make.
+const ZONES: [Zone; 4] = [
+    Zone {
+        copies: 3,
+        quorum: 2,
+    },
+    Zone {
+        copies: 6,
+        quorum: 4,
+    },
+    Zone {
+        copies: 5,
+        quorum: 3,
+    },
+    Zone {
+        copies: 1,
+        quorum: 1,
+    },
+];
 
 /// The numbers that steps are drawn from.
 #[derive(Drop)]
@@ -37,6 +57,10 @@ impl Draws {
     fn lsn_near(&mut self, hard: u64) -> u64 {
         let first = hard.saturating_sub(1).max(1);
         first.saturating_add(u64::from(self.below(70)))
+    }
+
+    fn zone(&mut self) -> Zone {
+        ZONES[usize::from(self.below(4))]
     }
 
     // A hardened LSN, or the one behind them.
@@ -92,7 +116,7 @@ struct Both {
 }
 
 fn new_log(alloc: Global, refused: &mut bool) -> Result<Both, Stop> {
-    let plain = PlainLog::new(alloc);
+    let plain = PlainLog::new(alloc, ZONES[0]);
     let epoch = 1;
     if let Ok(log) = DbLog::new(alloc, 3, 2) {
         return Ok(Both {
@@ -132,6 +156,8 @@ impl Both {
     // What is read of the logs in short is the same.
     fn compare(&self) -> Result<(), Stop> {
         wants(self.log.hard() == self.plain.hard(), "hard")?;
+        let copies = self.log.copies() == self.plain.zone().copies;
+        wants(copies, "copies")?;
         wants(self.log.counts() == self.plain.counts(), "counts")
     }
 
@@ -196,28 +222,32 @@ impl Both {
     }
 
     // Ends the epoch of the log.
-    fn end_epoch(&mut self) -> Result<u64, Stop> {
+    fn end_epoch(&mut self, zone: Zone) -> Result<u64, Stop> {
         failovers_harden_the_longest_run();
+        let Zone { copies, quorum } = zone;
+        if quorum < 1 || copies < quorum || 6 < copies {
+            return Err(Stop::Wrong("no such zone"));
+        }
         if 1_000 <= self.epoch {
             return Err(Stop::Wrong("too many epochs"));
         }
-        let run = self.log.recover(self.epoch)?;
+        let run = self.log.recover(self.epoch, copies, quorum)?;
         self.epoch += 1;
         Ok(run)
     }
 
-    // Ends the epoch of both.
-    fn recover(&mut self, refused: &mut bool) -> Result<(), Stop> {
+    // Ends the epoch of both, and begins the next with the zone.
+    fn recover(&mut self, zone: Zone, refused: &mut bool) -> Result<(), Stop> {
         let epoch = self.epoch;
-        let run = match self.end_epoch() {
+        let run = match self.end_epoch(zone) {
             Ok(run) => run,
             Err(Stop::NoMemory) => {
                 self.meets_refusal(refused)?;
-                self.end_epoch()?
+                self.end_epoch(zone)?
             }
             Err(stop) => return Err(stop),
         };
-        let plain = self.plain.recover(epoch)?;
+        let plain = self.plain.recover(epoch, zone)?;
         wants(run == plain, "the length of the run")
     }
 
@@ -275,14 +305,22 @@ impl Both {
         wants(same_block(found, plain), "an annulled block")
     }
 
-    // Writes the next LSNs to two copies, where that may be, and hardens them.
+    // Writes the next LSN to the last copies that are a quorum, where that may be.
+    fn land(&mut self, lsn: u64) -> Result<(), Stop> {
+        let Zone { copies, quorum } = self.plain.zone();
+        let next = block(self.alloc, lsn, Size::Short)?;
+        for copy in copies.saturating_sub(quorum)..copies {
+            self.write(copy, next.share()?)?;
+        }
+        Ok(())
+    }
+
+    // Writes the next LSNs to a quorum of copies, where that may be, and hardens them.
     fn harden(&mut self, count: u16, refused: &mut bool) -> Result<(), Stop> {
         let hard = self.log.hard();
         let last = hard.saturating_add(u64::from(count));
         for lsn in hard..last {
-            let next = block(self.alloc, lsn.saturating_add(1), Size::Short)?;
-            self.write(0, next.share()?)?;
-            self.write(2, next)?;
+            self.land(lsn.saturating_add(1))?;
         }
         self.report(last, refused)
     }
@@ -307,7 +345,8 @@ impl Both {
     fn write_drawn(&mut self, draws: &mut Draws) -> Result<(), Stop> {
         let lsn = draws.lsn_near(self.log.hard());
         let size = draws.size();
-        self.write(draws.below(3) as u8, block(self.alloc, lsn, size)?)
+        let copy = draws.below(u16::from(self.log.copies())) as u8;
+        self.write(copy, block(self.alloc, lsn, size)?)
     }
 
     fn offer_drawn(&mut self, draws: &mut Draws, refused: &mut bool) -> Result<(), Stop> {
@@ -319,7 +358,7 @@ impl Both {
     fn end_or_tidy(&mut self, draws: &mut Draws, refused: &mut bool) -> Result<(), Stop> {
         match draws.below(4) {
             0 => self.tidy(refused),
-            _ => self.recover(refused),
+            _ => self.recover(draws.zone(), refused),
         }
     }
 

@@ -4,6 +4,7 @@ ghost use Rattle.std.specs.Prelude.{◌≤◌, IfOk, IsTrue};
 ghost use Rattle.pl_log.specs.Change.{ArePast};
 ghost use Rattle.pl_log.specs.Window.{in_window, window_open_to};
 
+use crate::plain::Zone;
 use pl_block::Block;
 use pl_log::DbLog;
 use pl_log::laws::failovers_harden_the_longest_run;
@@ -16,6 +17,8 @@ use transcripts::transcript::{Stop, Subject};
 #[derive(Drop)]
 struct Driven {
     epoch: u32,
+    /// Of this epoch.
+    zone: Zone,
     log: DbLog,
     ghost past: { ArePast epoch log.annulled },
 }
@@ -27,12 +30,21 @@ pub(crate) struct Log {
     driven: Option<Driven>,
 }
 
-fn open(alloc: Global, copies: u8, quorum: u8) -> Result<Driven, Stop> {
-    if quorum < 1 || copies < quorum || 3 < copies {
+fn zone(copies: &str, quorum: &str) -> Result<Zone, Stop> {
+    Ok(Zone {
+        copies: copies.parse()?,
+        quorum: quorum.parse()?,
+    })
+}
+
+fn open(alloc: Global, zone: Zone) -> Result<Driven, Stop> {
+    let Zone { copies, quorum } = zone;
+    if quorum < 1 || copies < quorum || 6 < copies {
         return Err(Stop::Unread);
     }
     Ok(Driven {
         epoch: 1,
+        zone,
         log: DbLog::new(alloc, copies, quorum)?,
     })
 }
@@ -90,11 +102,23 @@ impl Driven {
         Ok(self.log.report(lsn)?)
     }
 
+    // Writes a block, whose byte is its number, to a copy.
+    fn land(&mut self, alloc: Global, lsn: u64, copy: u8) -> Result<(), Stop> {
+        let word = format!(in alloc; "{lsn}:{:02x}", lsn % 256)?;
+        self.write(alloc, word.as_str(), copy)
+    }
+
+    fn land_each(&mut self, alloc: Global, first: u64, last: u64, copy: u8) -> Result<(), Stop> {
+        for lsn in first..=last {
+            self.land(alloc, lsn, copy)?;
+        }
+        Ok(())
+    }
+
     // Writes a block, whose byte is its number, to two copies, and reports it.
     fn harden(&mut self, alloc: Global, lsn: u64, refused: &mut bool) -> Result<(), Stop> {
-        let word = format!(in alloc; "{lsn}:{:02x}", lsn % 256)?;
-        self.write(alloc, word.as_str(), 0)?;
-        self.write(alloc, word.as_str(), 1)?;
+        self.land(alloc, lsn, 0)?;
+        self.land(alloc, lsn, 1)?;
         self.report(lsn, refused)
     }
 
@@ -121,20 +145,22 @@ impl Driven {
         Ok(self.log.tidy()?)
     }
 
-    // Ends the epoch, and tells how many numbers were hardened.
-    fn recover(&mut self, refused: &mut bool) -> Result<u64, Stop> {
+    // Ends the epoch, begins the next with the zone, and tells how many numbers were hardened.
+    fn recover(&mut self, zone: Zone, refused: &mut bool) -> Result<u64, Stop> {
         failovers_harden_the_longest_run();
-        if 1_000 <= self.epoch {
+        let Zone { copies, quorum } = zone;
+        if 1_000 <= self.epoch || quorum < 1 || copies < quorum || 6 < copies {
             return Err(Stop::Unread);
         }
         let before = self.short();
-        let count = match self.log.recover(self.epoch) {
+        let count = match self.log.recover(self.epoch, copies, quorum) {
             Ok(count) => count,
             Err(_) => {
                 meets_refusal(refused, self.short() == before)?;
-                self.log.recover(self.epoch)?
+                self.log.recover(self.epoch, copies, quorum)?
             }
         };
+        self.zone = zone;
         self.epoch += 1;
         Ok(count)
     }
@@ -192,6 +218,9 @@ impl Driven {
             ["harden", first, last] => {
                 self.harden_each(alloc, first.parse()?, last.parse()?, refused)
             }
+            ["land", first, last, copy] => {
+                self.land_each(alloc, first.parse()?, last.parse()?, copy.parse()?)
+            }
             ["tidy"] => self.tidy(refused),
             _ => Err(Stop::Unread),
         }
@@ -205,7 +234,10 @@ impl Driven {
         refused: &mut bool,
     ) -> Result<(), Stop> {
         match words {
-            ["recover"] => push_numbers(out, &[self.recover(refused)?]),
+            ["recover"] => push_numbers(out, &[self.recover(self.zone, refused)?]),
+            ["recover", copies, quorum] => {
+                push_numbers(out, &[self.recover(zone(copies, quorum)?, refused)?])
+            }
             ["read", lsn] => self.read(out, lsn.parse()?),
             ["pull", asked @ ..] => self.pull(out, asked),
             _ => Err(Stop::Unread),
@@ -240,7 +272,7 @@ fn push_counts(out: &mut String, counts: (u64, u64)) -> Result<(), Stop> {
 
 impl Log {
     fn open(&mut self, copies: &str, quorum: &str) -> Result<(), Stop> {
-        self.driven = Some(open(self.alloc, copies.parse()?, quorum.parse()?)?);
+        self.driven = Some(open(self.alloc, zone(copies, quorum)?)?);
         Ok(())
     }
 
@@ -250,7 +282,10 @@ impl Log {
         let driven = self.driven.as_mut().ok_or(Stop::Unread)?;
         match words {
             ["recover" | "read" | "pull", ..] => driven.push_read(words, out, refused),
-            ["write" | "offer" | "report" | "harden" | "tidy", ..] => {
+            [
+                "write" | "offer" | "report" | "harden" | "land" | "tidy",
+                ..
+            ] => {
                 driven.change(alloc, words, refused)?;
                 push_word(out, "Ok")
             }

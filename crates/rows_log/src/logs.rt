@@ -249,11 +249,87 @@ write 1:aa 2     = Ok
 can_harden 1     = false
 recover          = 0
 annulled 1 1     = 1:aa
+log 6 4          = Ok
+copies           = 6
+write 1:aa 5     = Ok
+write 1:aa 4     = Ok
+write 1:aa 5     = Ok
+write 1:aa 0     = Ok
+can_harden 1     = false
+write 1:aa 2     = Ok
+can_harden 1     = true
+report 1         = Ok
+counts           = 0 1
 ";
 
 #[test]
 fn other_copies_and_quorums(rt: HostRuntime) -> Result<(), Fail> {
     plays::<Log>(rt.alloc(), OTHER_COPIES_AND_QUORUMS)
+}
+
+// By the zone of the epoch that ends: two of three harden 1, three of six do not harden 3.
+const FAILOVERS_CHANGE_THE_ZONE: &str = "\
+log 3 2          = Ok
+write 1:01 0     = Ok
+write 1:01 1     = Ok
+write 2:02 2     = Ok
+recover 6 4      = 1
+copies           = 6
+annulled 1 2     = 2:02
+write 2:22 0     = Ok
+write 2:22 1     = Ok
+write 2:22 2     = Ok
+can_harden 2     = false
+write 2:22 5     = Ok
+can_harden 2     = true
+write 3:03 3     = Ok
+write 3:03 4     = Ok
+write 3:03 5     = Ok
+recover 3 2      = 1
+hard             = 2
+copies           = 3
+read 2           = 2:22
+annulled 2 3     = 3:03
+write 3:33 0     = Ok
+can_harden 3     = false
+write 3:33 2     = Ok
+recover          = 1
+copies           = 3
+read 3           = 3:33
+counts           = 0 3
+";
+
+#[test]
+fn failovers_change_the_zone(rt: HostRuntime) -> Result<(), Fail> {
+    plays::<Log>(rt.alloc(), FAILOVERS_CHANGE_THE_ZONE)
+}
+
+const WINDOW_IN_FOUR_OF_SIX: &str = "\
+log 6 4          = Ok
+land 1 64 5      = Ok
+land 1 64 0      = Ok
+land 1 64 3      = Ok
+can_harden 1     = false
+land 1 63 1      = Ok
+can_harden 63    = true
+can_harden 64    = false
+land 64 64 4     = Ok
+can_harden 64    = true
+report 64        = Ok
+in_window 128    = true
+land 65 127 1    = Ok
+land 65 127 2    = Ok
+land 65 128 4    = Ok
+land 65 127 5    = Ok
+recover 6 4      = 63
+hard             = 127
+read 64          = 64:40
+annulled 1 128   = 128:80
+";
+
+#[test]
+fn window_in_four_of_six(rt: HostRuntime) -> Result<(), Fail> {
+    plays::<Log>(rt.alloc(), WINDOW_IN_FOUR_OF_SIX)
 }
 
 const EACH_GROWTH_ALONE: &str = "\

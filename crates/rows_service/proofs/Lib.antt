@@ -1,1 +1,1 @@
--- The loops of the desks keep a pass at its desk, and those of the gates a pass that the gate owns.
+-- The loops of the desks keep a pass at its desk.

@@ -48,13 +48,14 @@ fn ask_once(
     pass: &mut Pass,
     words: &str,
     number: u64,
+    refused: &mut bool,
 ) -> Result<String, Stop>
     requires of { IsOf desk.now pass.old }
     ensures of { IsOf desk.now pass.new }
 {
     let block = format!(in alloc; "{number}:{number:02x}")?;
     let line = words.replace(alloc, "BLOCK", &block)?;
-    ask(rt, alloc, desk, pass, &line)
+    ask(rt, alloc, desk, pass, &line, refused)
 }
 
 // Asks, and returns how many answers are those up to the change. All others have to be behind it.
@@ -64,6 +65,7 @@ fn ask_over_a_change(
     desk: &Desk,
     pass: &mut Pass,
     asked: Asked,
+    refused: &mut bool,
 ) -> Result<u64, Stop>
     requires of { IsOf desk.now pass.old }
     ensures of { IsOf desk.now pass.new }
@@ -71,7 +73,7 @@ fn ask_over_a_change(
     let [before, behind] = asked.answers;
     let mut count: u64 = 0;
     for number in 1..=asked.times {
-        let text = ask_once(rt, alloc, desk, pass, asked.words, number)?;
+        let text = ask_once(rt, alloc, desk, pass, asked.words, number, refused)?;
         if text.trim() == before && count == number - 1 {
             count = number;
         } else if text.trim() != behind {
@@ -97,21 +99,27 @@ fn play_passes<R: Threads + Wait + Abort + Sync>(
     desk: &Desk,
     mut passes: Vec<Pass>,
     row: Row,
+    refused: &mut bool,
 ) -> Result<(u64, u64, Pass), Stop>
     requires of { All (IsOf desk.now) passes.items }
     ensures of { IfOk result (λ ends. IsOf desk.now ends.2) }
 {
     let mut q = last_of(desk, &mut passes)?;
     let mut p = last_of(desk, &mut passes)?;
-    play(rt, alloc, desk, &mut p, row.before)?;
+    play(rt, alloc, desk, &mut p, row.before, refused)?;
+    let (mut by_first, mut by_second) = (*refused, *refused);
     let (first, second) = thread::join_mut(
         rt,
-        &mut || ask_over_a_change(rt, alloc, desk, &mut p, row.first),
-        &mut || ask_over_a_change(rt, alloc, desk, &mut q, row.second),
+        &mut || ask_over_a_change(rt, alloc, desk, &mut p, row.first, &mut by_first),
+        &mut || ask_over_a_change(rt, alloc, desk, &mut q, row.second, &mut by_second),
     );
     let (first, second) = (first?, second?);
+    if !*refused && by_first && by_second {
+        return Err(Stop::NoMemory);
+    }
+    *refused = by_first || by_second;
     meet(desk, &mut p, q);
-    play(rt, alloc, desk, &mut p, row.after)?;
+    play(rt, alloc, desk, &mut p, row.after, refused)?;
     Ok((first, second, p))
 }
 
@@ -121,17 +129,38 @@ fn play_two<R: Threads + Wait + Abort + Sync>(
     rt: &R,
     alloc: Global,
     row: Row,
+    refused: &mut bool,
 ) -> Result<(u64, u64, Db), Stop>
     requires some { 1 ≤ row.turns }
     requires few { row.turns ≤ 2 ^ 62 }
 {
     let (desk, passes) = desk_of(alloc, row.audit, 2, row.turns)?;
-    let (first, second, pass) = play_passes(rt, alloc, &desk, passes, row)?;
+    let (first, second, pass) = play_passes(rt, alloc, &desk, passes, row, refused)?;
     Ok((first, second, desk.close(pass).ok_or(Stop::Unread)?))
 }
 
+// The same. The row is played from its beginning, once, where memory was refused to the test itself; or to
+// the desk, of a row of a few turns, since a request that is asked again takes one more.
+fn play_again<R: Threads + Wait + Abort + Sync>(
+    rt: &R,
+    alloc: Global,
+    row: Row,
+) -> Result<(u64, u64, Db), Stop>
+    requires some { 1 ≤ row.turns }
+    requires few { row.turns ≤ 2 ^ 62 }
+{
+    let has_few = row.turns < TURNS;
+    let mut refused = has_few;
+    let ends = play_two(rt, alloc, row, &mut refused);
+    if matches!(ends, Err(Stop::NoMemory)) && refused == has_few {
+        refused = true;
+        return play_two(rt, alloc, row, &mut refused);
+    }
+    ends
+}
+
 // How many answers of both threads are those up to the change, and how many entries there are in the
-// end. Where memory is refused the row is played once more.
+// end.
 fn ends_of<R: Threads + Wait + Abort + Sync>(
     rt: &R,
     alloc: Global,
@@ -140,11 +169,7 @@ fn ends_of<R: Threads + Wait + Abort + Sync>(
     requires some { 1 ≤ row.turns }
     requires few { row.turns ≤ 2 ^ 62 }
 {
-    let mut ends = play_two(rt, alloc, row);
-    if matches!(ends, Err(Stop::NoMemory)) {
-        ends = play_two(rt, alloc, row);
-    }
-    let (first, second, db) = ends?;
+    let (first, second, db) = play_again(rt, alloc, row)?;
     Ok((first.saturating_add(second), db.audit_len()))
 }
 
@@ -232,7 +257,7 @@ fn fail_over_beneath_writes<R: Threads + Wait + Abort + Sync>(
     rt: &R,
     alloc: Global,
 ) -> Result<(bool, u64), Stop> {
-    let (allowed, _, mut db) = play_two(rt, alloc, FAILOVER_BENEATH_WRITES)?;
+    let (allowed, _, mut db) = play_again(rt, alloc, FAILOVER_BENEATH_WRITES)?;
     let entries = db.audit_len();
     Ok((has_writes(alloc, &mut db, allowed)?, entries))
 }

@@ -67,23 +67,28 @@ fn text_of(alloc: Global, reply: &Reply) -> Result<String, Stop> {
     Ok(text)
 }
 
-/// The reply to the request of the line, as words. An error is that memory was refused, to the test
-/// or to the desk.
+/// The reply to the request of the line, as words. The request that the desk first answers NoMemory is
+/// asked again, unless memory was refused before. An error is that it was refused to the test, or again.
 pub(crate) fn ask(
     rt: &impl Wait,
     alloc: Global,
     desk: &Desk,
     pass: &mut Pass,
     line: &str,
+    refused: &mut bool,
 ) -> Result<String, Stop>
     requires of { IsOf desk.now pass.old }
     ensures of { IsOf desk.now pass.new }
 {
     let reply = reply_to(rt, alloc, desk, pass, line)?;
-    if matches!(reply, Reply::NoMemory) {
+    if !matches!(reply, Reply::NoMemory) {
+        return text_of(alloc, &reply);
+    }
+    if *refused {
         return Err(Stop::NoMemory);
     }
-    text_of(alloc, &reply)
+    *refused = true;
+    text_of(alloc, &reply_to(rt, alloc, desk, pass, line)?)
 }
 
 /// Each line is answered as it says.
@@ -93,13 +98,14 @@ pub(crate) fn play<R: Wait + Abort>(
     desk: &Desk,
     pass: &mut Pass,
     row: &str,
+    refused: &mut bool,
 ) -> Result<(), Stop>
     requires of { IsOf desk.now pass.old }
     ensures of { IsOf desk.now pass.new }
 {
     for line in row.lines() {
         let (asked, wanted) = line.split_once('=').ok_or(Stop::Unread)?;
-        let text = ask(rt, alloc, desk, pass, asked)?;
+        let text = ask(rt, alloc, desk, pass, asked, refused)?;
         assert!(rt; text.trim() == wanted.trim(), "{line}, not {text}");
     }
     Ok(())
@@ -121,13 +127,14 @@ fn play_last<R: Wait + Abort>(
     desk: &Desk,
     mut passes: Vec<Pass>,
     row: &str,
+    refused: &mut bool,
 ) -> Result<(u64, Pass), Stop>
     requires of { All (IsOf desk.now) passes.items }
     ensures of { IfOk result (λ ends. IsOf desk.now ends.1) }
 {
     let mut pass = last_of(desk, &mut passes)?;
     let number = Desk::number(&pass);
-    play(rt, alloc, desk, &mut pass, row)?;
+    play(rt, alloc, desk, &mut pass, row, refused)?;
     Ok((number, pass))
 }
 
@@ -139,15 +146,39 @@ fn play_alone<R: Wait + Abort>(
     seats: u32,
     turns: u64,
     row: &str,
+    refused: &mut bool,
 ) -> Result<(u64, u64), Stop>
     requires seats { 1 ≤ seats }
     requires some { 1 ≤ turns }
     requires few { turns ≤ 2 ^ 62 }
 {
     let (desk, passes) = desk_of(alloc, 65_536, seats, turns)?;
-    let (number, pass) = play_last(rt, alloc, &desk, passes, row)?;
+    let (number, pass) = play_last(rt, alloc, &desk, passes, row, refused)?;
     let db = desk.close(pass).ok_or(Stop::Unread)?;
     Ok((number, db.audit_len()))
+}
+
+// The same. The row is played from its beginning, once, where memory was refused to the test itself; or
+// to the desk, where no request is asked again since each call takes one of a few turns.
+fn ends_of<R: Wait + Abort>(
+    rt: &R,
+    alloc: Global,
+    seats: u32,
+    turns: u64,
+    row: &str,
+) -> Result<(u64, u64), Stop>
+    requires seats { 1 ≤ seats }
+    requires some { 1 ≤ turns }
+    requires few { turns ≤ 2 ^ 62 }
+{
+    let has_few = turns < TURNS;
+    let mut refused = has_few;
+    let ends = play_alone(rt, alloc, seats, turns, row, &mut refused);
+    if matches!(ends, Err(Stop::NoMemory)) && refused == has_few {
+        refused = true;
+        return play_alone(rt, alloc, seats, turns, row, &mut refused);
+    }
+    ends
 }
 
 const DESK_OF_ONE_SEAT: &str = "\
@@ -159,21 +190,43 @@ const DESK_OF_ONE_SEAT: &str = "\
 
 #[test]
 fn desk_of_one_seat(rt: HostRuntime) {
-    let mut ends = play_alone(&rt, rt.alloc(), 1, TURNS, DESK_OF_ONE_SEAT);
-    if matches!(ends, Err(Stop::NoMemory)) {
-        ends = play_alone(&rt, rt.alloc(), 1, TURNS, DESK_OF_ONE_SEAT);
-    }
+    let ends = ends_of(&rt, rt.alloc(), 1, TURNS, DESK_OF_ONE_SEAT);
     assert!(&rt; matches!(ends, Ok((1, 4))));
 }
 
 /// A desk of 65 seats, called through the last of them, and closed.
 #[test]
 fn desk_of_65_seats(rt: HostRuntime) {
-    let mut ends = play_alone(&rt, rt.alloc(), 65, TURNS, DESK_OF_ONE_SEAT);
-    if matches!(ends, Err(Stop::NoMemory)) {
-        ends = play_alone(&rt, rt.alloc(), 65, TURNS, DESK_OF_ONE_SEAT);
-    }
+    let ends = ends_of(&rt, rt.alloc(), 65, TURNS, DESK_OF_ONE_SEAT);
     assert!(&rt; matches!(ends, Ok((65, 4))));
+}
+
+// So many statuses, each with its reply.
+fn statuses(alloc: Global, count: u32) -> Result<String, Stop> {
+    let mut row = String::new(alloc);
+    for _ in 0..count {
+        row.push_str("2 22 primary 1 status = Status 1 2 0 0 0\n")?;
+    }
+    Ok(row)
+}
+
+fn ends_of_statuses<R: Wait + Abort>(
+    rt: &R,
+    alloc: Global,
+    count: u32,
+) -> Result<(u64, u64), Stop> {
+    let row = match statuses(alloc, count) {
+        Ok(row) => row,
+        Err(_) => statuses(alloc, count)?,
+    };
+    ends_of(rt, alloc, 1, TURNS, &row)
+}
+
+/// A desk gives its database back however many calls it had.
+#[test]
+fn desk_closes_after_many_calls(rt: HostRuntime) {
+    let ends = ends_of_statuses(&rt, rt.alloc(), 1_100);
+    assert!(&rt; matches!(ends, Ok((1, 1_100))));
 }
 
 const TURNS_RUN_OUT: &str = "\
@@ -184,10 +237,7 @@ const TURNS_RUN_OUT: &str = "\
 
 #[test]
 fn turns_run_out(rt: HostRuntime) {
-    let mut ends = play_alone(&rt, rt.alloc(), 1, 2, TURNS_RUN_OUT);
-    if matches!(ends, Err(Stop::NoMemory)) {
-        ends = play_alone(&rt, rt.alloc(), 1, 2, TURNS_RUN_OUT);
-    }
+    let ends = ends_of(&rt, rt.alloc(), 1, 2, TURNS_RUN_OUT);
     assert!(&rt; matches!(ends, Ok((1, 2))));
 }
 
@@ -212,15 +262,16 @@ fn play_before<R: Wait + Abort>(
     mut first: Pass,
     rows: [&str; 2],
     pass: &mut Pass,
+    refused: &mut bool,
 ) -> Result<(), Stop>
     requires first { IsOf desk.now first }
     requires of { IsOf desk.now pass.old }
     ensures of { IsOf desk.now pass.new }
 {
     let [before, after] = rows;
-    play(rt, alloc, desk, &mut first, before)?;
+    play(rt, alloc, desk, &mut first, before, refused)?;
     desk.meet(pass, first);
-    play(rt, alloc, desk, pass, after)
+    play(rt, alloc, desk, pass, after, refused)
 }
 
 // Plays the rows of three passes, of which one meets the two others.
@@ -229,6 +280,7 @@ fn play_passes<R: Wait + Abort>(
     alloc: Global,
     desk: &Desk,
     mut passes: Vec<Pass>,
+    refused: &mut bool,
 ) -> Result<Pass, Stop>
     requires of { All (IsOf desk.now) passes.items }
     ensures of { IfOk result (λ pass. IsOf desk.now pass) }
@@ -236,23 +288,33 @@ fn play_passes<R: Wait + Abort>(
     let last = last_of(desk, &mut passes)?;
     let mut pass = last_of(desk, &mut passes)?;
     let first = last_of(desk, &mut passes)?;
-    play_before(rt, alloc, desk, first, [HARDENS, PULLS], &mut pass)?;
-    play_before(rt, alloc, desk, last, [FAILS_OVER, IS_LATE], &mut pass)?;
+    play_before(rt, alloc, desk, first, [HARDENS, PULLS], &mut pass, refused)?;
+    play_before(
+        rt,
+        alloc,
+        desk,
+        last,
+        [FAILS_OVER, IS_LATE],
+        &mut pass,
+        refused,
+    )?;
     Ok(pass)
 }
 
 // Plays a row of three passes that meet, and returns how many entries there are in the end.
-fn play_three<R: Wait + Abort>(rt: &R, alloc: Global) -> Result<u64, Stop> {
+fn play_three<R: Wait + Abort>(rt: &R, alloc: Global, refused: &mut bool) -> Result<u64, Stop> {
     let (desk, passes) = desk_of(alloc, 65_536, 3, TURNS)?;
-    let pass = play_passes(rt, alloc, &desk, passes)?;
+    let pass = play_passes(rt, alloc, &desk, passes, refused)?;
     Ok(desk.close(pass).ok_or(Stop::Unread)?.audit_len())
 }
 
 #[test]
 fn passes_that_meet(rt: HostRuntime) {
-    let mut entries = play_three(&rt, rt.alloc());
-    if matches!(entries, Err(Stop::NoMemory)) {
-        entries = play_three(&rt, rt.alloc());
+    let mut refused = false;
+    let mut entries = play_three(&rt, rt.alloc(), &mut refused);
+    if matches!(entries, Err(Stop::NoMemory)) && !refused {
+        refused = true;
+        entries = play_three(&rt, rt.alloc(), &mut refused);
     }
     assert!(&rt; matches!(entries, Ok(6)));
 }

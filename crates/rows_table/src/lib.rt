@@ -7,6 +7,8 @@
 #[cfg(test)]
 mod decisions;
 #[cfg(test)]
+mod ends_and_zones;
+#[cfg(test)]
 mod entries;
 #[cfg(test)]
 mod numbers;

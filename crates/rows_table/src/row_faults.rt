@@ -3,12 +3,22 @@
 use crate::table_faults::{ALLOW, Case, DENY, Group, ONE, TWO, walk};
 use std::test::Fail;
 
-const ROW_KEYS: [Case; 5] = [
+const ROW_KEYS: [Case; 7] = [
     ("no verdict", &["[[row]]\n", "who = 1\n"], 9),
     ("no key", &["[[row]]\n"], 9),
     ("another key", &[ALLOW, "quorum = 2\n"], 9),
     ("only from", &[ALLOW, "from = 1\n"], 9),
     ("only to", &[ALLOW, "to = 1\n"], 9),
+    (
+        "another key beside through",
+        &[ALLOW, "through = -1\nthough = 1\n"],
+        9,
+    ),
+    (
+        "through, and no verdict",
+        &["[[row]]\n", "through = 1\n"],
+        9,
+    ),
 ];
 
 const ROW_WORDS: [Case; 9] = [

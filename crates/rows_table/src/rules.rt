@@ -1,5 +1,6 @@
 //! A table in force, and what is decided by it, asked line by line.
 
+use crate::ends_and_zones::table_here;
 use pl_decide::{Decider, Epochs, View, known};
 use pl_table::{Ops, Request, Row, Table, TableFault, TableText, Verdict};
 use std::alloc::Global;
@@ -36,6 +37,10 @@ fn push_row(out: &mut String, row: &Row) -> Result<(), Stop> {
     if let Some(range) = row.range {
         push_word(out, "partitions")?;
         push_numbers(out, &[u64::from(range.from), u64::from(range.to)])?;
+    }
+    if let Some(lsn) = row.through {
+        push_word(out, "through")?;
+        push_numbers(out, &[lsn])?;
     }
     Ok(())
 }
@@ -76,6 +81,7 @@ fn push_part(out: &mut String, table: &Table, words: &[&str]) -> Result<(), Stop
         ["token", id] => push_token(out, table.token(id.parse()?)),
         ["rows"] => push_numbers(out, &[table.rows().len() as u64]),
         ["row", number] => push_row_at(out, table, number.parse()?),
+        ["zone"] => push_numbers(out, &[u64::from(table.copies()), u64::from(table.quorum())]),
         _ => Err(Stop::Unread),
     }
 }
@@ -132,6 +138,25 @@ impl Rules {
         push_numbers(out, &[self.table()?.candidates(&request) as u64])
     }
 
+    // Pushes how far the rows allow the request, up to the most.
+    fn push_reach(&self, most: u64, words: &[&str], out: &mut String) -> Result<(), Stop> {
+        let request = self.request(words)?.ok_or(Stop::Unread)?;
+        let table = self.table()?;
+        match table.first_match(&request) {
+            Some((_, true)) => push_numbers(out, &[table.reach(&request, most)]),
+            _ => push_word(out, "denied"),
+        }
+    }
+
+    // Pushes the first and the last LSN at which the request finds the same row.
+    fn push_alike(&self, words: &[&str], out: &mut String) -> Result<(), Stop> {
+        let request = self.request(words)?.ok_or(Stop::Unread)?;
+        match self.table()?.lsns_alike(&request) {
+            Some(lsns) => push_numbers(out, &[lsns.from, lsns.to]),
+            None => push_word(out, "none"),
+        }
+    }
+
     fn push_decision(&self, words: &[&str], out: &mut String) -> Result<(), Stop> {
         let request = self.request(words)?.ok_or(Stop::Unread)?;
         push_verdict(out, self.decide(&request)?)
@@ -170,7 +195,10 @@ impl Rules {
     fn table_of(&self, words: &[&str]) -> Result<Table, Stop> {
         match words {
             ["copy"] => Ok(self.table()?.clone_table()?),
-            ["table", name] => table_named(self.alloc, name),
+            ["table", name] => match table_here(self.alloc, name)? {
+                Some(table) => Ok(table),
+                None => table_named(self.alloc, name),
+            },
             _ => Err(Stop::Unread),
         }
     }
@@ -248,11 +276,13 @@ impl Subject for Rules {
                 self.set(words)?;
                 push_word(out, "Ok")
             }
-            ["principals" | "token" | "rows" | "row", ..] => self.push_part(words, out),
+            ["principals" | "token" | "rows" | "row" | "zone", ..] => self.push_part(words, out),
             ["text", name] => self.take_text(name, out),
             ["first", request @ ..] => self.push_first(request, out),
             ["candidates", request @ ..] => self.push_candidates(request, out),
             ["request", request @ ..] => self.push_made(request, out),
+            ["reach", most, request @ ..] => self.push_reach(most.parse()?, request, out),
+            ["alike", request @ ..] => self.push_alike(request, out),
             _ => self.push_decision(words, out),
         }
     }

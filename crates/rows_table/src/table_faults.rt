@@ -117,6 +117,29 @@ fn text_of(alloc: Global, pieces: [&[&str]; 3]) -> Result<Vec<u8>, Stop> {
     Ok(text)
 }
 
+/// What a case is, what stands in front of the start table, a text in it, what stands in the place of
+/// that, and the code of the fault.
+pub(crate) type Changed = (&'static str, &'static str, &'static str, &'static str, u8);
+
+fn walk_changed_once(rt: &impl Abort, alloc: Global, cases: &[Changed]) -> Result<(), Stop> {
+    for (case, head, old, new, code) in cases {
+        let (before, after) = START.split_once(*old).ok_or(Stop::Unread)?;
+        let text = text_of(alloc, [&[head, before], &[new], &[after]])?;
+        let same = has_code(alloc, &text, *code)?;
+        assert!(rt; same, "{case}");
+    }
+    Ok(())
+}
+
+/// Walks over the cases; and once more, where an allocation failed.
+pub(crate) fn walk_changed(rt: &impl Abort, alloc: Global, cases: &[Changed]) -> Result<(), Fail> {
+    match walk_changed_once(rt, alloc, cases) {
+        Err(Stop::NoMemory) => walk_changed_once(rt, alloc, cases)?,
+        walked => walked?,
+    }
+    Ok(())
+}
+
 fn walk_once(rt: &impl Abort, alloc: Global, groups: &[Group]) -> Result<(), Stop> {
     for (before, cases, after) in groups {
         for (case, pieces, code) in *cases {
@@ -137,7 +160,7 @@ pub(crate) fn walk(rt: &impl Abort, alloc: Global, groups: &[Group]) -> Result<(
     Ok(())
 }
 
-const FAULTS: [(TableFault, u8); 12] = [
+const FAULTS: [(TableFault, u8); 13] = [
     (TableFault::NoDocument, 1),
     (TableFault::UnknownKey, 2),
     (TableFault::PrincipalCount, 3),
@@ -150,6 +173,7 @@ const FAULTS: [(TableFault, u8); 12] = [
     (TableFault::RowWord, 10),
     (TableFault::RowNumber, 11),
     (TableFault::NoOperator, 12),
+    (TableFault::BadZone, 13),
 ];
 
 fn have_codes(rt: &impl Abort, faults: &[(TableFault, u8)]) {

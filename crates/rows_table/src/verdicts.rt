@@ -1,10 +1,13 @@
 //! Verdicts of a table's rows that are asked again: by the same table, and by another. Each row is
 //! played once more, from its beginning, where an allocation was refused.
 
+mod ends;
+
 use pl_core::{Db, Limits, Reply};
 use pl_decide::{Decider, Epochs, View};
 use pl_table::{Act, Head, Request, Role, Section, Table, TableText, Verdict, read_table};
 use std::alloc::{AllocError, Global};
+use std::env::Env;
 use std::test::Fail;
 use transcripts::table_text::START;
 
@@ -296,12 +299,19 @@ fn decides_each(decider: &mut Decider, table: &Table, pulls: &[(u16, Verdict)]) 
     true
 }
 
-// What is wrong with the verdicts of a decider that is asked by two tables.
-fn wrong_of_two(decider: &mut Decider, start: &Table, other: &Table) -> Option<&'static str> {
+// What is wrong with the verdicts of a decider that is asked by two tables. Where memory may be refused, a
+// verdict may not be cached.
+fn wrong_of_two(
+    decider: &mut Decider,
+    start: &Table,
+    other: &Table,
+    may_be_refused: bool,
+) -> Option<&'static str> {
     if !decides_each(decider, start, &BY_START) {
         return Some("a pull");
     }
-    if decider.cached() != 2 {
+    let is_fewer = may_be_refused && decider.cached() == 1;
+    if decider.cached() != 2 && !is_fewer {
         return Some("the number of cached verdicts");
     }
     if decided_on(decider, other, 5).is_some() {
@@ -318,21 +328,35 @@ fn wrong_of_tables(
     alloc: Global,
     start: &Table,
     other: &Table,
+    may_be_refused: bool,
 ) -> Result<Option<&'static str>, AllocError> {
     let mut decider = Decider::new(alloc)?;
-    Ok(wrong_of_two(&mut decider, start, other))
+    Ok(wrong_of_two(&mut decider, start, other, may_be_refused))
 }
 
-fn wrong_of_both(alloc: Global) -> Result<Option<&'static str>, AllocError> {
+fn wrong_of_both(alloc: Global, may_be_refused: bool) -> Result<Option<&'static str>, AllocError> {
     let start = table_of(alloc, START)?;
-    wrong_of_tables(alloc, &start, &table_of(alloc, OTHER_ROWS)?)
+    let other = table_of(alloc, OTHER_ROWS)?;
+    wrong_of_tables(alloc, &start, &other, may_be_refused)
 }
 
 #[test]
 fn asked_again_by_another_table(rt: HostRuntime) -> Result<(), Fail> {
-    let wrong = match wrong_of_both(rt.alloc()) {
+    // So it is under scripts/refuse-memory.
+    let may_be_refused = rt.var("REFUSE_AT", &mut [0; 20]).is_ok();
+    let wrong = match wrong_of_both(rt.alloc(), may_be_refused) {
         Ok(wrong) => wrong,
-        Err(_) => wrong_of_both(rt.alloc())?,
+        Err(_) => wrong_of_both(rt.alloc(), false)?,
+    };
+    assert_eq!(rt; wrong, None);
+    Ok(())
+}
+
+#[test]
+fn asked_on_both_sides_of_an_end(rt: HostRuntime) -> Result<(), Fail> {
+    let wrong = match ends::wrong_of_tables_of_ends(rt.alloc()) {
+        Ok(wrong) => wrong,
+        Err(_) => ends::wrong_of_tables_of_ends(rt.alloc())?,
     };
     assert_eq!(rt; wrong, None);
     Ok(())

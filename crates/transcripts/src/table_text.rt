@@ -59,7 +59,7 @@ role = "operator"
 "#;
 
 /// Rows, each list by its name, for the principals of the start table.
-const ROWS: [(&str, &str); 3] = [
+const ROWS: [(&str, &str); 5] = [
     (
         "other",
         r#"[[row]]
@@ -100,6 +100,30 @@ role = "primary"
   { verdict = 'allow', who = 2, role = 'primary' },
   { verdict = 'allow', who = 3 },
   { verdict = 'allow', who = 1 },
+]
+",
+    ),
+    (
+        "ends_at_two",
+        "row = [
+  { verdict = 'allow', who = 1, role = 'operator' },
+  { verdict = 'allow', who = 2, role = 'primary' },
+  { verdict = 'deny', who = 3, op = ['get'], from = 7, to = 7 },
+  { verdict = 'allow', who = 3, role = 'secondary', through = 2 },
+  { verdict = 'allow', who = 4, role = 'page_server', from = 0, to = 3 },
+  { verdict = 'allow', who = 5, role = 'primary' },
+]
+",
+    ),
+    (
+        "denies_above_three",
+        "row = [
+  { verdict = 'allow', who = 1, role = 'operator' },
+  { verdict = 'allow', who = 2, role = 'primary' },
+  { verdict = 'deny', who = 3, op = ['pull'], through = 3 },
+  { verdict = 'allow', who = 3, role = 'secondary' },
+  { verdict = 'allow', who = 4, role = 'page_server', from = 0, to = 3 },
+  { verdict = 'allow', who = 5, role = 'primary' },
 ]
 ",
     ),
@@ -177,6 +201,9 @@ fn named(texts: &'static [(&'static str, &'static str)], name: &str) -> Option<&
 fn pieces_of(name: &str) -> Option<(&'static str, &'static str)> {
     if let Some(text) = named(&TEXTS, name) {
         return Some((text, ""));
+    }
+    if name == "six_copies" {
+        return Some(("copies = 6\nquorum = 4\n", START));
     }
     if name == "without_operator" {
         return START.split_once(OPERATOR_ROW);

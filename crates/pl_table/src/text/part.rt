@@ -1,30 +1,40 @@
-//! The members of a principal and of a row.
+//! The members of a principal and of a row, and the two numbers of a table.
 
-ghost use Rattle.std.specs.Prelude.{◌≡◌, ◌≤◌, ◌==◌, ◌&&◌, nat_le, length, IfSome, is_some, map, filter_map, option_map, IfOk};
+ghost use Rattle.std.specs.Prelude.{◌≡◌, ◌≤◌, ◌==◌, ◌&&◌, ◌-◌, ◌^◌, nat_le, codes, length, IfSome, is_some, map, filter_map, option_map, IfOk};
 ghost use Rattle.std.specs.List.{list_any, list_all};
-ghost use Rattle.toml.specs.View.{view};
-ghost use Rattle.pl_table.specs.Part.{number_up_to, token_in, verdict_in, role_of_name, op_of_name, role_in, op_in, ops_in, id_under, token_under, principal_of, verdict_under, role_under, ops_under, listed_in, who_under, range_between, range_from, range_under, has_words, has_numbers, row_of};
+ghost use Rattle.toml.specs.Data.{get_member};
+ghost use Rattle.toml.specs.View.{view, table_view};
+ghost use Rattle.pl_block.specs.Bounds.{last_lsn};
+ghost use Rattle.pl_table.specs.Part.{number_up_to, token_in, verdict_in, role_of_name, op_of_name, role_in, op_in, ops_in, id_under, token_under, principal_of, verdict_under, role_under, ops_under, listed_in, who_under, range_between, range_from, range_under, through_under, has_words, has_numbers, row_of, zone_of_numbers, zone_read};
 
 use crate::op::{Op, Role};
 use crate::range::PartitionRange;
 use crate::row::{Ops, Row};
 use crate::table::Principal;
+use crate::zone::Zone;
 use hex::FromHex;
+use pl_block::LAST_LSN;
 use std::alloc::{AllocError, Global};
-use toml::Value;
+use toml::{Table as Tree, Value};
 
 // The integer, if it is one from 0 to the most.
 #[tactic(auto, unfolding(crate::specs::Part::number_up_to))]
-fn number_up_to(most: u32, value: &Value) -> Option<u32>
+fn number_up_to(most: u64, value: &Value) -> Option<u64>
+    requires { most ≤ last_lsn }
     ensures value { result ≡ number_up_to most (view value.now) }
     ensures fits { IfSome result (λ n. n ≤ most) }
 {
     match value {
-        Value::Integer(number) if 0 <= *number && *number <= i64::from(most) => {
-            Some(*number as u32)
-        }
+        Value::Integer(number) if 0 <= *number && *number <= most as i64 => Some(*number as u64),
         _ => None,
     }
+}
+
+// The id that the value is.
+fn id_in(value: &Value) -> Option<u32>
+    ensures value { result ≡ number_up_to (2 ^ 32 - 1) (view value.now) }
+{
+    Some(number_up_to(u64::from(u32::MAX), value)? as u32)
 }
 
 #[tactic(auto, unfolding(crate::specs::Part::token_in))]
@@ -73,7 +83,7 @@ pub(crate) fn id_under(principal: &Value) -> Option<u32>
     ensures value { result ≡ id_under (view principal.now) }
 {
     match principal.get("id") {
-        Some(value) => number_up_to(u32::MAX, value),
+        Some(value) => id_in(value),
         None => None,
     }
 }
@@ -200,7 +210,7 @@ fn is_listed(principals: &[Principal], id: u32) -> bool
 fn listed_in(principals: &[Principal], value: &Value) -> Option<u32>
     ensures value { result ≡ listed_in principals.now (view value.now) }
 {
-    let id = number_up_to(u32::MAX, value)?;
+    let id = id_in(value)?;
     is_listed(principals, id).then_some(id)
 }
 
@@ -245,6 +255,17 @@ pub(crate) fn range_under(row: &Value) -> Option<Option<PartitionRange>>
     }
 }
 
+// The LSN that the row ends at, which may be absent. `None` where it is there and is no LSN.
+#[tactic(auto, unfolding(crate::specs::Part::through_under, crate::specs::Part::if_there))]
+pub(crate) fn through_under(row: &Value) -> Option<Option<u64>>
+    ensures value { result ≡ through_under (view row.now) }
+{
+    match row.get("through") {
+        Some(value) => number_up_to(LAST_LSN, value).map(Some),
+        None => Some(None),
+    }
+}
+
 // Whether the verdict, the role and the operations of the row are written in their words.
 #[tactic(auto, unfolding(crate::specs::Part::has_words))]
 pub(crate) fn has_words(row: &Value) -> bool
@@ -253,12 +274,14 @@ pub(crate) fn has_words(row: &Value) -> bool
     verdict_under(row).is_some() && role_under(row).is_some() && has_ops(row)
 }
 
-// Whether the principal and the range of the row are written in their numbers.
+// Whether the principal, the range and the end of the row are written in their numbers.
 #[tactic(auto, unfolding(crate::specs::Part::has_numbers))]
 pub(crate) fn has_numbers(principals: &[Principal], row: &Value) -> bool
     ensures value { result ≡ has_numbers principals.now (view row.now) }
 {
-    who_under(principals, row).is_some() && range_under(row).is_some()
+    who_under(principals, row).is_some()
+        && range_under(row).is_some()
+        && through_under(row).is_some()
 }
 
 // The row, where each of its parts reads.
@@ -282,6 +305,9 @@ pub(crate) fn row_of(
     let Some(range) = range_under(row) else {
         return Ok(None);
     };
+    let Some(through) = through_under(row) else {
+        return Ok(None);
+    };
     let Some(op) = ops_under(alloc, row)? else {
         return Ok(None);
     };
@@ -291,5 +317,47 @@ pub(crate) fn row_of(
         role,
         op,
         range,
+        through,
     }))
+}
+
+// The zone that has so many copies, and so many of them as its quorum.
+fn zone_of_numbers(copies: u64, quorum: u64) -> Option<Zone>
+    ensures value { result ≡ zone_of_numbers copies quorum }
+{
+    match (copies, quorum) {
+        (3, 2) => Some(Zone::Three),
+        (6, 4) => Some(Zone::Six),
+        _ => None,
+    }
+}
+
+// The zone of two numbers that are there.
+#[tactic(auto, unfolding(crate::specs::Part::zone_read))]
+fn zone_between(copies: &Value, quorum: &Value) -> Option<Zone>
+    ensures value { result ≡ zone_read (Some (view copies.now)) (Some (view quorum.now)) }
+{
+    zone_of_numbers(number_up_to(6, copies)?, number_up_to(4, quorum)?)
+}
+
+// The zone of two numbers, either of which may be absent.
+#[tactic(auto, unfolding(crate::specs::Part::zone_read))]
+fn zone_in(copies: Option<&Value>, quorum: Option<&Value>) -> Option<Zone>
+    ensures value { result ≡ zone_read (option_map (λ v. view v.now) copies.entry)
+        (option_map (λ v. view v.now) quorum.entry) }
+{
+    match (copies, quorum) {
+        (Some(copies), Some(quorum)) => zone_between(copies, quorum),
+        (None, None) => Some(Zone::Three),
+        _ => None,
+    }
+}
+
+// The zone of a table: three copies where neither number is there. `None` where one of them is missing, or
+// no zone has these numbers.
+pub(crate) fn zone_under(tree: &Tree) -> Option<Zone>
+    ensures value { result ≡ zone_read (get_member (codes "copies") (table_view tree.now))
+        (get_member (codes "quorum") (table_view tree.now)) }
+{
+    zone_in(tree.get("copies"), tree.get("quorum"))
 }

@@ -17,12 +17,14 @@ use crate::op::{Op, Role};
 use crate::row::Row;
 use crate::table::{MOST_PRINCIPALS, MOST_ROWS, Principal, Table};
 use crate::text::{part, tree};
+use crate::zone::Zone;
 use std::alloc::{AllocError, Global};
 use toml::{Table as Tree, Value};
 
 /// Reads a table from its text. The text is TOML: an array of tables `principal`, each with `id` and
-/// `token`, and an array of tables `row`, each with `verdict` and any of `who`, `role`, `op`, and
-/// `from` with `to`. `Malformed` has the fault of the least code, whichever principal or row it is in.
+/// `token`, an array of tables `row`, each with `verdict` and any of `who`, `role`, `op`, `from` with
+/// `to`, and `through`; and the numbers `copies` and `quorum`, or neither. `Malformed` has the fault
+/// of the least code, whichever principal or row it is in.
 /// `NoMemory` is returned where an allocation failed. The text may have any length.
 #[tactic(auto, unfolding(crate::specs::TableText::table_reading))]
 pub fn read_table(alloc: Global, text: &[u8]) -> Result<Table, ReadFault>
@@ -31,14 +33,15 @@ pub fn read_table(alloc: Global, text: &[u8]) -> Result<Table, ReadFault>
 {
     let tree = tree::read_tree(alloc, text)?;
     let lists = lists_in(&tree)?;
-    read_lists(alloc, lists.principals, lists.rows)
+    read_lists(alloc, lists.principals, lists.rows, lists.zone)
 }
 
-// The principals and the rows that a tree lists.
+// The principals and the rows that a tree lists, and its zone, if the two numbers are those of one.
 #[derive(Clone, Copy, Drop)]
 struct Lists<'a> {
     principals: &'a [Value],
     rows: &'a [Value],
+    zone: Option<Zone>,
 }
 
 fn each_is_principal(listed: &[Value]) -> bool
@@ -194,11 +197,11 @@ fn somebody_sets(principals: &[Principal], rows: &[Row]) -> bool
         .any(|principal| may_set_table(rows, principal.id))
 }
 
-// The lists of a tree that has no other key.
+// The lists and the zone of a tree that has no other key.
 #[tactic(auto, unfolding(crate::specs::TableText::listed_in_tree))]
 fn lists_in(tree: &Tree) -> Result<Lists<'_>, TableFault>
     ensures ok { IfOk result (λ l. listed_in_tree (table_view tree.now)
-        ≡ Ok (listed_of (map view l.principals.now) (map view l.rows.now))) }
+        ≡ Ok (listed_of (map view l.principals.now) (map view l.rows.now) l.zone)) }
     ensures err { IfErr result (λ fault. listed_in_tree (table_view tree.now) ≡ Err fault) }
 {
     if !tree::has_top_keys(tree) {
@@ -208,7 +211,11 @@ fn lists_in(tree: &Tree) -> Result<Lists<'_>, TableFault>
         tree::tables_under(tree, "principal"),
         tree::tables_under(tree, "row"),
     ) {
-        (Some(principals), Some(rows)) => Ok(Lists { principals, rows }),
+        (Some(principals), Some(rows)) => Ok(Lists {
+            principals,
+            rows,
+            zone: part::zone_under(tree),
+        }),
         _ => Err(TableFault::UnknownKey),
     }
 }
@@ -229,11 +236,16 @@ fn check_counts(principals: usize, rows: usize) -> Result<(), TableFault>
     Ok(())
 }
 
-// The table of the two lists.
+// The table of the two lists and the zone.
 #[tactic(auto, unfolding(crate::specs::TableText::table_of))]
-fn read_lists(alloc: Global, principals: &[Value], rows: &[Value]) -> Result<Table, ReadFault>
+fn read_lists(
+    alloc: Global,
+    principals: &[Value],
+    rows: &[Value],
+    zone: Option<Zone>,
+) -> Result<Table, ReadFault>
     ensures exact { Gives (λ t. t) result
-        (table_of (listed_of (map view principals.now) (map view rows.now))) }
+        (table_of (listed_of (map view principals.now) (map view rows.now) zone)) }
 {
     check_counts(principals.len(), rows.len())?;
     let principals = read_principals(alloc, principals)?;
@@ -241,5 +253,8 @@ fn read_lists(alloc: Global, principals: &[Value], rows: &[Value]) -> Result<Tab
     if !somebody_sets(&principals, &rows) {
         return Err(ReadFault::Malformed(TableFault::NoOperator));
     }
-    Ok(Table::of_parts(principals, rows)?)
+    let Some(zone) = zone else {
+        return Err(ReadFault::Malformed(TableFault::BadZone));
+    };
+    Ok(Table::of_parts(principals, rows, zone)?)
 }

@@ -31,11 +31,11 @@ pub(crate) fn read_tree(alloc: Global, text: &[u8]) -> Result<Tree, ReadFault>
     }
 }
 
-const TOP_KEYS: [&str; 2] = ["principal", "row"];
+const TOP_KEYS: [&str; 4] = ["principal", "row", "copies", "quorum"];
 
 const PRINCIPAL_KEYS: [&str; 2] = ["id", "token"];
 
-const ROW_KEYS: [&str; 6] = ["verdict", "who", "role", "op", "from", "to"];
+const ROW_KEYS: [&str; 7] = ["verdict", "who", "role", "op", "from", "to", "through"];
 
 fn is_one_of(names: &[&str], key: &str) -> bool
     ensures value { result ≡ list_any (λ name. bytes_eq key.now name.now) names.now }

@@ -7,4 +7,4 @@ use Rattle.pl_conn.proofs.conversing.answer_all.Given as goal
 abbrev pub invariant-loop : goal.invariant-loop
 invariant-loop g l = g.G.Gate.owns l.gate l.pass × (l.outbox.whole + length l.outbox.lens ≡ l.counter)
     × Stands (g.G.Gate.calls l.gate) (scene (g.R.Read.remaining l.fn.reader) (g.W.Write.contents l.fn.writer) l.fn.pass)
-    (scene (g.R.Read.remaining l.reader) (g.W.Write.contents l.writer) l.pass) l.outbox [] []
+    (scene (g.R.Read.remaining l.reader) (g.W.Write.contents l.writer) l.pass) l.outbox []

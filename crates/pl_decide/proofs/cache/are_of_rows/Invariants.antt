@@ -1,4 +1,4 @@
-use Rattle.std.proofs.Common.{All, Contains}
+use Rattle.std.proofs.Common.{All}
 use Rattle.pl_decide.specs.Agreement.{IsOfRows}
 use Rattle.pl_decide.proofs.Cached.{Stays}
 use Rattle.pl_decide.proofs.cache.are_of_rows.Given as goal

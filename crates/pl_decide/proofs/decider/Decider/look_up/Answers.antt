@@ -1,6 +1,3 @@
-use Rattle.std.proofs.Common.{◌≡◌, List, Contains, IfSome, subst}
-use Rattle.pl_decide.specs.Keys.{CachedVerdict}
-use Rattle.pl_decide.specs.Agreement.{AgreesWith}
 use Rattle.pl_decide.proofs.Cached.{cache-stays, agrees-stays}
 use Rattle.pl_decide.proofs.decider.Decider.look_up.Goals as goal
 

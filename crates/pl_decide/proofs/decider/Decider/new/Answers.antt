@@ -1,6 +1,3 @@
-use Rattle.std.proofs.Common.{sym, ap, subst}
-use Rattle.pl_table.specs.Table.{WrittenTable}
-use Rattle.pl_decide.specs.Agreement.{AgreesWith}
 use Rattle.pl_decide.proofs.Cached.{agrees-none}
 use Rattle.pl_decide.proofs.decider.Decider.new.Goals as goal
 

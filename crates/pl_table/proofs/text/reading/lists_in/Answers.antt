@@ -10,4 +10,4 @@ returns-then-not-has_top_keys-clause-err c = rw (← known_keys (is_one_of top_k
 
 pub returns-in-Some-Some-clause-ok : goal.returns-in-Some-Some-clause-ok
 unfolding listed_in_tree
-returns-in-Some-Some-clause-ok c = rw (← known_keys (is_one_of top_keys) c.args.tree.now.entries, ← c.has_top_keys.ensures.value, c.if-not-has_top_keys.false, ← c.tables_under.ensures.value, ← c.tables_under-2.ensures.value, c.in-Some-Some.is-0, c.in-Some-Some.is-1) refl
+returns-in-Some-Some-clause-ok c = rw (← known_keys (is_one_of top_keys) c.args.tree.now.entries, ← c.has_top_keys.ensures.value, c.if-not-has_top_keys.false, ← c.tables_under.ensures.value, ← c.tables_under-2.ensures.value, c.in-Some-Some.is-0, c.in-Some-Some.is-1, c.zone_under.ensures.value) refl

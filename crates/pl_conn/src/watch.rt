@@ -1,0 +1,22 @@
+//! Who is told what a service cannot do.
+
+use std::io;
+
+/// Who is told what a service cannot do while it goes on. No promise rests on it.
+pub trait Watch {
+    /// So many workers were started, fewer than were asked for. It is told before a connection is accepted.
+    fn few_workers(&self, started: usize, asked: usize);
+
+    /// A connection could not be accepted. The cause passes: it is waited out, and told the first time alone.
+    fn accept_rests(&self, cause: &io::Error);
+}
+
+/// Nobody is told.
+#[derive(Clone, Copy, Debug)]
+pub struct Unwatched;
+
+impl Watch for Unwatched {
+    fn few_workers(&self, _started: usize, _asked: usize) {}
+
+    fn accept_rests(&self, _cause: &io::Error) {}
+}

@@ -1,0 +1,33 @@
+//! What the rows of a table say of the requests with one key.
+
+ghost use Rattle.std.specs.Prelude.{◌≡◌, ◌↔◌, Bool, Option, IfSome, IfNone, IsTrue};
+ghost use Rattle.pl_table.specs.Absent.{part_matches};
+ghost use Rattle.pl_table.specs.Reach.{IsAtOne};
+ghost use Rattle.pl_table.specs.Row.{through_matches};
+
+use pl_table::LsnRange;
+
+// The first row that matches: its number, from 1, and whether it allows; `None` where no row matches.
+pub(crate) type Found = Option<(u16, bool)>;
+
+/// What the rows of a table say of the requests with one key, at some LSNs.
+#[derive(Clone, Copy, Debug, PartialEq, Eq)]
+pub struct RowVerdict {
+    /// The first row that matches: its number, from 1, and whether it allows; `None` where none does.
+    pub found: Option<(u16, bool)>,
+    /// The LSNs of the requests of which this holds, or `None` where they name no LSN.
+    pub lsns: Option<LsnRange>,
+}
+
+impl RowVerdict {
+    // Whether this holds of a request that names this LSN, or none.
+    pub(crate) fn is_at(&self, lsn: Option<u64>) -> bool
+        ensures exact { IsTrue result ↔ IsAtOne self.now.lsns lsn }
+    {
+        match (self.lsns, lsn) {
+            (Some(lsns), Some(lsn)) => lsns.from <= lsn && lsn <= lsns.to,
+            (None, None) => true,
+            _ => false,
+        }
+    }
+}

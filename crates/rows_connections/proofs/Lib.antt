@@ -1,0 +1,1 @@
+-- The loops of the gates keep a pass that the gate owns.

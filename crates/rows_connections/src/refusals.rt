@@ -1,0 +1,277 @@
+//! The conversation of the stored run where memory is refused once: it goes on with what was not answered,
+//! on the same database.
+
+ghost use Rattle.std.specs.Prelude.{◌≡◌, IfOk, vec_len};
+ghost use Rattle.std.specs.List.{All};
+ghost use Rattle.pl_conn.specs.Desks.{AreOf};
+
+use crate::conversations::{FRAMES, REPLIES, one_pass};
+use crate::memory::{Input, check};
+use crate::talking::{TURNS, last_of, one_db};
+use pl_conn::{Cause, ConnFault, Desks, Gate, Passes, Solo, converse};
+use std::alloc::Global;
+use std::io::{self, ErrorKind, Write};
+use std::sync::Wait;
+use transcripts::transcript::Stop;
+
+/// A writer that needs no memory.
+#[derive(Drop)]
+struct Told {
+    bytes: [u8; 128],
+    len: usize,
+}
+
+impl Told {
+    fn new() -> Told {
+        Told {
+            bytes: [0; 128],
+            len: 0,
+        }
+    }
+
+    fn all(&self) -> &[u8] {
+        let (told, _) = self.bytes.split_at(self.len.min(128));
+        told
+    }
+}
+
+impl Write for Told {
+    fn write(&mut self, buf: &[u8]) -> io::Result<usize> {
+        let (_, room) = self.bytes.split_at_mut(self.len.min(128));
+        let count = room.len().min(buf.len());
+        if count == 0 {
+            return Err(io::Error::from(ErrorKind::WriteZero));
+        }
+        let (now, _) = buf.split_at(count);
+        let (front, _) = room.split_at_mut(count);
+        front.copy_from_slice(now);
+        self.len = self.len.saturating_add(count);
+        Ok(count)
+    }
+
+    fn flush(&mut self) -> io::Result<()> {
+        Ok(())
+    }
+}
+
+/// The stored run, and the conversation that may come behind a refusal.
+#[derive(Clone, Copy, Drop)]
+struct Run<'a> {
+    frames: &'a [u8],
+    replies: &'a [u8],
+    at_once: usize,
+}
+
+/// What is asked once more: the frames from one place of the stored run to another, and those from a third
+/// to the end.
+type Frames = (usize, usize, usize);
+
+/// These, the place in the replies of the run from which on theirs are, and how many entries there are in
+/// the end, at least and at most.
+type Again = (Frames, usize, (u64, u64));
+
+/// What was answered where one of the four frames was replied NoMemory, and what is asked once more: that
+/// frame, and those that are denied without it.
+const REFUSED: [(&str, Again); 4] = [
+    (
+        "0000000106 0000000100 0000000c050300060000000000000000 0000000c050300010000000000000000",
+        ((0, 59, 118), 5, (6, 6)),
+    ),
+    (
+        "0000000100 0000000106 0000000c050300060000000000000000 0000000c050300010000000000000000",
+        ((59, 118, 118), 5, (6, 6)),
+    ),
+    (
+        "0000000100 0000000100 0000000106 0000000c050300010000000000000000",
+        ((118, 118, 118), 10, (5, 5)),
+    ),
+    (
+        "0000000100 0000000100 0000000100 0000000106",
+        ((160, 160, 160), 15, (4, 4)),
+    ),
+];
+
+/// What is asked once more where the conversation ended with so many replies: all frames behind these. The
+/// next one may have had its step.
+const ENDED: [Again; 5] = [
+    ((0, 0, 0), 0, (4, 5)),
+    ((59, 59, 59), 5, (4, 5)),
+    ((118, 118, 118), 10, (4, 5)),
+    ((160, 160, 160), 15, (4, 5)),
+    ((208, 208, 208), 58, (4, 4)),
+];
+
+// A conversation over these frames. How it ended, and what was told.
+fn asks<G: Gate>(
+    alloc: Global,
+    frames: &[u8],
+    at_once: usize,
+    gate: &G,
+    pass: &mut G::Pass,
+) -> (Result<u64, ConnFault>, Told)
+    requires own { G.owns gate.now pass.old }
+    ensures own { G.owns gate.now pass.new }
+{
+    let mut reader = Input {
+        left: frames,
+        at_once,
+        fails: false,
+    };
+    let mut told = Told::new();
+    let end = converse(alloc, &mut reader, &mut told, gate, pass);
+    (end, told)
+}
+
+// Whether the bytes are those of the words.
+fn are_bytes(bytes: &[u8], words: &str) -> bool {
+    let mut left = bytes;
+    for word in words.split_whitespace() {
+        let mut wanted = [0; 16];
+        let (wanted, _) = wanted.split_at_mut((word.len() / 2).min(16));
+        if hex::decode_to_slice(word, wanted).is_err() {
+            return false;
+        }
+        let (now, later) = left.split_at(wanted.len().min(left.len()));
+        if *now != *wanted {
+            return false;
+        }
+        left = later;
+    }
+    left.is_empty()
+}
+
+// What is asked once more, by how the conversation ended and what was told.
+fn again_of(
+    end: &Result<u64, ConnFault>,
+    told: &[u8],
+    run: Run<'_>,
+) -> Result<Option<Again>, Stop> {
+    match end {
+        Ok(4) if told == run.replies => Ok(None),
+        Ok(4) => again_behind(told).map(Some),
+        Err(
+            ConnFault {
+                cause: Cause::NoMemory,
+                answered,
+            },
+        ) => again_from(*answered, told, run).map(Some),
+        _ => Err(Stop::Changed),
+    }
+}
+
+// What is asked once more behind a reply NoMemory.
+fn again_behind(told: &[u8]) -> Result<Again, Stop> {
+    for (words, again) in REFUSED {
+        if are_bytes(told, words) {
+            return Ok(again);
+        }
+    }
+    Err(Stop::Changed)
+}
+
+// What is asked once more where it ended with so many replies, which are those of the run.
+fn again_from(answered: u64, told: &[u8], run: Run<'_>) -> Result<Again, Stop> {
+    let again = *ENDED.get(answered as usize).ok_or(Stop::Changed)?;
+    let (_, replied, _) = again;
+    let (wanted, _) = run.replies.split_at(replied.min(run.replies.len()));
+    check(told == wanted)?;
+    Ok(again)
+}
+
+// The frames that are asked once more.
+fn frames_again(alloc: Global, run: Run<'_>, again: Frames) -> Result<Vec<u8>, Stop> {
+    let (from, to, behind) = again;
+    let mut frames = Vec::with_capacity(alloc, 208)?;
+    frames.extend_from_slice(run.frames.get(from..to).ok_or(Stop::Unread)?)?;
+    frames.extend_from_slice(run.frames.get(behind..).ok_or(Stop::Unread)?)?;
+    Ok(frames)
+}
+
+// Holds the conversation, and a second one over what was refused in the first, which has the replies of
+// the stored run. How many entries there are then, at least and at most, if there was a second.
+fn goes_on<G: Gate>(
+    alloc: Global,
+    run: Run<'_>,
+    gate: &G,
+    pass: &mut G::Pass,
+) -> Result<Option<(u64, u64)>, Stop>
+    requires own { G.owns gate.now pass.old }
+    ensures own { G.owns gate.now pass.new }
+{
+    let (end, told) = asks(alloc, run.frames, run.at_once, gate, pass);
+    let Some((again, replied, entries)) = again_of(&end, told.all(), run)? else {
+        return Ok(None);
+    };
+    let frames = frames_again(alloc, run, again)?;
+    let (end, told) = asks(alloc, &frames, run.at_once, gate, pass);
+    check(end.is_ok() && Some(told.all()) == run.replies.get(replied..))?;
+    Ok(Some(entries))
+}
+
+// Over one caller's gate. In the end the block is hardened, whatever was refused.
+fn goes_on_alone(alloc: Global, run: Run<'_>) -> Result<bool, Stop> {
+    let mut pass = one_pass(alloc)?;
+    let more = goes_on(alloc, run, &Solo, &mut pass)?;
+    let (least, most) = more.unwrap_or((4, 4));
+    let db = pass.into_dbs().pop().ok_or(Stop::Unread)?;
+    check(db.hard() == 1 && db.log().counts() == (0, 1))?;
+    check(least <= db.audit_len() && db.audit_len() <= most)?;
+    Ok(more.is_some())
+}
+
+fn goes_on_with_last<R: Wait>(
+    alloc: Global,
+    run: Run<'_>,
+    desks: &Desks<R>,
+    mut passes: Vec<Passes>,
+) -> Result<bool, Stop>
+    requires of { All (AreOf desks.now) passes.items }
+{
+    let mut pass = last_of(desks, &mut passes)?;
+    Ok(goes_on(alloc, run, desks, &mut pass)?.is_some())
+}
+
+fn goes_on_at_desk<R: Wait + Drop>(rt: R, alloc: Global, run: Run<'_>) -> Result<bool, Stop> {
+    let (desks, passes) = Desks::new(alloc, rt, one_db(alloc)?, 1, TURNS)?;
+    goes_on_with_last(alloc, run, &desks, passes)
+}
+
+// Both, over frames that come so many bytes at once. How many of them met a refusal.
+fn goes_on_twice<R: Wait + Drop>(rt: R, alloc: Global, at_once: usize) -> Result<u64, Stop> {
+    let (frames, replies) = (hex::decode(alloc, FRAMES)?, hex::decode(alloc, REPLIES)?);
+    let run = Run {
+        frames: &frames,
+        replies: &replies,
+        at_once,
+    };
+    let alone = goes_on_alone(alloc, run)?;
+    let at_desk = goes_on_at_desk(rt, alloc, run)?;
+    Ok(u64::from(alone).saturating_add(u64::from(at_desk)))
+}
+
+// The same, once more where memory was refused to the test itself or to what it opens.
+fn goes_on_in_pieces<R: Wait + Drop + Copy>(
+    rt: R,
+    alloc: Global,
+    at_once: usize,
+) -> Result<u64, Stop> {
+    match goes_on_twice(rt, alloc, at_once) {
+        Err(Stop::NoMemory) => Ok(goes_on_twice(rt, alloc, at_once)?.saturating_add(1)),
+        met => met,
+    }
+}
+
+/// The frames of the stored run are all at hand. A refusal is replied NoMemory, or ends the conversation
+/// behind the frames that it answered; what was not answered is asked once more.
+#[test]
+fn stored_run_goes_on(rt: HostRuntime) {
+    let alloc = rt.alloc();
+    assert!(&rt; matches!(goes_on_in_pieces(rt, alloc, 208), Ok(0 | 1)));
+}
+
+/// The same where they come byte by byte.
+#[test]
+fn stored_run_goes_on_by_bytes(rt: HostRuntime) {
+    let alloc = rt.alloc();
+    assert!(&rt; matches!(goes_on_in_pieces(rt, alloc, 1), Ok(0 | 1)));
+}
