@@ -1,6 +1,7 @@
 """Times the calls of a log whose hardened blocks lie in two stores, beside a plain list of the same blocks.
 
-Usage: python3 bench/log.py [BLOCKS..]      (1000 100000 1000000 where none are given)
+Usage: python3 bench/log.py [BLOCKS..]                  (1000 100000 1000000 where none are given)
+       python3 bench/log.py --zones [FOLDER]
 
 Builds bench/log, a program over pl_log, and drives it. For each number of hardened blocks of 100 bytes, and for 10,000 of
 16 KiB, it prints the time of
@@ -10,6 +11,10 @@ Builds bench/log, a program over pl_log, and drives it. For each number of harde
 - a tidy, for each block that it moves,
 
 beside the same pulls from a list, and the peak of memory for each hardened block, beside the bytes of its spelling.
+
+With --zones it prints the time of a write and of a report of 64 blocks of 100 bytes in a zone of three copies and of six, each
+the least of several runs in turn, and what a place of an open window takes in both. FOLDER is another checkout, whose
+program is built and driven in the same run; an older one may know three copies alone.
 """
 
 import pathlib
@@ -96,8 +101,53 @@ def measure(path, blocks, length):
     print(f"  {'memory of the list for each block':<50} {(plain.end() - empty(path)) / blocks:10.0f} bytes")
 
 
+ZONES = {"three copies, quorum two": (3, 2), "six copies, quorum four": (6, 4)}
+# Windows of one run, and runs of which the least counts; logs whose windows are held at once.
+LAPS, RUNS, LOGS = 2000, 7, 4000
+
+
+def times_of_zone(path, copies, quorum):
+    """Nanoseconds of a write to one copy, and of a report of 64."""
+    program = Program(path)
+    program.ask("zone", copies, quorum)
+    program.ask("windows", LAPS // 10, 100)
+    program.ask("zone", copies, quorum)
+    writes, reports = program.ask("windows", LAPS, 100)
+    program.end()
+    return writes / LAPS / 64 / quorum, reports / LAPS
+
+
+def bytes_of_place(path, copies, quorum, full):
+    """The memory of a place of a window."""
+    program = Program(path)
+    program.ask("zone", copies, quorum)
+    program.ask("more", LOGS, full)
+    return (program.end() - empty(path)) / LOGS / 64
+
+
+def compare_zones(paths):
+    """The lines of both zones, for each program."""
+    keys = [(where, zone) for zone, (copies, quorum) in ZONES.items() for where, path in paths.items()
+            if Program(path).ask("zone", copies, quorum)[1] == copies]
+    least = dict.fromkeys(keys, (float("inf"), float("inf")))
+    for _ in range(RUNS):
+        for where, zone in keys:
+            times = times_of_zone(paths[where], *ZONES[zone])
+            least[where, zone] = tuple(map(min, least[where, zone], times))
+    for where, zone in keys:
+        write, report = least[where, zone]
+        room, held = (bytes_of_place(paths[where], *ZONES[zone], full) for full in (0, 1))
+        print(f"{zone:<26}{where:<8} a write to one copy {write:6.1f} ns, a report of 64 {report:8.0f} ns, "
+              f"a place of a window {room:6.1f} bytes, with a shared block {held:6.1f}")
+
+
 def main():
     path = programs.program("log", "pl_block pl_log bytes")
+    if sys.argv[1:2] == ["--zones"]:
+        paths = {"now": path}
+        if sys.argv[2:]:
+            paths["before"] = programs.program("log", "pl_block pl_log bytes", pathlib.Path(sys.argv[2]))
+        return compare_zones(paths)
     for blocks in [int(word) for word in sys.argv[1:]] or [1000, 100_000, 1_000_000]:
         measure(path, blocks, 100)
     measure(path, 10_000, 16_384)

@@ -1,10 +1,10 @@
 """The plain model of scripts/model.py as a service over TCP, for tests of clients: it starts at once and needs no prover.
 
-Usage: scripts/model serve --listen ADDRESS --table FILE --primary N [--dbs N] [--audit N]
+Usage: scripts/model serve --listen ADDRESS --table FILE --primary N [--dbs N] [--audit N] [--workers N] [--connections N]
 
 It answers the request frames of any number of connections over 1 to 16 databases, as docs/FORMATS.md says, until it is
 ended. The pass in an entry of the audit list is the number of its connection. It never replies NoMemory or Spent, takes all
-the time and memory that Python takes, and nothing is proved of it.
+the time and memory that Python takes, and nothing is proved of it. It has a thread for each connection, and no limit of them.
 """
 
 import argparse
@@ -93,6 +93,8 @@ def arguments():
     serve.add_argument("--dbs", default=1, metavar="N", type=number_up_to(1, 16), help="how many databases there are, 1 to 16")
     serve.add_argument("--audit", default=65536, metavar="N", type=number_up_to(1, 2 ** 24),
                        help="how many entries each audit list holds")
+    for word in ("--workers", "--connections"):
+        serve.add_argument(word, metavar="N", type=int, help="taken as pagelog takes it, and without effect")
     return parser.parse_args()
 
 
@@ -118,8 +120,8 @@ def main():
         server = Server((host, int(port)), Databases(words.dbs, table, words.primary, words.audit))
     except (OSError, ValueError, OverflowError):
         fail("address")
-    print("model: this is the plain model in Python, and not pagelog: nothing is proved of it", file=sys.stderr, flush=True)
     print("listening {}:{}".format(*server.server_address), flush=True)
+    print("model: this is the plain model in Python, and not pagelog: nothing is proved of it", file=sys.stderr, flush=True)
     try:
         server.serve_forever()
     except KeyboardInterrupt:

@@ -33,6 +33,9 @@ PARTS = {
     "test_looking": "status, top, audit, metrics and explain",
 }
 
+# What speaks to a service alone, and asks for nothing of its own processes, memory or workers.
+OF_ANY_SERVICE = ("test_replies", "test_primary", "test_reader")
+
 
 class Timed(unittest.TestResult):
     """Counts, ends a test that hangs, and with PAGELOG_TEST_TIMES in the environment says what each took."""
@@ -99,12 +102,13 @@ def side_by_side(names: list[str]) -> list[subprocess.Popen[str]]:
 
 def main(arguments: list[str]) -> int:
     passed = failed = 0
-    if arguments:
+    is_model = arguments == ["--model"]
+    if arguments and not is_model:
         only = arguments[1] if len(arguments) > 1 else None
         passed, failed = play(f"test_{arguments[0]}", PARTS.get(f"test_{arguments[0]}", ""), only)
     else:
         # Those that take longest are begun first.
-        for process in side_by_side(list(reversed(PARTS))):
+        for process in side_by_side([name for name in reversed(PARTS) if name in OF_ANY_SERVICE or not is_model]):
             process.wait()
             process.output.seek(0)  # type: ignore[attr-defined]
             *lines, last = process.output.read().splitlines() or [""]  # type: ignore[attr-defined]
