@@ -124,7 +124,8 @@ pub(crate) type Changed = (&'static str, &'static str, &'static str, &'static st
 fn walk_changed_once(rt: &impl Abort, alloc: Global, cases: &[Changed]) -> Result<(), Stop> {
     for (case, head, old, new, code) in cases {
         let (before, after) = START.split_once(*old).ok_or(Stop::Unread)?;
-        let text = text_of(alloc, [&[head, before], &[new], &[after]])?;
+        let mut text = Vec::new(alloc);
+        append(&mut text, &[*head, before, *new, after])?;
         let same = has_code(alloc, &text, *code)?;
         assert!(rt; same, "{case}");
     }
