@@ -1,5 +1,5 @@
 -- Versions in frames, where one frame is written, and where one more is taken.
-use Rattle.std.proofs.Common.{◌≡◌, ◌≢◌, ℕ, zero, suc, ◌+◌, ◌<◌, ◌≤◌, Bool, true, false, cond, List, [], ◌∷◌, ◌++◌, length, map, replicate, get_or, set, Option, Some, None, unwrap_or, IsSome, IfSome, slice_get, refl, sym, ap, subst, ◌∙◌, inl, inr, arith, length-set, length-append, get_or-set_other, get_or-set_same}
+use Rattle.std.proofs.Common.{◌≡◌, ◌≢◌, ℕ, zero, suc, ◌+◌, ◌<◌, ◌≤◌, Bool, true, false, cond, List, [], ◌∷◌, ◌++◌, length, map, replicate, get_or, set, Option, Some, None, unwrap_or, IsSome, IfSome, refl, sym, ap, subst, ◌∙◌, inl, inr, arith, length-set, length-append, get_or-set_other, get_or-set_same}
 use mathlib.Core.Bool.{false≢true}
 use Rattle.std.proofs.lemmas.Bool.{cases_eq, cases_lt}
 use Rattle.std.proofs.lemmas.List.{get_or_append_left, get_or_default, get_or_push, length-map, map-set, map-append, set-get_or, same_lists}
@@ -13,8 +13,7 @@ use Rattle.pl_arena.specs.Arena.{Arena, IsOut, frame, with_frame}
 use Rattle.pl_block.specs.Block.{Content}
 use Rattle.pl_pages.specs.Page.{zeros, after_block}
 use Rattle.pl_pages.specs.State.{Version, IsVersion, AreVersions}
-use Rattle.pl_pages.proofs.Replays.{block_true}
-use Rattle.pl_pages.specs.Kept.{AreKept, IsAt, VersionsState, frames_of, StayInPlace, StayTrue, with_block, versions_in, version_in, version_at}
+use Rattle.pl_pages.specs.Kept.{AreKept, VersionsState, frames_of, StayInPlace, StayTrue, with_block, versions_in, version_in, version_at}
 use Rattle.pl_pages.specs.declared.versions.Kept.{Kept}
 
 -- ---- an arena of which one frame was written

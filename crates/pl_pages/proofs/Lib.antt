@@ -3,3 +3,4 @@ mod Frames
 mod Listing
 mod Touching
 mod Sizes
+mod Images

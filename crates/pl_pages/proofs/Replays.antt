@@ -1,12 +1,13 @@
 -- Replays of a log that grows, and of one block more.
-use Rattle.std.proofs.Common.{◌≡◌, ℕ, suc, ◌+◌, ◌≤◌, Bool, true, false, ◌&&◌, not, cond, leb, List, [], ◌∷◌, ◌++◌, length, take, Some, slice_get, refl, sym, ap, ◌∙◌, arith, length-append}
+use Rattle.std.proofs.Common.{◌≡◌, ℕ, suc, ◌+◌, ◌≤◌, Bool, true, false, ◌&&◌, not, cond, leb, List, [], ◌∷◌, ◌++◌, length, take, Some, slice_get, refl, sym, ap, subst, ◌∙◌, arith, length-append}
 use Rattle.std.proofs.lemmas.Bool.{leb-true}
 use Rattle.std.proofs.lemmas.Option.{slice_get_within, get_or_from_slice_get}
 use Rattle.std.proofs.Math.Seq.{take-suc}
 use Rattle.std.proofs.lemmas.List.Sums.{fold-append}
-use Rattle.std.specs.FinMap as maps
+use Rattle.std.specs.List.{AllByRecursion}
 use Rattle.std.proofs.lemmas.List.{take-append-le}
 use Rattle.pl_block.specs.Block.{Content}
+use Rattle.pl_block.specs.Spelling.{IsBlock}
 use Rattle.pl_pages.specs.Page.{after_blocks, page_of, after_block, zeros}
 use Rattle.pl_pages.specs.State.{Version, PagesState, IsVersion, FitsLog, indexed_at, lsns_of}
 use Rattle.pl_pages.specs.Laws.{AnswersReach}
@@ -25,6 +26,7 @@ pub fits_longer : (pages : PagesState) (log more : List Content) → FitsLog pag
 fits_longer pages log more fits = record {
   applied = λ partition. omega (arith, fits.applied partition, length-append log more);
   indexed = omega (arith, fits.indexed, length-append log more);
+  blocks = subst (AllByRecursion IsBlock) (sym (take-append-le pages.indexed log more fits.indexed)) fits.blocks;
   index = λ page. fits.index page ∙ ap (lsns_of page) (sym (take-append-le pages.indexed log more fits.indexed));
   versions = λ k d within. version_of_longer log more _ (fits.versions k d within);
 }
@@ -34,6 +36,7 @@ pub nothing_fits : (s : PagesState) (log : List Content) → s.applied ≡ [] �
 nothing_fits s log none no_blocks no_lsns no_versions = record {
   applied = λ partition. rw none (omega arith);
   indexed = omega (arith, no_blocks);
+  blocks = subst (λ n. AllByRecursion IsBlock (take n log)) (sym no_blocks) tt;
   index = λ page. no_lsns page ∙ ap (λ n. lsns_of page (take n log)) (sym no_blocks);
   versions = λ k d within. absurd (omega (arith, within, ap length no_versions));
 }

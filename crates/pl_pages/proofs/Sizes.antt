@@ -9,7 +9,7 @@ use Rattle.pl_block.specs.declared.record.Record.{Record}
 use Rattle.pl_block.specs.declared.record.Record.TheVariants.{Put, Zero}
 use Rattle.pl_pages.specs.Page.{zeros, changed, after_record, after_block, after_blocks, page_of}
 
-abbrev IsPage : List ℕ → Type 0
+abbrev pub IsPage : List ℕ → Type 0
 IsPage bytes = length bytes ≡ page_size
 
 pub length-zeros : IsPage zeros
@@ -29,7 +29,7 @@ changed_sized : (change : Record) (old : List ℕ) → IsRecord change → IsPag
 changed_sized (Put page offset bytes) old is sized = put_sized offset bytes old is.2 sized
 changed_sized (Zero page) old is sized = let none : ℕ = 0 in length-replicate (length old) none ∙ sized
 
-one_sized : (change : Record) (old : List ℕ) (ours : Bool) → IsRecord change → IsPage old → IsPage (cond ours (changed change old) old)
+pub one_sized : (change : Record) (old : List ℕ) (ours : Bool) → IsRecord change → IsPage old → IsPage (cond ours (changed change old) old)
 one_sized change old true is sized = changed_sized change old is sized
 one_sized change old false is sized = sized
 

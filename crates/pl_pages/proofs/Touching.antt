@@ -1,7 +1,7 @@
 -- Blocks that change a page, counted: what lies between two of them leaves the page as it is.
-use Rattle.std.proofs.Common.{◌≡◌, ◌≢◌, ℕ, zero, suc, ◌+◌, ◌-◌, ◌<◌, ◌≤◌, ◌||◌, ◌⊎◌, Bool, true, false, cond, eqb, List, [], ◌∷◌, ◌++◌, length, map, filter, take, get_or, fold, Some, slice_get, slice_index_or, refl, sym, ap, subst, ◌∙◌, inl, inr, arith, length-append, length-set}
+use Rattle.std.proofs.Common.{◌≡◌, ℕ, zero, suc, ◌+◌, ◌-◌, ◌<◌, ◌≤◌, ◌||◌, ◌⊎◌, Bool, true, false, cond, eqb, List, [], ◌∷◌, ◌++◌, length, map, filter, take, get_or, fold, Some, slice_get, refl, sym, ap, subst, ◌∙◌, inl, inr, arith, length-append, length-set}
 use mathlib.Core.Bool.{false≢true}
-use Rattle.std.specs.List.{list_any}
+use Rattle.std.specs.List.{list_any, AllByRecursion}
 use Rattle.std.proofs.lemmas.Bool.{cases_lt}
 use Rattle.std.proofs.lemmas.List.{get_or_append_left, get_or_push, map-append, take_all, append-nil}
 use Rattle.std.proofs.lemmas.List.Elements.{filter-append}
@@ -9,10 +9,11 @@ use Rattle.std.proofs.lemmas.Option.{slice_get-get_or, slice_get_within, none-so
 use Rattle.pl_block.specs.Block.{Content, changed_page}
 use Rattle.pl_block.specs.declared.record.Record.{Record}
 use Rattle.pl_block.specs.Numbered.{AreNumbered}
+use Rattle.pl_block.specs.Spelling.{IsBlock}
 use Rattle.pl_pages.specs.Page.{changed, after_record, after_block, page_of, zeros}
 use Rattle.pl_pages.specs.State.{Version, IsVersion, AreVersions, changes_page, lsns_of}
 use Rattle.pl_pages.specs.Kept.{IsAt, version_at, with_block}
-use Rattle.pl_pages.specs.Index.{IndexState, IsIndex, HasBlock, IsBehind, count_before, lsns_at}
+use Rattle.pl_pages.specs.Index.{IndexState, IsIndex, HasBlock, IsBehind, count_before}
 use Rattle.pl_pages.proofs.Replays.{take_block, block_more, block_true}
 use Rattle.pl_pages.proofs.Frames.{replaced_true, with_block_stands, block_made}
 
@@ -219,9 +220,15 @@ none_before page log = refl
 
 -- ---- an index, with one block more
 
+all_and_one : (xs : List Content) (x : Content) → AllByRecursion IsBlock xs → IsBlock x → AllByRecursion IsBlock (xs ++ x ∷ [])
+all_and_one [] x all is = (is, tt)
+all_and_one (y ∷ ys) x all is = (all.0, all_and_one ys x all.1 is)
+
 pub index_more : (log : List Content) (old new : IndexState) (block : Content) → IsIndex old log → slice_get log old.entered ≡ Some block → HasBlock old block new → IsIndex new log
 index_more log old new block is here has = record {
   within = omega (arith, has.entered, slice_get_within log old.entered block here);
+  blocks = subst (λ n. AllByRecursion IsBlock (take n log)) (sym has.entered)
+      (subst (AllByRecursion IsBlock) (sym (take_block log old.entered block here)) (all_and_one (take old.entered log) block is.blocks has.valid));
   lsns = λ page.
       has.lsns page ∙ ap (λ xs. cond (changes_page page block) (xs ++ block.lsn ∷ []) xs) (is.lsns page)
       ∙ sym (lsns_more page log old.entered block here) ∙ ap (λ n. lsns_of page (take n log)) (sym has.entered);

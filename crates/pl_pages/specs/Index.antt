@@ -4,7 +4,9 @@ use Rattle.std.specs.Ordering.{nat_cmp}
 use Rattle.std.specs.FinMap as maps
 use Rattle.std.specs.HashMap as hash
 use Rattle.std.specs.HashMap.{HashMap}
+use Rattle.std.specs.List.{AllByRecursion}
 use Rattle.pl_block.specs.Block.{Content}
+use Rattle.pl_block.specs.Spelling.{IsBlock}
 use Rattle.pl_pages.specs.Kept.{version_at}
 use Rattle.pl_pages.specs.State.{Version, changes_page, lsns_of}
 
@@ -20,6 +22,7 @@ lsns_at s page = unwrap_or (maps.get s.lsns page) []
 -- the index has the LSNs of the blocks that were entered, which are the first of the log
 pub record IsIndex (s : IndexState) (log : List Content) : Type 0 where
   pub within : s.entered ≤ length log
+  pub blocks : AllByRecursion IsBlock (take s.entered log)
   pub lsns : (page : ℕ) → lsns_at s page ≡ lsns_of page (take s.entered log)
 
 -- nothing was entered
@@ -30,6 +33,7 @@ pub record SameIndex (old new : IndexState) : Type 0 where
 -- a block was entered under each page that it changes
 pub record HasBlock (old : IndexState) (block : Content) (new : IndexState) : Type 0 where
   pub entered : new.entered ≡ old.entered + 1
+  pub valid : IsBlock block
   pub lsns : (page : ℕ) → lsns_at new page ≡ (if changes_page page block then lsns_at old page ++ block.lsn ∷ [] else lsns_at old page)
 
 -- the list of a page, in the map

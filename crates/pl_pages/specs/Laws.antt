@@ -4,7 +4,7 @@ use Rattle.std.specs.List.{AllByRecursion}
 use Rattle.pl_block.specs.Block.{Content}
 use Rattle.pl_block.specs.Bounds.{page_size}
 use Rattle.pl_block.specs.Spelling.{IsBlock}
-use Rattle.pl_pages.specs.Page.{page_of}
+use Rattle.pl_pages.specs.Page.{after_block, is_image, page_of}
 use Rattle.pl_pages.specs.State.{PagesState, FitsLog, chosen}
 
 -- what fits a log fits each log that begins with it
@@ -18,6 +18,11 @@ PagesStay = (page lsn : ℕ) (log more : List Content) → lsn ≤ length log �
 -- the page of blocks has the bytes of a page
 abbrev pub PagesKeepTheirSize : Type 0
 PagesKeepTheirSize = (page : ℕ) (blocks : List Content) → AllByRecursion IsBlock blocks → length (page_of page blocks) ≡ page_size
+
+-- a page after an image is the same, whatever it was before
+abbrev pub ImagesAreWhole : Type 0
+ImagesAreWhole = (page : ℕ) (block : Content) (a b : List ℕ) → IsBlock block → is_image page block ≡ true
+    → length a ≡ page_size → length b ≡ page_size → after_block page a block ≡ after_block page b block
 
 -- the LSN that a get is answered at
 pub record AnswersReach : Type 0 where

@@ -1,5 +1,6 @@
 -- What records do to a page, and a page as the replay of blocks.
-use Rattle.std.specs.Prelude.{ℕ, ◌+◌, ◌==◌, ◌≤◌, List, ◌++◌, length, take, drop, replicate, fold, if◌then◌else◌}
+use Rattle.std.specs.Prelude.{ℕ, ◌+◌, ◌==◌, ◌≤◌, Bool, true, ◌&&◌, List, ◌++◌, length, take, drop, replicate, fold, if◌then◌else◌}
+use Rattle.std.specs.List.{list_any}
 use Rattle.pl_block.specs.Block.{Content, changed_page}
 use Rattle.pl_block.specs.Bounds.{page_size}
 use Rattle.pl_block.specs.declared.record.Record.{Record}
@@ -22,6 +23,15 @@ EndsWithin len (Zero page) = Unit {0}
 -- a page after a record of any page
 abbrev pub after_record : ℕ → List ℕ → Record → List ℕ
 after_record page old change = if changed_page change == page then changed change old else old
+
+-- a record makes the whole page, whatever was there: a Zero, or a Put of as many bytes as a page has
+abbrev pub makes_page : Record → Bool
+makes_page (Put page offset bytes) = length bytes == page_size
+makes_page (Zero page) = true
+
+-- a block has a record that makes the whole page, so that its replay may begin there
+abbrev pub is_image : ℕ → Content → Bool
+is_image page block = list_any (λ change. changed_page change == page && makes_page change) block.records
 
 -- a page after the records of a block, in their order
 abbrev pub after_block : ℕ → List ℕ → Content → List ℕ

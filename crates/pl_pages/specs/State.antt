@@ -1,9 +1,10 @@
 -- What is kept of pages, as contracts see it, and when it fits a log.
 use Rattle.std.specs.Prelude.{◌≡◌, ℕ, ◌/◌, ◌≤◌, ◌==◌, Bool, ◌&&◌, not, nat_le, All, List, [], length, map, filter, take, unwrap_or, slice_index_or, if◌then◌else◌}
-use Rattle.std.specs.List.{list_any}
+use Rattle.std.specs.List.{list_any, AllByRecursion}
 use Rattle.std.specs.Ordering.{nat_cmp}
 use Rattle.std.specs.FinMap as maps
 use Rattle.pl_block.specs.Block.{Content, changed_page}
+use Rattle.pl_block.specs.Spelling.{IsBlock}
 use Rattle.pl_pages.specs.Page.{page_of}
 
 -- a page as it was at an LSN
@@ -56,10 +57,11 @@ abbrev pub AreVersions : List Version → List Content → Type 0
 AreVersions vs log = All (IsVersion log) vs
 
 -- What is kept of pages fits a log: no partition is applied above its end; the index was made of no
--- more blocks than it has, and has the LSNs of these; versions are pages of it.
+-- more blocks than it has, which are blocks, and has the LSNs of these; versions are pages of it.
 pub record FitsLog (pages : PagesState) (log : List Content) : Type 0 where
   pub applied : (partition : ℕ) → applied_at pages partition ≤ length log
   pub indexed : pages.indexed ≤ length log
+  pub blocks : AllByRecursion IsBlock (take pages.indexed log)
   pub index : (page : ℕ) → indexed_at pages page ≡ lsns_of page (take pages.indexed log)
   pub versions : AreVersions pages.versions log
 

@@ -2,9 +2,10 @@
 
 ghost use Rattle.std.specs.Prelude.{◌≡◌, length, replicate};
 ghost use Rattle.pl_block.specs.Bounds.{page_size};
-ghost use Rattle.pl_pages.specs.Page.{EndsWithin, after_block, changed};
+ghost use Rattle.pl_block.specs.Spelling.{IsBlock};
+ghost use Rattle.pl_pages.specs.Page.{EndsWithin, after_block, changed, is_image, makes_page};
 
-use pl_block::{Block, Record};
+use pl_block::{Block, PAGE_SIZE, Record};
 
 /// Makes one change of a page: a Put replaces the bytes from its offset on, a Zero makes each byte
 /// 0.
@@ -35,6 +36,27 @@ pub(crate) fn redo_block(block: &Block, page: u32, bytes: &mut [u8])
             redo(change, bytes);
         }
     }
+}
+
+/// Whether the record makes the whole page, whatever was there: a Zero, or a Put of a page's bytes.
+pub(crate) fn makes_page(change: &Record) -> bool
+    ensures value { result ≡ makes_page change.now }
+{
+    match change {
+        Record::Put { bytes, .. } => bytes.len() == PAGE_SIZE,
+        Record::Zero { .. } => true,
+    }
+}
+
+/// Whether the block has a record that makes the whole page.
+pub(crate) fn is_image(block: &Block, page: u32) -> bool
+    ensures value { result ≡ is_image page block.now }
+    ensures valid { IsBlock block.now }
+{
+    block
+        .records()
+        .iter()
+        .any(|change| change.page() == page && makes_page(change))
 }
 
 /// Makes each byte 0.

@@ -1,9 +1,11 @@
 //! Which blocks of the log change a page.
 
 ghost use Rattle.std.specs.Prelude.{◌≡◌, ◌+◌, ◌<◌, ◌≤◌, ◌==◌, ◌++◌, ◌∷◌, ℕ, List, [], false, length, IfOk, OnOk, OnErr, if◌then◌else◌};
+ghost use Rattle.pl_block.specs.Spelling.{IsBlock};
 ghost use Rattle.pl_pages.specs.Index.{HasBlock, MayEndWith, SameIndex, ends_with, listed, lsns_at, with_lsn, without_lsn};
 ghost use Rattle.pl_pages.specs.State.{changes_page};
 
+use crate::changes::makes_page;
 use pl_block::Block;
 use std::alloc::{AllocError, Global};
 use std::collections::HashMap;
@@ -18,6 +20,9 @@ pub(crate) struct Index {
     entered: u64,
     /// The LSNs under a page, rising.
     lsns: HashMap<u32, Vec<u64>>,
+    /// Of these, the LSNs of blocks that make the whole page. What it leads to is looked at before it is
+    /// used; one that found no memory lacks.
+    images: HashMap<u32, Vec<u64>>,
 }
 
 impl Model for Index {
@@ -44,6 +49,7 @@ impl Index {
             alloc,
             entered: 0,
             lsns: HashMap::new(alloc),
+            images: HashMap::new(alloc),
         }
     }
 
@@ -64,7 +70,19 @@ impl Index {
         }
     }
 
-    /// Enters the block behind those that were entered. An error changes nothing.
+    /// The LSN of the newest block up to an LSN that was noted as one that makes the whole page, or 0. It
+    /// costs a search.
+    pub(crate) fn newest_image(&self, page: u32, lsn: u64) -> u64
+        ensures within { result ≤ lsn }
+    {
+        let Some(images) = self.images.get(&page) else {
+            return 0;
+        };
+        let count = images.partition_point(|image| *image <= lsn);
+        newest_of(images, count).min(lsn)
+    }
+
+    /// Enters the block after those that were entered. An error changes nothing.
     pub(crate) fn enter(&mut self, block: &Block) -> Result<(), AllocError>
         requires next { block.now.lsn ≡ self.old.entered + 1 }
         ensures ok { OnOk result (HasBlock self.old block.now self.new) }
@@ -73,6 +91,7 @@ impl Index {
         match add_block(&mut self.lsns, self.alloc, block) {
             Ok(()) => {
                 self.entered = block.lsn();
+                note_images(&mut self.images, self.alloc, block);
                 Ok(())
             }
             Err(error) => {
@@ -87,6 +106,24 @@ impl fmt::Debug for Index {
     fn fmt<W: fmt::Write>(&self, f: &mut fmt::Formatter<W>) -> fmt::Result {
         let count = self.entered;
         write!(f, "{count} blocks")
+    }
+}
+
+// The last of the first LSNs, or 0 where there is none.
+fn newest_of(lsns: &[u64], count: usize) -> u64 {
+    match lsns.get(count.wrapping_sub(1)) {
+        Some(lsn) => *lsn,
+        None => 0,
+    }
+}
+
+// Notes a block under each page that it makes whole, as far as there is memory.
+fn note_images(lists: &mut HashMap<u32, Vec<u64>>, alloc: Global, block: &Block) {
+    let lsn = block.lsn();
+    for change in block.records() {
+        if makes_page(change) && add(lists, alloc, change.page(), lsn).is_err() {
+            return;
+        }
     }
 }
 
@@ -163,6 +200,7 @@ fn add_block(
     block: &Block,
 ) -> Result<(), AllocError>
     requires above { (page : ℕ) → ends_with block.now.lsn (listed lists.old page) ≡ false }
+    ensures valid { IsBlock block.now }
     ensures ok { OnOk result ((page : ℕ) → listed lists.new page ≡ (if changes_page page block.now
         then listed lists.old page ++ block.now.lsn ∷ [] else listed lists.old page)) }
     ensures err { OnErr result ((page : ℕ) → MayEndWith block.now.lsn (changes_page page block.now)

@@ -1,7 +1,7 @@
 //! What follows from the definitions. Each function is a law: its clause holds of all values, and
 //! its body does nothing.
 
-ghost use Rattle.pl_pages.specs.Laws.{AnswersReach, FitsLongerLogs, PagesKeepTheirSize, PagesStay};
+ghost use Rattle.pl_pages.specs.Laws.{AnswersReach, FitsLongerLogs, ImagesAreWhole, PagesKeepTheirSize, PagesStay};
 
 /// What fits a log fits each log that begins with it, so that pages stay true while the log grows.
 pub fn pages_fit_longer_logs()
@@ -17,6 +17,12 @@ pub fn pages_stay()
 /// The page of blocks has 8,192 bytes.
 pub fn pages_keep_their_size()
     ensures len { PagesKeepTheirSize }
+{}
+
+/// A block that makes the whole page gives the same page whatever was there before, so that a replay may
+/// begin with it.
+pub fn images_are_whole()
+    ensures page { ImagesAreWhole }
 {}
 
 /// The LSN that a get is answered at is not below the one that was asked for, is that one where the

@@ -1,22 +1,28 @@
 //! The pages of one database.
 
-ghost use Rattle.std.specs.Prelude.{◌≡◌, ◌≢◌, ◌+◌, ◌-◌, ◌<◌, ◌≤◌, ℕ, List, length, min, IfOk, OnOk, OnErr, slice_index_or, take, ◌==◌, if◌then◌else◌};
+ghost use Rattle.std.specs.Prelude.{◌≡◌, ◌≢◌, ◌+◌, ◌-◌, ◌<◌, ◌≤◌, ℕ, List, length, min, IfOk, IfSome, OnOk, OnErr, slice_index_or, take, ◌==◌, if◌then◌else◌};
+ghost use Rattle.std.specs.List.{AllByRecursion};
 ghost use Rattle.std.specs.Borrow.{sem};
 ghost use Rattle.pl_block.specs.Block.{Content};
 ghost use Rattle.pl_block.specs.Bounds.{page_size};
 ghost use Rattle.pl_block.specs.Numbered.{AreNumbered};
+ghost use Rattle.pl_block.specs.Spelling.{IsBlock};
 ghost use Rattle.pl_pages.specs.Index.{IsBehind, IsIndex, count_before};
-ghost use Rattle.pl_pages.specs.Kept.{version_at};
+ghost use Rattle.pl_pages.specs.Kept.{IsAt, version_at};
 ghost use Rattle.pl_pages.specs.Page.{page_of};
 ghost use Rattle.pl_pages.specs.Ends.{EndsFitting};
 ghost use Rattle.pl_pages.specs.State.{AreVersions, FitsLog, SameApplied, applied_at, choice_of, chosen, lsns_of};
 
+use crate::changes::is_image;
 use crate::index::Index;
-use crate::versions::Versions;
+use crate::versions::{Found, Versions};
 use pl_block::PAGES_PER_PARTITION;
 use pl_log::DbLog;
 use std::alloc::{AllocError, Global};
 use std::marker::Model;
+
+/// How many blocks a call of `follow` enters at most: as many as the window of a log has.
+const MOST_FOLLOWED: u64 = 64;
 
 /// The pages of a database whose log stands beside it: how far each partition is applied, which
 /// blocks change each page, and versions of pages.
@@ -93,15 +99,36 @@ impl Pages {
         raise(&mut self.applied, partition, target)
     }
 
+    /// Enters the next 64 hardened blocks into the index, or as many as there are, so that a get finds
+    /// few that are not in it.
+    ///
+    /// It reads each of them once, and allocates 8 bytes, at most 16, under each page that one changes.
+    /// An error means that an allocation failed: some of the blocks may be in the index, and a get
+    /// enters the others.
+    pub fn follow(&mut self, log: &mut DbLog) -> Result<(), AllocError>
+        requires fits { FitsLog self.old log.old.hardened }
+        ensures log { log.new ≡ log.old }
+        ensures fits { FitsLog self.new log.old.hardened }
+        ensures ok { OnOk result
+            (self.new.indexed ≡ min (length log.old.hardened) (self.old.indexed + 64)) }
+        ensures applied { SameApplied self.old self.new }
+        ensures chunks { self.new.chunks ≡ self.old.chunks }
+    {
+        let entered = self.index.entered();
+        let to = entered.saturating_add(MOST_FOLLOWED).min(log.hard());
+        catch_up(log, &mut self.index, to)
+    }
+
     /// The bytes of the page at an LSN of the log, and that LSN: the one asked for where `exact` is
     /// set or the partition is applied no further, else the one that the partition is applied to.
     ///
     /// The LSN is at most `hard`. The 8,192 bytes are lent until the next call.
     ///
-    /// The first get behind a hardened block reads that block once and enters its LSN under each page
-    /// that it changes. Besides, a get costs a search, and where no version of the page stands at the
-    /// LSN a copy of the newest below it and the blocks that change the page since, or all that change
-    /// it where there is no version below. A new version takes a frame; once all have versions, it takes
+    /// A get enters the hardened blocks that are not in the index yet, each once. Besides, it costs two
+    /// searches, and where no version of the page is kept at the LSN a replay of the blocks that change
+    /// the page: from a copy of the newest version below it on, or from the newest block below it that
+    /// makes the whole page (a Zero, or a Put of 8,192 bytes), whichever is newer; where there is
+    /// neither, of all that change it. A new version takes a frame; once all have versions, it takes
     /// that of the oldest. An error means that an allocation failed: no applied LSN has changed.
     pub fn get(
         &mut self,
@@ -181,21 +208,23 @@ fn find_or_make(
     ensures page { IfOk result (λ place. (version_at versions.new.versions place).bytes ≡
         page_of page (take lsn log.old.hardened)) }
 {
-    catch_up(log, index)?;
-    let place = show(log, versions, page, index.lsns(page), lsn)?;
+    let hard = log.hard();
+    catch_up(log, index, hard)?;
+    let image = index.newest_image(page, lsn);
+    let place = show(log, versions, page, index.lsns(page), image, lsn)?;
     Ok(place)
 }
 
-// Enters the hardened blocks that the index was not made of yet.
-fn catch_up(log: &mut DbLog, index: &mut Index) -> Result<(), AllocError>
+// Enters the hardened blocks up to an LSN that the index was not made of yet.
+fn catch_up(log: &mut DbLog, index: &mut Index, to: u64) -> Result<(), AllocError>
     requires index { IsIndex index.old log.old.hardened }
+    requires from { index.old.entered ≤ to }
+    requires hard { to ≤ length log.old.hardened }
     ensures log { log.new ≡ log.old }
     ensures index { IsIndex index.new log.old.hardened }
-    ensures numbered { AreNumbered 1 log.old.hardened }
-    ensures all { OnOk result (index.new.entered ≡ length log.old.hardened) }
+    ensures all { OnOk result (index.new.entered ≡ to) }
 {
-    let hard = log.hard();
-    for before in index.entered()..hard {
+    for before in index.entered()..to {
         let block = log.read(before + 1)?;
         index.enter(&block)?;
     }
@@ -242,19 +271,83 @@ fn bring_up(
     Ok(())
 }
 
+// A version of the page at the LSN of an image, or at LSN 0, where the block there is none.
+fn begin_at_image(
+    log: &mut DbLog,
+    versions: &mut Versions,
+    page: u32,
+    image: u64,
+) -> Result<Found, AllocError>
+    requires numbered { AreNumbered 1 log.old.hardened }
+    requires blocks { AllByRecursion IsBlock log.old.hardened }
+    requires truth { AreVersions versions.old.versions log.old.hardened }
+    requires hard { image ≤ length log.old.hardened }
+    ensures log { log.new ≡ log.old }
+    ensures truth { AreVersions versions.new.versions log.old.hardened }
+    ensures chunks { versions.new.chunks ≡ versions.old.chunks }
+    ensures at { IfOk result (λ begun. IsAt versions.new.versions begun.place page begun.lsn) }
+    ensures below { IfOk result (λ begun. begun.lsn ≤ image) }
+{
+    let place = versions.begin(page)?;
+    if image == 0 {
+        return Ok(Found { place, lsn: 0 });
+    }
+    let block = log.read(image)?;
+    if !is_image(&block, page) {
+        return Ok(Found { place, lsn: 0 });
+    }
+    versions.redo(place, &block);
+    Ok(Found { place, lsn: image })
+}
+
+// A version of its own from which the page at an LSN can be made: a copy of the one that was found, or
+// one that begins at an image above it.
+fn begin(
+    log: &mut DbLog,
+    versions: &mut Versions,
+    page: u32,
+    found: Option<Found>,
+    image: u64,
+    lsn: u64,
+) -> Result<Found, AllocError>
+    requires numbered { AreNumbered 1 log.old.hardened }
+    requires blocks { AllByRecursion IsBlock log.old.hardened }
+    requires truth { AreVersions versions.old.versions log.old.hardened }
+    requires hard { lsn ≤ length log.old.hardened }
+    requires image { image ≤ lsn }
+    requires at { IfSome found (λ it. IsAt versions.old.versions it.place page it.lsn) }
+    requires below { IfSome found (λ it. it.lsn ≤ lsn) }
+    ensures log { log.new ≡ log.old }
+    ensures truth { AreVersions versions.new.versions log.old.hardened }
+    ensures chunks { versions.new.chunks ≡ versions.old.chunks }
+    ensures at { IfOk result (λ begun. IsAt versions.new.versions begun.place page begun.lsn) }
+    ensures below { IfOk result (λ begun. begun.lsn ≤ lsn) }
+{
+    match found {
+        Some(found) if image <= found.lsn => {
+            let place = versions.begin_from(found.place)?;
+            Ok(Found { place, ..found })
+        }
+        _ => begin_at_image(log, versions, page, image),
+    }
+}
+
 // The place of a version that is the page at an LSN. Where the newest at or below it lacks blocks
-// that change the page, a copy of it is brought up; where there is none, a new one from LSN 0 on.
+// that change the page, one of its own is brought up.
 fn show(
     log: &mut DbLog,
     versions: &mut Versions,
     page: u32,
     lsns: &[u64],
+    image: u64,
     lsn: u64,
 ) -> Result<usize, AllocError>
     requires numbered { AreNumbered 1 log.old.hardened }
+    requires blocks { AllByRecursion IsBlock log.old.hardened }
     requires lsns { lsns.now ≡ lsns_of page log.old.hardened }
     requires truth { AreVersions versions.old.versions log.old.hardened }
     requires hard { lsn ≤ length log.old.hardened }
+    requires image { image ≤ lsn }
     ensures log { log.new ≡ log.old }
     ensures truth { AreVersions versions.new.versions log.old.hardened }
     ensures chunks { versions.new.chunks ≡ versions.old.chunks }
@@ -262,17 +355,15 @@ fn show(
         log.old.hardened (count_before page log.old.hardened lsn)) }
 {
     let to = count_up_to(lsns, lsn);
-    let (place, from) = match versions.find(page, lsn) {
-        Some(found) => {
-            let from = count_up_to(lsns, found.lsn);
-            if from == to {
-                return Ok(found.place);
-            }
-            (versions.begin_from(found.place)?, from)
+    let found = versions.find(page, lsn);
+    if let Some(found) = found {
+        if count_up_to(lsns, found.lsn) == to {
+            return Ok(found.place);
         }
-        None => (versions.begin(page)?, 0),
-    };
-    bring_up(log, versions, place, page, lsns, from, to)?;
-    versions.enter(place)?;
-    Ok(place)
+    }
+    let begun = begin(log, versions, page, found, image, lsn)?;
+    let from = count_up_to(lsns, begun.lsn);
+    bring_up(log, versions, begun.place, page, lsns, from, to)?;
+    versions.enter(begun.place)?;
+    Ok(begun.place)
 }

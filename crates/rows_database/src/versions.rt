@@ -2,6 +2,9 @@
 
 ghost use Rattle.std.specs.Prelude.{◌≡◌, ◌≤◌, length, vec_len, IfOk};
 ghost use Rattle.pl_pages.specs.State.{FitsLog};
+ghost use Rattle.rows_database.specs.Fits.{is_record-prop};
+ghost use Rattle.std.proofs.Props.{props};
+ghost use Rattle.std.specs.List.{AllByRecursion-prop};
 
 use crate::database::Database;
 use bytes::Bytes;
@@ -20,7 +23,7 @@ struct Served {
     alloc: Global,
     log: DbLog,
     pages: Pages,
-    ghost fits: { FitsLog pages log.hardened },
+    ghost fits: { FitsLog pages log.hardened } by { Prim.hlevel (props, AllByRecursion-prop, is_record-prop) },
 }
 
 fn open(alloc: Global, chunks: u8) -> Result<Served, AllocError> {

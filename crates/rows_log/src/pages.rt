@@ -1,6 +1,9 @@
 //! The pages of a log, asked line by line, and their rows.
 
 ghost use Rattle.pl_pages.specs.State.{FitsLog};
+ghost use Rattle.rows_log.specs.Fits.{is_record-prop};
+ghost use Rattle.std.proofs.Props.{props};
+ghost use Rattle.std.specs.List.{AllByRecursion-prop};
 
 use pl_log::DbLog;
 use pl_log::laws::reports_harden_contents;
@@ -17,7 +20,7 @@ use transcripts::transcript::{Stop, Subject, plays};
 pub(crate) struct Served {
     log: DbLog,
     pages: Pages,
-    ghost fits: { FitsLog pages log.hardened },
+    ghost fits: { FitsLog pages log.hardened } by { Prim.hlevel (props, AllByRecursion-prop, is_record-prop) },
 }
 
 /// The pages of a transcript.
@@ -174,4 +177,39 @@ get 0 4                       = 4 4 0
 #[test]
 fn pages_at_each_lsn(rt: HostRuntime) -> Result<(), Fail> {
     plays::<Replayed>(rt.alloc(), PAGES_AT_EACH_LSN)
+}
+
+// A block that makes the whole page is where a replay may begin: bytes from before it are gone, also
+// where a version from before it is kept, and records before it in its own block do not count.
+const REPLAYS_BEGIN_AT_IMAGES: &str = "\
+pages                                 = Ok
+harden 1 1:01                         = Ok
+harden 2 2:ee@0+8191                  = Ok
+harden 3 3:aa@0+8191,8192*07,08@0+1   = Ok
+harden 4 4:04                         = Ok
+harden 5 5:zero                       = Ok
+harden 6 6:06@0+8191                  = Ok
+harden 7 7:8192*05@1,8191*09          = Ok
+get 0 2 exact                         = 2 1 238
+get 0 3 exact                         = 3 7 7
+get 0 4 exact                         = 4 4 7
+get 0 5 exact                         = 5 0 0
+get 0 6 exact                         = 6 0 6
+get 0 7 exact                         = 7 9 6
+get 1 6 exact                         = 6 0 0
+get 1 7 exact                         = 7 5 5
+get 0 1 exact                         = 1 1 0
+# Newest first, so that no version is kept below.
+pages                                 = Ok
+harden 1 1:11,22@0+8191               = Ok
+harden 2 2:8192*33                    = Ok
+harden 3 3:44                         = Ok
+get 0 3 exact                         = 3 68 51
+get 0 2 exact                         = 2 51 51
+get 0 1 exact                         = 1 17 34
+";
+
+#[test]
+fn replays_begin_at_images(rt: HostRuntime) -> Result<(), Fail> {
+    plays::<Replayed>(rt.alloc(), REPLAYS_BEGIN_AT_IMAGES)
 }

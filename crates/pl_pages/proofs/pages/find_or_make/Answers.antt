@@ -1,5 +1,7 @@
-use Rattle.std.proofs.Common.{◌≤◌, length, take, sym, ap, ◌∙◌, arith}
+use Rattle.std.proofs.Common.{◌≤◌, length, take, sym, ap, subst, ◌∙◌, arith}
+use Rattle.std.specs.List.{AllByRecursion}
 use Rattle.std.proofs.lemmas.List.{take_all}
+use Rattle.pl_block.specs.Spelling.{IsBlock}
 use Rattle.pl_pages.specs.Page.{page_of}
 use Rattle.pl_pages.specs.State.{lsns_of}
 use Rattle.pl_pages.proofs.Touching.{given_at}
@@ -10,10 +12,18 @@ show-requires-clause-lsns c =
     let page = c.args.page in
     let log = c.args.log.now.hardened in
     let index = c.catch_up.new.index in
-    let whole : length log ≤ index.entered = omega (arith, c.in_ok-catch_up.ensures.all) in
+    let whole : length log ≤ index.entered = omega (arith, c.in_ok-catch_up.ensures.all, c.hard-hard.ensures.value) in
     c.lsns.ensures.value ∙ c.in_ok-catch_up.ensures.index.lsns page
     ∙ ap (lsns_of page) (take_all index.entered log whole)
     ∙ ap (λ l. lsns_of page l.hardened) (sym c.in_ok-catch_up.ensures.log)
+
+pub show-requires-clause-blocks : goal.show-requires-clause-blocks
+show-requires-clause-blocks c =
+    let log = c.args.log.now.hardened in
+    let index = c.catch_up.new.index in
+    let whole : length log ≤ index.entered = omega (arith, c.in_ok-catch_up.ensures.all, c.hard-hard.ensures.value) in
+    subst (λ l. AllByRecursion IsBlock l.hardened) (sym c.in_ok-catch_up.ensures.log)
+    (subst (AllByRecursion IsBlock) (take_all index.entered log whole) c.in_ok-catch_up.ensures.index.blocks)
 
 pub returns-clause-page : goal.returns-clause-page
 returns-clause-page c =

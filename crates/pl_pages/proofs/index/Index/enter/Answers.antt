@@ -14,6 +14,7 @@ invariant_of-self-in-Err c = λ page.
 pub returns-in-Ok-clause-ok : goal.returns-in-Ok-clause-ok
 returns-in-Ok-clause-ok c = record {
   entered = c.lsn-self-inside.ensures.value ∙ c.requires.next;
+  valid = c.add_block.ensures.valid;
   lsns = λ page.
       let seen = ap (λ s. lsns_at s page) (sym c.self.view_is) ∙ lists_seen c.self.inside.lsns page in
       let lsn = c.args.block.now.lsn in
