@@ -20,22 +20,31 @@ const LONG_RUN: usize = 8;
 
 fn main(rt: HostRuntime) -> io::Result<()> {
     let mut db = None;
+    answer_lines(&rt, &mut db)
+}
+
+/// Answers each line of standard input. The pass decides nothing, so each line has its own.
+fn answer_lines(rt: &HostRuntime, db: &mut Option<Db>) -> io::Result<()> {
     let mut pass: u64 = 0;
     for line in rt.lines(rt.alloc()) {
         let line = line?;
         pass = pass.wrapping_add(1);
-        if let Some(words) = line.strip_prefix("open ") {
-            db = opened(&rt, words);
-            println!(rt; "{}", if db.is_some() { "opened" } else { "?" })?;
-        } else {
-            let reply = match &mut db {
-                Some(db) => reply_line(rt.alloc(), db, pass, &line),
-                None => None,
-            };
-            println!(rt; "{}", reply.as_ref().map_or("?", |text| text.trim()))?;
-        }
+        answer_line(rt, db, pass, &line)?;
     }
     Ok(())
+}
+
+/// Answers one line.
+fn answer_line(rt: &HostRuntime, db: &mut Option<Db>, pass: u64, line: &str) -> io::Result<()> {
+    if let Some(words) = line.strip_prefix("open ") {
+        *db = opened(rt, words);
+        return println!(rt; "{}", if db.is_some() { "opened" } else { "?" });
+    }
+    let reply = match db {
+        Some(db) => reply_line(rt.alloc(), db, pass, line),
+        None => None,
+    };
+    println!(rt; "{}", reply.as_ref().map_or("?", |text| text.trim()))
 }
 
 /// The database that the words of an `open` line name.
@@ -44,29 +53,44 @@ fn opened(rt: &(impl Files + AllocGlobal), words: &str) -> Option<Db> {
     let [file, primary, limit] = words.as_slice() else {
         return None;
     };
-    let text = fs::read_to_string(rt, file).ok()?;
-    let table = read_table(rt.alloc(), text.as_bytes()).ok()?;
     let limits = Limits {
         audit: limit.parse().ok()?,
         chunks: 16,
     };
+    open_with(rt, file, primary.parse().ok()?, limits)
+}
+
+/// The database with the table of the file.
+fn open_with(
+    rt: &(impl Files + AllocGlobal),
+    file: &str,
+    primary: u32,
+    limits: Limits,
+) -> Option<Db> {
     if !limits.are_valid() {
         return None;
     }
-    Db::new(rt.alloc(), table, primary.parse().ok()?, limits).ok()
+    let text = fs::read_to_string(rt, file).ok()?;
+    let table = read_table(rt.alloc(), text.as_bytes()).ok()?;
+    Db::new(rt.alloc(), table, primary, limits).ok()
+}
+
+/// The bytes of a word.
+fn part_of(alloc: Global, word: &str) -> Option<Vec<u8>> {
+    match word.split_once('*') {
+        Some((count, byte)) => {
+            let byte = u8::from_str_radix(byte, 16).ok()?;
+            vec![in alloc; byte; count.parse().ok()?].ok()
+        }
+        None => hex::decode(alloc, word).ok(),
+    }
 }
 
 /// The bytes of the words.
 fn bytes_of(alloc: Global, words: &str) -> Option<Vec<u8>> {
     let mut bytes = Vec::new(alloc);
     for word in words.split_whitespace() {
-        let part = match word.split_once('*') {
-            Some((count, byte)) => {
-                let byte = u8::from_str_radix(byte, 16).ok()?;
-                vec![in alloc; byte; count.parse().ok()?].ok()?
-            }
-            None => hex::decode(alloc, word).ok()?,
-        };
+        let part = part_of(alloc, word)?;
         bytes.extend_from_slice(&part).ok()?;
     }
     Some(bytes)
@@ -109,17 +133,27 @@ fn words_of(alloc: Global, bytes: &[u8]) -> Result<String, AllocError> {
     Ok(words)
 }
 
-/// The reply to a body, both in words. The pass decides nothing, so each line has its own.
-fn reply_line(alloc: Global, db: &mut Db, pass: u64, body: &str) -> Option<String> {
-    let body = bytes_of(alloc, body)?;
-    let reply = match decode_request(alloc, &body) {
-        Ok(request) => db.step(pass, request),
-        Err(BodyFault::Malformed(fault)) => Reply::Malformed { code: fault.code() },
-        Err(BodyFault::NoMemory) => return None,
-    };
+/// The reply to a body.
+fn reply_to(alloc: Global, db: &mut Db, pass: u64, body: &[u8]) -> Option<Reply> {
+    match decode_request(alloc, body) {
+        Ok(request) => Some(db.step(pass, request)),
+        Err(BodyFault::Malformed(fault)) => Some(Reply::Malformed { code: fault.code() }),
+        Err(BodyFault::NoMemory) => None,
+    }
+}
+
+/// A reply in words.
+fn reply_words(alloc: Global, reply: &Reply) -> Option<String> {
     if !reply.fits() {
         return None;
     }
-    let bytes = encode_reply(alloc, &reply).ok()?;
+    let bytes = encode_reply(alloc, reply).ok()?;
     words_of(alloc, bytes.as_slice()).ok()
+}
+
+/// The reply to a body, both in words.
+fn reply_line(alloc: Global, db: &mut Db, pass: u64, body: &str) -> Option<String> {
+    let body = bytes_of(alloc, body)?;
+    let reply = reply_to(alloc, db, pass, &body)?;
+    reply_words(alloc, &reply)
 }
