@@ -1,4 +1,4 @@
-/* A client and an echo of frames, for bench/serve.py.
+/* A client and an echo of frames, for bench/serve.py and bench/stalls.py.
  *
  *   frames echo REPLY [gather]
  *     Listens at a free port of the loopback and prints it. Each frame that comes, a length of four bytes, the high one
@@ -9,10 +9,17 @@
  *     Opens so many connections, a thread each. Each sends COUNT requests, the bytes of FILE each, with up to FLIGHT of
  *     them unanswered. A reply has REPLY bytes; where REPLY is `+N` it ends at its N-th line feed. Prints the seconds that
  *     all took together, and the first bytes of what the first connection was replied, in hexadecimal.
+ *
+ *   frames delays PORT COUNT KIND CONNECTIONS FILE [KIND CONNECTIONS FILE ..]
+ *     Opens so many connections of each kind, a thread each. Each sends the frames of its file one after the other, again
+ *     and again, each once the reply to the one before has come, until the connections of the first kind have had COUNT
+ *     replies each. Prints for each kind how many replies came, how many of them were served, no denials or faults, and
+ *     the 50th, 99th and 99.9th percentile of the delay and the longest one, in microseconds.
  */
 #include <arpa/inet.h>
 #include <netinet/tcp.h>
 #include <pthread.h>
+#include <stdatomic.h>
 #include <stdio.h>
 #include <stdlib.h>
 #include <string.h>
@@ -190,6 +197,105 @@ static void run_client(int connections, const char *reply, const char *path) {
     printf("\n");
 }
 
+/* ---- delays of one request at a time */
+
+enum { KINDS = 8, MOST_DELAYS = 1 << 20 };
+
+struct kind {
+    const char *name;
+    int connections;
+    char *frames;
+    size_t len;
+    float *delays;
+    atomic_long replies, served;
+};
+
+static struct kind kinds[KINDS];
+static atomic_int left;
+
+static size_t body_len(const char *frame) {
+    const unsigned char *h = (const unsigned char *)frame;
+    return (size_t)h[0] << 24 | h[1] << 16 | h[2] << 8 | h[3];
+}
+
+static void read_all(int fd, char *bytes, size_t len) {
+    while (len > 0) {
+        ssize_t got = read(fd, bytes, len);
+        if (got <= 0) fail("read");
+        bytes += got;
+        len -= got;
+    }
+}
+
+static void *ask_one_by_one(void *given) {
+    struct kind *kind = given;
+    struct sockaddr_in to = {.sin_family = AF_INET, .sin_port = htons(port), .sin_addr.s_addr = htonl(INADDR_LOOPBACK)};
+    int fd = socket(AF_INET, SOCK_STREAM, 0);
+    if (connect(fd, (struct sockaddr *)&to, sizeof to)) fail("connect");
+    no_delay(fd);
+    char *in = malloc(ROOM);
+    size_t at = 0;
+    pthread_barrier_wait(&ready);
+    for (long asked = 0; kind == kinds ? asked < count : atomic_load(&left) > 0; asked++) {
+        size_t len = 4 + body_len(kind->frames + at);
+        double begun = now();
+        write_all(fd, kind->frames + at, len);
+        read_all(fd, in, 4);
+        size_t replied = body_len(in);
+        if (replied > ROOM) fail("reply");
+        read_all(fd, in, replied);
+        long place = atomic_fetch_add(&kind->replies, 1);
+        if (place < MOST_DELAYS) kind->delays[place] = (now() - begun) * 1e6;
+        if (replied > 0 && in[0] <= 4) atomic_fetch_add(&kind->served, 1);
+        at += len;
+        if (at >= kind->len) at = 0;
+    }
+    if (kind == kinds) atomic_fetch_sub(&left, 1);
+    close(fd);
+    free(in);
+    return NULL;
+}
+
+static int in_order(const void *one, const void *other) {
+    float a = *(const float *)one, b = *(const float *)other;
+    return (a > b) - (a < b);
+}
+
+static void run_delays(int given, char **words) {
+    pthread_t threads[1024];
+    int started = 0, all = 0;
+    for (int i = 0; i < given; i++) {
+        struct kind *kind = &kinds[i];
+        FILE *file = fopen(words[3 * i + 2], "rb");
+        if (!file) fail(words[3 * i + 2]);
+        kind->name = words[3 * i];
+        kind->connections = atoi(words[3 * i + 1]);
+        fseek(file, 0, SEEK_END);
+        kind->len = ftell(file);
+        rewind(file);
+        kind->frames = malloc(kind->len);
+        kind->delays = malloc(MOST_DELAYS * sizeof *kind->delays);
+        if (fread(kind->frames, 1, kind->len, file) != kind->len) fail("file");
+        fclose(file);
+        all += kind->connections;
+    }
+    if (all > 1024) fail("too many connections");
+    atomic_store(&left, kinds[0].connections);
+    pthread_barrier_init(&ready, NULL, all);
+    for (int i = 0; i < given; i++)
+        for (int j = 0; j < kinds[i].connections; j++)
+            if (pthread_create(&threads[started++], NULL, ask_one_by_one, &kinds[i])) fail("thread");
+    for (int i = 0; i < started; i++) pthread_join(threads[i], NULL);
+    for (int i = 0; i < given; i++) {
+        struct kind *kind = &kinds[i];
+        long replies = atomic_load(&kind->replies), had = replies < MOST_DELAYS ? replies : MOST_DELAYS;
+        qsort(kind->delays, had, sizeof *kind->delays, in_order);
+        const float *d = kind->delays;
+        printf("%s %ld %ld %.1f %.1f %.1f %.1f\n", kind->name, replies, atomic_load(&kind->served), d[had / 2],
+               d[had * 99 / 100], d[had * 999 / 1000], d[had - 1]);
+    }
+}
+
 int main(int argc, char **argv) {
     if ((argc == 3 || argc == 4) && !strcmp(argv[1], "echo")) {
         reply_bytes = strtoul(argv[2], NULL, 10);
@@ -200,8 +306,13 @@ int main(int argc, char **argv) {
         flight = atoi(argv[4]);
         count = atol(argv[5]);
         run_client(atoi(argv[3]), argv[6], argv[7]);
+    } else if (argc >= 7 && argc % 3 == 1 && argc <= 4 + 3 * KINDS && !strcmp(argv[1], "delays")) {
+        port = atoi(argv[2]);
+        count = atol(argv[3]);
+        run_delays((argc - 4) / 3, argv + 4);
     } else {
-        fprintf(stderr, "usage: frames echo REPLY | frames ask PORT CONNECTIONS FLIGHT COUNT REPLY FILE\n");
+        fprintf(stderr, "usage: frames echo REPLY | frames ask PORT CONNECTIONS FLIGHT COUNT REPLY FILE\n"
+                        "       frames delays PORT COUNT KIND CONNECTIONS FILE [KIND CONNECTIONS FILE ..]\n");
         return 2;
     }
     return 0;
