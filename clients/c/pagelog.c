@@ -95,6 +95,14 @@ enum pagelog_outcome pagelog_fail(struct pagelog *log, enum pagelog_outcome outc
     return outcome;
 }
 
+enum pagelog_outcome pagelog_restore(struct pagelog *log, enum pagelog_outcome outcome,
+                                     const struct pagelog_reply *refused) {
+    log->last = outcome;
+    log->refused = *refused;
+    log->refused.bytes = NULL;
+    return outcome;
+}
+
 void pagelog_explain(const struct pagelog *log, char *text, size_t room) {
     const struct pagelog_reply *reply = &log->refused;
     const char *name = pagelog_outcome_name(log->last);
@@ -149,9 +157,5 @@ enum pagelog_outcome pagelog_notice(struct pagelog *log, const struct pagelog_re
         notice_denial(log, reply);
     }
     enum pagelog_outcome outcome = log->anew ? PAGELOG_FENCED : pagelog_outcome_of(reply);
-    if (outcome == PAGELOG_DONE) return outcome;
-    pagelog_fail(log, outcome);
-    log->refused = *reply;
-    log->refused.bytes = NULL;
-    return outcome;
+    return outcome == PAGELOG_DONE ? outcome : pagelog_restore(log, outcome, reply);
 }

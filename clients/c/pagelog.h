@@ -272,6 +272,11 @@ void pagelog_disconnect(struct pagelog *log);
  * for LOST. */
 const struct pagelog_reply *pagelog_refused(const struct pagelog *log);
 
+/* Enters an outcome that was not DONE again, with the reply behind it: for who has asked meanwhile what
+ * became of it. */
+enum pagelog_outcome pagelog_restore(struct pagelog *log, enum pagelog_outcome outcome,
+                                     const struct pagelog_reply *refused);
+
 /* Whether the service was started anew behind this object's back: its epoch or the end of its log fell.
  * Everything that was in the log is gone then. Each later call is FENCED. */
 bool pagelog_is_anew(const struct pagelog *log);
@@ -365,6 +370,13 @@ enum pagelog_outcome pagelog_join(struct pagelog *log);
  * was accepted. */
 enum pagelog_outcome pagelog_append(struct pagelog *log, const struct pagelog_blocks *blocks,
                                     unsigned copies);
+
+/* Sends up to 64 ended blocks ahead of the pagelog_append of the same blocks and of those that are added to
+ * them, to the same copies, so that the service takes the first ones while the last are being made. It waits
+ * for nothing; what cannot be sent now the append sends. Nothing else may be called before the append but
+ * pagelog_disconnect, by which the append is given up: then each later one is CONFLICT until
+ * pagelog_take_over was DONE. */
+void pagelog_append_ahead(struct pagelog *log, const struct pagelog_blocks *blocks, unsigned copies);
 
 #ifdef __cplusplus
 }

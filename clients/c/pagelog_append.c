@@ -154,16 +154,21 @@ static enum pagelog_outcome exchange_group(struct append *append, size_t count) 
     enum pagelog_outcome outcome = PAGELOG_DONE;
     struct pagelog_reply reply;
     bool has_last = append->first + count == append->count, connected = true;
+    size_t ahead = append->log->ahead;
+    append->log->ahead = 0;
     append->is_reported = append->is_ahead = append->has_fourth = append->lacks_fourth = false;
     append->refusal = PAGELOG_DONE;
-    for (size_t i = 0; i < count && outcome == PAGELOG_DONE; i++)
+    for (size_t i = ahead; i < count && outcome == PAGELOG_DONE; i++)
         outcome = send_writes(append, append->first + i);
     if (outcome == PAGELOG_DONE) outcome = send_report(append, count);
-    if (outcome != PAGELOG_DONE) { /* nothing has left this process yet */
+    if (outcome != PAGELOG_DONE) { /* nothing has left this process yet, but for what was sent ahead */
         pagelog_disconnect(append->log);
         note(append, outcome);
+        for (size_t i = 0; i < ahead; i++)
+            receive_writes(append, append->first + i, false);
         return outcome;
     }
+    append->log->is_in_group = true;
     for (size_t i = 0; i < count; i++)
         connected = receive_writes(append, append->first + i, connected);
     if (connected) {
@@ -171,6 +176,7 @@ static enum pagelog_outcome exchange_group(struct append *append, size_t count) 
         append->is_reported = outcome == PAGELOG_DONE;
         connected = note(append, outcome);
     }
+    append->log->is_in_group = false;
     if (!connected && has_last) append->is_report_unsure = true;
     return append->refusal;
 }
@@ -241,10 +247,7 @@ static enum pagelog_outcome give_up(struct append *append, enum pagelog_outcome 
     for (size_t i = 0; i < PAGELOG_WINDOW; i++)
         if (append->marks[i].done | append->marks[i].unsure) accepted = true;
     if (accepted) append->log->stuck = true;
-    append->log->last = outcome;
-    append->log->refused = append->refused;
-    append->log->refused.bytes = NULL;
-    return outcome;
+    return pagelog_restore(append->log, outcome, &append->refused);
 }
 
 /* The epoch is over, so that what became of the last block is decided. */
@@ -325,17 +328,40 @@ static enum pagelog_outcome run(struct append *append) {
     return PAGELOG_DONE;
 }
 
+/* Whether the blocks can be appended now; else why not. What was sent ahead is taken for theirs. */
+static enum pagelog_outcome may_append(struct append *append) {
+    struct pagelog *log = append->log;
+    size_t length, in_flight = log->ahead * copies_of(append);
+    if (log->anew) return PAGELOG_FENCED;
+    if (log->stuck && log->ahead == 0) return PAGELOG_CONFLICT;
+    if (log->writing_epoch == 0 || log->asked_count != in_flight || append->count < log->ahead ||
+        append->wanted == 1 || append->wanted > PAGELOG_MOST_COPIES)
+        return PAGELOG_MALFORMED;
+    if (append->count == 0) return PAGELOG_DONE;
+    append->base = pagelog_read_number(pagelog_blocks_at(append->blocks, 0, &length), 8);
+    return append->base == log->end + 1 ? PAGELOG_DONE : PAGELOG_MALFORMED;
+}
+
+void pagelog_append_ahead(struct pagelog *log, const struct pagelog_blocks *blocks, unsigned copies) {
+    struct append append = {.log = log, .blocks = blocks, .wanted = copies};
+    append.count = pagelog_blocks_count(blocks);
+    if (append.count == log->ahead || may_append(&append) != PAGELOG_DONE) return;
+    log->stuck = true;
+    for (; log->ahead < append.count && log->ahead < PAGELOG_WINDOW; log->ahead++) {
+        if (send_writes(&append, log->ahead) == PAGELOG_DONE) continue;
+        pagelog_disconnect(log);
+        return;
+    }
+    pagelog_push(log);
+}
+
 enum pagelog_outcome pagelog_append(struct pagelog *log, const struct pagelog_blocks *blocks,
                                     unsigned copies) {
     struct append append = {.log = log, .blocks = blocks, .wanted = copies};
-    size_t length;
     append.count = pagelog_blocks_count(blocks);
-    if (log->anew) return pagelog_fail(log, PAGELOG_FENCED);
-    if (log->stuck) return pagelog_fail(log, PAGELOG_CONFLICT);
-    if (log->writing_epoch == 0 || log->asked_count > 0 || copies == 1 || copies > PAGELOG_MOST_COPIES)
-        return pagelog_fail(log, PAGELOG_MALFORMED);
+    enum pagelog_outcome outcome = may_append(&append);
+    if (outcome != PAGELOG_DONE) return pagelog_fail(log, outcome);
     if (append.count == 0) return PAGELOG_DONE;
-    append.base = pagelog_read_number(pagelog_blocks_at(blocks, 0, &length), 8);
-    if (append.base != log->end + 1) return pagelog_fail(log, PAGELOG_MALFORMED);
+    log->stuck = false;
     return run(&append);
 }

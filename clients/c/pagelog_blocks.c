@@ -9,6 +9,11 @@
 
 /* Bytes of a Put that are worth the end of a block: a shorter piece goes into the next one as a whole. */
 enum { SHORTEST_PIECE = 64 };
+
+/* A block is filled up to here. Two writes of such blocks are as long as the longest request, which is what
+ * the service reads at once: so it needs not move the half of one before it can read on. */
+enum { WRITE_HEAD_BYTES = 35, FULL_BLOCK = (4 + PAGELOG_REQUEST_BYTES) / 2 - WRITE_HEAD_BYTES };
+
 struct pagelog_blocks {
     uint64_t next_lsn; /* of the block that is being filled */
     /* Ended blocks, one behind the other; block i ends at ends[i], counted from the start of `bytes`. */
@@ -97,7 +102,7 @@ static size_t room_for(const struct pagelog_blocks *blocks, uint32_t page) {
     bool found;
     place_of(blocks, (uint16_t)(page >> 16), &found);
     size_t taken = BLOCK_HEAD_BYTES + 2 * (blocks->partition_count + !found) + blocks->length;
-    return taken < PAGELOG_BLOCK_BYTES ? PAGELOG_BLOCK_BYTES - taken : 0;
+    return taken < FULL_BLOCK ? FULL_BLOCK - taken : 0;
 }
 
 /* Notes a record of a page, and returns where its bytes go; NULL where memory runs out. */
@@ -173,43 +178,63 @@ enum pagelog_outcome pagelog_blocks_zero(struct pagelog_blocks *blocks, uint32_t
     return PAGELOG_DONE;
 }
 
-/* Which of the 16 bytes from `at` on are the same in both pages, a bit for each. */
-static unsigned same_bytes(const uint8_t *old, const uint8_t *now, size_t at) {
+/* Which of 64 bytes differ, a bit for each. */
+static uint64_t differing_bytes(const uint8_t *old, const uint8_t *now) {
+    uint64_t bits = 0;
 #ifdef __SSE2__
-    __m128i one = _mm_loadu_si128((const __m128i *)(old + at));
-    __m128i other = _mm_loadu_si128((const __m128i *)(now + at));
-    return (unsigned)_mm_movemask_epi8(_mm_cmpeq_epi8(one, other));
+    for (unsigned i = 0; i < 64; i += 16) {
+        __m128i one = _mm_loadu_si128((const __m128i *)(old + i));
+        __m128i other = _mm_loadu_si128((const __m128i *)(now + i));
+        bits |= (uint64_t)(unsigned)_mm_movemask_epi8(_mm_cmpeq_epi8(one, other)) << i;
+    }
+    return ~bits;
 #else
-    unsigned bits = 0;
-    if (memcmp(old + at, now + at, 16) == 0) return 0xffff;
-    for (unsigned i = 0; i < 16; i++)
-        bits |= (unsigned)(old[at + i] == now[at + i]) << i;
+    for (unsigned i = 0; i < 64; i++)
+        bits |= (uint64_t)(old[i] != now[i]) << i;
     return bits;
 #endif
 }
 
-/* The first byte from `at` on that differs, or that is the same; the end of the page where there is none. */
-static size_t first_byte(const uint8_t *old, const uint8_t *now, size_t at, bool differs) {
-    for (; at + 16 <= PAGELOG_PAGE_BYTES; at += 16) {
-        unsigned bits = same_bytes(old, now, at) ^ (differs ? 0xffffu : 0);
-        if (bits) return at + (size_t)__builtin_ctz(bits);
-    }
-    while (at < PAGELOG_PAGE_BYTES && (old[at] != now[at]) != differs)
-        at++;
-    return at;
+/* The bits of `now` with each one drawn out over the next PUT_HEAD_BYTES places; `before` has the 64 bits
+ * before them. */
+static uint64_t drawn_out(uint64_t now, uint64_t before) {
+    _Static_assert(PUT_HEAD_BYTES == 1 + 2 + 4 + 2, "the shifts below add up to it");
+    unsigned __int128 bits = (unsigned __int128)now << 64 | before;
+    bits |= bits << 1;
+    bits |= bits << 2;
+    bits |= bits << 4;
+    bits |= bits << 2;
+    return (uint64_t)(bits >> 64);
 }
 
+/* A bit for each byte tells whether it differs. Drawn out over as many places as a gap may have that is put
+ * too, the bits of one Put are one run, and a run ends so many places behind the Put's last byte. */
 enum pagelog_outcome pagelog_blocks_difference(struct pagelog_blocks *blocks, uint32_t page,
                                                const uint8_t *old, const uint8_t *new_bytes) {
-    for (size_t at = first_byte(old, new_bytes, 0, true); at < PAGELOG_PAGE_BYTES;) {
-        size_t end = first_byte(old, new_bytes, at + 1, false), next;
-        while ((next = first_byte(old, new_bytes, end, true)) < PAGELOG_PAGE_BYTES &&
-               next - end <= PUT_HEAD_BYTES)
-            end = first_byte(old, new_bytes, next + 1, false);
-        enum pagelog_outcome outcome =
-            pagelog_blocks_put(blocks, page, (uint16_t)at, new_bytes + at, (uint16_t)(end - at));
-        if (outcome != PAGELOG_DONE) return outcome;
-        at = next;
+    uint64_t before = 0, drawn = 0;
+    size_t start = 0;
+    for (size_t at = 0; at <= PAGELOG_PAGE_BYTES; at += 64) {
+        bool is_in_run = drawn >> 63;
+        if (!is_in_run && at % 512 == 0 && at < PAGELOG_PAGE_BYTES &&
+            memcmp(old + at, new_bytes + at, 512) == 0) {
+            before = drawn = 0;
+            at += 512 - 64;
+            continue;
+        }
+        uint64_t now = at < PAGELOG_PAGE_BYTES ? differing_bytes(old + at, new_bytes + at) : 0;
+        drawn = now == UINT64_MAX ? now : drawn_out(now, before);
+        before = now;
+        for (uint64_t turns = drawn ^ (drawn << 1 | is_in_run); turns; turns &= turns - 1) {
+            size_t place = at + (size_t)__builtin_ctzll(turns);
+            is_in_run = !is_in_run;
+            if (is_in_run) {
+                start = place;
+                continue;
+            }
+            enum pagelog_outcome outcome = pagelog_blocks_put(
+                blocks, page, (uint16_t)start, new_bytes + start, (uint16_t)(place - PUT_HEAD_BYTES - start));
+            if (outcome != PAGELOG_DONE) return outcome;
+        }
     }
     return PAGELOG_DONE;
 }

@@ -81,10 +81,7 @@ static enum pagelog_outcome get_group(struct pagelog *log, enum pagelog_role rol
         first = outcome;
         refused = log->refused;
     }
-    if (first == PAGELOG_DONE) return PAGELOG_DONE;
-    pagelog_fail(log, first);
-    log->refused = refused;
-    return first;
+    return first == PAGELOG_DONE ? first : pagelog_restore(log, first, &refused);
 }
 
 enum pagelog_outcome pagelog_get(struct pagelog *log, enum pagelog_role role, uint64_t lsn,

@@ -20,7 +20,13 @@ struct commit {
     size_t count;
     uint32_t old_pages,
         fresh_pages; /* pages up to the first have a base in the log; from there to the second, zeros */
+    bool has_bases;  /* no page has to be fetched */
 };
+
+/* Whether a frame's base has to be fetched. */
+static bool lacks_base(const struct commit *commit, const struct pagelog_frame *frame) {
+    return !frame->has_base && frame->page <= commit->old_pages;
+}
 
 /* Gives the changed frames from `first` on, up to 64, their bases where they have none in memory. */
 static enum pagelog_outcome fetch_bases(struct commit *commit, size_t first) {
@@ -29,7 +35,7 @@ static enum pagelog_outcome fetch_bases(struct commit *commit, size_t first) {
     size_t count = 0;
     for (size_t i = first; i < commit->count && i < first + GROUP; i++) {
         struct pagelog_frame *frame = commit->frames[i];
-        if (frame->has_base || frame->page > commit->old_pages) continue;
+        if (!lacks_base(commit, frame)) continue;
         pages[count] = frame->page;
         frames[count++] = frame;
     }
@@ -51,6 +57,13 @@ static enum pagelog_outcome append_full_group(struct pagelog_file *file) {
     return pagelog_blocks_count(file->blocks) >= GROUP ? pagelog_append_ended(file) : PAGELOG_DONE;
 }
 
+/* The blocks of a transaction leave as they become full, unless something else has to be asked meanwhile. */
+static enum pagelog_outcome send_full_blocks(struct commit *commit) {
+    struct pagelog_file *file = commit->file;
+    if (commit->has_bases) pagelog_append_ahead(file->log, file->blocks, file->options.written);
+    return append_full_group(file);
+}
+
 /* Adds the records of the changed pages that were in the file before. */
 static enum pagelog_outcome add_old_pages(struct commit *commit, size_t *next) {
     struct pagelog_blocks *blocks = commit->file->blocks;
@@ -59,7 +72,7 @@ static enum pagelog_outcome add_old_pages(struct commit *commit, size_t *next) {
         enum pagelog_outcome outcome = frame->has_base ? PAGELOG_DONE : fetch_bases(commit, *next);
         if (outcome == PAGELOG_DONE)
             outcome = pagelog_blocks_difference(blocks, frame->page, frame->base, frame->changed);
-        if (outcome == PAGELOG_DONE) outcome = append_full_group(commit->file);
+        if (outcome == PAGELOG_DONE) outcome = send_full_blocks(commit);
         if (outcome != PAGELOG_DONE) return outcome;
     }
     return PAGELOG_DONE;
@@ -72,7 +85,7 @@ static enum pagelog_outcome add_fresh_pages(struct commit *commit, size_t next) 
         enum pagelog_outcome outcome = pagelog_blocks_zero(blocks, ++page);
         if (outcome == PAGELOG_DONE && next < commit->count && commit->frames[next]->page == page)
             outcome = pagelog_blocks_difference(blocks, page, zeros, commit->frames[next++]->changed);
-        if (outcome == PAGELOG_DONE) outcome = append_full_group(commit->file);
+        if (outcome == PAGELOG_DONE) outcome = send_full_blocks(commit);
         if (outcome != PAGELOG_DONE) return outcome;
     }
     return PAGELOG_DONE;
@@ -145,7 +158,8 @@ static enum pagelog_outcome find_mark(struct pagelog_file *file, enum pagelog_ro
  * has begun. */
 static enum pagelog_outcome settle(struct pagelog_file *file, const struct mark *mark) {
     const struct pagelog_file_options *options = &file->options;
-    enum pagelog_outcome cause = pagelog_outcome_of(pagelog_refused(file->log));
+    struct pagelog_reply refused = *pagelog_refused(file->log);
+    enum pagelog_outcome cause = pagelog_outcome_of(&refused);
     if (!options->has_operator) return PAGELOG_IN_DOUBT;
     enum pagelog_outcome outcome = pagelog_take_over(
         file->log, options->operator_principal, options->operator_token, pagelog_writing_epoch(file->log));
@@ -156,11 +170,12 @@ static enum pagelog_outcome settle(struct pagelog_file *file, const struct mark 
     if (outcome == PAGELOG_DONE) return PAGELOG_DONE;
     if (outcome != PAGELOG_CONFLICT) return PAGELOG_IN_DOUBT;
     if (is_fenced) return PAGELOG_FENCED;
-    return cause == PAGELOG_DONE ? PAGELOG_LOST : cause;
+    return pagelog_restore(file->log, cause == PAGELOG_DONE ? PAGELOG_LOST : cause, &refused);
 }
 
 /* What an outcome leaves behind for the next transaction. */
 static void note_failure(struct pagelog_file *file, enum pagelog_outcome outcome, uint64_t end) {
+    if (pagelog_in_flight(file->log) > 0) pagelog_disconnect(file->log); /* blocks without an end */
     bool is_untouched = pagelog_end(file->log) == end && !pagelog_is_stuck(file->log);
     if (outcome == PAGELOG_FENCED && !pagelog_is_anew(file->log))
         pagelog_become_follower(file);
@@ -212,6 +227,9 @@ enum pagelog_outcome pagelog_file_commit(struct pagelog_file *file) {
     if (!pagelog_cache_changed(file->cache, &commit.frames, &commit.count)) return out_of_memory(file);
     commit.old_pages = pages_of(file->least);
     commit.fresh_pages = pages_of(file->size);
+    commit.has_bases = true;
+    for (size_t i = 0; i < commit.count && commit.has_bases; i++)
+        commit.has_bases = !lacks_base(&commit, commit.frames[i]);
     if (has_changes(&commit))
         outcome = commit_if_allowed(&commit);
     else

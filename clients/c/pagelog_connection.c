@@ -2,6 +2,7 @@
 #include "pagelog_inside.h"
 
 #include <errno.h>
+#include <fcntl.h>
 #include <netdb.h>
 #include <netinet/tcp.h>
 #include <poll.h>
@@ -13,6 +14,8 @@
 enum {
     READ_AT_ONCE = 65536,
     MOST_INPUT = 16 << 20, /* bytes that are read ahead while requests are still being sent */
+    LEAST_REPLY = 5,       /* bytes of a frame of a reply, at least */
+    FEW_REPLIES = 3,       /* so many come at once, mostly */
 };
 
 /* ---- Buffers ---- */
@@ -48,7 +51,7 @@ static void empty(struct buffer *buffer) {
 void pagelog_disconnect(struct pagelog *log) {
     if (log->socket >= 0) close(log->socket);
     log->socket = -1;
-    log->asked_count = 0;
+    log->asked_count = log->ahead = 0;
     log->waits = false;
     empty(&log->output);
     empty(&log->input);
@@ -80,12 +83,24 @@ static bool wait_for(int socket, short events, uint64_t deadline, short *ready) 
     }
 }
 
+/* From how many bytes on a poll says that the socket can be read. */
+static void set_least(struct pagelog *log, size_t least) {
+    int value = (int)least;
+    setsockopt(log->socket, SOL_SOCKET, SO_RCVLOWAT, &value, sizeof value);
+}
+
 static bool finish_connect(int fd, uint64_t deadline) {
     short ready;
     int error = 0;
     socklen_t size = sizeof error;
     if (!wait_for(fd, POLLOUT, deadline, &ready)) return false;
     return getsockopt(fd, SOL_SOCKET, SO_ERROR, &error, &size) == 0 && error == 0;
+}
+
+/* Lets a receive wait for so long by itself: one call of the system for each wait. */
+static bool may_wait(int fd, unsigned ms) {
+    struct timeval most = {.tv_sec = ms / 1000, .tv_usec = ms % 1000 * 1000};
+    return setsockopt(fd, SOL_SOCKET, SO_RCVTIMEO, &most, sizeof most) == 0 && fcntl(fd, F_SETFL, 0) == 0;
 }
 
 /* A connected socket to one of the addresses, or -1. */
@@ -109,16 +124,18 @@ static enum pagelog_outcome ensure_connected(struct pagelog *log) {
     for (struct addrinfo *address = found; address && log->socket < 0; address = address->ai_next)
         log->socket = connect_to(address, deadline);
     freeaddrinfo(found);
-    if (log->socket < 0) return pagelog_fail(log, PAGELOG_LOST);
+    if (log->socket < 0 || !may_wait(log->socket, log->options.reply_ms))
+        return pagelog_fail(log, PAGELOG_LOST);
     log->counts.connects++;
     return PAGELOG_DONE;
 }
 
-/* Reads what is there. False where the connection has ended. */
-static bool read_some(struct pagelog *log) {
+/* Reads what is there; without MSG_DONTWAIT it waits for that first, for `reply_ms` at most. False where the
+ * connection has ended. */
+static bool read_some(struct pagelog *log, int flags) {
     struct buffer *input = &log->input;
     if (!reserve(input, READ_AT_ONCE)) return false;
-    ssize_t count = recv(log->socket, input->bytes + input->end, input->room - input->end, 0);
+    ssize_t count = recv(log->socket, input->bytes + input->end, input->room - input->end, flags);
     if (count < 0) return errno == EAGAIN || errno == EWOULDBLOCK || errno == EINTR;
     input->end += (size_t)count;
     log->counts.bytes_received += (uint64_t)count;
@@ -127,7 +144,8 @@ static bool read_some(struct pagelog *log) {
 
 static bool send_some(struct pagelog *log) {
     struct buffer *output = &log->output;
-    ssize_t count = send(log->socket, output->bytes + output->start, held(output), MSG_NOSIGNAL);
+    ssize_t count =
+        send(log->socket, output->bytes + output->start, held(output), MSG_NOSIGNAL | MSG_DONTWAIT);
     if (count < 0) return errno == EAGAIN || errno == EWOULDBLOCK || errno == EINTR;
     output->start += (size_t)count;
     log->counts.bytes_sent += (uint64_t)count;
@@ -135,36 +153,65 @@ static bool send_some(struct pagelog *log) {
     return true;
 }
 
+void pagelog_push(struct pagelog *log) {
+    if (log->socket >= 0 && held(&log->output) > 0) send_some(log);
+}
+
 /* Sends all that is queued. It reads meanwhile, so that neither side waits for the other to read. */
 static enum pagelog_outcome flush(struct pagelog *log) {
-    uint64_t deadline = pagelog_now() + log->options.reply_ms;
     enum pagelog_outcome outcome = ensure_connected(log);
     if (outcome != PAGELOG_DONE) return lose(log);
+    if (held(&log->output) == 0) return PAGELOG_DONE;
+    if (!send_some(log)) return lose(log);
+    if (held(&log->output) == 0) return PAGELOG_DONE;
+    uint64_t deadline = pagelog_now() + log->options.reply_ms;
     while (held(&log->output) > 0) {
         short ready, events = POLLOUT;
-        if (!send_some(log)) return lose(log);
-        if (held(&log->output) == 0) break;
         if (held(&log->input) < MOST_INPUT) events |= POLLIN;
         if (!wait_for(log->socket, events, deadline, &ready)) return lose(log);
-        if ((ready & (POLLIN | POLLHUP | POLLERR)) && !read_some(log)) return lose(log);
+        if ((ready & (POLLIN | POLLHUP | POLLERR)) && !read_some(log, MSG_DONTWAIT)) return lose(log);
+        if (!send_some(log)) return lose(log);
     }
     return PAGELOG_DONE;
 }
 
+/* Waits until all replies to what is in flight can be there, or the time is over. A receive cannot wait for
+ * so many bytes by itself: it counts what has come since it began to wait. */
+static void wait_for_group(struct pagelog *log, uint64_t deadline) {
+    short ready;
+    size_t least = log->asked_count * LEAST_REPLY, has = held(&log->input);
+    set_least(log, least > has ? least - has : 1);
+    wait_for(log->socket, POLLIN, deadline, &ready);
+    set_least(log, 1);
+}
+
+/* Waits for bytes of a reply and reads them: first for `reply_ms`, and again until the `*deadline` that the
+ * first wait had. */
+static bool read_more(struct pagelog *log, uint64_t *deadline) {
+    short ready;
+    bool is_first = *deadline == 0, is_group = log->is_in_group && log->asked_count > FEW_REPLIES;
+    if (log->waits) log->counts.round_trips++;
+    log->waits = false;
+    if (is_first) *deadline = pagelog_now() + log->options.reply_ms;
+    if (is_first && !is_group) return read_some(log, 0);
+    if (is_first) {
+        wait_for_group(log, *deadline);
+        return read_some(log, MSG_DONTWAIT);
+    }
+    return wait_for(log->socket, POLLIN, *deadline, &ready) && read_some(log, MSG_DONTWAIT);
+}
+
 /* The body of the next frame, once all of it is there. */
 static enum pagelog_outcome read_frame(struct pagelog *log, const uint8_t **body, size_t *length) {
-    uint64_t deadline = pagelog_now() + log->options.reply_ms;
+    uint64_t deadline = 0;
     struct buffer *input = &log->input;
     for (;;) {
-        short ready;
         if (held(input) >= 4) {
             *length = (size_t)pagelog_read_number(input->bytes + input->start, 4);
             if (*length > PAGELOG_REPLY_BYTES) return pagelog_distrust(log);
             if (held(input) >= 4 + *length) break;
         }
-        if (log->waits) log->counts.round_trips++;
-        log->waits = false;
-        if (!wait_for(log->socket, POLLIN, deadline, &ready) || !read_some(log)) return lose(log);
+        if (!read_more(log, &deadline)) return lose(log);
     }
     *body = input->bytes + input->start + 4;
     input->start += 4 + *length;

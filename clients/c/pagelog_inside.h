@@ -43,8 +43,10 @@ struct pagelog {
     bool owns_epoch;              /* it was begun for this object alone */
     uint32_t lost_failovers;      /* whose replies were lost since the writing epoch began */
     bool anew;                    /* the service was started anew */
-    bool stuck;                   /* the window may hold blocks of an append that was not DONE */
+    bool stuck;                   /* the window may hold blocks of an append that is not DONE */
+    size_t ahead;                 /* blocks of the append to come whose writes are in flight */
     bool waits;                   /* something was sent since the last wait */
+    bool is_in_group;             /* nothing is done before all replies to what is in flight are there */
     enum pagelog_outcome last;    /* the last outcome that was not DONE */
     struct pagelog_reply refused; /* and the reply behind it, without its bytes */
     struct pagelog_counts counts;
@@ -52,6 +54,10 @@ struct pagelog {
 
 /* Enters an outcome that has no reply behind it, and returns it. */
 enum pagelog_outcome pagelog_fail(struct pagelog *log, enum pagelog_outcome outcome);
+
+/* Sends as much of what is queued as goes at once, if there is a connection. An error is met again by who
+ * sends the rest. */
+void pagelog_push(struct pagelog *log);
 
 /* Learns what a reply tells about the service, and enters a refusal. */
 enum pagelog_outcome pagelog_notice(struct pagelog *log, const struct pagelog_reply *reply);

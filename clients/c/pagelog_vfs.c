@@ -65,7 +65,10 @@
 SQLITE_EXTENSION_INIT1
 #endif
 
-enum { SECTOR_BYTES = 8192, NAME_BYTES = 1024, VALUE_BYTES = 256, ERROR_BYTES = 160, JOURNAL_BYTES = 65536 };
+enum { SECTOR_BYTES = 8192, NAME_BYTES = 1024, VALUE_BYTES = 256, ERROR_BYTES = 160 };
+
+/* Of a journal: the room that it begins with, and the most that is kept for the next one. */
+enum { JOURNAL_BYTES = 65536, MOST_KEPT = 4 << 20 };
 
 /* A database, as the connections of this process share it. A reader has one of its own. */
 struct database {
@@ -78,6 +81,8 @@ struct database {
     unsigned sharing;            /* connections with a lock, SQLITE_LOCK_SHARED or above */
     struct connection *reserved; /* the one with SQLITE_LOCK_RESERVED or above, or NULL */
     bool is_pending;             /* it waits for the others to go, or has gone on to SQLITE_LOCK_EXCLUSIVE */
+    unsigned char *room;         /* of the last journal, for the next one; NULL: none */
+    sqlite3_int64 room_bytes;
     char error[ERROR_BYTES];
 };
 
@@ -90,6 +95,7 @@ struct connection {
 /* A journal. */
 struct memory {
     sqlite3_file base;
+    struct database *database; /* whose journal it is; NULL: of several */
     unsigned char *bytes;
     sqlite3_int64 size, room;
 };
@@ -251,6 +257,7 @@ static const char *read_settings(sqlite3_filename uri, struct pagelog_file_optio
 
 static void free_database(struct database *database) {
     pagelog_file_free(database->file);
+    sqlite3_free(database->room);
     sqlite3_mutex_free(database->mutex);
     sqlite3_free(database->key);
     sqlite3_free(database);
@@ -470,9 +477,10 @@ static int file_sector_size(sqlite3_file *file) {
     return SECTOR_BYTES;
 }
 
+/* A journal in memory is written in order, and never longer than what it has. */
 static int file_device_characteristics(sqlite3_file *file) {
     (void)file;
-    return 0;
+    return SQLITE_IOCAP_SEQUENTIAL | SQLITE_IOCAP_SAFE_APPEND;
 }
 
 /* ---- Pragmas ---- */
@@ -585,8 +593,32 @@ static const sqlite3_io_methods file_methods = {
 
 /* ---- The methods of a journal ---- */
 
+/* A journal takes the room of the one before it, so that not each transaction asks the system for memory. */
+static void take_room(struct memory *memory) {
+    struct database *database = memory->database;
+    sqlite3_mutex_enter(database->mutex);
+    memory->bytes = database->room;
+    memory->room = database->room ? database->room_bytes : 0;
+    database->room = NULL;
+    sqlite3_mutex_leave(database->mutex);
+}
+
+static void give_back_room(struct memory *memory) {
+    struct database *database = memory->database;
+    sqlite3_mutex_enter(database->mutex);
+    if (!database->room && memory->room <= MOST_KEPT) {
+        database->room = memory->bytes;
+        database->room_bytes = memory->room;
+        memory->bytes = NULL;
+    }
+    sqlite3_mutex_leave(database->mutex);
+}
+
 static int memory_close(sqlite3_file *file) {
-    sqlite3_free(((struct memory *)file)->bytes);
+    struct memory *memory = (struct memory *)file;
+    if (memory->database) give_back_room(memory);
+    sqlite3_free(memory->bytes);
+    memory->bytes = NULL;
     return SQLITE_OK;
 }
 
@@ -678,6 +710,13 @@ static int open_database(sqlite3_filename name, struct connection *connection, i
     return SQLITE_OK;
 }
 
+/* The database whose journal has this name. */
+static struct database *database_of_journal(sqlite3_filename name) {
+    sqlite3_file *file = name ? sqlite3_database_file_object(name) : NULL;
+    bool is_ours = file && file->pMethods == &file_methods;
+    return is_ours ? ((struct connection *)file)->database : NULL;
+}
+
 static int vfs_open(sqlite3_vfs *vfs, sqlite3_filename name, sqlite3_file *file, int flags, int *out_flags) {
     (void)vfs;
     file->pMethods = NULL;
@@ -686,8 +725,11 @@ static int vfs_open(sqlite3_vfs *vfs, sqlite3_filename name, sqlite3_file *file,
     if (flags & SQLITE_OPEN_WAL) return SQLITE_CANTOPEN;
     if (!(flags & (SQLITE_OPEN_MAIN_JOURNAL | SQLITE_OPEN_SUPER_JOURNAL)))
         return real_vfs->xOpen(real_vfs, name, file, flags, out_flags);
-    memset(file, 0, sizeof(struct memory));
-    file->pMethods = &memory_methods;
+    struct memory *memory = (struct memory *)file;
+    memset(memory, 0, sizeof *memory);
+    memory->base.pMethods = &memory_methods;
+    if (flags & SQLITE_OPEN_MAIN_JOURNAL) memory->database = database_of_journal(name);
+    if (memory->database) take_room(memory);
     return SQLITE_OK;
 }
 

@@ -110,6 +110,7 @@ declare("pagelog_pull", c_uint, c_void_p, c_uint64, c_uint, POINTER(Reply))
 declare("pagelog_take_over", c_uint, c_void_p, c_uint32, POINTER(c_uint8), c_uint32)
 declare("pagelog_join", c_uint, c_void_p)
 declare("pagelog_append", c_uint, c_void_p, c_void_p, c_uint)
+declare("pagelog_append_ahead", None, c_void_p, c_void_p, c_uint)
 declare("pagelog_disconnect", None, c_void_p)
 declare("pagelog_free", None, c_void_p)
 
@@ -252,6 +253,9 @@ class Log:
 
     def append(self, blocks, copies=0):
         return name(lib.pagelog_append(self.made, blocks.made, copies))
+
+    def append_ahead(self, blocks, copies=0):
+        lib.pagelog_append_ahead(self.made, blocks.made, copies)
 
     def disconnect(self):
         lib.pagelog_disconnect(self.made)

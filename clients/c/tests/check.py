@@ -6,6 +6,8 @@ import time
 import traceback
 
 LONG = "--long" in sys.argv
+# Against scripts/model: the tests that it can answer, and of those of the file a short part.
+MODEL = "--model" in sys.argv
 # A test that hangs ends its part, which shows then where it was.
 faulthandler.dump_traceback_later(7200 if LONG else 900, exit=True)
 
@@ -20,9 +22,13 @@ def true(what, holds):
         raise AssertionError(what)
 
 
-def run(part, names):
+def run(part, names, not_with_the_model=()):
     """Prints a line for the part, and one for each test that failed. The exit status tells whether all passed."""
-    tests = [(name, test) for name, test in names.items() if name.startswith("test_")]
+    unknown = set(not_with_the_model) - set(names)
+    if unknown:
+        sys.exit(f"{part}: there is no {', '.join(sorted(unknown))}")
+    tests = [(name, test) for name, test in names.items()
+             if name.startswith("test_") and not (MODEL and name in not_with_the_model)]
     only = [word for word in sys.argv[1:] if not word.startswith("-")]
     passed, failed, start, said = 0, 0, time.monotonic(), []
     for name, test in tests:

@@ -4,7 +4,7 @@ import random
 
 from binding import (AUDIT_FULL, CONFLICT, DENIED, DONE, FENCED, IN_DOUBT, LOST, MALFORMED, File, Log, PRIMARY, SECONDARY,
                      Blocks)
-from check import LONG, run, same, true
+from check import LONG, MODEL, run, same, true
 from service import Proxy, Service, START_TABLE, TABLE, random_plan, wire
 
 NUMBERS = random.Random(11)
@@ -458,7 +458,7 @@ def test_faults_from_seeds():
     there, what was refused is not, and what was in doubt is there as a whole or not at all."""
     model, outcomes = bytearray(), {}
     with Service(workers=64) as service, service.operator() as operator:
-        for seed in range(4000 if LONG else 300):
+        for seed in range(4000 if LONG else 20 if MODEL else 300):
             numbers = random.Random(seed)
             rule, principal = Fault(operator, numbers), numbers.choice([2, 5])
             with Proxy(service.address, between=rule) as proxy, File(proxy.address, principal, operator=1,

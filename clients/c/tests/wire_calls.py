@@ -246,6 +246,109 @@ def test_appends_are_in_the_log():
         same("no blocks", DONE, log.append(Blocks(log.end + 1)))
 
 
+class Seen:
+    """A rule for a proxy: it counts the writes that pass, and cuts the connection at one of them."""
+
+    def __init__(self, cut=None):
+        self.writes, self.cut = 0, cut
+
+    def __call__(self, frame):
+        if frame[33] != wire.WRITE:
+            return frame
+        self.writes += 1
+        return None if self.writes == self.cut else frame
+
+    def wait(self, writes):
+        end = time.monotonic() + 60
+        while self.writes < writes and time.monotonic() < end:
+            time.sleep(0.001)
+        same("writes", writes, self.writes)
+
+
+def blocks_ahead(log, seen, first, count, early):
+    """Blocks that are made one by one, and sent ahead once there are so many; those writes have come to the proxy."""
+    blocks, before = Blocks(first), seen.writes
+    for number in range(1, count + 1):
+        same("put", DONE, blocks.put(number, 0, b"%d" % number))
+        blocks.end()
+        if number in early:
+            log.append_ahead(blocks)
+            seen.wait(before + 2 * min(number, 64))
+    return blocks
+
+
+def test_blocks_that_are_sent_ahead():
+    """Their writes come to the service before the append, which sends the others: each once, and all in one round trip."""
+    seen, wanted = Seen(), []
+    with Service() as service, Log(service.address, 3) as reader, Proxy(service.address, between=seen) as proxy, \
+            Log(proxy.address, 2) as log:
+        same("take over", DONE, log.take_over())
+        for count, early in ((1, [1]), (3, [1, 2]), (3, [2]), (70, [5, 64, 66]), (2, [])):
+            before, trips = seen.writes, log.counts.round_trips
+            blocks = blocks_ahead(log, seen, log.end + 1, count, early)
+            same("append", (DONE, len(wanted) + count), (log.append(blocks), log.end))
+            wanted += blocks.all()
+            same("writes", 2 * count, seen.writes - before)
+            same("round trips", -(-count // 64), log.counts.round_trips - trips)
+        found = []
+        while len(found) < len(wanted):
+            found += blocks_of(reader.pull(len(found) + 1)[1])
+        same("log", wanted, found)
+
+
+def test_blocks_ahead_that_are_given_up():
+    """Nothing else is asked meanwhile, and behind it nothing is appended before an epoch of its own."""
+    seen = Seen()
+    with Service() as service, Proxy(service.address, between=seen) as proxy, Log(proxy.address, 2) as log:
+        same("take over", DONE, log.take_over())
+        blocks = blocks_ahead(log, seen, 1, 2, [2])
+        same("in flight", (4, MALFORMED), (log.in_flight(), log.status()[0]))
+        same("another number of copies", MALFORMED, log.append(blocks, 3))
+        log.disconnect()
+        same("given up", (0, CONFLICT), (log.in_flight(), log.append(blocks)))
+        log.append_ahead(blocks)
+        same("not once more", (0, 4), (log.in_flight(), seen.writes))
+        same("take over", DONE, log.take_over())
+        same("append", DONE, log.append(numbered(log.end + 1, 1)))
+
+
+def test_blocks_ahead_whose_connection_is_lost():
+    for cut in range(1, 5):
+        seen = Seen(cut)
+        with Service() as service, Log(service.address, 3) as reader, Proxy(service.address, between=seen) as proxy, \
+                Log(proxy.address, 2) as log:
+            same("take over", DONE, log.take_over())
+            blocks = Blocks(1)
+            for page in range(3):
+                same("put", DONE, blocks.put(page, 0, b"%d" % page))
+                blocks.end()
+                log.append_ahead(blocks)
+                if page == 1:
+                    seen.wait(cut)
+            same("append", (DONE, 3), (log.append(blocks), log.end))
+            same("log", blocks.all(), blocks_of(reader.pull(1)[1]))
+            same("cuts", 1, proxy.cuts)
+
+
+def test_blocks_ahead_of_an_epoch_that_ends():
+    """The failover hardens the block that was sent ahead; the last block is not in the log."""
+    seen = Seen()
+
+    def ends_at_the_third(frame):
+        if seen(frame) and frame[33] == wire.WRITE and seen.writes == 3:
+            operator.failover(5)
+        return frame
+
+    with Service() as service, service.operator() as operator, Log(service.address, 3) as reader, \
+            Proxy(service.address, between=ends_at_the_third) as proxy, Log(proxy.address, 2) as log:
+        same("take over", DONE, log.take_over())
+        blocks = blocks_ahead(log, seen, 1, 1, [1])
+        same("put", DONE, blocks.put(9, 0, b"last"))
+        blocks.end()
+        same("fenced", (FENCED, "A2"), (log.append(blocks), log.row[0]))
+        same("log", blocks.all()[:1], blocks_of(reader.pull(1)[1]))
+
+
 def test_an_old_writer_is_fenced():
     with Service() as service, Log(service.address, 2) as old, Log(service.address, 5) as new, \
             service.operator() as operator:
@@ -499,4 +602,5 @@ def test_a_joined_writer_without_the_role_of_a_secondary():
 
 
 if __name__ == "__main__":
-    run("wire calls", globals())
+    # The model has a thread for each connection, so that no client waits for a worker.
+    run("wire calls", globals(), not_with_the_model=["test_every_wait_ends"])

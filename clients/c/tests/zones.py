@@ -154,4 +154,5 @@ def test_rows_that_end_at_an_lsn():
 
 
 if __name__ == "__main__":
-    run("zones", globals())
+    # A service for each request, and the model takes long to start.
+    run("zones", globals(), not_with_the_model=["test_failovers_before_each_request"])
