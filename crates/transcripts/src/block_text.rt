@@ -6,7 +6,7 @@
 use crate::transcript::{Stop, pushed};
 use bytes::Bytes;
 use pl_block::{Block, Record};
-use std::alloc::Global;
+use std::alloc::{AllocError, Global};
 
 // So many equal bytes.
 fn run_of(alloc: Global, count: &str, byte: &str) -> Result<Vec<u8>, Stop> {
@@ -121,4 +121,25 @@ pub fn push_blocks(out: &mut String, blocks: &[Block]) -> Result<(), Stop> {
         push_block(out, block)?;
     }
     Ok(())
+}
+
+// The word of the number, and the one of a block of one byte that is the number's last.
+fn number_and_block(alloc: Global, number: u64) -> Result<(String, String), AllocError> {
+    let word = format!(in alloc; "{number}")?;
+    Ok((word, format!(in alloc; "{number}:{:02x}", number % 256)?))
+}
+
+/// The word of the number, and the one of a block of one byte that is the number's last: `300` and
+/// `300:2c`. Where memory is refused they are made again, once.
+pub fn number_words(
+    alloc: Global,
+    number: u64,
+    refused: &mut bool,
+) -> Result<(String, String), AllocError> {
+    let words = number_and_block(alloc, number);
+    if words.is_ok() || *refused {
+        return words;
+    }
+    *refused = true;
+    number_and_block(alloc, number)
 }

@@ -6,15 +6,19 @@ use std::alloc::{AllocError, AllocFailed, Global};
 use std::num::ParseIntError;
 use std::test::Fail;
 
+// What an answer may have beside the text that is wanted: a space in front, and one behind.
+const ROOM: usize = 2;
+
 /// What a transcript speaks to.
 pub trait Subject: Drop {
     /// One that was asked nothing.
     fn new(alloc: Global) -> Self;
 
-    /// Writes the answer to the words in front of a line's `=`.
+    /// Writes the answer to the words in front of a line's `=`. `out` has room for a right answer.
     ///
-    /// A test may meet one refused allocation. `refused` says whether it has: the call that meets it
-    /// asks again, once, and sets it.
+    /// A test may meet one refused allocation. `refused` says whether it has: what meets it amid a
+    /// line of several calls asks again, once, and sets it. After an error of no memory the line is
+    /// asked again as it stands.
     fn answer(&mut self, words: &[&str], out: &mut String, refused: &mut bool) -> Result<(), Stop>;
 }
 
@@ -27,6 +31,8 @@ pub enum Stop {
     Unread,
     /// Two calls that answer alike did not, or one was out of memory and yet something changed.
     Changed,
+    /// A step amid a run was out of memory, and those behind it were taken without it.
+    Amid,
 }
 
 impl From<AllocError> for Stop {
@@ -79,6 +85,7 @@ impl Stop {
             Stop::NoMemory => "out of memory",
             Stop::Unread => "not read",
             Stop::Changed => "answered in two ways",
+            Stop::Amid => "out of memory amid a run",
         }
     }
 }
@@ -90,6 +97,8 @@ struct Player<S: Subject> {
     subject: S,
     /// The last answer, or why there is none.
     answer: Result<String, Stop>,
+    /// Whether an allocation failed.
+    refused: bool,
 }
 
 impl<S: Subject> Player<S> {
@@ -98,6 +107,7 @@ impl<S: Subject> Player<S> {
             alloc,
             subject: S::new(alloc),
             answer: Err(Stop::Unread),
+            refused: false,
         }
     }
 
@@ -109,72 +119,72 @@ impl<S: Subject> Player<S> {
     }
 
     // The line, and what it was answered.
-    fn told(&self, line: &str) -> Result<String, AllocError> {
+    fn failed(&self, line: &str) -> Fail {
         let shown = self.shown();
-        format!(in self.alloc; "{line}, not {shown}")
+        Fail::new(format_args!("{line}, not {shown}"))
     }
 
-    fn asks(&mut self, asked: &str, refused: &mut bool) -> Result<String, Stop> {
+    // Asks. There is room for a right answer before the question is asked, so that no allocation of
+    // the test's own fails behind it.
+    fn asks(&mut self, asked: &str, wanted: &str) -> Result<String, Stop> {
         let words: Vec<&str> = asked.split_whitespace().collect(self.alloc)?;
-        let mut out = String::new(self.alloc);
-        self.subject.answer(&words, &mut out, refused)?;
+        let mut out = String::with_capacity(self.alloc, wanted.len().saturating_add(ROOM))?;
+        self.subject.answer(&words, &mut out, &mut self.refused)?;
         Ok(out)
     }
 
-    // Whether the line is a comment, or is answered as it says. An error is that an allocation of the
-    // test's own failed.
-    fn holds(&mut self, line: &str, refused: &mut bool) -> Result<bool, AllocError> {
+    // Asks, and once more, in its place, where an allocation failed.
+    fn asks_on(&mut self, asked: &str, wanted: &str) -> Result<String, Stop> {
+        let answer = self.asks(asked, wanted);
+        if self.refused || !matches!(answer, Err(Stop::NoMemory)) {
+            return answer;
+        }
+        self.refused = true;
+        self.asks(asked, wanted)
+    }
+
+    // Whether the line is a comment, or is answered as it says.
+    fn holds(&mut self, line: &str) -> bool {
         if line.starts_with('#') {
-            return Ok(true);
+            return true;
         }
         let Some((asked, wanted)) = line.split_once('=') else {
             self.answer = Err(Stop::Unread);
-            return Ok(false);
+            return false;
         };
-        self.answer = self.asks(asked, refused);
+        self.answer = self.asks_on(asked, wanted);
         match &self.answer {
-            Ok(text) => Ok(text.trim() == wanted.trim()),
-            Err(Stop::NoMemory) => Err(AllocError),
-            Err(_) => Ok(false),
+            Ok(text) => text.trim() == wanted.trim(),
+            Err(_) => false,
         }
     }
-}
 
-// Plays the lines up to the first that does not hold, which it tells with its answer. An error is that
-// an allocation of the test's own failed.
-fn play<S: Subject>(
-    alloc: Global,
-    row: &str,
-    refused: &mut bool,
-) -> Result<Option<String>, AllocError> {
-    let mut player: Player<S> = Player::new(alloc);
-    for line in row.lines() {
-        if !player.holds(line, refused)? {
-            return Ok(Some(player.told(line)?));
+    // The first line that does not hold.
+    fn first_wrong<'a>(&mut self, row: &'a str) -> Option<&'a str> {
+        for line in row.lines() {
+            if !self.holds(line) {
+                return Some(line);
+            }
         }
+        None
     }
-    Ok(None)
 }
 
-// Plays the lines, and from the beginning, once, where an allocation of the test's own failed.
-fn play_again<S: Subject>(alloc: Global, row: &str) -> Result<Option<String>, AllocError> {
-    let mut refused = false;
-    if let Ok(wrong) = play::<S>(alloc, row, &mut refused) {
-        return Ok(wrong);
-    }
-    if refused {
-        return Err(AllocError);
-    }
-    refused = true;
-    play::<S>(alloc, row, &mut refused)
-}
-
-/// Plays the transcript of a subject. Where an allocation of the test's own fails it is played from
-/// its beginning, once, since a test may meet one refused allocation and no more.
+/// Plays the transcript of a subject, up to the first line that does not hold, which it tells with its
+/// answer.
+///
+/// A test may meet one refused allocation and no more. The line that meets it is asked again in its
+/// place, and those behind it go on from there. Only a run in which one step was refused has answers of
+/// its own: after it the transcript is played from its beginning.
 pub fn plays<S: Subject>(alloc: Global, row: &str) -> Result<(), Fail> {
-    match play_again::<S>(alloc, row) {
-        Ok(None) => Ok(()),
-        Ok(Some(wrong)) => Err(Fail::new(wrong)),
-        Err(_) => Err(Fail::new("out of memory twice")),
+    let mut player: Player<S> = Player::new(alloc);
+    let mut wrong = player.first_wrong(row);
+    if matches!(player.answer, Err(Stop::Amid)) {
+        player.subject = S::new(alloc);
+        wrong = player.first_wrong(row);
+    }
+    match wrong {
+        Some(line) => Err(player.failed(line)),
+        None => Ok(()),
     }
 }
