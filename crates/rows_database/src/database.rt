@@ -2,12 +2,12 @@
 
 use pl_core::{Db, DbFault, Epochs, Limits, Reply};
 use pl_log::DbLog;
-use pl_table::{Act, Head, Request};
+use pl_table::{Act, Head, Request, Section};
 use pl_wire::{BodyFault, decode_request, encode_reply};
 use std::alloc::Global;
 use transcripts::answer::{push_bytes, push_numbers, push_word};
 use transcripts::asking::{head_of, request_of};
-use transcripts::block_text::push_block;
+use transcripts::block_text::{number_words, push_block};
 use transcripts::codec::bytes_of;
 use transcripts::reply_text::push_reply;
 use transcripts::table_text::table_named;
@@ -23,8 +23,8 @@ const PASSES: [u64; 3] = [1, 0, 18_446_744_073_709_551_615];
 pub(crate) struct Database {
     alloc: Global,
     db: Option<Db>,
-    /// The requests of the next run.
-    queue: Vec<(u64, Request)>,
+    /// The words of the requests of the next run, each with how many requests were made before it.
+    queue: Vec<(usize, String)>,
     /// How many requests were made, each once.
     asked: usize,
 }
@@ -104,14 +104,10 @@ impl Database {
         request_of(self.alloc, DATABASES[self.asked % 4], words)?.ok_or(Stop::Unread)
     }
 
-    fn pass(&self) -> u64 {
-        PASSES[self.asked % 3]
-    }
-
     // The reply to a request. One of no memory has changed nothing.
     fn step(&mut self, asked: Asked) -> Result<Reply, Stop> {
         let request = self.request(asked)?;
-        let pass = self.pass();
+        let pass = PASSES[self.asked % 3];
         let db = self.db.as_mut().ok_or(Stop::Unread)?;
         let before = short_of(db);
         let reply = db.step(pass, request);
@@ -123,14 +119,14 @@ impl Database {
         Ok(reply)
     }
 
-    // The reply to a request, which is made again where memory was refused.
+    // The reply to a request, which is made again, in its place, where memory was refused.
     fn ask(&mut self, asked: Asked, refused: &mut bool) -> Result<Reply, Stop> {
-        let reply = self.step(asked)?;
-        if matches!(reply, Reply::NoMemory) && !*refused {
-            *refused = true;
-            return self.step(asked);
+        let reply = self.step(asked);
+        if *refused || !matches!(reply, Ok(Reply::NoMemory) | Err(Stop::NoMemory)) {
+            return reply;
         }
-        Ok(reply)
+        *refused = true;
+        self.step(asked)
     }
 
     // Writes to the copy, or offers, the block of the LSN, whose byte is its number.
@@ -142,7 +138,7 @@ impl Database {
         refused: &mut bool,
     ) -> Result<Reply, Stop> {
         let [principal, token, role, epoch] = head;
-        let block = format!(in self.alloc; "{lsn}:{:02x}", lsn % 256)?;
+        let (_, block) = number_words(self.alloc, lsn, refused)?;
         let block = block.as_str();
         if copy.is_empty() {
             let offer = [principal, token, role, epoch, "offer", block];
@@ -197,7 +193,7 @@ impl Database {
         }
         let [principal, token, role, epoch] = head;
         let (_, last) = lsns;
-        let last = format!(in self.alloc; "{last}")?;
+        let (last, _) = number_words(self.alloc, last, refused)?;
         let report = [principal, token, role, epoch, "report", last.as_str()];
         self.ask(Asked::Words(&report), refused)
     }
@@ -254,36 +250,46 @@ impl Database {
         Ok(count)
     }
 
-    // Puts the request into the queue, and pushes how many there are.
+    // Puts the words of a request into the queue, and pushes how many there are.
     fn queue(&mut self, words: &[&str], out: &mut String) -> Result<(), Stop> {
-        let request = self.request_of(words)?;
-        let pass = self.pass();
-        self.queue.push((pass, request))?;
+        let mut text = String::new(self.alloc);
+        for word in words {
+            push_word(&mut text, word)?;
+        }
+        self.queue.push((self.asked, text))?;
         self.asked = self.asked.wrapping_add(1);
         push_numbers(out, &[self.queue.len() as u64])
     }
 
+    // The requests of the queue, each with its pass.
+    fn queued(&self) -> Result<Vec<(u64, Request)>, Stop> {
+        let mut requests = Vec::new(self.alloc);
+        for (asked, text) in &self.queue {
+            requests.push(queued_of(self.alloc, *asked, text)?)?;
+        }
+        Ok(requests)
+    }
+
     // Pushes the replies to the requests of the queue, in one run. Where memory is refused to the run,
-    // no step was taken.
+    // no step was taken, and the queue is as it was.
     fn run(&mut self, out: &mut String, refused: &mut bool) -> Result<(), Stop> {
-        let requests = std::mem::replace(&mut self.queue, Vec::new(self.alloc));
+        let requests = self.queued()?;
         let db = self.db.as_mut().ok_or(Stop::Unread)?;
         let before = short_of(db);
         let Ok(replies) = db.run(requests) else {
             let same = short_of(db) == before;
             return Err(if same { Stop::NoMemory } else { Stop::Changed });
         };
-        push_replies(out, &replies, *refused)
+        self.queue.clear();
+        let (entries, _, _) = before;
+        push_replies(out, &replies, db.audit_len().wrapping_sub(entries), refused)
     }
 
     // Pushes the bytes of the reply to the request that the bytes spell.
     fn bytes(&mut self, words: &[&str], out: &mut String, refused: &mut bool) -> Result<(), Stop> {
         let body = bytes_of(self.alloc, words)?;
         let reply = self.ask(Asked::Body(&body), refused)?;
-        if !reply.fits() {
-            return Err(Stop::Unread);
-        }
-        push_bytes(out, &encode_reply(self.alloc, &reply)?)
+        push_bytes(out, &encoded_on(self.alloc, &reply, refused)?)
     }
 
     fn annulled(&self, epoch: &str, lsn: &str, out: &mut String) -> Result<(), Stop> {
@@ -353,12 +359,61 @@ fn lines_in(reply: &Reply) -> Result<u64, Stop> {
     }
 }
 
-// Pushes the replies of a run. The first of no memory asks for the row to be played again.
-fn push_replies(out: &mut String, replies: &[Reply], refused: bool) -> Result<(), Stop> {
+// The request of the words that were put into the queue behind so many requests, and its pass.
+fn queued_of(alloc: Global, asked: usize, text: &str) -> Result<(u64, Request), Stop> {
+    let words: Vec<&str> = text.split_whitespace().collect(alloc)?;
+    let request = request_of(alloc, DATABASES[asked % 4], &words)?.ok_or(Stop::Unread)?;
+    Ok((PASSES[asked % 3], request))
+}
+
+// The bytes of the reply.
+fn encoded(alloc: Global, reply: &Reply) -> Result<Vec<u8>, Stop> {
+    if !reply.fits() {
+        return Err(Stop::Unread);
+    }
+    Ok(encode_reply(alloc, reply)?)
+}
+
+// The same, and once more where memory is refused.
+fn encoded_on(alloc: Global, reply: &Reply, refused: &mut bool) -> Result<Vec<u8>, Stop> {
+    let bytes = encoded(alloc, reply);
+    if *refused || !matches!(bytes, Err(Stop::NoMemory)) {
+        return bytes;
+    }
+    *refused = true;
+    encoded(alloc, reply)
+}
+
+// Whether the request has an entry, by its reply: that of an unknown principal has none.
+fn is_entered(reply: &Reply) -> bool {
+    !matches!(
+        reply,
+        Reply::NoMemory
+            | Reply::Denied {
+                section: Section::A,
+                row: 1,
+                ..
+            }
+    )
+}
+
+// Pushes the replies of a run that has made so many entries. One step of it may be refused memory.
+fn push_replies(
+    out: &mut String,
+    replies: &[Reply],
+    entries: u64,
+    refused: &mut bool,
+) -> Result<(), Stop> {
+    let entered = replies.iter().filter(|reply| is_entered(reply)).count();
+    if entered as u64 != entries {
+        return Err(Stop::Changed);
+    }
+    let amid = replies.iter().any(|reply| matches!(reply, Reply::NoMemory));
+    if amid && !*refused {
+        *refused = true;
+        return Err(Stop::Amid);
+    }
     for reply in replies {
-        if matches!(reply, Reply::NoMemory) && !refused {
-            return Err(Stop::NoMemory);
-        }
         push_reply(out, reply)?;
         pushed(out.push(';'))?;
     }
