@@ -135,6 +135,17 @@ fn push_state(
     }
 }
 
+impl Framed {
+    // Opens an arena. There is room for the name of each of its frames, so that none is taken that
+    // has no name.
+    fn open(&mut self, chunks: u32) -> Result<(), Stop> {
+        let arena = open(self.alloc, chunks)?;
+        self.names = Vec::with_capacity(self.alloc, (chunks as usize).saturating_mul(64))?;
+        self.arena = Some(arena);
+        Ok(())
+    }
+}
+
 impl Subject for Framed {
     fn new(alloc: Global) -> Framed {
         Framed {
@@ -146,7 +157,7 @@ impl Subject for Framed {
 
     fn answer(&mut self, words: &[&str], out: &mut String, refused: &mut bool) -> Result<(), Stop> {
         if let ["arena", chunks] = words {
-            self.arena = Some(open(self.alloc, chunks.parse()?)?);
+            self.open(chunks.parse()?)?;
             return push_word(out, "Ok");
         }
         let arena = self.arena.as_mut().ok_or(Stop::Unread)?;

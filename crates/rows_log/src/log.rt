@@ -10,7 +10,7 @@ use pl_log::DbLog;
 use pl_log::laws::failovers_harden_the_longest_run;
 use std::alloc::Global;
 use transcripts::answer::{push_numbers, push_truth, push_word};
-use transcripts::block_text::{block_of, push_block, push_blocks};
+use transcripts::block_text::{block_of, number_words, push_block, push_blocks};
 use transcripts::transcript::{Stop, Subject};
 
 /// A log in an epoch, as whoever drives one keeps it.
@@ -102,23 +102,46 @@ impl Driven {
         Ok(self.log.report(lsn)?)
     }
 
-    // Writes a block, whose byte is its number, to a copy.
-    fn land(&mut self, alloc: Global, lsn: u64, copy: u8) -> Result<(), Stop> {
-        let word = format!(in alloc; "{lsn}:{:02x}", lsn % 256)?;
-        self.write(alloc, word.as_str(), copy)
+    // Writes the block of the word to a copy, and once more where memory is refused.
+    fn write_on(
+        &mut self,
+        alloc: Global,
+        word: &str,
+        copy: u8,
+        refused: &mut bool,
+    ) -> Result<(), Stop> {
+        let end = self.write(alloc, word, copy);
+        if *refused || !matches!(end, Err(Stop::NoMemory)) {
+            return end;
+        }
+        *refused = true;
+        self.write(alloc, word, copy)
     }
 
-    fn land_each(&mut self, alloc: Global, first: u64, last: u64, copy: u8) -> Result<(), Stop> {
+    // Writes a block, whose byte is its number, to a copy.
+    fn land(&mut self, alloc: Global, lsn: u64, copy: u8, refused: &mut bool) -> Result<(), Stop> {
+        let (_, word) = number_words(alloc, lsn, refused)?;
+        self.write_on(alloc, word.as_str(), copy, refused)
+    }
+
+    fn land_each(
+        &mut self,
+        alloc: Global,
+        first: u64,
+        last: u64,
+        copy: u8,
+        refused: &mut bool,
+    ) -> Result<(), Stop> {
         for lsn in first..=last {
-            self.land(alloc, lsn, copy)?;
+            self.land(alloc, lsn, copy, refused)?;
         }
         Ok(())
     }
 
     // Writes a block, whose byte is its number, to two copies, and reports it.
     fn harden(&mut self, alloc: Global, lsn: u64, refused: &mut bool) -> Result<(), Stop> {
-        self.land(alloc, lsn, 0)?;
-        self.land(alloc, lsn, 1)?;
+        self.land(alloc, lsn, 0, refused)?;
+        self.land(alloc, lsn, 1, refused)?;
         self.report(lsn, refused)
     }
 
@@ -219,7 +242,7 @@ impl Driven {
                 self.harden_each(alloc, first.parse()?, last.parse()?, refused)
             }
             ["land", first, last, copy] => {
-                self.land_each(alloc, first.parse()?, last.parse()?, copy.parse()?)
+                self.land_each(alloc, first.parse()?, last.parse()?, copy.parse()?, refused)
             }
             ["tidy"] => self.tidy(refused),
             _ => Err(Stop::Unread),
