@@ -134,7 +134,7 @@ fn play_two<R: Threads + Wait + Abort + Sync>(
     requires some { 1 ≤ row.turns }
     requires few { row.turns ≤ 2 ^ 62 }
 {
-    let (desk, passes) = desk_of(alloc, row.audit, 2, row.turns)?;
+    let (desk, passes) = desk_of(alloc, row.audit, 2, row.turns, refused)?;
     let (first, second, pass) = play_passes(rt, alloc, &desk, passes, row, refused)?;
     Ok((first, second, desk.close(pass).ok_or(Stop::Unread)?))
 }

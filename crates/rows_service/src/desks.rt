@@ -27,19 +27,39 @@ pub(crate) fn open(alloc: Global, audit: u64) -> Result<Db, Stop> {
     Db::new(alloc, table, 2, limits).map_err(|_| Stop::NoMemory)
 }
 
-/// A desk of such a database, with so many passes and turns.
+// The same, and once more where memory is refused.
+fn open_on(alloc: Global, audit: u64, refused: &mut bool) -> Result<Db, Stop> {
+    let db = open(alloc, audit);
+    if *refused || !matches!(db, Err(Stop::NoMemory)) {
+        return db;
+    }
+    *refused = true;
+    open(alloc, audit)
+}
+
+/// A desk of such a database, with so many passes and turns. Where memory is refused to the desk, the
+/// database comes back, and a desk of it is opened.
 pub(crate) fn desk_of(
     alloc: Global,
     audit: u64,
     seats: u32,
     turns: u64,
+    refused: &mut bool,
 ) -> Result<(Desk, Vec<Pass>), Stop>
     requires seats { 1 ≤ seats }
     requires some { 1 ≤ turns }
     requires few { turns ≤ 2 ^ 62 }
     ensures of { IfOk result (λ opened. All (IsOf opened.0) opened.1.items) }
 {
-    match Desk::new(alloc, open(alloc, audit)?, seats, turns) {
+    let db = match Desk::new(alloc, open_on(alloc, audit, refused)?, seats, turns) {
+        Ok(opened) => return Ok(opened),
+        Err(back) => back,
+    };
+    if *refused {
+        return Err(Stop::NoMemory);
+    }
+    *refused = true;
+    match Desk::new(alloc, db, seats, turns) {
         Ok(opened) => Ok(opened),
         Err(_) => Err(Stop::NoMemory),
     }
@@ -67,8 +87,39 @@ fn text_of(alloc: Global, reply: &Reply) -> Result<String, Stop> {
     Ok(text)
 }
 
-/// The reply to the request of the line, as words. The request that the desk first answers NoMemory is
-/// asked again, unless memory was refused before. An error is that it was refused to the test, or again.
+// The same, and once more where memory is refused.
+fn text_on(alloc: Global, reply: &Reply, refused: &mut bool) -> Result<String, Stop> {
+    let text = text_of(alloc, reply);
+    if *refused || !matches!(text, Err(Stop::NoMemory)) {
+        return text;
+    }
+    *refused = true;
+    text_of(alloc, reply)
+}
+
+// The reply to the request of the line, which is asked again, in its place, where memory is refused to
+// it or to its words.
+fn reply_on(
+    rt: &impl Wait,
+    alloc: Global,
+    desk: &Desk,
+    pass: &mut Pass,
+    line: &str,
+    refused: &mut bool,
+) -> Result<Reply, Stop>
+    requires of { IsOf desk.now pass.old }
+    ensures of { IsOf desk.now pass.new }
+{
+    let reply = reply_to(rt, alloc, desk, pass, line);
+    if *refused || !matches!(reply, Ok(Reply::NoMemory) | Err(Stop::NoMemory)) {
+        return reply;
+    }
+    *refused = true;
+    reply_to(rt, alloc, desk, pass, line)
+}
+
+/// The reply to the request of the line, as words. Where memory is refused, the request is asked again in
+/// its place, unless memory was refused before. An error is that it was refused again.
 pub(crate) fn ask(
     rt: &impl Wait,
     alloc: Global,
@@ -80,15 +131,11 @@ pub(crate) fn ask(
     requires of { IsOf desk.now pass.old }
     ensures of { IsOf desk.now pass.new }
 {
-    let reply = reply_to(rt, alloc, desk, pass, line)?;
-    if !matches!(reply, Reply::NoMemory) {
-        return text_of(alloc, &reply);
-    }
-    if *refused {
+    let reply = reply_on(rt, alloc, desk, pass, line, refused)?;
+    if matches!(reply, Reply::NoMemory) {
         return Err(Stop::NoMemory);
     }
-    *refused = true;
-    text_of(alloc, &reply_to(rt, alloc, desk, pass, line)?)
+    text_on(alloc, &reply, refused)
 }
 
 /// Each line is answered as it says.
@@ -152,14 +199,14 @@ fn play_alone<R: Wait + Abort>(
     requires some { 1 ≤ turns }
     requires few { turns ≤ 2 ^ 62 }
 {
-    let (desk, passes) = desk_of(alloc, 65_536, seats, turns)?;
+    let (desk, passes) = desk_of(alloc, 65_536, seats, turns, refused)?;
     let (number, pass) = play_last(rt, alloc, &desk, passes, row, refused)?;
     let db = desk.close(pass).ok_or(Stop::Unread)?;
     Ok((number, db.audit_len()))
 }
 
-// The same. The row is played from its beginning, once, where memory was refused to the test itself; or
-// to the desk, where no request is asked again since each call takes one of a few turns.
+// The same. A row of a few turns is played from its beginning, once, where memory was refused: no request
+// of it is asked again, since each call takes a turn.
 fn ends_of<R: Wait + Abort>(
     rt: &R,
     alloc: Global,
@@ -174,8 +221,7 @@ fn ends_of<R: Wait + Abort>(
     let has_few = turns < TURNS;
     let mut refused = has_few;
     let ends = play_alone(rt, alloc, seats, turns, row, &mut refused);
-    if matches!(ends, Err(Stop::NoMemory)) && refused == has_few {
-        refused = true;
+    if has_few && matches!(ends, Err(Stop::NoMemory)) {
         return play_alone(rt, alloc, seats, turns, row, &mut refused);
     }
     ends
@@ -303,19 +349,14 @@ fn play_passes<R: Wait + Abort>(
 
 // Plays a row of three passes that meet, and returns how many entries there are in the end.
 fn play_three<R: Wait + Abort>(rt: &R, alloc: Global, refused: &mut bool) -> Result<u64, Stop> {
-    let (desk, passes) = desk_of(alloc, 65_536, 3, TURNS)?;
+    let (desk, passes) = desk_of(alloc, 65_536, 3, TURNS, refused)?;
     let pass = play_passes(rt, alloc, &desk, passes, refused)?;
     Ok(desk.close(pass).ok_or(Stop::Unread)?.audit_len())
 }
 
 #[test]
 fn passes_that_meet(rt: HostRuntime) {
-    let mut refused = false;
-    let mut entries = play_three(&rt, rt.alloc(), &mut refused);
-    if matches!(entries, Err(Stop::NoMemory)) && !refused {
-        refused = true;
-        entries = play_three(&rt, rt.alloc(), &mut refused);
-    }
+    let entries = play_three(&rt, rt.alloc(), &mut false);
     assert!(&rt; matches!(entries, Ok(6)));
 }
 
@@ -332,15 +373,27 @@ fn enter_status(alloc: Global, db: &mut Db) -> Result<(), Stop> {
     let request = request_of(alloc, 0, &["2", "22", "primary", "1", "status"])?;
     match db.step(1, request.ok_or(Stop::Unread)?) {
         Reply::Status { .. } => Ok(()),
-        _ => Err(Stop::NoMemory),
+        Reply::NoMemory => Err(Stop::NoMemory),
+        _ => Err(Stop::Changed),
     }
+}
+
+// The same, and once more where memory is refused.
+fn enter_status_on(alloc: Global, db: &mut Db, refused: &mut bool) -> Result<(), Stop> {
+    let end = enter_status(alloc, db);
+    if *refused || !matches!(end, Err(Stop::NoMemory)) {
+        return end;
+    }
+    *refused = true;
+    enter_status(alloc, db)
 }
 
 // How many entries a database of one entry has behind a desk. It goes through another where it came
 // back from the first.
 fn entries_behind_a_desk(alloc: Global) -> Result<u64, Stop> {
-    let mut db = open(alloc, 65_536)?;
-    enter_status(alloc, &mut db)?;
+    let mut refused = false;
+    let mut db = open_on(alloc, 65_536, &mut refused)?;
+    enter_status_on(alloc, &mut db, &mut refused)?;
     let closed = match through_a_desk(alloc, db) {
         Ok(closed) => closed,
         Err(back) => through_a_desk(alloc, back).map_err(|_| Stop::NoMemory)?,
@@ -353,9 +406,6 @@ fn entries_behind_a_desk(alloc: Global) -> Result<u64, Stop> {
 
 #[test]
 fn database_comes_back(rt: HostRuntime) {
-    let mut entries = entries_behind_a_desk(rt.alloc());
-    if matches!(entries, Err(Stop::NoMemory)) {
-        entries = entries_behind_a_desk(rt.alloc());
-    }
+    let entries = entries_behind_a_desk(rt.alloc());
     assert!(&rt; matches!(entries, Ok(1)));
 }
