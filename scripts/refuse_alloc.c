@@ -6,6 +6,8 @@
 // For each run it writes a line: what it refused, how the program ended, how many microseconds it took,
 // how many allocations and threads it had and how many of them were refused, and the end of what the
 // program wrote. A run that does not end by itself is ended after REFUSE_PATIENCE seconds.
+//
+// The program may read in REFUSE_MET whether the refusal of its run was met: 0 until then, and then 1.
 #define _GNU_SOURCE
 #include <dlfcn.h>
 #include <errno.h>
@@ -27,6 +29,7 @@ struct tally {
 
 static struct tally *tally;
 static long at, thread_at;
+static char *met;
 static void *(*next_malloc)(size_t);
 static void *(*next_realloc)(void *, size_t);
 static starter next_create;
@@ -36,6 +39,7 @@ static _Thread_local int is_starting __attribute__((tls_model("initial-exec")));
 static int refused(atomic_long *count, long number) {
     if (atomic_fetch_add(count, 1) + 1 != number) return 0;
     atomic_fetch_add(&tally->refusals, 1);
+    if (met) *met = '1';
     return 1;
 }
 
@@ -117,6 +121,7 @@ __attribute__((constructor)) static void begin(void) {
     const char *places = getenv("REFUSE_PLACES"), *starts = getenv("REFUSE_THREADS"), *word = getenv("REFUSE_PATIENCE");
     if (!places && !starts) return;
     unsigned patience = word ? atoi(word) : 60;
+    met = getenv("REFUSE_MET");
     tally = mmap(NULL, sizeof *tally, PROT_READ | PROT_WRITE, MAP_SHARED | MAP_ANONYMOUS, -1, 0);
     if (tally == MAP_FAILED) _exit(125);
     if (are_runs("allocation", places, &at, patience) || are_runs("thread", starts, &thread_at, patience)) return;

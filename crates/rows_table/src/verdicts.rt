@@ -1,5 +1,5 @@
-//! Verdicts of a table's rows that are asked again: by the same table, and by another. Each row is
-//! played once more, from its beginning, where an allocation was refused.
+//! Verdicts of a table's rows that are asked again: by the same table, and by another. A row of 2,048
+//! pulls is played once more, from its beginning, where an allocation was refused.
 
 mod ends;
 
@@ -263,7 +263,7 @@ fn many_verdicts_of_a_decider(rt: HostRuntime) -> Result<(), Fail> {
 
 // No row of the start table matches a pull by principal 3 as page server; by the other rows, the pull
 // of partition 5 is denied by row 1, and that of partition 6 is not.
-const BY_START: [(u16, Verdict); 3] = [(5, NO_ROW), (5, NO_ROW), (6, NO_ROW)];
+const BY_START: [(u16, Verdict); 2] = [(5, NO_ROW), (5, NO_ROW)];
 
 const BY_OTHER: [(u16, Verdict); 2] = [
     (
@@ -299,19 +299,30 @@ fn decides_each(decider: &mut Decider, table: &Table, pulls: &[(u16, Verdict)]) 
     true
 }
 
-// What is wrong with the verdicts of a decider that is asked by two tables. Where memory may be refused, a
-// verdict may not be cached.
+// Whether an allocation was refused to this run of the test, as scripts/refuse-memory tells.
+fn is_refused(rt: &impl Env) -> bool {
+    let mut word = [0; 20];
+    rt.var("REFUSE_MET", &mut word).is_ok() && word[0] == b'1'
+}
+
+// What is wrong with the verdicts of a decider that is asked by two tables. Each is cached, but that on
+// partition 6 where memory is refused to it: where it is refused to the one on 5, the second pull of 5
+// caches it.
 fn wrong_of_two(
+    rt: &impl Env,
     decider: &mut Decider,
     start: &Table,
     other: &Table,
-    may_be_refused: bool,
 ) -> Option<&'static str> {
     if !decides_each(decider, start, &BY_START) {
         return Some("a pull");
     }
-    let is_fewer = may_be_refused && decider.cached() == 1;
-    if decider.cached() != 2 && !is_fewer {
+    let before = is_refused(rt);
+    if decided_on(decider, start, 6) != Some(NO_ROW) {
+        return Some("a pull of partition 6");
+    }
+    let wanted = if is_refused(rt) && !before { 1 } else { 2 };
+    if decider.cached() != wanted {
         return Some("the number of cached verdicts");
     }
     if decided_on(decider, other, 5).is_some() {
@@ -324,30 +335,37 @@ fn wrong_of_two(
     None
 }
 
-fn wrong_of_tables(
-    alloc: Global,
-    start: &Table,
-    other: &Table,
-    may_be_refused: bool,
-) -> Result<Option<&'static str>, AllocError> {
-    let mut decider = Decider::new(alloc)?;
-    Ok(wrong_of_two(&mut decider, start, other, may_be_refused))
+// The table of the text, which is read once more where memory is refused.
+fn table_on(alloc: Global, text: &str, refused: &mut bool) -> Result<Table, AllocError> {
+    let table = table_of(alloc, text);
+    if *refused || table.is_ok() {
+        return table;
+    }
+    *refused = true;
+    table_of(alloc, text)
 }
 
-fn wrong_of_both(alloc: Global, may_be_refused: bool) -> Result<Option<&'static str>, AllocError> {
-    let start = table_of(alloc, START)?;
-    let other = table_of(alloc, OTHER_ROWS)?;
-    wrong_of_tables(alloc, &start, &other, may_be_refused)
+// A decider, which is made once more where memory is refused.
+fn decider_on(alloc: Global, refused: &mut bool) -> Result<Decider, AllocError> {
+    let decider = Decider::new(alloc);
+    if *refused || decider.is_ok() {
+        return decider;
+    }
+    *refused = true;
+    Decider::new(alloc)
+}
+
+fn wrong_of_both(rt: &impl Env, alloc: Global) -> Result<Option<&'static str>, AllocError> {
+    let mut refused = false;
+    let start = table_on(alloc, START, &mut refused)?;
+    let other = table_on(alloc, OTHER_ROWS, &mut refused)?;
+    let mut decider = decider_on(alloc, &mut refused)?;
+    Ok(wrong_of_two(rt, &mut decider, &start, &other))
 }
 
 #[test]
 fn asked_again_by_another_table(rt: HostRuntime) -> Result<(), Fail> {
-    // So it is under scripts/refuse-memory.
-    let may_be_refused = rt.var("REFUSE_AT", &mut [0; 20]).is_ok();
-    let wrong = match wrong_of_both(rt.alloc(), may_be_refused) {
-        Ok(wrong) => wrong,
-        Err(_) => wrong_of_both(rt.alloc(), false)?,
-    };
+    let wrong = wrong_of_both(&rt, rt.alloc())?;
     assert_eq!(rt; wrong, None);
     Ok(())
 }
