@@ -10,3 +10,4 @@ pub mod Calling
 pub mod Rounds
 pub mod Reading
 pub mod Filling
+pub mod Turning

@@ -26,7 +26,7 @@ by_body : {P : Type 0} (calls : Calls P) (body : List ℕ) (p now q : P) (reply 
 by_body calls body p now q reply (inl one) more = by_reading calls (request_reading body) p now q reply one more
 by_body calls body p now q reply (inr none) more = subst (λ x. Reaches calls x q) none.2 more
 
-by_answers : {P : Type 0} (calls : Calls P) (p q : P) (bodies : List (List ℕ)) (rs : List Reply) → Answered calls p bodies rs q → Reaches calls p q
+pub by_answers : {P : Type 0} (calls : Calls P) (p q : P) (bodies : List (List ℕ)) (rs : List Reply) → Answered calls p bodies rs q → Reaches calls p q
 by_answers calls p q [] [] done = ([], done)
 by_answers calls p q [] (y ∷ ys) done = absurd done
 by_answers calls p q (b ∷ bs) [] done = absurd done

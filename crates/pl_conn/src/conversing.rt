@@ -1,11 +1,11 @@
 //! A conversation: the frames of requests in, the frames of their replies out.
 
-ghost use Rattle.std.specs.Prelude.{◌≡◌, ◌+◌, ◌<◌, ◌≤◌, ◌^◌, [], IfErr, IfNone, IfOk, IfSome, OnOk, length, take};
+ghost use Rattle.std.specs.Prelude.{◌≡◌, ◌+◌, ◌<◌, ◌≤◌, ◌^◌, [], IfErr, IfNone, IfOk, IfSome, IsTrue, OnOk, length, take};
 ghost use Rattle.std.specs.Io.KnownBytes.{Consumes, IsAtEnd};
 ghost use Rattle.pl_block.specs.declared.fault.Failed.TheVariants.{NoMemory};
 ghost use Rattle.pl_block.specs.Faults.{Returns};
 ghost use Rattle.pl_core.specs.Reply.{FitsReply};
-ghost use Rattle.pl_wire.specs.FrameReading.{StopsFrame};
+ghost use Rattle.pl_wire.specs.FrameReading.{IsCut, StopsFrame};
 ghost use Rattle.pl_wire.specs.Frames.{frame, longest_request};
 ghost use Rattle.pl_wire.specs.Reading.{MayLackMemory, request_reading};
 ghost use Rattle.pl_conn.specs.Conversation.{Converses, scene};
@@ -29,10 +29,10 @@ use std::io::Write;
 const MOST_FRAMES: u64 = 1 << 32;
 
 /// The bytes of a frame's length.
-const LENGTH_BYTES: usize = 4;
+pub(crate) const LENGTH_BYTES: usize = 4;
 
 // The body of the frame that the bytes begin with, where all of it is there.
-fn body_in(bytes: &[u8]) -> Option<&[u8]>
+pub(crate) fn body_in(bytes: &[u8]) -> Option<&[u8]>
     ensures whole { IfSome result (λ body. (4 + length body.now ≤ length bytes.now)
         × (take (4 + length body.now) bytes.now ≡ frame body.now)) }
     ensures short { IfSome result (λ body. length body.now ≤ longest_request) }
@@ -50,7 +50,10 @@ fn body_in(bytes: &[u8]) -> Option<&[u8]>
 }
 
 // Whether the bytes are less than a frame, and more may make them one.
-fn is_cut(bytes: &[u8]) -> bool {
+pub(crate) fn is_cut(bytes: &[u8]) -> bool
+    ensures cut { IsTrue result → IsCut longest_request bytes.now }
+    ensures short { IsTrue result → length bytes.now < 65540 }
+{
     if bytes.len() < LENGTH_BYTES {
         return true;
     }
@@ -135,7 +138,11 @@ fn next_request<R: Source>(
 }
 
 // The reply to what a body spells.
-fn answer<G: Gate>(read: Result<Request, BodyFault>, gate: &G, pass: &mut G::Pass) -> Reply
+pub(crate) fn answer<G: Gate>(
+    read: Result<Request, BodyFault>,
+    gate: &G,
+    pass: &mut G::Pass,
+) -> Reply
     requires own { G.owns gate.now pass.old }
     ensures own { G.owns gate.now pass.new }
     ensures fits { FitsReply result }

@@ -1,7 +1,8 @@
 //! Bytes that were read of a connection, and are not yet taken.
 
-ghost use Rattle.std.specs.Prelude.{◌≡◌, ◌+◌, ◌-◌, ◌≤◌, [], IfOk, OnErr, drop, length, slice_range, take, vec_len};
-ghost use Rattle.std.specs.Io.KnownBytes.{Consumes, prepend_known};
+ghost use Rattle.std.specs.Prelude.{◌≡◌, ◌+◌, ◌<◌, ◌≤◌, [], IfOk, OnErr, length, take};
+ghost use Rattle.std.specs.Io.KnownBytes.{IsAtEnd};
+ghost use Rattle.pl_conn.specs.Resting.{Hears};
 
 use std::alloc::{AllocError, Global};
 use std::io::{self, Read};
@@ -14,42 +15,42 @@ pub(crate) const LONGEST_FRAME: usize = 65_540;
 #[derive(Drop)]
 pub(crate) struct Inbox {
     room: Vec<u8>,
-    // What waits stands between these places.
-    start: usize,
-    end: usize,
+    // How many of them wait.
+    len: usize,
 }
 
 impl Model for Inbox {
-    ghost use Rattle.std.specs.Prelude.{List, ℕ, ◌≤◌, slice_range, vec_len};
+    ghost use Rattle.std.specs.Prelude.{List, ℕ, ◌≡◌, ◌≤◌, take, vec_len};
 
     ghost Value = { List ℕ };
 
-    ghost view = { λ i. slice_range i.room.items i.start i.end };
+    ghost view = { λ i. take i.len i.room.items };
 
-    ghost invariant = { λ i. (i.start ≤ i.end) × (i.end ≤ vec_len i.room) };
+    // The longest frame has room.
+    ghost invariant = { λ i. (i.len ≤ 65540) × (vec_len i.room ≡ 65540) };
 }
 
-// Moves the bytes between the places to the front.
-#[tactic(auto, using(crate::proofs::Filling::front_moved))]
-fn move_to_front(room: &mut Vec<u8>, start: usize, end: usize)
-    requires ordered { start ≤ end }
-    requires within { end ≤ vec_len room.old }
-    ensures moved { take (end - start) room.new.items ≡ slice_range room.old.items start end }
-    ensures len { vec_len room.new ≡ vec_len room.old }
+// Puts the bytes at the front of the room.
+#[tactic(auto, using(crate::proofs::Filling::front_put))]
+fn put_front(room: &mut [u8], bytes: &[u8])
+    requires few { length bytes.now ≤ length room.old }
+    ensures front { take (length bytes.now) room.new ≡ bytes.now }
+    ensures len { length room.new ≡ length room.old }
 {
-    room.copy_within(start..end, 0);
+    room[..bytes.len()].copy_from_slice(bytes);
 }
 
 // Reads once, into the room behind so many bytes that wait.
-#[tactic(auto, using(crate::proofs::Filling::filled))]
+#[tactic(auto, using(crate::proofs::Turning::heard_behind))]
 fn read_behind<R: Read>(from: &mut R, room: &mut [u8], count: usize) -> io::Result<usize>
     requires within { count ≤ length room.old }
     ensures len { length room.new ≡ length room.old }
     ensures bound { IfOk result (λ more. count + more ≤ length room.new) }
-    ensures ok { IfOk result (λ more. Consumes (prepend_known (take count room.old) (R.remaining from.old))
-        (prepend_known (take (count + more) room.new) (R.remaining from.new)) []) }
-    ensures err { OnErr result (Consumes (prepend_known (take count room.old) (R.remaining from.old))
-        (prepend_known (take count room.new) (R.remaining from.new)) []) }
+    ensures hears { IfOk result (λ more. Hears (R.remaining from.old) (take count room.old)
+        (R.remaining from.new) (take (count + more) room.new)) }
+    ensures end { IfOk result (λ more. more ≡ 0 → count < length room.old → IsAtEnd (R.remaining from.new)) }
+    ensures err { OnErr result (Hears (R.remaining from.old) (take count room.old)
+        (R.remaining from.new) (take count room.new)) }
 {
     from.read(&mut room[count..])
 }
@@ -61,46 +62,39 @@ impl Inbox {
     {
         Ok(Inbox {
             room: vec![in alloc; 0; LONGEST_FRAME]?,
-            start: 0,
-            end: 0,
+            len: 0,
         })
     }
 
-    /// Forgets what waits.
-    pub(crate) fn clear(&mut self)
-        ensures value { self.new ≡ [] }
+    /// Forgets what waits, and takes these bytes in.
+    pub(crate) fn load(&mut self, bytes: &[u8])
+        requires few { length bytes.now ≤ 65540 }
+        ensures value { self.new ≡ bytes.now }
     {
-        self.start = 0;
-        self.end = 0;
+        put_front(self.room.as_mut_slice(), bytes);
+        self.len = bytes.len();
     }
 
     /// What waits.
     pub(crate) fn as_slice(&self) -> &[u8]
         ensures value { result.now ≡ self.now }
+        ensures few { length result.now ≤ 65540 }
     {
-        &self.room[self.start..self.end]
+        &self.room[..self.len]
     }
 
-    /// Takes so many bytes, from the front.
-    #[tactic(auto, using(crate::proofs::Filling::fewer, crate::proofs::Filling::waiting))]
-    pub(crate) fn take(&mut self, count: usize)
-        requires few { count ≤ length self.old }
-        ensures value { self.new ≡ drop count self.old }
-    {
-        self.start += count;
+    /// Whether there is no room behind what waits.
+    pub(crate) fn is_full(&self) -> bool {
+        self.len == self.room.len()
     }
 
     /// Reads once, as many bytes as there is room for behind those that wait, and gives how many came.
     pub(crate) fn fill<R: Read>(&mut self, from: &mut R) -> io::Result<usize>
-        ensures kept { Consumes (prepend_known self.old (R.remaining from.old))
-            (prepend_known self.new (R.remaining from.new)) [] }
+        ensures hears { Hears (R.remaining from.old) self.old (R.remaining from.new) self.new }
+        ensures end { IfOk result (λ more. more ≡ 0 → length self.old < 65540 → IsAtEnd (R.remaining from.new)) }
     {
-        let len = self.end - self.start;
-        move_to_front(&mut self.room, self.start, self.end);
-        self.start = 0;
-        self.end = len;
-        let more = read_behind(from, self.room.as_mut_slice(), len)?;
-        self.end = len + more;
+        let more = read_behind(from, self.room.as_mut_slice(), self.len)?;
+        self.len += more;
         Ok(more)
     }
 }

@@ -86,6 +86,13 @@ impl Outbox {
         self.whole
     }
 
+    /// The frames that wait.
+    pub(crate) fn text(&self) -> &[u8]
+        ensures value { result.now ≡ self.now.text }
+    {
+        &self.text
+    }
+
     /// Whether one reply more may wait. Else what waits is to be written first.
     pub(crate) fn may_gather(&self) -> bool
         ensures exact { IsTrue result ↔ MayGather self.now }

@@ -6,22 +6,18 @@ ghost use Rattle.pl_conn.specs.Serving.{Reaches, Returned, Serves};
 ghost use Rattle.pl_conn.specs.Workers.{AllOf, each_of};
 
 use crate::accepting::accept;
-use crate::cause::ConnFault;
-use crate::conversing::converse_by;
 use crate::gate::Gate;
-use crate::inbox::Inbox;
-use crate::incoming::Incoming;
-use crate::outbox::Outbox;
 use crate::watch::{Unwatched, Watch};
-use crossbeam_channel::{Receiver, Sender};
+use crate::worker::{Outcome, Post, Worker};
+use crossbeam_channel::{Sender, TrySendError};
 use std::alloc::{AllocError, Global};
-use std::net::{TcpListener, TcpStream};
+use std::net::{Net, TcpListener, TcpStream};
 use std::snapshot::Snapshot;
 use std::sync::Wait;
 use std::thread;
 use std::thread::{Promise, PromisedHandle, Scope, Threads};
 
-/// How many accepted sockets wait for a worker at most.
+/// How many accepted sockets wait for one worker at most.
 const WAITING: usize = 64;
 
 /// Why no more connections were accepted.
@@ -51,27 +47,35 @@ pub struct Served<P> {
     pub passes: Vec<P>,
 }
 
-// What a worker reads into and writes from, on one connection after the other.
+// Workers that are not yet started, and at the same places what the accepting thread needs of each.
 #[derive(Drop)]
-struct Room {
-    inbox: Inbox,
-    outbox: Outbox,
+struct Staff {
+    workers: Vec<Worker>,
+    posts: Vec<Post>,
+    channels: Vec<Sender<TcpStream>>,
 }
 
-impl Room {
-    fn new(alloc: Global) -> Result<Room, AllocError> {
-        Ok(Room {
-            inbox: Inbox::new(alloc)?,
-            outbox: Outbox::new(alloc)?,
-        })
+impl Staff {
+    // So many, or as many as there is memory for, and descriptors.
+    fn hire<R: Net>(rt: &R, alloc: Global, count: usize) -> Result<Staff, AllocError> {
+        let mut staff = Staff {
+            workers: Vec::with_capacity(alloc, count)?,
+            posts: Vec::with_capacity(alloc, count)?,
+            channels: Vec::with_capacity(alloc, count)?,
+        };
+        for _ in 0..count {
+            let Ok((channel, sockets)) = crossbeam_channel::bounded(alloc, WAITING) else {
+                break;
+            };
+            let Some((worker, post)) = Worker::new(rt, alloc, sockets) else {
+                break;
+            };
+            staff.workers.push(worker)?;
+            staff.posts.push(post)?;
+            staff.channels.push(channel)?;
+        }
+        Ok(staff)
     }
-}
-
-// What a worker leaves.
-#[derive(Drop)]
-struct Outcome<P> {
-    pass: P,
-    faults: u64,
 }
 
 // That the pass which a worker leaves came of this one, by calls of this gate.
@@ -93,66 +97,13 @@ impl<G: Gate> Promise<Outcome<G::Pass>> for Kept<G> {
         G.owns p.gate.value work.pass };
 }
 
-// One connection, from its first byte to its last, in this room, which comes back. Small replies are not held
-// back where the system lets that be set.
-#[tactic(auto, using(crate::proofs::Reaching::reaches_self, crate::proofs::Reaching::by_conversation))]
-fn talk<G: Gate>(
-    alloc: Global,
-    socket: &TcpStream,
-    gate: &G,
-    pass: &mut G::Pass,
-    room: Room,
-) -> (Room, Result<u64, ConnFault>)
-    requires own { G.owns gate.now pass.old }
-    ensures own { G.owns gate.now pass.new }
-    ensures reaches { Reaches (G.calls gate.now) pass.old pass.new }
-{
-    let _is_set = socket.set_nodelay(true);
-    let Room { inbox, outbox } = room;
-    let mut outbox = outbox;
-    let mut reader = Incoming::new(socket, inbox);
-    let mut writer = socket;
-    let end = converse_by(alloc, &mut reader, &mut writer, gate, pass, &mut outbox);
-    let inbox = reader.into_inbox();
-    (Room { inbox, outbox }, end)
-}
-
-// Serves the sockets that come, one after the other, until no more can come.
-#[tactic(auto, using(crate::proofs::Reaching::reaches_self, crate::proofs::Reaching::reaches_more))]
-fn work<R: Wait, G: Gate>(
-    rt: &R,
-    alloc: Global,
-    sockets: &Receiver<TcpStream>,
-    gate: &G,
-    pass: G::Pass,
-    room: Room,
-) -> Outcome<G::Pass>
-    requires own { G.owns gate.now pass }
-    ensures own { G.owns gate.now result.pass }
-    ensures reaches { Reaches (G.calls gate.now) pass result.pass }
-{
-    let mut now = pass;
-    let mut room = room;
-    let mut faults: u64 = 0;
-    for _ in rt.forever() {
-        let Ok(socket) = sockets.recv(rt) else {
-            break;
-        };
-        let (back, end) = talk(alloc, &socket, gate, &mut now, room);
-        room = back;
-        if end.is_err() {
-            faults = faults.saturating_add(1);
-        }
-    }
-    Outcome { pass: now, faults }
-}
-
-// A worker with this pass, if one can be started: if there is memory for its room, and a thread.
+// A worker with this pass, if its thread can be started.
 fn start<'s, E, R: Wait + Sync, G: Gate + Sync>(
     scope: &Scope<'s, E>,
     rt: &'s R,
     alloc: Global,
-    sockets: &'s Receiver<TcpStream>,
+    worker: Worker,
+    post: &'s Post,
     gate: &'s G,
     pass: G::Pass,
 ) -> Option<PromisedHandle<Outcome<G::Pass>, Kept<G>>>
@@ -162,18 +113,72 @@ where
     ensures of { IfSome result (λ handle. (handle.promise.gate.value ≡ gate.now) ×
         (handle.promise.start.value ≡ pass)) }
 {
-    let Ok(room) = Room::new(alloc) else {
-        return None;
-    };
     let promise = Kept {
         gate: Snapshot::of(gate),
         start: Snapshot::of(&pass),
     };
-    match scope.spawn_with(promise, move || {
-        work(rt, alloc, sockets, gate, pass, room)
-    }) {
+    match scope.spawn_with(promise, move || worker.work(rt, alloc, post, gate, pass)) {
         Ok(handle) => Some(handle),
         Err(_) => None,
+    }
+}
+
+// The place of the worker that has the fewest connections.
+fn fewest(posts: &[Post]) -> usize {
+    let mut place = 0;
+    let mut least = u64::MAX;
+    for (at, post) in posts.iter().enumerate() {
+        let open = post.open();
+        if open < least {
+            least = open;
+            place = at;
+        }
+    }
+    place
+}
+
+// Hands the socket to the worker, if its channel has room. Else the socket comes back.
+fn offer<R: Wait>(
+    rt: &R,
+    post: &Post,
+    channel: &Sender<TcpStream>,
+    socket: TcpStream,
+) -> Option<TcpStream> {
+    post.opens();
+    match channel.try_send(rt, socket) {
+        Ok(()) => {
+            post.ring();
+            None
+        }
+        Err(TrySendError::Full(socket))
+        | Err(TrySendError::Disconnected(socket))
+        | Err(TrySendError::OutOfMemory(socket)) => {
+            post.closes();
+            Some(socket)
+        }
+    }
+}
+
+// Hands the socket to the worker that has the fewest connections. Where its channel is full, it goes to the first
+// that has room; where none has, to that worker, once it has.
+fn hand_over<R: Wait>(rt: &R, posts: &[Post], channels: &[Sender<TcpStream>], socket: TcpStream) {
+    let place = fewest(posts);
+    let (Some(post), Some(channel)) = (posts.get(place), channels.get(place)) else {
+        return;
+    };
+    let mut left = offer(rt, post, channel, socket);
+    for (other, its) in posts.iter().zip(channels) {
+        left = match left {
+            Some(socket) => offer(rt, other, its, socket),
+            None => None,
+        };
+    }
+    if let Some(socket) = left {
+        post.opens();
+        if channel.send(rt, socket).is_err() {
+            post.closes();
+        }
+        post.ring();
     }
 }
 
@@ -181,7 +186,8 @@ where
 fn accept_all<R: Wait, W: Watch>(
     rt: &R,
     listener: &TcpListener,
-    sockets: &Sender<TcpStream>,
+    posts: &[Post],
+    channels: &[Sender<TcpStream>],
     connections: u32,
     watch: &W,
 ) -> (u32, Stop)
@@ -194,9 +200,7 @@ fn accept_all<R: Wait, W: Watch>(
         let Ok(socket) = accept(rt, listener, watch, &mut is_told) else {
             return (accepted, Stop::Accept);
         };
-        if sockets.send(rt, socket).is_err() {
-            return (accepted, Stop::Accept);
-        }
+        hand_over(rt, posts, channels, socket);
     }
     (connections, Stop::Limit)
 }
@@ -207,7 +211,8 @@ fn start_all<'s, E, R: Wait + Sync, G: Gate + Sync>(
     scope: &Scope<'s, E>,
     rt: &'s R,
     alloc: Global,
-    sockets: &'s Receiver<TcpStream>,
+    hired: Vec<Worker>,
+    posts: &'s [Post],
     gate: &'s G,
     passes: Vec<G::Pass>,
     workers: Vec<PromisedHandle<Outcome<G::Pass>, Kept<G>>>,
@@ -222,14 +227,22 @@ where
     ensures gates { AllOf result.items (λ h. h.promise.gate.value ≡ gate.now) }
     ensures room { vec_len result ≤ vec_len passes }
 {
+    let mut hired = hired;
     let mut passes = passes;
     let mut workers = workers;
     while !passes.is_empty() {
-        let pass = passes.remove(0);
-        let Some(worker) = start(scope, rt, alloc, sockets, gate, pass) else {
+        if hired.is_empty() {
+            break;
+        }
+        let worker = hired.remove(0);
+        let Some(post) = posts.get(workers.len()) else {
             break;
         };
-        workers.push_reserved(worker);
+        let pass = passes.remove(0);
+        let Some(handle) = start(scope, rt, alloc, worker, post, gate, pass) else {
+            break;
+        };
+        workers.push_reserved(handle);
     }
     workers
 }
@@ -262,6 +275,11 @@ where
     (ended, faults)
 }
 
+// Those of so many workers, the first.
+fn started_of(posts: &[Post], workers: usize) -> &[Post] {
+    &posts[..workers.min(posts.len())]
+}
+
 // Nothing was served.
 fn stopped<P>(alloc: Global, stop: Stop) -> Served<P>
     ensures stop { result.stop ≡ stop }
@@ -282,8 +300,9 @@ fn serve_in<'s, E, R: Threads + Wait + Sync, G: Gate + Sync, W: Watch>(
     rt: &'s R,
     alloc: Global,
     listener: &TcpListener,
-    to: Sender<TcpStream>,
-    sockets: &'s Receiver<TcpStream>,
+    hired: Vec<Worker>,
+    posts: &'s [Post],
+    channels: Vec<Sender<TcpStream>>,
     gate: &'s G,
     passes: Vec<G::Pass>,
     connections: u32,
@@ -302,15 +321,20 @@ where
         return stopped(alloc, Stop::NoMemory);
     };
     let asked = passes.len();
-    let workers = start_all(scope, rt, alloc, sockets, gate, passes, workers);
+    let workers = start_all(scope, rt, alloc, hired, posts, gate, passes, workers);
     if workers.is_empty() {
         return stopped(alloc, Stop::Start);
     }
     if workers.len() < asked {
         watch.few_workers(workers.len(), asked);
     }
-    let (accepted, stop) = accept_all(rt, listener, &to, connections, watch);
-    drop(to);
+    let posts = started_of(posts, workers.len());
+    let (accepted, stop) = accept_all(rt, listener, posts, &channels, connections, watch);
+    // No socket comes any more: whoever looks, sees it.
+    drop(channels);
+    for post in posts {
+        post.ring();
+    }
     let (passes, faults) = join_all(rt, gate, workers, ended);
     Served {
         accepted,
@@ -321,20 +345,28 @@ where
 }
 
 /// Serves connections, with one worker thread for each pass, until so many were accepted; then it waits
-/// for the workers to end. A worker serves one connection after the other, each as [`converse`] does,
-/// so that as many connections are served at once as there are passes. The others wait.
+/// for the workers to end. A worker serves all the connections that it was given, each as [`Conversation`] says: it
+/// reads what is there, answers the frames that are whole, and writes what the socket takes. A new connection goes
+/// to the worker that has the fewest. So one that is silent, or does not read its replies, holds up no other; a call
+/// that waits for a turn holds up those of its worker.
+///
+/// A connection has its turn where its socket has something for it, and answers at most 256 frames in one, and as many
+/// as may wait together. One whose replies were not all taken is not read from until they are: less than 256 KiB and one
+/// reply more are kept for it. A silent one takes some hundred bytes.
 ///
 /// The passes that come back are those of the workers, in the order in which they were handed in. Where
-/// a thread cannot be started, its pass and those behind it are dropped; with no worker at all the stop
-/// is `Start`. A connection that stays silent holds its worker, and nothing else: choose as many passes
-/// as there may be such connections, and some more.
+/// a worker cannot be started, for lack of a thread, of descriptors (it takes two) or of memory, its pass and those
+/// behind it are dropped; with no worker at all the stop is `Start`.
 ///
-/// A worker has all that its connections need from its start: room for the longest frame of a request, and
-/// for the replies that wait. One whose room finds no memory is not started. So a connection that is
-/// accepted is answered, whatever memory is left.
+/// A worker has all that its connections need from its start, for 1,024 of them: room for the longest frame of a
+/// request, and for the replies that wait. A connection asks for memory of its own where a frame comes in pieces, or
+/// where its socket does not take the replies, and ends where there is none. So a connection that is accepted is
+/// answered, whatever memory is left.
 ///
 /// Nothing is promised of how long it waits, or that it returns.
-pub fn serve<R: Threads + Wait + Sync, G: Gate + Sync>(
+///
+/// [`Conversation`]: crate::Conversation
+pub fn serve<R: Threads + Wait + Net + Sync, G: Gate + Sync>(
     rt: &R,
     alloc: Global,
     listener: &TcpListener,
@@ -353,7 +385,7 @@ where
 }
 
 /// Serves as [`serve`] does, and tells the watch what it cannot do meanwhile.
-pub fn serve_watched<R: Threads + Wait + Sync, G: Gate + Sync, W: Watch>(
+pub fn serve_watched<R: Threads + Wait + Net + Sync, G: Gate + Sync, W: Watch>(
     rt: &R,
     alloc: Global,
     listener: &TcpListener,
@@ -368,10 +400,15 @@ where
     ensures serves { Serves (G.calls gate.now) (G.owns gate.now) passes.items connections
         result.accepted result.stop result.passes.items }
 {
-    let Ok((to, from)) = crossbeam_channel::bounded(alloc, WAITING) else {
+    let Ok(staff) = Staff::hire(rt, alloc, passes.len()) else {
         return stopped(alloc, Stop::NoMemory);
     };
-    let sockets = &from;
+    let Staff {
+        workers,
+        posts,
+        channels,
+    } = staff;
+    let posts = posts.as_slice();
     thread::scope(
         thread::scope_env(),
         rt,
@@ -385,8 +422,9 @@ where
                 rt,
                 alloc,
                 listener,
-                to,
-                sockets,
+                workers,
+                posts,
+                channels,
                 gate,
                 passes,
                 connections,

@@ -12,7 +12,7 @@ use crate::run_fault::RunFault;
 use pl_conn::{Desks, Passes, Served, Watch, serve_watched};
 use pl_core::Db;
 use std::alloc::Global;
-use std::net::TcpListener;
+use std::net::{Net, TcpListener};
 use std::sync::Wait;
 use std::thread;
 use std::thread::{Scope, Threads};
@@ -30,7 +30,7 @@ struct Paging {
 
 // Serves, and at the same time lets the page server make its rounds, if there is one. `None` where the
 // page server's thread could not be started.
-fn serve_in<'s, E, R: Threads + Wait + Sync + Drop, W: Watch>(
+fn serve_in<'s, E, R: Threads + Wait + Net + Sync + Drop, W: Watch>(
     scope: &Scope<'s, E>,
     rt: &'s R,
     alloc: Global,
@@ -78,7 +78,7 @@ fn take_last<R>(desks: &Desks<R>, passes: &mut Vec<Passes>) -> Passes
 }
 
 // Serves over the desks, with a worker for each of the passes.
-fn serve_over<R: Threads + Wait + Sync + Drop, W: Watch>(
+fn serve_over<R: Threads + Wait + Net + Sync + Drop, W: Watch>(
     rt: &R,
     alloc: Global,
     listener: &TcpListener,
@@ -127,7 +127,7 @@ fn serve_over<R: Threads + Wait + Sync + Drop, W: Watch>(
 ///
 /// `NoMemory` where the desks found none, and `Threads` where the page server's thread could not be
 /// started.
-pub fn serve_databases<R: Threads + Wait + Sync + Copy + Drop, W: Watch>(
+pub fn serve_databases<R: Threads + Wait + Net + Sync + Copy + Drop, W: Watch>(
     rt: &R,
     alloc: Global,
     listener: &TcpListener,

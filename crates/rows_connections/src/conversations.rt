@@ -23,7 +23,7 @@ pub(crate) const FRAMES: &str = "\
 0000ffff00000000000000010010";
 
 // Where each frame ends.
-const ENDS: [usize; 4] = [59, 118, 160, 208];
+pub(crate) const ENDS: [usize; 4] = [59, 118, 160, 208];
 
 // The frames of their replies.
 pub(crate) const REPLIES: &str = "\
@@ -32,7 +32,7 @@ pub(crate) const REPLIES: &str = "\
 0000000000000001000100000001010000000000000001aa";
 
 // Where the frame of each reply ends.
-const REPLY_ENDS: [usize; 4] = [5, 10, 15, 58];
+pub(crate) const REPLY_ENDS: [usize; 4] = [5, 10, 15, 58];
 
 // A database with the start table and primary 2.
 pub(crate) fn open(alloc: Global) -> Result<Db, Stop> {
@@ -82,7 +82,7 @@ fn talk(alloc: Global, input: Input<'_>, at_once: usize, room: usize) -> Result<
 }
 
 // How many of these places are reached with so many bytes.
-fn whole(ends: &[usize], count: usize) -> u64 {
+pub(crate) fn whole(ends: &[usize], count: usize) -> u64 {
     let mut whole: u64 = 0;
     for end in ends {
         if *end <= count {

@@ -17,6 +17,8 @@ mod memory;
 #[cfg(test)]
 mod refusals;
 #[cfg(test)]
+mod resting;
+#[cfg(test)]
 mod talking;
 #[cfg(test)]
 mod talks;

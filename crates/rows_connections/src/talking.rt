@@ -66,7 +66,7 @@ fn body_of(alloc: Global, words: &[&str]) -> Result<Vec<u8>, Stop> {
 }
 
 // Puts the frame of the body behind the others.
-fn push_frame(frames: &mut Vec<u8>, body: &[u8]) -> Result<(), Stop> {
+pub(crate) fn push_frame(frames: &mut Vec<u8>, body: &[u8]) -> Result<(), Stop> {
     let Ok(len) = u32::try_from(body.len()) else {
         return Err(Stop::Unread);
     };

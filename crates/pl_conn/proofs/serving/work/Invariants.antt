@@ -1,6 +1,0 @@
-use Rattle.pl_conn.specs.Serving.{Reaches}
-use Rattle.pl_conn.proofs.serving.work.Given as goal
-
--- the pass is the gate's, and came of the first by calls
-abbrev pub invariant-loop : goal.invariant-loop
-invariant-loop g l = g.G.Gate.owns l.gate l.now × Reaches (g.G.Gate.calls l.gate) l.fn.pass l.now

@@ -1,0 +1,360 @@
+//! A conversation that rests between any two bytes: what it keeps meanwhile, and its turns.
+
+ghost use Rattle.std.specs.Prelude.{◌≡◌, ◌<◌, ◌≤◌, ◌⊎◌, [], Err, IfErr, IfNone, IfOk, IfSome, Ok, OnOk, drop, length, take};
+ghost use Rattle.std.specs.Io.KnownBytes.{Appends, IsAtEnd};
+ghost use Rattle.pl_wire.specs.FrameReading.{IsCut};
+ghost use Rattle.pl_wire.specs.Frames.{longest_request};
+ghost use Rattle.pl_conn.specs.Conversation.{scene};
+ghost use Rattle.pl_conn.specs.Gathering.{MayGather, emptied};
+ghost use Rattle.pl_conn.specs.Resting.{Hears, Replies, Rests, Speaks, Tells, TurnsJoin, middle};
+
+use crate::cause::Cause;
+use crate::conversing::{LENGTH_BYTES, answer, body_in, is_cut};
+use crate::gate::Gate;
+use crate::inbox::Inbox;
+use crate::outbox::Outbox;
+use pl_wire::decode_request;
+use std::alloc::{AllocError, Global};
+use std::io::{self, ErrorKind, Read, Write};
+use std::marker::Model;
+
+/// The most frames that a room holds: each has four bytes at least.
+const MOST_FRAMES: u32 = 16_385;
+
+/// How often a turn writes at most, so that the next connection has its turn. Each time it writes as many replies as
+/// may wait together.
+const WRITES_A_TURN: u32 = 4;
+
+/// What a conversation waits for.
+#[derive(Clone, Copy, Debug, PartialEq, Eq)]
+pub enum Rest {
+    /// For nothing: more of the input is there, and a turn is due.
+    Again,
+    /// For input. All replies are written, and what was read behind the last frame is no whole frame.
+    Input,
+    /// For its writer, which did not take all replies. Until it has, no more is read.
+    Output,
+    /// It is over: the input is at its end behind a whole frame, and all replies are written.
+    Over,
+}
+
+/// Where a conversation has its turns: the room of the longest frame of a request, and that of all replies
+/// that may wait together. Conversations share one, since it is empty between two turns.
+#[derive(Drop)]
+pub struct Room {
+    inbox: Inbox,
+    outbox: Outbox,
+}
+
+impl Room {
+    /// An empty room, of about 850 KB.
+    pub fn new(alloc: Global) -> Result<Room, AllocError> {
+        Ok(Room {
+            inbox: Inbox::new(alloc)?,
+            outbox: Outbox::new(alloc)?,
+        })
+    }
+}
+
+/// A conversation that goes on where it rested, over a reader and a writer that need not wait: what was read
+/// of them and not yet taken, and the replies that are not yet written. While there are none of either it has no
+/// memory of its own.
+#[derive(Drop)]
+pub struct Conversation {
+    unread: Vec<u8>,
+    waiting: Vec<u8>,
+    // How many of the bytes that waited are written.
+    sent: usize,
+}
+
+impl Model for Conversation {
+    ghost use Rattle.std.specs.Prelude.{◌≤◌, drop, length};
+    ghost use Rattle.pl_conn.specs.Resting.{Middle};
+
+    ghost Value = { Middle };
+
+    ghost view = { λ c. record { unread = c.unread.items; waiting = drop c.sent c.waiting.items } };
+
+    ghost invariant = { λ c. (length c.unread.items ≤ 65540) × (c.sent ≤ length c.waiting.items) };
+}
+
+// What a read brought.
+#[derive(Clone, Copy, Debug, PartialEq, Eq)]
+enum Heard {
+    // There may be more.
+    Some,
+    // All that is there now.
+    All,
+    // The end of the input.
+    End,
+}
+
+// Writes as many of the bytes as the writer takes now, and gives how many. An error is that of a write that
+// failed, or took none.
+fn write_ready<W: Write>(writer: &mut W, bytes: &[u8]) -> (usize, io::Result<()>)
+    ensures few { result.0 ≤ length bytes.now }
+    ensures appends { Appends (W.contents writer.old) (W.contents writer.new) (take result.0 bytes.now) }
+{
+    let mut count = 0;
+    while count < bytes.len() {
+        match writer.write(&bytes[count..]) {
+            Ok(0) => return (count, Err(io::Error::from(ErrorKind::WriteZero))),
+            Ok(more) => count += more,
+            Err(error) if error.kind() == ErrorKind::WouldBlock => return (count, Ok(())),
+            Err(error) => return (count, Err(error)),
+        }
+    }
+    (count, Ok(()))
+}
+
+// Reads once, unless a whole frame is at hand, or the length of one that is too long.
+fn hear<R: Read>(reader: &mut R, inbox: &mut Inbox) -> io::Result<Heard>
+    ensures hears { Hears (R.remaining reader.old) inbox.old (R.remaining reader.new) inbox.new }
+    ensures end { IfOk result (λ heard. heard ≡ Heard.End → IsAtEnd (R.remaining reader.new)) }
+{
+    if !is_cut(inbox.as_slice()) {
+        return Ok(Heard::Some);
+    }
+    match inbox.fill(reader) {
+        Ok(0) => Ok(Heard::End),
+        Ok(_) if inbox.is_full() => Ok(Heard::Some),
+        Ok(_) => Ok(Heard::All),
+        Err(error) if error.kind() == ErrorKind::WouldBlock => Ok(Heard::All),
+        Err(error) => Err(error),
+    }
+}
+
+// Answers the frame that the bytes begin with, where they hold all of it, and gives its length.
+fn answer_first<G: Gate>(
+    alloc: Global,
+    bytes: &[u8],
+    gate: &G,
+    pass: &mut G::Pass,
+    outbox: &mut Outbox,
+) -> Option<usize>
+    requires own { G.owns gate.now pass.old }
+    requires room { MayGather outbox.old }
+    ensures own { G.owns gate.now pass.new }
+    ensures some { IfSome result (λ count. (count ≤ length bytes.now)
+        × Replies (G.calls gate.now) pass.old (middle bytes.now outbox.old.text)
+        pass.new (middle (drop count bytes.now) outbox.new.text)) }
+    ensures none { IfNone result ((pass.new ≡ pass.old) × (outbox.new ≡ outbox.old)) }
+{
+    let body = body_in(bytes)?;
+    let reply = answer(decode_request(alloc, body), gate, pass);
+    outbox.put(&reply);
+    Some(LENGTH_BYTES + body.len())
+}
+
+// Answers the frames that lie whole in the bytes, in order, as many as may wait together, and gives how many bytes
+// they have.
+fn answer_whole<G: Gate>(
+    alloc: Global,
+    bytes: &[u8],
+    gate: &G,
+    pass: &mut G::Pass,
+    outbox: &mut Outbox,
+) -> usize
+    requires own { G.owns gate.now pass.old }
+    requires empty { outbox.old ≡ emptied 0 }
+    ensures own { G.owns gate.now pass.new }
+    ensures few { result ≤ length bytes.now }
+    ensures replies { Replies (G.calls gate.now) pass.old (middle bytes.now [])
+        pass.new (middle (drop result bytes.now) outbox.new.text) }
+{
+    let mut taken = 0;
+    for _ in 0..MOST_FRAMES {
+        if !outbox.may_gather() {
+            break;
+        }
+        let Some(count) = answer_first(alloc, &bytes[taken..], gate, pass, outbox) else {
+            break;
+        };
+        taken += count;
+    }
+    taken
+}
+
+// Answers the frames that lie whole in the bytes, in order, and writes their replies, as long as the writer takes all of
+// them. Gives how many bytes the frames have, and how many are written of the replies that are then in the outbox.
+fn speak<W: Write, G: Gate>(
+    alloc: Global,
+    bytes: &[u8],
+    writer: &mut W,
+    gate: &G,
+    pass: &mut G::Pass,
+    outbox: &mut Outbox,
+) -> (usize, usize, io::Result<()>)
+    requires own { G.owns gate.now pass.old }
+    ensures own { G.owns gate.now pass.new }
+    ensures taken { result.0 ≤ length bytes.now }
+    ensures sent { result.1 ≤ length outbox.new.text }
+    ensures speaks { Speaks (G.calls gate.now) pass.old (W.contents writer.old) bytes.now
+        pass.new (W.contents writer.new) (middle (drop result.0 bytes.now) (drop result.1 outbox.new.text)) }
+{
+    let mut taken = 0;
+    for _ in 0..WRITES_A_TURN {
+        outbox.restart();
+        taken += answer_whole(alloc, &bytes[taken..], gate, pass, outbox);
+        let (sent, end) = write_ready(writer, outbox.text());
+        if end.is_err() || sent < outbox.text().len() {
+            return (taken, sent, end);
+        }
+        if body_in(&bytes[taken..]).is_none() {
+            return (taken, sent, end);
+        }
+    }
+    (taken, outbox.text().len(), Ok(()))
+}
+
+// Puts the bytes in place of those that are there, in the same memory where they have room.
+fn put_all(to: &mut Vec<u8>, bytes: &[u8]) -> Result<(), AllocError>
+    ensures ok { OnOk result (to.new.items ≡ bytes.now) }
+{
+    to.clear();
+    to.extend_from_slice(bytes)
+}
+
+// What the conversation waits for after a turn that heard this, or why it ends.
+fn rest_after(heard: Heard, unread: &[u8], waiting: usize) -> Result<Rest, Cause>
+    ensures input { result ≡ Ok Rest.Input → (waiting ≡ 0) × IsCut longest_request unread.now }
+    ensures output { result ≡ Ok Rest.Output → 0 < waiting }
+    ensures over { result ≡ Ok Rest.Over → (waiting ≡ 0) × (unread.now ≡ []) × (heard ≡ Heard.End) }
+    ensures short { result ≡ Err Cause.Short → (waiting ≡ 0) × (0 < length unread.now) × (heard ≡ Heard.End) }
+    ensures err { IfErr result (λ cause. waiting ≡ 0) }
+{
+    if waiting > 0 {
+        return Ok(Rest::Output);
+    }
+    match heard {
+        Heard::End if unread.is_empty() => Ok(Rest::Over),
+        Heard::End => Err(Cause::Short),
+        Heard::All if is_cut(unread) => Ok(Rest::Input),
+        _ if is_cut(unread) || body_in(unread).is_some() => Ok(Rest::Again),
+        _ => Err(Cause::TooLong),
+    }
+}
+
+impl Conversation {
+    /// A conversation that has not begun.
+    pub fn new(alloc: Global) -> Conversation
+        ensures value { result ≡ middle [] [] }
+    {
+        Conversation {
+            unread: Vec::new(alloc),
+            waiting: Vec::new(alloc),
+            sent: 0,
+        }
+    }
+
+    // What was read, and not taken.
+    fn unread(&self) -> &[u8]
+        ensures value { result.now ≡ self.now.unread }
+        ensures few { length result.now ≤ 65540 }
+    {
+        &self.unread
+    }
+
+    // How many bytes wait to be written.
+    fn left(&self) -> usize
+        ensures value { result ≡ length self.now.waiting }
+    {
+        self.waiting.len() - self.sent
+    }
+
+    // Writes the replies that wait, as many bytes as the writer takes now.
+    fn tell<W: Write>(&mut self, alloc: Global, writer: &mut W) -> io::Result<()>
+        ensures tells { Tells (W.contents writer.old) self.old (W.contents writer.new) self.new }
+    {
+        let (count, end) = write_ready(writer, &self.waiting[self.sent..]);
+        self.sent += count;
+        if self.sent == self.waiting.len() {
+            self.waiting = Vec::new(alloc);
+            self.sent = 0;
+        }
+        end
+    }
+
+    // Keeps the replies that the writer did not take, and what is unread. The memory of what is unread is given back
+    // once there was none in two turns.
+    fn keep(&mut self, alloc: Global, text: &[u8], unread: &[u8]) -> Result<(), Cause>
+        requires few { length unread.now ≤ 65540 }
+        ensures ok { OnOk result (self.new ≡ middle unread.now text.now) }
+        ensures err { IfErr result (λ cause. (cause ≡ Cause.Write) ⊎ ((cause ≡ Cause.NoMemory) × (text.now ≡ []))) }
+    {
+        if self.unread.is_empty() && unread.is_empty() {
+            self.unread = Vec::new(alloc);
+        }
+        self.sent = 0;
+        if put_all(&mut self.waiting, text).is_err() {
+            self.waiting.clear();
+            return Err(Cause::Write);
+        }
+        if put_all(&mut self.unread, unread).is_err() {
+            self.unread.clear();
+            // Where all replies are written, none is lost.
+            if text.is_empty() {
+                return Err(Cause::NoMemory);
+            }
+            return Err(Cause::Write);
+        }
+        Ok(())
+    }
+
+    /// One turn: writes the replies that wait; where the writer took them all, reads once, unless a whole frame
+    /// is there already, answers the frames that are whole, and writes their replies. It never waits where its reader
+    /// and its writer do not: one that would wait fails with `WouldBlock`, and that is where the conversation rests.
+    /// It tells what it waits for. A turn answers what one read brought, at most 65,540 bytes of frames, and writes
+    /// at most four times the replies that may wait together: less than 256 KiB and one reply more.
+    ///
+    /// What was read behind the last frame that was answered, and the replies that the writer did not take, are
+    /// copied into memory of their own. After an error the conversation is over, and what it kept is lost: the
+    /// input ended inside a frame (`Short`), a length is above 65,536 (`TooLong`), a read or a write failed, or
+    /// there was no memory for what was read of the next frame (`NoMemory`), or for the replies that the writer
+    /// did not take (`Write`).
+    pub fn resume<R: Read, W: Write, G: Gate>(
+        &mut self,
+        alloc: Global,
+        reader: &mut R,
+        writer: &mut W,
+        gate: &G,
+        pass: &mut G::Pass,
+        room: &mut Room,
+    ) -> Result<Rest, Cause>
+        requires own { G.owns gate.now pass.old }
+        ensures own { G.owns gate.now pass.new }
+        // The output goes on with the replies to the frames that the input goes on with, in order, a chain of
+        // calls, however either is cut.
+        ensures rests { Rests (G.calls gate.now)
+            (scene (R.remaining reader.old) (W.contents writer.old) pass.old) self.old
+            (scene (R.remaining reader.new) (W.contents writer.new) pass.new) self.new result }
+    {
+        if self.tell(alloc, writer).is_err() {
+            return Err(Cause::Write);
+        }
+        if self.left() > 0 {
+            return Ok(Rest::Output);
+        }
+        let Room { inbox, outbox } = room;
+        inbox.load(self.unread());
+        let Ok(heard) = hear(reader, inbox) else {
+            return Err(Cause::Read);
+        };
+        let bytes = inbox.as_slice();
+        let (taken, sent, end) = speak(alloc, bytes, writer, gate, pass, outbox);
+        if end.is_err() {
+            return Err(Cause::Write);
+        }
+        match self.keep(alloc, &outbox.text()[sent..], &bytes[taken..]) {
+            Ok(()) => rest_after(heard, self.unread(), self.left()),
+            Err(cause) => Err(cause),
+        }
+    }
+}
+
+/// Two turns of a conversation, one after the other, are as one: what both heard, and what both said. So all
+/// turns together answered the frames of all that they heard, in order, however it was cut.
+#[tactic(auto, using(crate::proofs::Turning::resumes_then))]
+pub fn turns_join<G: Gate>(_gate: &G)
+    ensures turns { TurnsJoin (G.calls _gate.now) }
+{}

@@ -1,0 +1,369 @@
+//! A worker: the connections that it was given, each in its turn.
+
+ghost use Rattle.pl_conn.specs.Serving.{Reaches};
+
+use crate::cause::Cause;
+use crate::gate::Gate;
+use crate::resuming::{Conversation, Rest, Room};
+use crossbeam_channel::{Receiver, TryRecvError};
+use mio::event::Event;
+use mio::{Events, Interest, Poll, Token, Waker};
+use slab::Slab;
+use std::alloc::Global;
+use std::net::{Net, TcpStream};
+use std::sync::Wait;
+use std::sync::atomic::AtomicU64;
+use std::sync::atomic::Ordering::SeqCst;
+use std::time::Duration;
+
+/// The token of a worker's bell. Those of its connections are their places.
+const BELL: Token = Token(usize::MAX);
+
+/// How many events one look at the sockets brings at most.
+const EVENTS: usize = 256;
+
+/// For how many connections a worker has memory from its start.
+const LINES: usize = 1_024;
+
+/// What the accepting thread and a worker share.
+#[derive(Drop)]
+pub(crate) struct Post {
+    sockets: Receiver<TcpStream>,
+    bell: Waker,
+    // How many connections the worker was given and has not closed.
+    open: AtomicU64,
+}
+
+impl Post {
+    /// How many connections the worker has.
+    pub(crate) fn open(&self) -> u64 {
+        self.open.load(SeqCst)
+    }
+
+    /// Counts a connection that the worker is given.
+    pub(crate) fn opens(&self) {
+        self.open.fetch_add(1, SeqCst);
+    }
+
+    // Counts a connection that is closed, or that the worker did not get.
+    pub(crate) fn closes(&self) {
+        self.open.fetch_sub(1, SeqCst);
+    }
+
+    /// Has the worker look for sockets. If the system refuses it, the worker looks at its next event.
+    pub(crate) fn ring(&self) {
+        let _rung = self.bell.wake();
+    }
+}
+
+// One connection of a worker.
+#[derive(Drop)]
+struct Line {
+    socket: mio::net::TcpStream,
+    talk: Conversation,
+    // Whether its place stands among those that are due.
+    is_due: bool,
+    // Whether the peer will send no more: a short read is then no sign that nothing is left.
+    is_closing: bool,
+}
+
+// The connections of a worker, by their places, and the places of those whose turn is due, each once.
+#[derive(Drop)]
+struct Lines {
+    items: Slab<Line>,
+    due: Vec<usize>,
+    faults: u64,
+}
+
+/// What a worker works with. All of it is there before its thread is started.
+#[derive(Drop)]
+pub(crate) struct Worker {
+    poll: Poll,
+    events: Events,
+    lines: Lines,
+    room: Room,
+}
+
+/// What a worker leaves.
+#[derive(Drop)]
+pub(crate) struct Outcome<P> {
+    /// Its pass, after the calls of its connections.
+    pub(crate) pass: P,
+    /// How many conversations ended in a fault.
+    pub(crate) faults: u64,
+}
+
+// One turn of a connection.
+#[tactic(auto, using(crate::proofs::Turning::by_rests))]
+fn turn<G: Gate>(
+    alloc: Global,
+    line: &mut Line,
+    gate: &G,
+    pass: &mut G::Pass,
+    room: &mut Room,
+) -> Result<Rest, Cause>
+    requires own { G.owns gate.now pass.old }
+    ensures own { G.owns gate.now pass.new }
+    ensures reaches { Reaches (G.calls gate.now) pass.old pass.new }
+{
+    let mut reader = &line.socket;
+    let mut writer = &line.socket;
+    line.talk
+        .resume(alloc, &mut reader, &mut writer, gate, pass, room)
+}
+
+impl Lines {
+    // Takes a socket in, which does not wait from now on. Whether it could.
+    fn open(&mut self, alloc: Global, poll: &Poll, socket: TcpStream) -> bool {
+        // Small replies are not held back where the system lets that be set.
+        let _is_set = socket.set_nodelay(true);
+        if socket.set_nonblocking(true).is_err() {
+            return false;
+        }
+        let line = Line {
+            socket: mio::net::TcpStream::from_std(socket),
+            talk: Conversation::new(alloc),
+            is_due: false,
+            is_closing: false,
+        };
+        let Ok(place) = self.items.insert(line) else {
+            return false;
+        };
+        let Some(line) = self.items.get_mut(place) else {
+            return false;
+        };
+        let interest = Interest::READABLE | Interest::WRITABLE;
+        let is_heard = poll
+            .registry()
+            .register(&mut line.socket, Token(place), interest);
+        if is_heard.is_err() {
+            self.items.try_remove(place);
+        }
+        is_heard.is_ok()
+    }
+
+    // Notes what a connection came to in its turn: whether another is due, or it is closed.
+    fn settle(&mut self, post: &Post, place: usize, end: Result<Rest, Cause>) {
+        let Some(line) = self.items.get_mut(place) else {
+            return;
+        };
+        let is_over = match end {
+            Ok(Rest::Output) => false,
+            Ok(Rest::Input) if !line.is_closing => false,
+            Ok(Rest::Input) | Ok(Rest::Again) => {
+                line.is_due = true;
+                self.due.push(place).is_err()
+            }
+            Ok(Rest::Over) => true,
+            Err(_) => {
+                self.faults = self.faults.saturating_add(1);
+                true
+            }
+        };
+        if is_over {
+            self.items.try_remove(place);
+            post.closes();
+        }
+    }
+
+    // The turn of the connection at this place, if there is one.
+    #[tactic(auto, using(crate::proofs::Reaching::reaches_self))]
+    fn turn_at<G: Gate>(
+        &mut self,
+        alloc: Global,
+        post: &Post,
+        place: usize,
+        gate: &G,
+        pass: &mut G::Pass,
+        room: &mut Room,
+    )
+        requires own { G.owns gate.now pass.old }
+        ensures own { G.owns gate.now pass.new }
+        ensures reaches { Reaches (G.calls gate.now) pass.old pass.new }
+    {
+        let Some(line) = self.items.get_mut(place) else {
+            return;
+        };
+        line.is_due = false;
+        let end = turn(alloc, line, gate, pass, room);
+        self.settle(post, place, end);
+    }
+
+    // Whether the event is one for a turn now: of a connection that is not due in any case.
+    fn is_for_turn(&mut self, event: &Event) -> bool {
+        let Some(line) = self.items.get_mut(event.token().0) else {
+            return false;
+        };
+        line.is_closing = line.is_closing || event.is_read_closed();
+        !line.is_due
+    }
+
+    // A turn for each connection that is due, once.
+    #[tactic(auto, using(crate::proofs::Reaching::reaches_self, crate::proofs::Reaching::reaches_more))]
+    fn turn_due<G: Gate>(
+        &mut self,
+        alloc: Global,
+        post: &Post,
+        gate: &G,
+        pass: &mut G::Pass,
+        room: &mut Room,
+    )
+        requires own { G.owns gate.now pass.old }
+        ensures own { G.owns gate.now pass.new }
+        ensures reaches { Reaches (G.calls gate.now) pass.old pass.new }
+    {
+        let count = self.due.len();
+        for at in 0..count {
+            let Some(place) = self.due.get(at).copied() else {
+                continue;
+            };
+            self.turn_at(alloc, post, place, gate, pass, room);
+        }
+        self.due.drain(..count.min(self.due.len()));
+    }
+}
+
+// A turn for each connection of which there is an event, unless its turn is due in any case.
+#[tactic(auto, using(crate::proofs::Reaching::reaches_self, crate::proofs::Reaching::reaches_more))]
+fn turn_ready<G: Gate>(
+    alloc: Global,
+    post: &Post,
+    events: &Events,
+    lines: &mut Lines,
+    gate: &G,
+    pass: &mut G::Pass,
+    room: &mut Room,
+)
+    requires own { G.owns gate.now pass.old }
+    ensures own { G.owns gate.now pass.new }
+    ensures reaches { Reaches (G.calls gate.now) pass.old pass.new }
+{
+    for event in events.iter() {
+        if lines.is_for_turn(event) {
+            lines.turn_at(alloc, post, event.token().0, gate, pass, room);
+        }
+    }
+}
+
+// Takes in the sockets that were accepted for the worker. Whether more may come.
+fn take_new<R: Wait>(rt: &R, alloc: Global, post: &Post, poll: &Poll, lines: &mut Lines) -> bool {
+    for _ in rt.forever() {
+        match post.sockets.try_recv(rt) {
+            Ok(socket) => {
+                if !lines.open(alloc, poll, socket) {
+                    post.closes();
+                }
+            }
+            Err(TryRecvError::Empty) => return true,
+            Err(TryRecvError::Disconnected) => return false,
+        }
+    }
+    unreachable!()
+}
+
+impl Worker {
+    /// A worker for the sockets that come here, with all that it needs, and what the accepting thread shares with
+    /// it. `None` where there was no memory, or no descriptor.
+    pub(crate) fn new<R: Net>(
+        rt: &R,
+        alloc: Global,
+        sockets: Receiver<TcpStream>,
+    ) -> Option<(Worker, Post)> {
+        let poll = Poll::new(rt).ok()?;
+        let bell = Waker::new(poll.registry(), BELL).ok()?;
+        let lines = Lines {
+            items: Slab::with_capacity(alloc, LINES).ok()?,
+            due: Vec::with_capacity(alloc, LINES).ok()?,
+            faults: 0,
+        };
+        let worker = Worker {
+            poll,
+            events: Events::with_capacity(alloc, EVENTS).ok()?,
+            lines,
+            room: Room::new(alloc).ok()?,
+        };
+        let post = Post {
+            sockets,
+            bell,
+            open: AtomicU64::new(0),
+        };
+        Some((worker, post))
+    }
+
+    // One round: the connections that have something for it, then those that are due, then new ones. Whether one is
+    // left, or may come. A wait that fails ends the worker: its connections are closed.
+    fn round<R: Wait, G: Gate>(
+        &mut self,
+        rt: &R,
+        alloc: Global,
+        post: &Post,
+        gate: &G,
+        pass: &mut G::Pass,
+    ) -> bool
+        requires own { G.owns gate.now pass.old }
+        ensures own { G.owns gate.now pass.new }
+        ensures reaches { Reaches (G.calls gate.now) pass.old pass.new }
+    {
+        let Worker {
+            poll,
+            events,
+            lines,
+            room,
+        } = self;
+        let at_once = Duration::from_millis(0);
+        let timeout = if lines.due.is_empty() {
+            None
+        } else {
+            Some(at_once)
+        };
+        if poll.poll(events, timeout).is_err() {
+            return false;
+        }
+        turn_ready(alloc, post, events, lines, gate, pass, room);
+        lines.turn_due(alloc, post, gate, pass, room);
+        take_new(rt, alloc, post, poll, lines) || !lines.items.is_empty()
+    }
+
+    // Rounds, until no connection is left, and no more can come.
+    #[tactic(auto, using(crate::proofs::Reaching::reaches_self, crate::proofs::Reaching::reaches_more))]
+    fn rounds<R: Wait, G: Gate>(
+        &mut self,
+        rt: &R,
+        alloc: Global,
+        post: &Post,
+        gate: &G,
+        pass: &mut G::Pass,
+    )
+        requires own { G.owns gate.now pass.old }
+        ensures own { G.owns gate.now pass.new }
+        ensures reaches { Reaches (G.calls gate.now) pass.old pass.new }
+    {
+        for _ in rt.forever() {
+            if !self.round(rt, alloc, post, gate, pass) {
+                return;
+            }
+        }
+    }
+
+    /// Serves the sockets that come, all of them at the same time, until none is left and no more can come.
+    pub(crate) fn work<R: Wait, G: Gate>(
+        self,
+        rt: &R,
+        alloc: Global,
+        post: &Post,
+        gate: &G,
+        pass: G::Pass,
+    ) -> Outcome<G::Pass>
+        requires own { G.owns gate.now pass }
+        ensures own { G.owns gate.now result.pass }
+        ensures reaches { Reaches (G.calls gate.now) pass result.pass }
+    {
+        let mut worker = self;
+        let mut now = pass;
+        worker.rounds(rt, alloc, post, gate, &mut now);
+        Outcome {
+            pass: now,
+            faults: worker.lines.faults,
+        }
+    }
+}
