@@ -11,12 +11,13 @@ ghost use Rattle.pl_conn.specs.Resting.{Hears, Replies, Rests, Speaks, Tells, Tu
 use crate::cause::Cause;
 use crate::conversing::{LENGTH_BYTES, answer, body_in, is_cut};
 use crate::gate::Gate;
-use crate::inbox::Inbox;
+use crate::inbox::{Inbox, LONGEST_FRAME};
 use crate::outbox::Outbox;
 use pl_wire::decode_request;
 use std::alloc::{AllocError, Global};
 use std::io::{self, ErrorKind, Read, Write};
 use std::marker::Model;
+use std::mem;
 
 /// The most frames that a room holds: each has four bytes at least.
 const MOST_FRAMES: u32 = 16_385;
@@ -44,14 +45,17 @@ pub enum Rest {
 pub struct Room {
     inbox: Inbox,
     outbox: Outbox,
+    // Memory for what is unread of one conversation, where there is no other.
+    spare: Vec<u8>,
 }
 
 impl Room {
-    /// An empty room, of about 850 KB.
+    /// An empty room, of about 950 KB.
     pub fn new(alloc: Global) -> Result<Room, AllocError> {
         Ok(Room {
             inbox: Inbox::new(alloc)?,
             outbox: Outbox::new(alloc)?,
+            spare: Vec::with_capacity(alloc, LONGEST_FRAME)?,
         })
     }
 }
@@ -275,23 +279,53 @@ impl Conversation {
         end
     }
 
-    // Keeps the replies that the writer did not take, and what is unread. The memory of what is unread is given back
-    // once there was none in two turns.
-    fn keep(&mut self, alloc: Global, text: &[u8], unread: &[u8]) -> Result<(), Cause>
+    // Keeps what is unread, in memory of its own, or in the spare one. It is given back once nothing was unread in two
+    // turns, and the larger of both stays as the spare one.
+    fn keep_unread(
+        &mut self,
+        alloc: Global,
+        unread: &[u8],
+        spare: &mut Vec<u8>,
+    ) -> Result<(), AllocError>
+        requires few { length unread.now ≤ 65540 }
+        ensures ok { OnOk result (self.new ≡ middle unread.now self.old.waiting) }
+    {
+        if self.unread.is_empty() && unread.is_empty() {
+            if self.unread.capacity() > spare.capacity() {
+                mem::swap(&mut self.unread, spare);
+            }
+            self.unread = Vec::new(alloc);
+            return Ok(());
+        }
+        if put_all(&mut self.unread, unread).is_ok() {
+            return Ok(());
+        }
+        mem::swap(&mut self.unread, spare);
+        let end = put_all(&mut self.unread, unread);
+        if end.is_err() {
+            self.unread.clear();
+        }
+        end
+    }
+
+    // Keeps the replies that the writer did not take, and what is unread.
+    fn keep(
+        &mut self,
+        alloc: Global,
+        text: &[u8],
+        unread: &[u8],
+        spare: &mut Vec<u8>,
+    ) -> Result<(), Cause>
         requires few { length unread.now ≤ 65540 }
         ensures ok { OnOk result (self.new ≡ middle unread.now text.now) }
         ensures err { IfErr result (λ cause. (cause ≡ Cause.Write) ⊎ ((cause ≡ Cause.NoMemory) × (text.now ≡ []))) }
     {
-        if self.unread.is_empty() && unread.is_empty() {
-            self.unread = Vec::new(alloc);
-        }
         self.sent = 0;
         if put_all(&mut self.waiting, text).is_err() {
             self.waiting.clear();
             return Err(Cause::Write);
         }
-        if put_all(&mut self.unread, unread).is_err() {
-            self.unread.clear();
+        if self.keep_unread(alloc, unread, spare).is_err() {
             // Where all replies are written, none is lost.
             if text.is_empty() {
                 return Err(Cause::NoMemory);
@@ -308,7 +342,8 @@ impl Conversation {
     /// at most four times the replies that may wait together: less than 256 KiB and one reply more.
     ///
     /// What was read behind the last frame that was answered, and the replies that the writer did not take, are
-    /// copied into memory of their own. After an error the conversation is over, and what it kept is lost: the
+    /// copied into memory of their own; where that is refused, the room has some for what is unread of one
+    /// conversation. After an error the conversation is over, and what it kept is lost: the
     /// input ended inside a frame (`Short`), a length is above 65,536 (`TooLong`), a read or a write failed, or
     /// there was no memory for what was read of the next frame (`NoMemory`), or for the replies that the writer
     /// did not take (`Write`).
@@ -335,7 +370,11 @@ impl Conversation {
         if self.left() > 0 {
             return Ok(Rest::Output);
         }
-        let Room { inbox, outbox } = room;
+        let Room {
+            inbox,
+            outbox,
+            spare,
+        } = room;
         inbox.load(self.unread());
         let Ok(heard) = hear(reader, inbox) else {
             return Err(Cause::Read);
@@ -345,7 +384,7 @@ impl Conversation {
         if end.is_err() {
             return Err(Cause::Write);
         }
-        match self.keep(alloc, &outbox.text()[sent..], &bytes[taken..]) {
+        match self.keep(alloc, &outbox.text()[sent..], &bytes[taken..], spare) {
             Ok(()) => rest_after(heard, self.unread(), self.left()),
             Err(cause) => Err(cause),
         }

@@ -287,8 +287,11 @@ fn told_lsn(alloc: Global, stream: &mut TcpStream) -> Result<u64, Stop> {
     match read_reply(alloc, stream) {
         Ok(Reply::Status { hard, .. }) => Ok(hard),
         Ok(_) => Err(Stop::Changed),
-        Err(fault) if is_refused(fault) => Err(Stop::NoMemory),
-        Err(_) => Err(Stop::Changed),
+        Err(fault) => Err(if is_refused(fault) {
+            Stop::NoMemory
+        } else {
+            Stop::Changed
+        }),
     }
 }
 
