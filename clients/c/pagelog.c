@@ -2,9 +2,12 @@
  * calls that are repeated, pagelog_append.c the append. */
 #include "pagelog_inside.h"
 
+#include <sched.h>
 #include <stdio.h>
 #include <stdlib.h>
 #include <string.h>
+
+enum { DEFAULT_SPIN_US = 50 };
 
 /* ---- The object ---- */
 
@@ -29,6 +32,26 @@ static bool read_zone(const struct pagelog_options *options, struct pagelog_zone
     return (zone->copies == 3 && zone->quorum == 2) || (zone->copies == 6 && zone->quorum == 4);
 }
 
+/* Whether this thread may run on two processors at least: on one, who looks for a reply keeps the service
+ * from it. */
+static bool has_processors(void) {
+    cpu_set_t set;
+    return sched_getaffinity(0, sizeof set, &set) == 0 && CPU_COUNT(&set) > 1;
+}
+
+void pagelog_set_spin(struct pagelog *log, unsigned spin_us) {
+    log->options.spin_us = spin_us;
+    if (spin_us == PAGELOG_NO_SPIN || !has_processors())
+        log->spin_ns = 0;
+    else
+        log->spin_ns = 1000 * (uint64_t)(spin_us ? spin_us : DEFAULT_SPIN_US);
+    log->usual_ns = 0;
+}
+
+unsigned pagelog_spin(const struct pagelog *log) {
+    return (unsigned)(log->spin_ns / 1000);
+}
+
 struct pagelog *pagelog_new(const struct pagelog_options *options) {
     struct pagelog_zone zone = {0};
     struct pagelog *log = read_zone(options, &zone) ? calloc(1, sizeof *log) : NULL;
@@ -40,6 +63,7 @@ struct pagelog *pagelog_new(const struct pagelog_options *options) {
     if (log->options.connect_ms == 0) log->options.connect_ms = 5000;
     if (log->options.reply_ms == 0) log->options.reply_ms = 10000;
     if (log->options.patience_ms == 0) log->options.patience_ms = 10000;
+    pagelog_set_spin(log, options->spin_us);
     if (split_address(log, options->address)) return log;
     pagelog_free(log);
     return NULL;

@@ -16,6 +16,7 @@
 #ifndef PAGELOG_H
 #define PAGELOG_H
 
+#include <limits.h>
 #include <stdbool.h>
 #include <stddef.h>
 #include <stdint.h>
@@ -39,6 +40,9 @@ enum {
 };
 
 #define PAGELOG_LAST_LSN (UINT64_C(1) << 48)
+
+/* For `spin_us`. */
+#define PAGELOG_NO_SPIN UINT_MAX
 
 /* ---- Outcomes: what a client does next ---- */
 
@@ -240,6 +244,9 @@ struct pagelog_options {
     unsigned reply_ms;   /* 0: 10,000 */
     unsigned
         patience_ms; /* how long a call opens lost connections again while nothing gets done; 0: 10,000 */
+    /* How many microseconds a wait may look for its reply before it sleeps, which spares its being woken,
+     * where the last waits took no longer; 0: 50, PAGELOG_NO_SPIN: each wait sleeps. */
+    unsigned spin_us;
     /* The landing zone that the table gave the epoch: 3 copies and quorum 2, or 6 and 4; 0 and 0: 3 and 2. No
      * reply tells it, but a denial C5 or C6 does tell that it is the other one: then the object goes by that.
      */
@@ -300,6 +307,12 @@ uint32_t pagelog_writing_epoch(const struct pagelog *log);
 uint64_t pagelog_end(const struct pagelog *log);
 
 struct pagelog_zone pagelog_zone_of(const struct pagelog *log);
+
+/* Changes `spin_us`. Where this thread may run on one processor only, each wait sleeps, whatever is set. */
+void pagelog_set_spin(struct pagelog *log, unsigned spin_us);
+
+/* How many microseconds a wait may look for its reply; 0: each one sleeps. */
+unsigned pagelog_spin(const struct pagelog *log);
 
 /* ---- Requests in flight ---- */
 

@@ -23,11 +23,15 @@ static inline uint64_t pagelog_read_number(const uint8_t *from, size_t size) {
     return value;
 }
 
-/* Milliseconds of a clock that never goes back. */
-static inline uint64_t pagelog_now(void) {
+/* Nanoseconds of a clock that never goes back, and milliseconds of it. */
+static inline uint64_t pagelog_now_ns(void) {
     struct timespec now;
     clock_gettime(CLOCK_MONOTONIC, &now);
-    return (uint64_t)now.tv_sec * 1000 + (uint64_t)now.tv_nsec / 1000000;
+    return (uint64_t)now.tv_sec * 1000000000 + (uint64_t)now.tv_nsec;
+}
+
+static inline uint64_t pagelog_now(void) {
+    return pagelog_now_ns() / 1000000;
 }
 
 #endif

@@ -175,29 +175,60 @@ static enum pagelog_outcome flush(struct pagelog *log) {
     return PAGELOG_DONE;
 }
 
-/* Waits until all replies to what is in flight can be there, or the time is over. A receive cannot wait for
- * so many bytes by itself: it counts what has come since it began to wait. */
-static void wait_for_group(struct pagelog *log, uint64_t deadline) {
+/* ---- Waiting for replies ---- */
+
+/* How many bytes the wait is for: all replies to what is in flight, where nothing is done before they are
+ * there. */
+static size_t bytes_awaited(const struct pagelog *log) {
+    size_t has = held(&log->input), least = log->asked_count * LEAST_REPLY;
+    bool is_group = log->is_in_group && log->asked_count > FEW_REPLIES;
+    return is_group && least > has ? least - has : 1;
+}
+
+/* Notes how long a wait took. A long one counts as a few short ones, so that it is soon forgotten. */
+static void note_wait(struct pagelog *log, uint64_t ns) {
+    uint64_t most = 4 * log->spin_ns;
+    log->usual_ns = (7 * log->usual_ns + (ns < most ? ns : most)) / 8;
+}
+
+/* Looks for so many bytes without sleeping, as long as `spin_ns`: a thread that sleeps is woken some ten
+ * microseconds after its reply has come. Only where the waits before took no longer, so that it mostly finds
+ * them. False where the connection has ended. */
+static bool look_awake(struct pagelog *log, uint64_t start, size_t wanted) {
+    while (held(&log->input) < wanted && pagelog_now_ns() - start < log->spin_ns)
+        if (!read_some(log, MSG_DONTWAIT)) return false;
+    return true;
+}
+
+/* Waits for so many bytes, asleep, and reads them. A receive cannot wait for more than one by itself: it
+ * counts what has come since it began to wait. */
+static bool sleep_for(struct pagelog *log, size_t least, uint64_t deadline) {
     short ready;
-    size_t least = log->asked_count * LEAST_REPLY, has = held(&log->input);
-    set_least(log, least > has ? least - has : 1);
+    if (least == 1) return read_some(log, 0);
+    set_least(log, least);
     wait_for(log->socket, POLLIN, deadline, &ready);
     set_least(log, 1);
+    return read_some(log, MSG_DONTWAIT);
+}
+
+/* The first wait for a reply: for `reply_ms`. */
+static bool wait_first(struct pagelog *log, uint64_t *deadline) {
+    uint64_t start = pagelog_now_ns();
+    size_t wanted = held(&log->input) + bytes_awaited(log);
+    *deadline = start / 1000000 + log->options.reply_ms;
+    if (log->usual_ns < log->spin_ns && !look_awake(log, start, wanted)) return false;
+    if (held(&log->input) < wanted && !sleep_for(log, wanted - held(&log->input), *deadline)) return false;
+    if (log->spin_ns > 0) note_wait(log, pagelog_now_ns() - start);
+    return true;
 }
 
 /* Waits for bytes of a reply and reads them: first for `reply_ms`, and again until the `*deadline` that the
  * first wait had. */
 static bool read_more(struct pagelog *log, uint64_t *deadline) {
     short ready;
-    bool is_first = *deadline == 0, is_group = log->is_in_group && log->asked_count > FEW_REPLIES;
     if (log->waits) log->counts.round_trips++;
     log->waits = false;
-    if (is_first) *deadline = pagelog_now() + log->options.reply_ms;
-    if (is_first && !is_group) return read_some(log, 0);
-    if (is_first) {
-        wait_for_group(log, *deadline);
-        return read_some(log, MSG_DONTWAIT);
-    }
+    if (*deadline == 0) return wait_first(log, deadline);
     return wait_for(log->socket, POLLIN, *deadline, &ready) && read_some(log, MSG_DONTWAIT);
 }
 

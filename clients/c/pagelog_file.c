@@ -306,6 +306,10 @@ void pagelog_file_set_check(struct pagelog_file *file, unsigned check_ms) {
     file->options.check_ms = check_ms;
 }
 
+void pagelog_file_set_spin(struct pagelog_file *file, unsigned spin_us) {
+    pagelog_set_spin(file->log, spin_us);
+}
+
 struct pagelog_file_state pagelog_file_state_of(const struct pagelog_file *file) {
     return (struct pagelog_file_state){
         .is_writer = is_writer(file),
@@ -323,6 +327,7 @@ struct pagelog_file_state pagelog_file_state_of(const struct pagelog_file *file)
         .zone = pagelog_zone_of(file->log),
         .cached_pages = pagelog_cache_count(file->cache),
         .check_ms = file->options.check_ms,
+        .spin_us = pagelog_spin(file->log),
         .commits = file->commits,
         .repairs = file->repairs,
         .pages_fetched = file->pages_fetched,

@@ -57,7 +57,7 @@ struct pagelog_file_state {
     uint32_t epoch, writing_epoch;
     struct pagelog_zone zone;
     size_t cached_pages;
-    unsigned check_ms;
+    unsigned check_ms, spin_us;
     uint64_t commits, repairs, pages_fetched, blocks_written;
     struct pagelog_counts wire;
 };
@@ -108,8 +108,9 @@ void pagelog_file_undo(struct pagelog_file *file);
 /* The reply behind the last outcome that was not DONE, as pagelog_refused. */
 const struct pagelog_reply *pagelog_file_refused(const struct pagelog_file *file);
 
-/* Changes `check_ms`. */
+/* Changes `check_ms`, and `spin_us` of the service's options. */
 void pagelog_file_set_check(struct pagelog_file *file, unsigned check_ms);
+void pagelog_file_set_spin(struct pagelog_file *file, unsigned spin_us);
 
 struct pagelog_file_state pagelog_file_state_of(const struct pagelog_file *file);
 

@@ -46,6 +46,8 @@ struct pagelog {
     bool stuck;                   /* the window may hold blocks of an append that is not DONE */
     size_t ahead;                 /* blocks of the append to come whose writes are in flight */
     bool waits;                   /* something was sent since the last wait */
+    uint64_t spin_ns;             /* how long a wait looks for its reply awake */
+    uint64_t usual_ns;            /* how long the last waits took on average */
     bool is_in_group;             /* nothing is done before all replies to what is in flight are there */
     enum pagelog_outcome last;    /* the last outcome that was not DONE */
     struct pagelog_reply refused; /* and the reply behind it, without its bytes */

@@ -27,6 +27,8 @@
  *   written=N        to how many copies a block is written; as many as the quorum
  *   timeout=MS       of a connect and of a reply; 5000, 10000
  *   patience=MS      how long lost connections are opened again; as `timeout`, 10000
+ *   spin=US          how long a wait for a reply may look for it before it sleeps, as long as the last
+ *                    replies came so soon; 50; 0: it sleeps at once, which costs less of a processor
  *
  * A transaction is committed by SQLITE_FCNTL_SYNC, which SQLite sends once for each, whatever `synchronous`
  * and `journal_mode` are: what was written since then becomes one transaction of the file. The journal, by
@@ -46,7 +48,8 @@
  *   SQLITE_MISUSE        the URI lacks a parameter, or has one that cannot be read
  *
  * `PRAGMA pagelog` tells where the connection stands; `PRAGMA pagelog_lsn` and the like one number of it;
- * `PRAGMA pagelog_error` the last error in words; `PRAGMA pagelog_check = 50` changes `check`.
+ * `PRAGMA pagelog_error` the last error in words; `PRAGMA pagelog_check = 50` changes `check`, and
+ * `PRAGMA pagelog_spin = 0` changes `spin`.
  *
  * Connections of one process that write as one principal to one database share a file, and lock as SQLite
  * expects. Between processes there are no locks: there is the epoch.
@@ -66,6 +69,9 @@ SQLITE_EXTENSION_INIT1
 #endif
 
 enum { SECTOR_BYTES = 8192, NAME_BYTES = 1024, VALUE_BYTES = 256, ERROR_BYTES = 160 };
+
+/* How long a wait looks for its reply, in microseconds. */
+enum { DEFAULT_SPIN_US = 50, MOST_SPIN_US = 1000000 };
 
 /* Of a journal: the room that it begins with, and the most that is kept for the next one. */
 enum { JOURNAL_BYTES = 65536, MOST_KEPT = 4 << 20 };
@@ -216,10 +222,15 @@ static bool read_operator(sqlite3_filename uri, struct pagelog_file_options *opt
     return read_token(uri, "optoken", options->operator_token);
 }
 
+/* A number of microseconds, as the wire has it. */
+static unsigned spin_of(uint64_t us) {
+    return us == 0 ? PAGELOG_NO_SPIN : us < MOST_SPIN_US ? (unsigned)us : MOST_SPIN_US;
+}
+
 /* Reads all settings; the name of the first one that is missing or cannot be read, or NULL. */
 static const char *read_settings(sqlite3_filename uri, struct pagelog_file_options *options, char *address) {
     uint64_t database = 0, id = UINT64_MAX, copies = 3, quorum = 0, written = 0, check = 0, cache = 0, at = 0,
-             timeout = 0, patience, stale = 0;
+             timeout = 0, patience, stale = 0, spin = DEFAULT_SPIN_US;
     if (!find_setting(uri, "to", address)) return "to";
     if (!read_setting(uri, "id", UINT32_MAX, &id) || id == UINT64_MAX) return "id";
     if (!read_token(uri, "token", options->service.token)) return "token";
@@ -236,6 +247,7 @@ static const char *read_settings(sqlite3_filename uri, struct pagelog_file_optio
     patience = timeout;
     if (!read_setting(uri, "patience", 3600000, &patience)) return "patience";
     if (!read_setting(uri, "stale", 1, &stale)) return "stale";
+    if (!read_setting(uri, "spin", MOST_SPIN_US, &spin)) return "spin";
     options->reads_only = options->reads_only || at > 0;
     if (!read_operator(uri, options)) return "op";
     options->service.address = address;
@@ -243,6 +255,7 @@ static const char *read_settings(sqlite3_filename uri, struct pagelog_file_optio
     options->service.database = (uint32_t)database;
     options->service.connect_ms = options->service.reply_ms = (unsigned)timeout;
     options->service.patience_ms = (unsigned)patience;
+    options->service.spin_us = spin_of(spin);
     options->service.copies = (unsigned)copies;
     options->service.quorum = (unsigned)quorum;
     options->written = (unsigned)written;
@@ -502,6 +515,7 @@ static bool number_of(const struct pagelog_file_state *state, const char *name, 
         {"epoch", state->epoch},
         {"writing_epoch", state->writing_epoch},
         {"check", state->check_ms},
+        {"spin", state->spin_us},
         {"copies", state->zone.copies},
         {"quorum", state->zone.quorum},
         {"stale", state->is_stale},
@@ -545,6 +559,8 @@ static int answer_pragma(struct database *database, char **arguments) {
     if (sqlite3_strnicmp(name, "pagelog", 7) != 0) return SQLITE_NOTFOUND;
     if (sqlite3_stricmp(name, "pagelog_check") == 0 && arguments[2])
         pagelog_file_set_check(database->file, (unsigned)strtoul(arguments[2], NULL, 10));
+    if (sqlite3_stricmp(name, "pagelog_spin") == 0 && arguments[2])
+        pagelog_file_set_spin(database->file, spin_of(strtoul(arguments[2], NULL, 10)));
     arguments[0] = text_of_pragma(database, name + 7);
     return arguments[0] ? SQLITE_OK : SQLITE_NOTFOUND;
 }

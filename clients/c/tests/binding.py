@@ -13,6 +13,7 @@ lib = ctypes.CDLL(LIBRARY)
 OUTCOMES = ["done", "lost", "fenced", "in doubt", "conflict", "denied", "no memory", "audit list full", "malformed"]
 DONE, LOST, FENCED, IN_DOUBT, CONFLICT, DENIED, NO_MEMORY, AUDIT_FULL, MALFORMED = OUTCOMES
 PRIMARY, SECONDARY, PAGE_SERVER, OPERATOR = 1, 2, 3, 4
+NO_SPIN = 2**32 - 1
 Token = c_uint8 * 16
 
 
@@ -53,8 +54,8 @@ class Records(Structure):
 
 class Options(Structure):
     _fields_ = [("address", c_char_p), ("principal", c_uint32), ("token", Token), ("database", c_uint32),
-                ("connect_ms", c_uint), ("reply_ms", c_uint), ("patience_ms", c_uint), ("copies", c_uint),
-                ("quorum", c_uint)]
+                ("connect_ms", c_uint), ("reply_ms", c_uint), ("patience_ms", c_uint), ("spin_us", c_uint),
+                ("copies", c_uint), ("quorum", c_uint)]
 
 
 class Zone(Structure):
@@ -99,6 +100,8 @@ declare("pagelog_is_anew", c_bool, c_void_p)
 declare("pagelog_refused", POINTER(Reply), c_void_p)
 declare("pagelog_explain", None, c_void_p, c_char_p, c_size_t)
 declare("pagelog_counts_of", Counts, c_void_p)
+declare("pagelog_set_spin", None, c_void_p, c_uint)
+declare("pagelog_spin", c_uint, c_void_p)
 declare("pagelog_outcome_name", c_char_p, c_uint)
 declare("pagelog_send", c_uint, c_void_p, POINTER(Request))
 declare("pagelog_send_as", c_uint, c_void_p, POINTER(Request))
@@ -205,9 +208,9 @@ class Log:
     """An object of the wire."""
 
     def __init__(self, address, principal, database=0, key=None, connect_ms=0, reply_ms=300000, patience_ms=0, copies=0,
-                 quorum=0):
+                 quorum=0, spin_us=0):
         options = Options(address.encode(), principal, key or token(principal), database, connect_ms, reply_ms,
-                          patience_ms, copies, quorum)
+                          patience_ms, spin_us, copies, quorum)
         self.made = lib.pagelog_new(byref(options))
 
     def __enter__(self):
@@ -260,12 +263,16 @@ class Log:
     def disconnect(self):
         lib.pagelog_disconnect(self.made)
 
+    def set_spin(self, us):
+        lib.pagelog_set_spin(self.made, us)
+
     @property
     def zone(self):
         """Copies, quorum, and whether replies have shown them."""
         zone = lib.pagelog_zone_of(self.made)
         return zone.copies, zone.quorum, zone.is_seen
 
+    spin = property(lambda self: lib.pagelog_spin(self.made))
     end = property(lambda self: lib.pagelog_end(self.made))
     epoch = property(lambda self: lib.pagelog_epoch(self.made))
     writing_epoch = property(lambda self: lib.pagelog_writing_epoch(self.made))
@@ -295,7 +302,7 @@ class State(Structure):
                 ("is_anew", c_bool), ("is_foreign", c_bool),
                 ("lsn", c_uint64), ("end", c_uint64), ("size", c_uint64), ("transaction", c_uint64),
                 ("epoch", c_uint32), ("writing_epoch", c_uint32), ("zone", Zone), ("cached_pages", c_size_t),
-                ("check_ms", c_uint), ("commits", c_uint64),
+                ("check_ms", c_uint), ("spin_us", c_uint), ("commits", c_uint64),
                 ("repairs", c_uint64), ("pages_fetched", c_uint64), ("blocks_written", c_uint64), ("wire", Counts)]
 
 
@@ -318,7 +325,8 @@ class File:
 
     def __init__(self, address, principal, reads_only=False, operator=None, written=0, check_ms=0, cache_pages=0, at=0,
                  may_be_stale=False, database=0, reply_ms=300000, patience_ms=0, copies=0, quorum=0):
-        service = Options(address.encode(), principal, token(principal), database, 0, reply_ms, patience_ms, copies, quorum)
+        service = Options(address.encode(), principal, token(principal), database, 0, reply_ms, patience_ms, 0, copies,
+                          quorum)
         options = FileOptions(service, reads_only, operator is not None, operator or 0, token(operator or 0), written,
                               check_ms, cache_pages, at, may_be_stale)
         self.made = lib.pagelog_file_new(byref(options))

@@ -253,6 +253,7 @@ def test_settings():
                            (f"id=3&token={TOKENS[3]}&written=4", "SQLITE_MISUSE"),
                            (f"id=3&token={TOKENS[3]}&copies=6&written=3", "SQLITE_MISUSE"),
                            (f"id=3&token={TOKENS[3]}&op=1", "SQLITE_MISUSE"),
+                           (f"id=3&token={TOKENS[3]}&mode=ro&spin=x", "SQLITE_MISUSE"),
                            (f"id=3&token={TOKENS[4]}&mode=ro", "SQLITE_PERM"),
                            (f"id=3&token={TOKENS[3]}&mode=ro&db=2", "SQLITE_PERM"),
                            (f"id=3&token={TOKENS[3]}", "SQLITE_READONLY"),
@@ -273,6 +274,11 @@ def test_pragmas():
               ("lsn", "end", "transaction", "epoch", "writing_epoch", "commits", "repairs", "check")])
         same("role", "writer", one(connection, "pragma pagelog_role"))
         same("check", "50", one(connection, "pragma pagelog_check = 50"))
+        same("sleeps", "0", one(connection, "pragma pagelog_spin = 0"))
+        if len(os.sched_getaffinity(0)) > 1:
+            same("looks", "70", one(connection, "pragma pagelog_spin = 70"))
+            same("looks, of the URI", "30", one(connect(service.address, spin=30), "pragma pagelog_spin"))
+        same("sleeps, of the URI", "0", one(reader(service.address, spin=0), "pragma pagelog_spin"))
         true("all", one(connection, "pragma pagelog").startswith("writer lsn 1 end 1 transaction 1 size 16384 epoch 2"))
         same("another's", "pagelog", one(reader(service.address), "pragma pagelog_role").replace("reader", "pagelog"))
         same("none", [], connection.execute("pragma pagelog_nothing").fetchall())

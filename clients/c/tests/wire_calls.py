@@ -1,12 +1,13 @@
 """The wire, call by call, against the real service."""
 
 import ctypes
+import os
 import random
 import socket
 import threading
 import time
 
-from binding import (CONFLICT, DENIED, DONE, FENCED, IN_DOUBT, LOST, MALFORMED, AUDIT_FULL, OPERATOR, PAGE_SERVER,
+from binding import (CONFLICT, DENIED, DONE, FENCED, IN_DOUBT, LOST, MALFORMED, AUDIT_FULL, NO_SPIN, OPERATOR, PAGE_SERVER,
                      PRIMARY, SECONDARY, Blocks, Log, blocks_of, encode, records_of, request, token)
 from check import run, same, true
 from service import Proxy, Service, START_TABLE, TABLE, wire
@@ -582,6 +583,34 @@ def test_every_wait_ends():
         true("a reply that drips", log.ask(SECONDARY, wire.STATUS)[0] in (LOST, MALFORMED))
     dripping.set()
     thread.join()
+
+
+def test_waits_that_look_for_their_reply():
+    """Replies that come soon are found awake, later ones asleep, and on one processor all of them."""
+    all_of_them = os.sched_getaffinity(0)
+    between = lambda frame: time.sleep(0.02) or frame
+    with Service() as service, Proxy(service.address, between=between) as slow, Log(service.address, 2) as near, \
+            Log(slow.address, 2) as far, Log(service.address, 2, spin_us=NO_SPIN) as sleeper:
+        same("sleeps", 0, sleeper.spin)
+        for log in (near, far, sleeper):
+            same("join", DONE, log.join())
+        for _ in range(50):
+            same("near", DONE, near.status()[0])
+            same("sleeper", DONE, sleeper.status()[0])
+        before = time.thread_time()
+        for _ in range(30):
+            same("far", DONE, far.status()[0])
+        true("a wait that is long sleeps", time.thread_time() - before < 0.3)
+        try:
+            os.sched_setaffinity(0, {min(all_of_them)})
+            near.set_spin(100)
+            same("one processor", 0, near.spin)
+            same("asleep", DONE, near.status()[0])
+        finally:
+            os.sched_setaffinity(0, all_of_them)
+        near.set_spin(100)
+        same("several", 100 if len(all_of_them) > 1 else 0, near.spin)
+        same("awake", DONE, near.status()[0])
 
 
 def test_a_joined_writer_without_the_role_of_a_secondary():
