@@ -391,6 +391,16 @@ enum pagelog_outcome pagelog_append(struct pagelog *log, const struct pagelog_bl
  * pagelog_take_over was DONE. */
 void pagelog_append_ahead(struct pagelog *log, const struct pagelog_blocks *blocks, unsigned copies);
 
+/* As pagelog_append_ahead, with a report behind the last block: where nothing goes wrong they are in the log
+ * soon, and nobody waited for it. What has become of them the append tells, with those that are added to
+ * them; so does whoever sends further blocks, up to 64 in all, each time with a report of its own. False
+ * where the append is due at once: the blocks have not all left this process, or are more than 64. */
+bool pagelog_append_unwaited(struct pagelog *log, const struct pagelog_blocks *blocks, unsigned copies);
+
+/* Reads what replies to it have come, without waiting. True where the append is due: a reply is a refusal, or
+ * the connection has ended. It may be called between pagelog_append_unwaited and the append. */
+bool pagelog_append_is_due(struct pagelog *log);
+
 #ifdef __cplusplus
 }
 #endif

@@ -35,7 +35,8 @@ struct append {
     uint64_t base;                      /* the LSN of block 0 */
     size_t first;                       /* the blocks before it are in the log */
     struct marks marks[PAGELOG_WINDOW]; /* of block i, first <= i < first + 64, at i % 64 */
-    bool is_report_unsure;              /* a report of the last block was sent, and its reply was lost */
+    struct ahead ahead;    /* what was sent before; `done` of its replies are still to be counted */
+    bool is_report_unsure; /* a report of the last block was sent, and its reply was lost */
     /* What the last group was answered. */
     bool is_reported, is_ahead;    /* the report was Done; a write met an LSN in the log (C2) */
     bool has_fourth, lacks_fourth; /* a write to the fourth copy or above was Done; was denied C5 */
@@ -132,52 +133,73 @@ static bool note(struct append *append, enum pagelog_outcome outcome) {
     return outcome != PAGELOG_LOST && outcome != PAGELOG_MALFORMED;
 }
 
+/* The reply to the oldest request in flight, unless it was read before. */
+static enum pagelog_outcome receive(struct append *append, bool connected) {
+    struct pagelog_reply reply;
+    if (append->ahead.done > 0) {
+        append->ahead.done--;
+        return PAGELOG_DONE;
+    }
+    return connected ? pagelog_receive(append->log, &reply) : PAGELOG_LOST;
+}
+
 /* Reads the replies to the writes of a block. Once the connection is gone the others' are lost with it. */
 static bool receive_writes(struct append *append, size_t index, bool connected) {
     struct marks *marks = marks_of(append, index);
-    struct pagelog_reply reply;
     for (unsigned copy = 0; copy < copies_of(append); copy++) {
         if (marks->done >> copy & 1) continue;
-        enum pagelog_outcome outcome = connected ? pagelog_receive(append->log, &reply) : PAGELOG_LOST;
+        enum pagelog_outcome outcome = receive(append, connected);
         if (connected) connected = note(append, outcome);
         if (outcome == PAGELOG_DONE) marks->done |= (uint8_t)(1u << copy);
         if (outcome == PAGELOG_DONE && copy >= three_copies.copies) append->has_fourth = true;
         if (outcome == PAGELOG_DENIED && copy >= three_copies.copies &&
             is_row(pagelog_refused(append->log), 5))
             append->lacks_fourth = true;
-        if (!connected) marks->unsure |= (uint8_t)(1u << copy);
+        if (!connected && outcome != PAGELOG_DONE) marks->unsure |= (uint8_t)(1u << copy);
     }
+    return connected;
+}
+
+static bool receive_report(struct append *append, bool connected) {
+    enum pagelog_outcome outcome = receive(append, connected);
+    append->is_reported = outcome == PAGELOG_DONE;
+    return connected && note(append, outcome);
+}
+
+static bool has_report_ahead(const struct append *append, size_t index) {
+    return index < append->ahead.blocks && (append->ahead.reports >> index & 1);
+}
+
+/* Reads the replies to a group: of each block, and of each report. */
+static bool receive_group(struct append *append, size_t count, bool connected) {
+    append->log->is_in_group = true;
+    for (size_t i = 0; i < count; i++) {
+        connected = receive_writes(append, append->first + i, connected);
+        if (i + 1 == count || has_report_ahead(append, i)) connected = receive_report(append, connected);
+    }
+    append->log->is_in_group = false;
     return connected;
 }
 
 static enum pagelog_outcome exchange_group(struct append *append, size_t count) {
     enum pagelog_outcome outcome = PAGELOG_DONE;
-    struct pagelog_reply reply;
-    bool has_last = append->first + count == append->count, connected = true;
-    size_t ahead = append->log->ahead;
-    append->log->ahead = 0;
+    bool has_last = append->first + count == append->count;
+    append->ahead = append->log->ahead;
+    append->log->ahead = (struct ahead){0};
     append->is_reported = append->is_ahead = append->has_fourth = append->lacks_fourth = false;
     append->refusal = PAGELOG_DONE;
-    for (size_t i = ahead; i < count && outcome == PAGELOG_DONE; i++)
+    for (size_t i = append->ahead.blocks; i < count && outcome == PAGELOG_DONE; i++)
         outcome = send_writes(append, append->first + i);
-    if (outcome == PAGELOG_DONE) outcome = send_report(append, count);
+    if (outcome == PAGELOG_DONE && !has_report_ahead(append, count - 1)) outcome = send_report(append, count);
     if (outcome != PAGELOG_DONE) { /* nothing has left this process yet, but for what was sent ahead */
         pagelog_disconnect(append->log);
         note(append, outcome);
-        for (size_t i = 0; i < ahead; i++)
-            receive_writes(append, append->first + i, false);
+        receive_group(append, append->ahead.blocks, false);
+        append->is_report_unsure |= has_last && has_report_ahead(append, count - 1);
         return outcome;
     }
-    append->log->is_in_group = true;
-    for (size_t i = 0; i < count; i++)
-        connected = receive_writes(append, append->first + i, connected);
-    if (connected) {
-        outcome = pagelog_receive(append->log, &reply);
-        append->is_reported = outcome == PAGELOG_DONE;
-        connected = note(append, outcome);
-    }
-    append->log->is_in_group = false;
-    if (!connected && has_last) append->is_report_unsure = true;
+    bool connected = receive_group(append, count, true);
+    if (!connected && has_last && !append->is_reported) append->is_report_unsure = true;
     return append->refusal;
 }
 
@@ -331,10 +353,11 @@ static enum pagelog_outcome run(struct append *append) {
 /* Whether the blocks can be appended now; else why not. What was sent ahead is taken for theirs. */
 static enum pagelog_outcome may_append(struct append *append) {
     struct pagelog *log = append->log;
-    size_t length, in_flight = log->ahead * copies_of(append);
+    const struct ahead *ahead = &log->ahead;
+    size_t length, sent = ahead->blocks * copies_of(append) + (size_t)__builtin_popcountll(ahead->reports);
     if (log->anew) return PAGELOG_FENCED;
-    if (log->stuck && log->ahead == 0) return PAGELOG_CONFLICT;
-    if (log->writing_epoch == 0 || log->asked_count != in_flight || append->count < log->ahead ||
+    if (log->stuck && ahead->blocks == 0) return PAGELOG_CONFLICT;
+    if (log->writing_epoch == 0 || log->asked_count + ahead->done != sent || append->count < ahead->blocks ||
         append->wanted == 1 || append->wanted > PAGELOG_MOST_COPIES)
         return PAGELOG_MALFORMED;
     if (append->count == 0) return PAGELOG_DONE;
@@ -342,17 +365,42 @@ static enum pagelog_outcome may_append(struct append *append) {
     return append->base == log->end + 1 ? PAGELOG_DONE : PAGELOG_MALFORMED;
 }
 
+/* Queues the writes of blocks that were not sent ahead yet, as far as the window goes. */
+static bool queue_ahead(struct append *append) {
+    struct pagelog *log = append->log;
+    log->stuck = true;
+    for (; log->ahead.blocks < append->count && log->ahead.blocks < PAGELOG_WINDOW; log->ahead.blocks++) {
+        if (send_writes(append, log->ahead.blocks) == PAGELOG_DONE) continue;
+        pagelog_disconnect(log);
+        return false;
+    }
+    return true;
+}
+
 void pagelog_append_ahead(struct pagelog *log, const struct pagelog_blocks *blocks, unsigned copies) {
     struct append append = {.log = log, .blocks = blocks, .wanted = copies};
     append.count = pagelog_blocks_count(blocks);
-    if (append.count == log->ahead || may_append(&append) != PAGELOG_DONE) return;
-    log->stuck = true;
-    for (; log->ahead < append.count && log->ahead < PAGELOG_WINDOW; log->ahead++) {
-        if (send_writes(&append, log->ahead) == PAGELOG_DONE) continue;
-        pagelog_disconnect(log);
-        return;
-    }
+    if (append.count == log->ahead.blocks || may_append(&append) != PAGELOG_DONE) return;
+    if (queue_ahead(&append)) pagelog_push(log);
+}
+
+bool pagelog_append_unwaited(struct pagelog *log, const struct pagelog_blocks *blocks, unsigned copies) {
+    struct append append = {.log = log, .blocks = blocks, .wanted = copies};
+    append.count = pagelog_blocks_count(blocks);
+    if (log->socket < 0 || append.count == 0 || append.count > PAGELOG_WINDOW) return false;
+    if (may_append(&append) != PAGELOG_DONE || !queue_ahead(&append)) return false;
+    if (log->ahead.reports >> (append.count - 1) & 1) return true;
+    if (send_report(&append, append.count) != PAGELOG_DONE) return false;
+    log->ahead.reports |= UINT64_C(1) << (append.count - 1);
     pagelog_push(log);
+    return pagelog_is_pushed(log);
+}
+
+bool pagelog_append_is_due(struct pagelog *log) {
+    bool is_over;
+    if (log->ahead.blocks == 0) return false;
+    log->ahead.done += pagelog_take_done(log, &is_over);
+    return is_over;
 }
 
 enum pagelog_outcome pagelog_append(struct pagelog *log, const struct pagelog_blocks *blocks,

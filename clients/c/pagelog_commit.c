@@ -92,8 +92,10 @@ static enum pagelog_outcome add_fresh_pages(struct commit *commit, size_t next) 
 }
 
 /* What is in memory is what was committed. */
-static void keep(struct pagelog_file *file, const struct mark *mark) {
+static void keep(struct pagelog_file *file, const struct mark *mark, bool is_unwaited) {
     pagelog_cache_keep(file->cache);
+    if (is_unwaited && file->on_their_way == 0) file->settled = file->mark;
+    file->on_their_way = is_unwaited ? file->on_their_way + 1 : 0;
     file->mark = *mark;
     file->least = file->size;
     file->next = mark->lsn + 1;
@@ -105,9 +107,10 @@ static struct mark next_mark(const struct pagelog_file *file) {
         .size = file->size, .session = file->session, .transaction = file->mark.transaction + 1};
 }
 
-/* Whether nothing differs from what was committed. Blocks that were appended already count too. */
-static bool is_nothing(const struct pagelog_file *file, uint64_t end_before) {
-    return pagelog_blocks_is_fresh(file->blocks) && pagelog_blocks_count(file->blocks) == 0 &&
+/* Whether nothing differs from what was committed, with so many blocks of commits on their way. Blocks that
+ * were appended already count too. */
+static bool is_nothing(const struct pagelog_file *file, uint64_t end_before, size_t blocks_before) {
+    return pagelog_blocks_is_fresh(file->blocks) && pagelog_blocks_count(file->blocks) == blocks_before &&
            pagelog_end(file->log) == end_before && file->size == file->mark.size;
 }
 
@@ -119,22 +122,37 @@ static enum pagelog_outcome without_doubt(const struct pagelog_file *file, enum 
     return cause == PAGELOG_DONE ? PAGELOG_LOST : cause;
 }
 
-/* Sends the changes, and the end mark behind them. `*mark` is that of the transaction once DONE is returned;
- * `*is_sent` once the end mark may have come to the service. */
-static enum pagelog_outcome send_changes(struct commit *commit, struct mark *mark, bool *is_sent) {
+/* What has become of the changes once DONE is returned. */
+enum fate { NOTHING_DIFFERS, IN_THE_LOG, ON_ITS_WAY };
+
+/* Sends the blocks of a transaction that are not sent yet. It waits for their replies unless the options say
+ * otherwise. */
+static enum pagelog_outcome send_last_blocks(struct pagelog_file *file, enum fate *fate) {
+    uint64_t now = pagelog_now();
+    *fate = IN_THE_LOG;
+    if (file->on_their_way >= file->options.unwaited ||
+        !pagelog_append_unwaited(file->log, file->blocks, file->options.written))
+        return pagelog_append_ended(file);
+    *fate = ON_ITS_WAY;
+    file->sent = now;
+    return PAGELOG_DONE;
+}
+
+/* Sends the changes, and the end mark behind them. `*mark` is that of the transaction once DONE is returned.
+ */
+static enum pagelog_outcome send_changes(struct commit *commit, struct mark *mark, enum fate *fate) {
     struct pagelog_file *file = commit->file;
     size_t next = 0;
     uint64_t end = pagelog_end(file->log);
-    pagelog_blocks_restart(file->blocks, end + 1);
+    if (file->on_their_way == 0) pagelog_blocks_restart(file->blocks, end + 1);
+    size_t blocks = pagelog_blocks_count(file->blocks);
     enum pagelog_outcome outcome = add_old_pages(commit, &next);
     if (outcome == PAGELOG_DONE) outcome = add_fresh_pages(commit, next);
     if (outcome != PAGELOG_DONE) return without_doubt(file, outcome);
-    if (is_nothing(file, end)) {
-        *mark = file->mark;
-        return PAGELOG_DONE;
-    }
-    *is_sent = true;
-    return pagelog_append_mark(file, mark);
+    *fate = NOTHING_DIFFERS;
+    if (is_nothing(file, end, blocks)) return PAGELOG_DONE;
+    outcome = pagelog_add_mark(file, mark);
+    return outcome == PAGELOG_DONE ? send_last_blocks(file, fate) : outcome;
 }
 
 /* Whether the end mark is in the log, of an epoch that is over: DONE where it is, CONFLICT where it is not.
@@ -156,7 +174,7 @@ static enum pagelog_outcome find_mark(struct pagelog_file *file, enum pagelog_ro
 
 /* A commit in doubt: another epoch decides it, be it one that this writer begins or one that somebody else
  * has begun. */
-static enum pagelog_outcome settle(struct pagelog_file *file, const struct mark *mark) {
+static enum pagelog_outcome settle_doubt(struct pagelog_file *file, const struct mark *mark) {
     const struct pagelog_file_options *options = &file->options;
     struct pagelog_reply refused = *pagelog_refused(file->log);
     enum pagelog_outcome cause = pagelog_outcome_of(&refused);
@@ -183,15 +201,44 @@ static void note_failure(struct pagelog_file *file, enum pagelog_outcome outcome
         file->is_broken = true;
 }
 
+/* Commits that nobody waited for are not in the log, or may not be: the file is what it was before them. */
+static enum pagelog_outcome lose(struct pagelog_file *file, enum pagelog_outcome outcome) {
+    if (pagelog_in_flight(file->log) > 0) pagelog_disconnect(file->log);
+    pagelog_cache_clear(file->cache);
+    file->mark = file->settled;
+    file->size = file->least = file->mark.size;
+    file->on_their_way = 0;
+    file->is_over = true;
+    file->losses++;
+    if (file->is_fenced || (outcome == PAGELOG_FENCED && !pagelog_is_anew(file->log)))
+        pagelog_become_follower(file);
+    else
+        file->is_broken = true;
+    return pagelog_file_fail(file, outcome,
+                             "the last commits, which nobody waited for, may not be in the log");
+}
+
+enum pagelog_outcome pagelog_file_settle(struct pagelog_file *file) {
+    if (file->is_over) return pagelog_refuse_until_begin(file);
+    if (file->on_their_way == 0) return PAGELOG_DONE;
+    file->reason = NULL;
+    enum pagelog_outcome outcome = pagelog_append_ended(file);
+    if (outcome == PAGELOG_IN_DOUBT) outcome = settle_doubt(file, &file->mark);
+    if (outcome != PAGELOG_DONE) return lose(file, outcome);
+    file->on_their_way = 0;
+    return PAGELOG_DONE;
+}
+
 static enum pagelog_outcome commit_changes(struct commit *commit) {
     struct pagelog_file *file = commit->file;
     struct mark mark = next_mark(file);
-    bool is_sent = false;
+    enum fate fate = IN_THE_LOG;
     uint64_t end = pagelog_end(file->log);
-    enum pagelog_outcome outcome = send_changes(commit, &mark, &is_sent);
-    if (outcome == PAGELOG_IN_DOUBT) outcome = settle(file, &mark);
-    if (outcome == PAGELOG_DONE && is_sent)
-        keep(file, &mark);
+    enum pagelog_outcome outcome = send_changes(commit, &mark, &fate);
+    if (outcome == PAGELOG_IN_DOUBT) outcome = settle_doubt(file, &mark);
+    if (outcome != PAGELOG_DONE && file->on_their_way > 0) return lose(file, outcome);
+    if (outcome == PAGELOG_DONE && fate != NOTHING_DIFFERS)
+        keep(file, &mark, fate == ON_ITS_WAY);
     else if (outcome == PAGELOG_DONE)
         pagelog_file_undo(file);
     else
@@ -223,6 +270,7 @@ static enum pagelog_outcome commit_if_allowed(struct commit *commit) {
 enum pagelog_outcome pagelog_file_commit(struct pagelog_file *file) {
     struct commit commit = {.file = file};
     enum pagelog_outcome outcome = PAGELOG_DONE;
+    if (file->is_over) return pagelog_refuse_until_begin(file);
     file->reason = NULL;
     if (!pagelog_cache_changed(file->cache, &commit.frames, &commit.count)) return out_of_memory(file);
     commit.old_pages = pages_of(file->least);
@@ -230,9 +278,10 @@ enum pagelog_outcome pagelog_file_commit(struct pagelog_file *file) {
     commit.has_bases = true;
     for (size_t i = 0; i < commit.count && commit.has_bases; i++)
         commit.has_bases = !lacks_base(&commit, commit.frames[i]);
-    if (has_changes(&commit))
+    if (!commit.has_bases) outcome = pagelog_file_settle(file); /* the service is asked for them */
+    if (outcome == PAGELOG_DONE && has_changes(&commit))
         outcome = commit_if_allowed(&commit);
-    else
+    else if (outcome == PAGELOG_DONE)
         pagelog_file_undo(file);
     free(commit.frames);
     return outcome;
@@ -337,7 +386,8 @@ enum pagelog_outcome pagelog_repair(struct pagelog_file *file) {
         outcome = add_repairs(file, end, pages.numbers + i, count);
     }
     free(pages.numbers);
-    if (outcome == PAGELOG_DONE) outcome = pagelog_append_mark(file, &mark);
+    if (outcome == PAGELOG_DONE) outcome = pagelog_add_mark(file, &mark);
+    if (outcome == PAGELOG_DONE) outcome = pagelog_append_ended(file);
     if (outcome != PAGELOG_DONE) return outcome;
     file->mark = mark;
     file->next = mark.lsn + 1;

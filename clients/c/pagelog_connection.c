@@ -51,7 +51,8 @@ static void empty(struct buffer *buffer) {
 void pagelog_disconnect(struct pagelog *log) {
     if (log->socket >= 0) close(log->socket);
     log->socket = -1;
-    log->asked_count = log->ahead = 0;
+    log->asked_count = 0;
+    log->ahead = (struct ahead){0};
     log->waits = false;
     empty(&log->output);
     empty(&log->input);
@@ -155,6 +156,10 @@ static bool send_some(struct pagelog *log) {
 
 void pagelog_push(struct pagelog *log) {
     if (log->socket >= 0 && held(&log->output) > 0) send_some(log);
+}
+
+bool pagelog_is_pushed(const struct pagelog *log) {
+    return log->socket >= 0 && held(&log->output) == 0;
 }
 
 /* Sends all that is queued. It reads meanwhile, so that neither side waits for the other to read. */
@@ -315,4 +320,22 @@ enum pagelog_outcome pagelog_receive(struct pagelog *log, struct pagelog_reply *
 
 size_t pagelog_in_flight(const struct pagelog *log) {
     return log->asked_count;
+}
+
+/* Whether the next frame is all there, and a reply that is Done. */
+static bool is_done_next(const struct pagelog *log) {
+    static const uint8_t frame[] = {0, 0, 0, 1, PAGELOG_REPLY_DONE};
+    return held(&log->input) >= sizeof frame &&
+           memcmp(log->input.bytes + log->input.start, frame, sizeof frame) == 0;
+}
+
+size_t pagelog_take_done(struct pagelog *log, bool *is_over) {
+    struct pagelog_reply reply;
+    size_t count = 0;
+    *is_over = !pagelog_is_pushed(log) || !read_some(log, MSG_DONTWAIT);
+    if (*is_over) return 0;
+    while (log->asked_count > 0 && is_done_next(log) && pagelog_receive(log, &reply) == PAGELOG_DONE)
+        count++;
+    *is_over = held(&log->input) >= LEAST_REPLY;
+    return count;
 }

@@ -18,6 +18,10 @@ enum pagelog_outcome pagelog_file_fail(struct pagelog_file *file, enum pagelog_o
     return outcome;
 }
 
+enum pagelog_outcome pagelog_refuse_until_begin(struct pagelog_file *file) {
+    return pagelog_file_fail(file, PAGELOG_CONFLICT, "commits that nobody waited for were lost: begin again");
+}
+
 struct pagelog_file *pagelog_file_new(const struct pagelog_file_options *options) {
     struct pagelog_file *file = calloc(1, sizeof *file);
     if (!file) return NULL;
@@ -118,23 +122,30 @@ static bool is_due(const struct pagelog_file *file, uint64_t now) {
     return !file->is_checked || now - file->checked >= file->options.check_ms;
 }
 
-static enum pagelog_outcome begin_writer(struct pagelog_file *file) {
+static enum pagelog_outcome begin_writer(struct pagelog_file *file, uint64_t now) {
     enum pagelog_outcome outcome = PAGELOG_DONE;
     if (file->is_broken)
         outcome = renew(file);
-    else if (is_due(file, pagelog_now()))
+    else if (is_due(file, now))
         outcome = check_epoch(file);
     if (outcome == PAGELOG_FENCED && !pagelog_is_anew(file->log)) pagelog_become_follower(file);
     return outcome;
 }
 
+/* Learns what has become of commits that nobody waited for, where that is due, or where a refusal has come.
+ */
+static enum pagelog_outcome look_after_commits(struct pagelog_file *file, uint64_t now) {
+    if (file->on_their_way == 0) return PAGELOG_DONE;
+    bool is_wanted = is_due(file, now) || pagelog_append_is_due(file->log);
+    return is_wanted ? pagelog_file_settle(file) : PAGELOG_DONE;
+}
+
 /* Brings the file to the newest transaction, as far as that is due. */
-static enum pagelog_outcome refresh(struct pagelog_file *file) {
-    uint64_t asked = pagelog_now();
-    enum pagelog_outcome outcome = is_writer(file) ? begin_writer(file) : PAGELOG_DONE;
-    if (!is_writer(file) && !file->options.at && is_due(file, asked)) outcome = pagelog_follow(file);
+static enum pagelog_outcome refresh(struct pagelog_file *file, uint64_t now) {
+    enum pagelog_outcome outcome = is_writer(file) ? begin_writer(file, now) : PAGELOG_DONE;
+    if (!is_writer(file) && !file->options.at && is_due(file, now)) outcome = pagelog_follow(file);
     if (outcome != PAGELOG_DONE) return outcome;
-    if (is_due(file, asked)) file->checked = asked;
+    if (is_due(file, now)) file->checked = now;
     file->is_checked = true;
     return PAGELOG_DONE;
 }
@@ -143,7 +154,11 @@ enum pagelog_outcome pagelog_file_begin(struct pagelog_file *file) {
     file->reason = NULL;
     if (!file->is_open) return pagelog_file_fail(file, PAGELOG_MALFORMED, "the file is not open");
     pagelog_file_undo(file);
-    enum pagelog_outcome outcome = refresh(file);
+    file->is_over = false;
+    uint64_t now = pagelog_now();
+    enum pagelog_outcome outcome = look_after_commits(file, now);
+    if (outcome != PAGELOG_DONE) return outcome;
+    outcome = refresh(file, now);
     file->is_stale = outcome != PAGELOG_DONE && !is_writer(file) && file->options.may_be_stale;
     if (outcome != PAGELOG_DONE && !file->is_stale) return outcome;
     file->size = file->least = file->mark.size;
@@ -158,6 +173,10 @@ static enum pagelog_outcome out_of_memory(struct pagelog_file *file) {
 
 enum pagelog_outcome pagelog_fetch(struct pagelog_file *file, uint64_t lsn, const uint32_t *pages,
                                    size_t count, uint8_t *out) {
+    if (file->on_their_way > 0) {
+        enum pagelog_outcome settled = pagelog_file_settle(file);
+        if (settled != PAGELOG_DONE) return settled;
+    }
     enum pagelog_outcome outcome = pagelog_get(file->log, role_of(file), lsn, pages, count, out);
     if (outcome == PAGELOG_FENCED && is_writer(file) && !pagelog_is_anew(file->log)) {
         pagelog_become_follower(file);
@@ -217,6 +236,7 @@ enum pagelog_outcome pagelog_file_read(struct pagelog_file *file, uint64_t offse
                                        size_t *count) {
     uint8_t *out = bytes;
     uint64_t left = offset < file->size ? file->size - offset : 0;
+    if (file->is_over) return pagelog_refuse_until_begin(file);
     *count = left < length ? (size_t)left : length;
     memset(out + *count, 0, length - *count);
     for (size_t done = 0; done < *count;) {
@@ -258,6 +278,7 @@ static enum pagelog_outcome change_page(struct pagelog_file *file, uint32_t page
 enum pagelog_outcome pagelog_file_write(struct pagelog_file *file, uint64_t offset, const void *bytes,
                                         size_t length) {
     const uint8_t *in = bytes;
+    if (file->is_over) return pagelog_refuse_until_begin(file);
     if (offset > PAGELOG_FILE_MOST || length > PAGELOG_FILE_MOST - offset)
         return pagelog_file_fail(file, PAGELOG_MALFORMED, "the file would be too long");
     for (size_t done = 0; done < length;) {
@@ -274,6 +295,7 @@ enum pagelog_outcome pagelog_file_write(struct pagelog_file *file, uint64_t offs
 
 enum pagelog_outcome pagelog_file_resize(struct pagelog_file *file, uint64_t size) {
     size_t start = (size_t)(size % PAGELOG_PAGE_BYTES);
+    if (file->is_over) return pagelog_refuse_until_begin(file);
     if (size > PAGELOG_FILE_MOST)
         return pagelog_file_fail(file, PAGELOG_MALFORMED, "the file would be too long");
     if (size < file->size && start > 0) { /* behind its end a page has zeros */
@@ -306,6 +328,10 @@ void pagelog_file_set_check(struct pagelog_file *file, unsigned check_ms) {
     file->options.check_ms = check_ms;
 }
 
+void pagelog_file_set_unwaited(struct pagelog_file *file, unsigned unwaited) {
+    file->options.unwaited = unwaited;
+}
+
 void pagelog_file_set_spin(struct pagelog_file *file, unsigned spin_us) {
     pagelog_set_spin(file->log, spin_us);
 }
@@ -318,6 +344,7 @@ struct pagelog_file_state pagelog_file_state_of(const struct pagelog_file *file)
         .is_stale = file->is_stale,
         .is_anew = pagelog_is_anew(file->log),
         .is_foreign = file->is_foreign,
+        .is_over = file->is_over,
         .lsn = file->mark.lsn,
         .end = pagelog_end(file->log),
         .size = file->mark.size,
@@ -328,6 +355,9 @@ struct pagelog_file_state pagelog_file_state_of(const struct pagelog_file *file)
         .cached_pages = pagelog_cache_count(file->cache),
         .check_ms = file->options.check_ms,
         .spin_us = pagelog_spin(file->log),
+        .unwaited = file->options.unwaited,
+        .on_their_way = file->on_their_way,
+        .losses = file->losses,
         .commits = file->commits,
         .repairs = file->repairs,
         .pages_fetched = file->pages_fetched,

@@ -34,6 +34,9 @@ struct pagelog_file_options {
     uint32_t operator_principal;
     uint8_t operator_token[PAGELOG_TOKEN_BYTES];
     unsigned written; /* to how many copies each block is written; 0: as many as the quorum */
+    /* How many commits of a writer may be on their way while nobody waits for them, 64 at most; 0: each one
+     * waits. See pagelog_file_commit. */
+    unsigned unwaited;
     unsigned
         check_ms; /* how old may be what a transaction begins with: the newest end that a reader knows, the
                    * proof that a writer's epoch is not over. 0: each transaction asks, one round trip */
@@ -49,15 +52,18 @@ struct pagelog_file_state {
         is_broken; /* a commit did not come to its end; the next begin takes an epoch of its own, and looks */
     bool is_stale; /* the last begin got no answer */
     bool is_anew;  /* the service was started anew, and all is gone */
-    bool is_foreign;      /* page 0 has something that is no end mark */
-    uint64_t lsn;         /* of the transaction that is read: the LSN of its last block; 0: none yet */
-    uint64_t end;         /* of the log, as far as is known */
-    uint64_t size;        /* bytes, as committed at `lsn` */
+    bool is_foreign; /* page 0 has something that is no end mark */
+    bool is_over;    /* commits that were not waited for were lost: nothing but a begin goes on from here */
+    uint64_t lsn;    /* of the transaction that is read: the LSN of its last block; 0: none yet */
+    uint64_t end;    /* of the log, as far as is known */
+    uint64_t size;   /* bytes, as committed at `lsn` */
     uint64_t transaction; /* the number of the transaction at `lsn`, from 1 */
     uint32_t epoch, writing_epoch;
     struct pagelog_zone zone;
     size_t cached_pages;
-    unsigned check_ms, spin_us;
+    unsigned check_ms, spin_us, unwaited;
+    uint64_t on_their_way; /* commits that nobody waited for, and whose replies are not known yet */
+    uint64_t losses;       /* how often such commits were lost */
     uint64_t commits, repairs, pages_fetched, blocks_written;
     struct pagelog_counts wire;
 };
@@ -66,7 +72,8 @@ struct pagelog_file_state {
  * `service`. */
 struct pagelog_file *pagelog_file_new(const struct pagelog_file_options *options);
 
-/* Frees it. A transaction that was not committed is undone: nothing of it has been sent. */
+/* Frees it. A transaction that was not committed is undone: nothing of it has been sent. Commits on their way
+ * may be lost. */
 void pagelog_file_free(struct pagelog_file *file);
 
 /* Connects, and learns the newest transaction. A writer begins its epoch and undoes, in a transaction of its
@@ -99,8 +106,19 @@ uint64_t pagelog_file_size(const struct pagelog_file *file);
  * there was no begin since.
  *
  * DONE: it is in the log. IN_DOUBT: it may be; the next begin looks. Any other outcome: it is not in the log
- * and never will be. After any outcome but DONE the changes are still there, until pagelog_file_undo. */
+ * and never will be. After any outcome but DONE the changes are still there, until pagelog_file_undo.
+ *
+ * Where `unwaited` is not 0, DONE says only that it was sent, with a report. It comes into the log behind
+ * those before it, and as a whole or not at all, with no further call; but if it does not, a later call has
+ * that outcome in place of its own: a begin, a commit, a read that has to ask the service, or
+ * pagelog_file_settle, and the first of them after the refusal has come or the connection has ended. Then the
+ * last commits since the log was last known to have them are not in it, or may not be; the file is as it was
+ * then, `is_over` says so, and every call is CONFLICT until a begin. What the log has got that begin tells.
+ */
 enum pagelog_outcome pagelog_file_commit(struct pagelog_file *file);
+
+/* Waits until what was committed is in the log. Any outcome but DONE: as above. */
+enum pagelog_outcome pagelog_file_settle(struct pagelog_file *file);
 
 /* Forgets all changes since the last commit. */
 void pagelog_file_undo(struct pagelog_file *file);
@@ -108,8 +126,9 @@ void pagelog_file_undo(struct pagelog_file *file);
 /* The reply behind the last outcome that was not DONE, as pagelog_refused. */
 const struct pagelog_reply *pagelog_file_refused(const struct pagelog_file *file);
 
-/* Changes `check_ms`, and `spin_us` of the service's options. */
+/* Changes `check_ms`, `unwaited`, and `spin_us` of the service's options. */
 void pagelog_file_set_check(struct pagelog_file *file, unsigned check_ms);
+void pagelog_file_set_unwaited(struct pagelog_file *file, unsigned unwaited);
 void pagelog_file_set_spin(struct pagelog_file *file, unsigned spin_us);
 
 struct pagelog_file_state pagelog_file_state_of(const struct pagelog_file *file);

@@ -25,8 +25,13 @@ struct pagelog_file {
     struct pagelog_file_options options;
     struct pagelog_cache *cache;
     struct pagelog_blocks *blocks;
-    struct mark mark; /* of the transaction that is read */
-    uint64_t session; /* of the writer: a random number */
+    struct mark mark;      /* of the transaction that is read */
+    unsigned on_their_way; /* commits that nobody waited for; their blocks are the first of `blocks` */
+    struct mark settled;   /* of the last transaction before these */
+    uint64_t sent;         /* when the last of them was sent */
+    bool is_over;          /* some of them were lost, and there was no begin since */
+    uint64_t losses;       /* how often some were */
+    uint64_t session;      /* of the writer: a random number */
     bool is_open, is_fenced, is_broken, is_stale, is_foreign;
     uint64_t size, least; /* of the transaction: the size, and the least that it was since the last commit */
     uint64_t next;        /* of a follower: where the next pull begins */
@@ -44,6 +49,9 @@ struct pagelog_file {
 /* Enters an outcome that the wire did not give, and returns it. */
 enum pagelog_outcome pagelog_file_fail(struct pagelog_file *file, enum pagelog_outcome outcome,
                                        const char *reason);
+
+/* What every call but a begin returns once commits that nobody waited for were lost: CONFLICT. */
+enum pagelog_outcome pagelog_refuse_until_begin(struct pagelog_file *file);
 
 /* The epoch of a writer is over: it follows from now on. */
 void pagelog_become_follower(struct pagelog_file *file);
@@ -79,9 +87,9 @@ enum pagelog_outcome pagelog_take_mark(struct pagelog_file *file, uint64_t lsn);
 /* Appends the blocks that were ended, and forgets them. */
 enum pagelog_outcome pagelog_append_ended(struct pagelog_file *file);
 
-/* Adds the end mark to the blocks that are being made, and appends what is left of them. `*mark` is given its
- * LSN. */
-enum pagelog_outcome pagelog_append_mark(struct pagelog_file *file, struct mark *mark);
+/* Adds the end mark to the blocks that are being made, as the last record of the last of them. `*mark` is
+ * given its LSN. */
+enum pagelog_outcome pagelog_add_mark(struct pagelog_file *file, struct mark *mark);
 
 /* Undoes what stands in the log behind the end mark, in a transaction of its own. */
 enum pagelog_outcome pagelog_repair(struct pagelog_file *file);

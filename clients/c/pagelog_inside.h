@@ -29,6 +29,14 @@ struct buffer {
     size_t start, end, room;
 };
 
+/* What of the append to come is in flight: the writes of its first blocks, and behind some of them a report.
+ */
+struct ahead {
+    size_t blocks;
+    uint64_t reports; /* a bit for each of the blocks: a report follows its writes */
+    size_t done;      /* replies that were read, each of them Done */
+};
+
 struct pagelog {
     char *host, *port;
     struct pagelog_options options;
@@ -44,7 +52,7 @@ struct pagelog {
     uint32_t lost_failovers;      /* whose replies were lost since the writing epoch began */
     bool anew;                    /* the service was started anew */
     bool stuck;                   /* the window may hold blocks of an append that is not DONE */
-    size_t ahead;                 /* blocks of the append to come whose writes are in flight */
+    struct ahead ahead;           /* of the append to come */
     bool waits;                   /* something was sent since the last wait */
     uint64_t spin_ns;             /* how long a wait looks for its reply awake */
     uint64_t usual_ns;            /* how long the last waits took on average */
@@ -60,6 +68,15 @@ enum pagelog_outcome pagelog_fail(struct pagelog *log, enum pagelog_outcome outc
 /* Sends as much of what is queued as goes at once, if there is a connection. An error is met again by who
  * sends the rest. */
 void pagelog_push(struct pagelog *log);
+
+/* Whether all that was queued has left this process. */
+bool pagelog_is_pushed(const struct pagelog *log);
+
+/* Reads what has come, without waiting, and takes the replies from it that are Done, up to the first other
+ * one: how many. In
+ * `*is_over` whether there is another one, or the connection has ended; who waits for the replies meets it.
+ */
+size_t pagelog_take_done(struct pagelog *log, bool *is_over);
 
 /* Learns what a reply tells about the service, and enters a refusal. */
 enum pagelog_outcome pagelog_notice(struct pagelog *log, const struct pagelog_reply *reply);

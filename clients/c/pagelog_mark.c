@@ -42,19 +42,19 @@ enum pagelog_outcome pagelog_append_ended(struct pagelog_file *file) {
     if (outcome != PAGELOG_DONE) return outcome;
     pagelog_blocks_drop(file->blocks, count);
     file->blocks_written += count;
-    file->checked = asked;
+    file->checked = file->on_their_way > 0 ? file->sent : asked;
     file->is_checked = true;
+    file->on_their_way = 0;
     return PAGELOG_DONE;
 }
 
-enum pagelog_outcome pagelog_append_mark(struct pagelog_file *file, struct mark *mark) {
+enum pagelog_outcome pagelog_add_mark(struct pagelog_file *file, struct mark *mark) {
     uint8_t bytes[MARK_BYTES];
     mark->lsn = pagelog_blocks_room(file->blocks, MARK_PAGE, MARK_BYTES);
     if (mark->lsn == 0) return PAGELOG_NO_MEMORY;
     write_mark(bytes, mark);
     enum pagelog_outcome outcome = pagelog_blocks_put(file->blocks, MARK_PAGE, 0, bytes, MARK_BYTES);
-    if (outcome == PAGELOG_DONE) outcome = pagelog_blocks_end(file->blocks);
-    return outcome == PAGELOG_DONE ? pagelog_append_ended(file) : outcome;
+    return outcome == PAGELOG_DONE ? pagelog_blocks_end(file->blocks) : outcome;
 }
 
 enum pagelog_outcome pagelog_take_mark(struct pagelog_file *file, uint64_t lsn) {

@@ -29,10 +29,14 @@
  *   patience=MS      how long lost connections are opened again; as `timeout`, 10000
  *   spin=US          how long a wait for a reply may look for it before it sleeps, as long as the last
  *                    replies came so soon; 50; 0: it sleeps at once, which costs less of a processor
+ *   unwaited=N       with synchronous=off so many commits, 64 at most, may be on their way to the
+ *                    service while nobody waits for them; 0
  *
  * A transaction is committed by SQLITE_FCNTL_SYNC, which SQLite sends once for each, whatever `synchronous`
- * and `journal_mode` are: what was written since then becomes one transaction of the file. The journal, by
- * which SQLite rolls back, is a file in this process' memory. There is no WAL.
+ * and `journal_mode` are: what was written since then becomes one transaction of the file. It waits until
+ * that is in the log; only where `unwaited` is set and synchronous=off, nobody waits, and an error comes
+ * later. With synchronous=full or normal SQLite syncs the file behind it, which waits. The journal, by which
+ * SQLite rolls back, is a file in this process' memory. There is no WAL.
  *
  * What an error means:
  *
@@ -40,7 +44,9 @@
  *                        and never will be; the connection goes on as a reader
  *   SQLITE_IOERR         the service is not there, or was started anew: the transaction is not in
  *                        the database
- *   SQLITE_IOERR_FSYNC   of a COMMIT: in doubt; the next transaction sees whether it is in it
+ *   SQLITE_IOERR_FSYNC   of a COMMIT: in doubt; the next transaction sees whether it is in it;
+ *                        with `unwaited`, of anything: of the last commits, which nobody waited for,
+ *                        one or more may not be in the database; the next transaction sees which
  *   SQLITE_FULL          the audit list or the service's memory is full
  *   SQLITE_PERM          the table denies it, or there is no such database
  *   SQLITE_PROTOCOL      another session writes in this epoch, or what answers is no such service
@@ -49,7 +55,8 @@
  *
  * `PRAGMA pagelog` tells where the connection stands; `PRAGMA pagelog_lsn` and the like one number of it;
  * `PRAGMA pagelog_error` the last error in words; `PRAGMA pagelog_check = 50` changes `check`, and
- * `PRAGMA pagelog_spin = 0` changes `spin`.
+ * `PRAGMA pagelog_spin = 0` changes `spin`. `PRAGMA pagelog_unwaited = N` waits for what is on its way, and
+ * then changes `unwaited`.
  *
  * Connections of one process that write as one principal to one database share a file, and lock as SQLite
  * expects. Between processes there are no locks: there is the epoch.
@@ -72,6 +79,9 @@ enum { SECTOR_BYTES = 8192, NAME_BYTES = 1024, VALUE_BYTES = 256, ERROR_BYTES = 
 
 /* How long a wait looks for its reply, in microseconds. */
 enum { DEFAULT_SPIN_US = 50, MOST_SPIN_US = 1000000 };
+
+/* Of a database: the change counter, the number of pages, and those of the free list. */
+enum { VERSION_OFFSET = 24, VERSION_BYTES = 16 };
 
 /* Of a journal: the room that it begins with, and the most that is kept for the next one. */
 enum { JOURNAL_BYTES = 65536, MOST_KEPT = 4 << 20 };
@@ -96,6 +106,7 @@ struct connection {
     sqlite3_file base;
     struct database *database;
     int lock;
+    uint64_t losses; /* of the file, when SQLite last asked whether its own cache is old */
 };
 
 /* A journal. */
@@ -118,6 +129,7 @@ static sqlite3_mutex *list_mutex(void) {
 /* SQLite's code for an outcome that was not DONE. */
 static int code_of(const struct pagelog_file *file, enum pagelog_outcome outcome) {
     uint8_t kind = pagelog_file_refused(file)->kind;
+    if (outcome != PAGELOG_DONE && pagelog_file_state_of(file).is_over) return SQLITE_IOERR_FSYNC;
     switch (outcome) {
     case PAGELOG_DONE:
         return SQLITE_OK;
@@ -230,7 +242,7 @@ static unsigned spin_of(uint64_t us) {
 /* Reads all settings; the name of the first one that is missing or cannot be read, or NULL. */
 static const char *read_settings(sqlite3_filename uri, struct pagelog_file_options *options, char *address) {
     uint64_t database = 0, id = UINT64_MAX, copies = 3, quorum = 0, written = 0, check = 0, cache = 0, at = 0,
-             timeout = 0, patience, stale = 0, spin = DEFAULT_SPIN_US;
+             timeout = 0, patience, stale = 0, spin = DEFAULT_SPIN_US, unwaited = 0;
     if (!find_setting(uri, "to", address)) return "to";
     if (!read_setting(uri, "id", UINT32_MAX, &id) || id == UINT64_MAX) return "id";
     if (!read_token(uri, "token", options->service.token)) return "token";
@@ -248,6 +260,7 @@ static const char *read_settings(sqlite3_filename uri, struct pagelog_file_optio
     if (!read_setting(uri, "patience", 3600000, &patience)) return "patience";
     if (!read_setting(uri, "stale", 1, &stale)) return "stale";
     if (!read_setting(uri, "spin", MOST_SPIN_US, &spin)) return "spin";
+    if (!read_setting(uri, "unwaited", PAGELOG_WINDOW, &unwaited)) return "unwaited";
     options->reads_only = options->reads_only || at > 0;
     if (!read_operator(uri, options)) return "op";
     options->service.address = address;
@@ -259,6 +272,7 @@ static const char *read_settings(sqlite3_filename uri, struct pagelog_file_optio
     options->service.copies = (unsigned)copies;
     options->service.quorum = (unsigned)quorum;
     options->written = (unsigned)written;
+    options->unwaited = (unsigned)unwaited;
     options->check_ms = (unsigned)check;
     options->cache_pages = (size_t)cache;
     options->at = at;
@@ -383,18 +397,32 @@ static void lower_lock(struct database *database, struct connection *connection,
     connection->lock = lock;
 }
 
+/* Commits that nobody waited for are waited for by who closes. */
 static int file_close(sqlite3_file *file) {
     struct connection *connection = (struct connection *)file;
     struct database *database = enter(file);
     lower_lock(database, connection, SQLITE_LOCK_NONE);
-    leave(database, SQLITE_OK);
+    leave(database, result(database, pagelog_file_settle(database->file)));
     release(database);
     return SQLITE_OK;
+}
+
+/* By these bytes of the database's first page SQLite sees whether its own cache is old. A counter among them
+ * may come to the same number twice where commits were lost, so they are none of any page then. */
+static bool is_cache_lost(struct connection *connection, int length, sqlite3_int64 offset) {
+    uint64_t losses = pagelog_file_state_of(connection->database->file).losses;
+    if (length != VERSION_BYTES || offset != VERSION_OFFSET || connection->losses == losses) return false;
+    connection->losses = losses;
+    return true;
 }
 
 static int file_read(sqlite3_file *file, void *bytes, int length, sqlite3_int64 offset) {
     struct database *database = enter(file);
     size_t count = 0;
+    if (is_cache_lost((struct connection *)file, length, offset)) {
+        memset(bytes, 0xff, (size_t)length);
+        return leave(database, SQLITE_OK);
+    }
     int code =
         result(database, pagelog_file_read(database->file, (uint64_t)offset, bytes, (size_t)length, &count));
     if (code == SQLITE_OK && count < (size_t)length) code = SQLITE_IOERR_SHORT_READ;
@@ -412,9 +440,11 @@ static int file_truncate(sqlite3_file *file, sqlite3_int64 size) {
     return leave(database, result(database, pagelog_file_resize(database->file, (uint64_t)size)));
 }
 
+/* Follows the commit, unless synchronous=off. */
 static int file_sync(sqlite3_file *file, int flags) {
-    (void)file, (void)flags;
-    return SQLITE_OK;
+    (void)flags;
+    struct database *database = enter(file);
+    return leave(database, result(database, pagelog_file_settle(database->file)));
 }
 
 static int file_size(sqlite3_file *file, sqlite3_int64 *size) {
@@ -426,6 +456,7 @@ static int file_size(sqlite3_file *file, sqlite3_int64 *size) {
 /* The first of those that share the database begins a transaction of the file. */
 static int lock_shared(struct database *database) {
     if (database->is_pending) return SQLITE_BUSY;
+    if (database->sharing > 0 && pagelog_file_state_of(database->file).is_over) return SQLITE_BUSY;
     int code = database->sharing > 0 ? SQLITE_OK : result(database, pagelog_file_begin(database->file));
     if (code == SQLITE_OK) database->sharing++;
     return code;
@@ -516,6 +547,9 @@ static bool number_of(const struct pagelog_file_state *state, const char *name, 
         {"writing_epoch", state->writing_epoch},
         {"check", state->check_ms},
         {"spin", state->spin_us},
+        {"unwaited", state->unwaited},
+        {"on_their_way", state->on_their_way},
+        {"losses", state->losses},
         {"copies", state->zone.copies},
         {"quorum", state->zone.quorum},
         {"stale", state->is_stale},
@@ -553,14 +587,24 @@ static char *text_of_pragma(struct database *database, const char *name) {
     return *name == '_' && number_of(&state, name + 1, &number) ? sqlite3_mprintf("%llu", number) : NULL;
 }
 
+/* Changes what a pragma of this name changes. */
+static int set_by_pragma(struct database *database, const char *name, unsigned long number) {
+    struct pagelog_file *file = database->file;
+    if (sqlite3_stricmp(name, "pagelog_check") == 0) pagelog_file_set_check(file, (unsigned)number);
+    if (sqlite3_stricmp(name, "pagelog_spin") == 0) pagelog_file_set_spin(file, spin_of(number));
+    if (sqlite3_stricmp(name, "pagelog_unwaited") != 0) return SQLITE_OK;
+    int code = result(database, pagelog_file_settle(file));
+    if (code == SQLITE_OK)
+        pagelog_file_set_unwaited(file, number < PAGELOG_WINDOW ? (unsigned)number : PAGELOG_WINDOW);
+    return code;
+}
+
 /* `arguments` are a place for a text, the name of the pragma and its argument. */
 static int answer_pragma(struct database *database, char **arguments) {
     const char *name = arguments[1];
     if (sqlite3_strnicmp(name, "pagelog", 7) != 0) return SQLITE_NOTFOUND;
-    if (sqlite3_stricmp(name, "pagelog_check") == 0 && arguments[2])
-        pagelog_file_set_check(database->file, (unsigned)strtoul(arguments[2], NULL, 10));
-    if (sqlite3_stricmp(name, "pagelog_spin") == 0 && arguments[2])
-        pagelog_file_set_spin(database->file, spin_of(strtoul(arguments[2], NULL, 10)));
+    int code = arguments[2] ? set_by_pragma(database, name, strtoul(arguments[2], NULL, 10)) : SQLITE_OK;
+    if (code != SQLITE_OK) return code;
     arguments[0] = text_of_pragma(database, name + 7);
     return arguments[0] ? SQLITE_OK : SQLITE_NOTFOUND;
 }
@@ -670,6 +714,11 @@ static int memory_truncate(sqlite3_file *file, sqlite3_int64 size) {
     return SQLITE_OK;
 }
 
+static int memory_sync(sqlite3_file *file, int flags) {
+    (void)file, (void)flags;
+    return SQLITE_OK;
+}
+
 static int memory_size(sqlite3_file *file, sqlite3_int64 *size) {
     *size = ((struct memory *)file)->size;
     return SQLITE_OK;
@@ -697,7 +746,7 @@ static const sqlite3_io_methods memory_methods = {
     .xRead = memory_read,
     .xWrite = memory_write,
     .xTruncate = memory_truncate,
-    .xSync = file_sync,
+    .xSync = memory_sync,
     .xFileSize = memory_size,
     .xLock = memory_lock,
     .xUnlock = memory_lock,
@@ -720,6 +769,7 @@ static int open_database(sqlite3_filename name, struct connection *connection, i
     int code = find_or_open(&options, &connection->database);
     if (code != SQLITE_OK) return code;
     connection->lock = SQLITE_LOCK_NONE;
+    connection->losses = pagelog_file_state_of(connection->database->file).losses;
     connection->base.pMethods = &file_methods;
     if (out_flags && options.reads_only)
         *out_flags = (flags & ~(SQLITE_OPEN_READWRITE | SQLITE_OPEN_CREATE)) | SQLITE_OPEN_READONLY;

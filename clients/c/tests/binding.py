@@ -114,6 +114,8 @@ declare("pagelog_take_over", c_uint, c_void_p, c_uint32, POINTER(c_uint8), c_uin
 declare("pagelog_join", c_uint, c_void_p)
 declare("pagelog_append", c_uint, c_void_p, c_void_p, c_uint)
 declare("pagelog_append_ahead", None, c_void_p, c_void_p, c_uint)
+declare("pagelog_append_unwaited", c_bool, c_void_p, c_void_p, c_uint)
+declare("pagelog_append_is_due", c_bool, c_void_p)
 declare("pagelog_disconnect", None, c_void_p)
 declare("pagelog_free", None, c_void_p)
 
@@ -260,6 +262,12 @@ class Log:
     def append_ahead(self, blocks, copies=0):
         lib.pagelog_append_ahead(self.made, blocks.made, copies)
 
+    def append_unwaited(self, blocks, copies=0):
+        return lib.pagelog_append_unwaited(self.made, blocks.made, copies)
+
+    def is_due(self):
+        return lib.pagelog_append_is_due(self.made)
+
     def disconnect(self):
         lib.pagelog_disconnect(self.made)
 
@@ -293,16 +301,17 @@ class Log:
 
 class FileOptions(Structure):
     _fields_ = [("service", Options), ("reads_only", c_bool), ("has_operator", c_bool), ("operator", c_uint32),
-                ("operator_token", Token), ("written", c_uint), ("check_ms", c_uint), ("cache_pages", c_size_t),
+                ("operator_token", Token), ("written", c_uint), ("unwaited", c_uint), ("check_ms", c_uint), ("cache_pages", c_size_t),
                 ("at", c_uint64), ("may_be_stale", c_bool)]
 
 
 class State(Structure):
     _fields_ = [("is_writer", c_bool), ("is_fenced", c_bool), ("is_broken", c_bool), ("is_stale", c_bool),
-                ("is_anew", c_bool), ("is_foreign", c_bool),
+                ("is_anew", c_bool), ("is_foreign", c_bool), ("is_over", c_bool),
                 ("lsn", c_uint64), ("end", c_uint64), ("size", c_uint64), ("transaction", c_uint64),
                 ("epoch", c_uint32), ("writing_epoch", c_uint32), ("zone", Zone), ("cached_pages", c_size_t),
-                ("check_ms", c_uint), ("spin_us", c_uint), ("commits", c_uint64),
+                ("check_ms", c_uint), ("spin_us", c_uint), ("unwaited", c_uint), ("on_their_way", c_uint64),
+                ("losses", c_uint64), ("commits", c_uint64),
                 ("repairs", c_uint64), ("pages_fetched", c_uint64), ("blocks_written", c_uint64), ("wire", Counts)]
 
 
@@ -315,6 +324,7 @@ declare("pagelog_file_write", c_uint, c_void_p, c_uint64, c_char_p, c_size_t)
 declare("pagelog_file_resize", c_uint, c_void_p, c_uint64)
 declare("pagelog_file_size", c_uint64, c_void_p)
 declare("pagelog_file_commit", c_uint, c_void_p)
+declare("pagelog_file_settle", c_uint, c_void_p)
 declare("pagelog_file_undo", None, c_void_p)
 declare("pagelog_file_state_of", State, c_void_p)
 declare("pagelog_file_explain", None, c_void_p, c_char_p, c_size_t)
@@ -324,11 +334,11 @@ class File:
     """A file with transactions."""
 
     def __init__(self, address, principal, reads_only=False, operator=None, written=0, check_ms=0, cache_pages=0, at=0,
-                 may_be_stale=False, database=0, reply_ms=300000, patience_ms=0, copies=0, quorum=0):
+                 may_be_stale=False, database=0, reply_ms=300000, patience_ms=0, copies=0, quorum=0, unwaited=0):
         service = Options(address.encode(), principal, token(principal), database, 0, reply_ms, patience_ms, 0, copies,
                           quorum)
         options = FileOptions(service, reads_only, operator is not None, operator or 0, token(operator or 0), written,
-                              check_ms, cache_pages, at, may_be_stale)
+                              unwaited, check_ms, cache_pages, at, may_be_stale)
         self.made = lib.pagelog_file_new(byref(options))
 
     def __enter__(self):
@@ -357,6 +367,9 @@ class File:
 
     def commit(self):
         return name(lib.pagelog_file_commit(self.made))
+
+    def settle(self):
+        return name(lib.pagelog_file_settle(self.made))
 
     def undo(self):
         lib.pagelog_file_undo(self.made)

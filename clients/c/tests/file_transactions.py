@@ -1,6 +1,7 @@
 """The file with transactions, against the real service, beside a plain bytearray."""
 
 import random
+import time
 
 from binding import (AUDIT_FULL, CONFLICT, DENIED, DONE, FENCED, IN_DOUBT, LOST, MALFORMED, File, Log, PRIMARY, SECONDARY,
                      Blocks)
@@ -477,6 +478,126 @@ def test_faults_from_seeds():
                 model[:] = changed
             true(f"seed {seed}, {rule.kind}: what is there after {outcome}", found == model)
     return f"seeds: {outcomes}"
+
+
+def write_unwaited(file, states, numbers):
+    """Commits that nobody waits for; `states` gets what the file is after each. The last outcome, and from which state on it is
+    not known whether they are in the log."""
+    known = 0
+    for _ in range(numbers.randrange(1, 12)):
+        outcome = file.begin()
+        if outcome != DONE:
+            return outcome, known
+        changed = bytearray(states[-1])
+        for _ in range(numbers.randrange(1, 4)):
+            offset = numbers.randrange(60000)
+            data = numbers.randbytes(numbers.choice([1, 30, 3000, 60000 if numbers.random() < 0.1 else 100]))
+            outcome = file.write(offset, data)
+            if outcome != DONE:
+                return outcome, known
+            changed.extend(bytes(max(offset - len(changed), 0)))
+            changed[offset : offset + len(data)] = data
+        states.append(changed)
+        outcome = file.commit()
+        if outcome != DONE:
+            return outcome, known
+        if file.state.on_their_way == 0:
+            known = len(states) - 1
+    return (file.settle() if numbers.random() < 0.5 else DONE), known
+
+
+def test_unwaited_commits_and_faults_from_seeds():
+    """Hundreds of writers that wait for no commit, and meet a fault at some request. What is in the log afterwards is what the
+    file was after some commit, and none that is known to be in it is lacking. A file that lost commits goes on from there."""
+    model, told, kept = bytearray(), {}, [0, 0]
+    with Service(workers=64) as service, service.operator() as operator:
+        for seed in range(4000 if LONG else 20 if MODEL else 300):
+            numbers = random.Random(seed)
+            of_proxy = service.operator()
+            rule, principal = Fault(of_proxy, numbers), numbers.choice([2, 5])
+            with of_proxy, Proxy(service.address, between=rule) as proxy, \
+                    File(proxy.address, principal, operator=1, patience_ms=1, unwaited=numbers.choice([1, 3, 64]),
+                         check_ms=numbers.choice([0, 3600000])) as file:
+                states, known, outcome = [model], 0, file.open()
+                if outcome == DONE:
+                    outcome, known = write_unwaited(file, states, numbers)
+                    if outcome == DONE and file.state.on_their_way == 0:
+                        known = len(states) - 1
+                is_over, lost = file.state.is_over, file.state.losses > 0
+                if is_over:
+                    same("over", (CONFLICT, CONFLICT, CONFLICT, CONFLICT, CONFLICT),
+                         (file.read(0, 1)[0], file.write(0, b"x"), file.resize(1), file.commit(), file.settle()))
+                rule.is_away, rule.left = False, -1
+                again = file.begin() if lost else None
+                own = bytes(file.whole()) if again == DONE else None
+            operator.failover(5)
+            told[outcome] = told.get(outcome, 0) + 1
+            with opened(service.address, 3, reads_only=True) as reader:
+                same("begin", DONE, reader.begin())
+                found = reader.whole()
+            places = [place for place, state in enumerate(states) if state == found]
+            true(f"seed {seed}, {rule.kind}, {outcome}: a state that was", places)
+            true(f"seed {seed}, {rule.kind}, {outcome}: known {known}, found {places}", places[-1] >= known)
+            if again == DONE:
+                same(f"seed {seed}: as the file itself has it", found, own)
+            kept = [kept[0] + places[-1], kept[1] + len(states) - 1]
+            model = bytearray(found)
+    return f"{kept[0]} of {kept[1]} commits that nobody waited for are there, {told}"
+
+
+def test_unwaited_commits():
+    """They need no round trip, are seen by readers soon, and a wait for all of them is one call."""
+    with Service() as service, opened(service.address, 2, unwaited=40, check_ms=3600000) as file, \
+            opened(service.address, 3, reads_only=True) as reader:
+        before = file.state.wire.round_trips
+        for number in range(100):
+            same("commit", (DONE, DONE, DONE), (file.begin(), file.write(0, b"%08d" % number), file.commit()))
+        true("not each one waits", file.state.wire.round_trips - before <= 3)
+        while reader.state.transaction < 100:
+            same("begin", DONE, reader.begin())
+        same("seen", (DONE, b"00000099"), reader.read(0, 8))
+        same("settled", (DONE, 0, 100), (file.settle(), file.state.on_their_way, file.state.end))
+        same("large", (DONE, DONE, DONE), (file.begin(), file.write(0, b"x" * 5000000), file.commit()))
+        same("then small", (DONE, DONE, DONE), (file.begin(), file.write(0, b"y"), file.commit()))
+        same("settled", (DONE, 0), (file.settle(), file.state.on_their_way))
+        same("reader", (DONE, b"y" + b"x" * 4999999), (reader.begin(), reader.whole()))
+    with Service() as service:
+        wanted = random.Random(3).randbytes(800000)
+        with opened(service.address) as file:
+            same("more than is in memory", (DONE, DONE, DONE), (file.begin(), file.write(0, wanted), file.commit()))
+        with opened(service.address, unwaited=64, check_ms=3600000, cache_pages=16) as file:
+            for number in range(40):
+                at, data = number * (20000 if number % 3 else 2 * 8192), b"%d" % number * (300 if number % 2 else 8192)
+                same("begin", DONE, file.begin())
+                same("write", DONE, file.write(at, data[:8192]))
+                same("commit", DONE, file.commit())
+                wanted = wanted[:at] + data[:8192] + wanted[at + len(data[:8192]) :]
+                time.sleep(0.002 if number % 5 == 0 else 0)
+            same("what is fetched", (DONE, wanted, 0), (file.begin(), file.whole(), file.state.losses))
+
+
+def test_lost_commits_are_told_by_the_next_begin():
+    """It asks whether the epoch goes on, or looks whether a refusal has come."""
+    lost = random.Random(4).randbytes(100000)
+    for check in (0, 3600000):
+        with Service() as service, opened(service.address, 2, unwaited=64, check_ms=check) as old, \
+                opened(service.address, 2, reads_only=True) as reader:
+            same("commit", (DONE, DONE, DONE, DONE), (old.begin(), old.write(0, b"a" * 10), old.commit(), old.settle()))
+            same("begin", DONE, old.begin())
+            with opened(service.address, 5) as new:
+                same("new", (DONE, DONE, DONE), (new.begin(), new.write(0, b"n"), new.commit()))
+                same("of an epoch that is over", (DONE, DONE), (old.write(0, b"bb"), old.write(50, lost)))
+                same("nobody waits", DONE, old.commit())
+                outcome = old.begin()
+                while check > 0 and outcome == DONE:
+                    outcome = old.begin()
+                same("told", (FENCED, True, True, 1),
+                     (outcome, old.state.is_over, old.state.is_fenced, old.state.losses))
+                true("in words", "nobody waited for" in old.words)
+                same("until a begin", (CONFLICT, CONFLICT), (old.read(0, 1)[0], old.commit()))
+                same("it follows", (DONE, b"n" + b"a" * 9), (old.begin(), old.whole()))
+                same("and writes nothing", (DONE, FENCED), (old.write(0, b"x"), old.commit()))
+            same("as a reader", (DONE, b"n" + b"a" * 9), (reader.begin(), reader.whole()))
 
 
 if __name__ == "__main__":

@@ -12,6 +12,7 @@
 
 #include <arpa/inet.h>
 #include <pthread.h>
+#include <sched.h>
 #include <stdio.h>
 #include <stdlib.h>
 #include <string.h>
@@ -209,7 +210,13 @@ static void append_some(struct pagelog *log, uint64_t *state) {
     for (unsigned i = 0; i < 1 + below(state, 12); i++)
         pagelog_blocks_put(blocks, (uint32_t)below(state, 200000), 0, bytes, PAGELOG_PAGE_BYTES);
     pagelog_blocks_end(blocks);
-    pagelog_append(log, blocks, 2 + (unsigned)below(state, 5));
+    unsigned copies = 2 + (unsigned)below(state, 5);
+    if (below(state, 2)) {
+        pagelog_append_unwaited(log, blocks, copies);
+        for (unsigned i = 0; i < 20 && !pagelog_append_is_due(log); i++)
+            sched_yield();
+    }
+    pagelog_append(log, blocks, copies);
     pagelog_blocks_free(blocks);
 }
 
@@ -217,6 +224,7 @@ static void use_file(const struct pagelog_options *service, uint64_t *state) {
     struct pagelog_file_options options = {.service = *service,
                                            .reads_only = below(state, 2),
                                            .has_operator = below(state, 2),
+                                           .unwaited = below(state, 2) * (unsigned)below(state, 65),
                                            .may_be_stale = below(state, 2)};
     struct pagelog_file *file = pagelog_file_new(&options);
     uint8_t *bytes = calloc(1, 70000);

@@ -1,10 +1,12 @@
 """A writer or a reader in a process of its own, for the tests of the VFS. Each goes on until its standard input ends.
 
-Usage: process.py accounts ADDRESS              moves money; a line for each commit
+Usage: process.py accounts ADDRESS [UNWAITED]   moves money; a line for each commit
        process.py looks ADDRESS                 reads the accounts again and again; a line for each look, or why not
-       process.py rows ADDRESS PRINCIPAL SEED BIG
+       process.py rows ADDRESS PRINCIPAL SEED BIG [UNWAITED]
                                                 inserts rows, and says of each what SQLite said of its COMMIT; opens again
                                                 once it is fenced
+
+With UNWAITED that is set, and synchronous is off.
 """
 
 import random
@@ -24,8 +26,15 @@ def wait_for_the_end():
     is_over.set()
 
 
-def accounts(address):
-    connection, numbers = connect(address), random.Random(1)
+def writer(address, principal=2, unwaited=0, **more):
+    connection = connect(address, principal, unwaited=unwaited, **more)
+    if unwaited:
+        connection.execute("pragma synchronous = off")
+    return connection
+
+
+def accounts(address, unwaited=0):
+    connection, numbers = writer(address, unwaited=unwaited, check=1000 if unwaited else 0), random.Random(1)
     while not is_over.is_set():
         connection.execute("begin immediate")
         for _ in range(numbers.choice([1, 2, 30, 300])):
@@ -63,13 +72,13 @@ def insert_row(connection, name, epoch, body):
     print(f"done {name}")
 
 
-def rows(address, principal, seed, big):
+def rows(address, principal, seed, big, unwaited=0):
     numbers, connection, count, epoch = random.Random(seed), None, 0, 0
     while not is_over.is_set():
         name = f"{seed}-{count}"
         try:
             if connection is None:
-                connection = connect(address, principal, check=1000, patience=PATIENCE)
+                connection = writer(address, principal, unwaited, check=1000, patience=PATIENCE)
                 epoch = int(one(connection, "pragma pagelog_writing_epoch"))
                 print(f"epoch {epoch}")
             count += 1
@@ -87,9 +96,7 @@ def rows(address, principal, seed, big):
 if __name__ == "__main__":
     threading.Thread(target=wait_for_the_end, daemon=True).start()
     kind, address, *words = sys.argv[1:]
-    if kind == "accounts":
-        accounts(address)
-    elif kind == "looks":
+    if kind == "looks":
         looks(address)
     else:
-        rows(address, int(words[0]), int(words[1]), int(words[2]))
+        (accounts if kind == "accounts" else rows)(address, *(int(word) for word in words))

@@ -90,8 +90,43 @@ class Said:
         return len(rows)
 
 
+class SaidUnwaited:
+    """What writers said of rows whose commits nobody waited for: for each epoch, in their order."""
+
+    def __init__(self):
+        self.done, self.codes = {}, set()
+
+    def read(self, lines):
+        epoch = None
+        for line in lines:
+            word, _, rest = line.partition(" ")
+            if word == "epoch":
+                epoch = int(rest)
+            elif word == "tries":
+                self.done.setdefault(epoch, []).append(rest)
+            elif word in ("refused", "doubt"):
+                self.codes.add(rest.split(" ")[1])
+
+    def compare(self, address):
+        """Of each epoch the first ones are there, up to some commit, and none behind it. How many of how many."""
+        connection, there = reader(address), {}
+        same("integrity", "ok", one(connection, "pragma integrity_check"))
+        epochs = []
+        for name, epoch in connection.execute("select name, epoch from row order by id"):
+            there.setdefault(epoch, []).append(name)
+            epochs.append(epoch)
+        same("one writer after the other", sorted(epochs), epochs)
+        for epoch, names in there.items():
+            same("in their order, and none in between is lacking", self.done.get(epoch, [])[: len(names)], names)
+        return len(epochs), sum(len(names) for names in self.done.values())
+
+
 def test_no_reader_sees_a_torn_transaction():
-    wanted = 3000 if LONG else 150
+    return "; ".join(look_for_torn_transactions(unwaited) for unwaited in (0, 64))
+
+
+def look_for_torn_transactions(unwaited):
+    wanted = 3000 if LONG else 100
     with Service() as service:
         connection = connect(service.address)
         connection.executescript(
@@ -100,14 +135,14 @@ def test_no_reader_sees_a_torn_transaction():
             "with recursive g(v) as (select 0 union all select v + 1 from g where v < 199)"
             "insert into account select v, 1000, randomblob(100) from g;")
         connection.close()
-        writer = Started("accounts", service.address)
+        writer = Started("accounts", service.address, unwaited)
         lookers = [Started("looks", service.address) for _ in range(2)]
         wait_until(lambda: writer.count("moment") >= wanted and all(looker.count("look") >= wanted for looker in lookers),
                    [writer, *lookers])
         said = [looker.finish() for looker in lookers]
         acknowledged = int(writer.kill()[-1].split()[1])
         there = one(reader(service.address), "select number from moment")
-        true("the last commit is there", there in (acknowledged, acknowledged + 1))
+        true("the last commit is there", acknowledged - unwaited <= there <= acknowledged + 1)
         moments = [len(set(lines)) for lines in said]
         true("readers saw it move", all(count > 1 for count in moments))
         return (f"{acknowledged} transactions, readers looked {[len(lines) for lines in said]} times "
@@ -154,6 +189,27 @@ def test_killed_writers():
         with service.operator() as operator:
             hard = operator.status()[2]
         return f"{rounds} killed: {len(said.done)} acknowledged, {rows} rows in {hard} blocks"
+
+
+def test_unwaited_writers_are_killed_and_fenced():
+    """Of what each of them committed and nobody waited for, the first transactions are there, and no later one without them."""
+    rounds = 100 if LONG else 8
+    with Service(workers=64) as service, \
+            Proxy(service.address, plan=random_plan(11, 3000, 400000)) as proxy, service.operator() as operator:
+        connect(service.address).execute(ROW)
+        said, numbers = SaidUnwaited(), random.Random(12)
+        for i in range(rounds):
+            writer = Started("rows", proxy.address if i % 2 else service.address, 2, 1000 + i, 300000, 64)
+            wanted = numbers.randrange(5, 60)
+            wait_until(lambda: writer.count("done") >= wanted, [writer])
+            if i % 4 > 1:
+                operator.failover(2)
+                wait_until(lambda: writer.count("doubt", "refused") > 0, [writer])
+            said.read(writer.kill())
+        operator.failover(5)
+        there, done = said.compare(service.address)
+        true(f"codes {said.codes}", said.codes <= {"SQLITE_READONLY", "SQLITE_IOERR_FSYNC"})
+        return f"{rounds} killed or fenced: {there} rows of {done} that nobody waited for"
 
 
 def test_cut_connections():

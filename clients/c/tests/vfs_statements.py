@@ -7,6 +7,7 @@ import sqlite3
 import subprocess
 import tempfile
 import threading
+import time
 
 from check import LONG, run, same, true
 from database import EXTENSION, TOKENS, code_of, connect, one, reader, uri
@@ -44,6 +45,13 @@ def mixed(numbers, count):
             yield ["vacuum"]
 
 
+def unwaiting(address, **more):
+    """A writer that waits for no commit."""
+    connection = connect(address, unwaited=64, **more)
+    connection.execute("pragma synchronous = off")
+    return connection
+
+
 def prepare(connection):
     """Functions in place of what a plain list of statements lacks."""
     connection.create_function("randomized", 2, lambda a, b: random.Random(a * 1000003 + b).randbytes(700))
@@ -70,18 +78,24 @@ def generated(statements):
 
 
 def test_mixed_transactions_beside_plain_sqlite():
+    """Once each of them waits, and once nobody does."""
     transactions = [generated(statements) for statements in mixed(random.Random(1), COUNT)]
-    with Service() as service:
+    with Service(dbs=2) as service:
         ours, plain = connect(service.address, check=20), sqlite3.connect(":memory:", isolation_level=None)
-        for connection in (ours, plain):
+        unwaited = unwaiting(service.address, check=20, db=1)
+        for connection in (ours, unwaited, plain):
             prepare(connection)
             play(connection, transactions)
-        same("integrity", "ok", one(ours, "pragma integrity_check"))
-        same("dump", list(plain.iterdump()), list(ours.iterdump()))
-        with_reader = reader(service.address)
-        same("integrity of a reader", "ok", one(with_reader, "pragma integrity_check"))
-        same("dump of a reader", list(plain.iterdump()), list(with_reader.iterdump()))
-        return f"{len(transactions)} mixed transactions"
+        wanted = list(plain.iterdump())
+        for database, connection in enumerate((ours, unwaited)):
+            same("integrity", "ok", one(connection, "pragma integrity_check"))
+            same("dump", wanted, list(connection.iterdump()))
+            connection.execute("pragma pagelog_unwaited = 0")
+            with_reader = reader(service.address, db=database)
+            same("integrity of a reader", "ok", one(with_reader, "pragma integrity_check"))
+            same("dump of a reader", wanted, list(with_reader.iterdump()))
+        same("none was lost", "0", one(unwaited, "pragma pagelog_losses"))
+        return f"{len(transactions)} mixed transactions, twice"
 
 
 def test_page_sizes():
@@ -207,6 +221,90 @@ def test_a_second_writer_fences_the_first():
         same("unless it opens again", "SQLITE_READONLY", code_of(lambda: new.execute("insert into t values (7)")))
 
 
+def number_of(connection, name):
+    return int(one(connection, f"pragma pagelog_{name}"))
+
+
+def test_commits_that_nobody_waits_for():
+    """Only where both are said: `unwaited` and synchronous=off. Who closes waits."""
+    with Service() as service:
+        connection = connect(service.address, check=3600000, unwaited=30)
+        connection.execute("create table t(a)")
+        for synchronous, unwaited, least, most in (("full", 30, 100, 100), ("normal", 30, 100, 100), ("off", 0, 100, 100),
+                                                   ("off", 30, 1, 10)):
+            connection.execute(f"pragma synchronous = {synchronous}")
+            same("unwaited", str(unwaited), one(connection, f"pragma pagelog_unwaited = {unwaited}"))
+            before = number_of(connection, "round_trips")
+            for number in range(100):
+                connection.execute("insert into t values (?)", (number,))
+            trips = number_of(connection, "round_trips") - before
+            true(f"{trips} round trips, {synchronous}, {unwaited}", least <= trips <= most)
+        true("on their way", 0 < number_of(connection, "on_their_way") <= 30)
+        connection.execute("pragma synchronous = full")
+        connection.execute("insert into t values (1)")
+        same("waited for", 0, number_of(connection, "on_their_way"))
+        same("rows", 401, one(reader(service.address), "select count(*) from t"))
+        connection.close()
+        with Proxy(service.address, between=lambda frame: time.sleep(0.05) or frame) as proxy:
+            slow = unwaiting(proxy.address, check=3600000)
+            slow.execute("insert into t values (1)")
+            slow.close()
+            same("closed", 402, one(reader(service.address), "select count(*) from t"))
+
+
+def test_a_cache_of_lost_commits_is_not_believed():
+    """Another writer's transaction has the change counter of the one that was lost. The error comes once."""
+    with Service() as service:
+        old, other = (unwaiting(service.address, check=3600000) for _ in range(2))
+        old.executescript("create table t(a); insert into t values (1);")
+        old.execute("pragma pagelog_unwaited = 64")
+        for connection in (old, other):
+            same("in the cache of both", [(1,)], connection.execute("select a from t").fetchall())
+        new = connect(service.address, 5)
+        new.execute("select a from t").fetchall()
+        old.execute("insert into t values (2)")
+        new.execute("insert into t values (3)")
+        while code_of(lambda: old.execute("select a from t").fetchall()) != "SQLITE_IOERR_FSYNC":
+            pass
+        true("why", "nobody waited for" in one(old, "pragma pagelog_error"))
+        old.execute("pragma pagelog_check = 0")
+        for connection in (old, other, old):
+            same("what is there", [(1,), (3,)], connection.execute("select a from t").fetchall())
+            same("integrity", "ok", one(connection, "pragma integrity_check"))
+        same("fenced", "SQLITE_READONLY", code_of(lambda: old.execute("insert into t values (4)")))
+
+
+def test_lost_commits_and_a_transaction_that_reads():
+    """A connection that reads when another one learns of the loss gets an error for pages that it has not read yet, and none of
+    another moment. Nobody begins to read before it has ended."""
+    may_pass = threading.Event()
+    may_pass.set()
+    between = lambda frame: may_pass.wait() and frame
+    with Service() as service, service.operator() as operator, Proxy(service.address, between=between) as proxy:
+        writer, looker = (unwaiting(proxy.address, check=3600000, busy=0.1) for _ in range(2))
+        looker.execute("pragma cache_size = 1")
+        writer.execute("create table t(a integer primary key, b)")
+        writer.execute("with recursive g(v) as (select 1 union all select v + 1 from g where v < 300)"
+                       "insert into t select v, zeroblob(3000) from g")
+        writer.execute("pragma pagelog_unwaited = 64")
+        operator.failover(2)
+        may_pass.clear()
+        writer.execute("update t set b = randomblob(3000)")
+        looker.execute("begin")
+        rows = looker.execute("select a, b from t")
+        true("what nobody waited for", rows.fetchone()[1] != bytes(3000))
+        may_pass.set()
+        same("told", "SQLITE_IOERR_FSYNC", code_of(lambda: writer.execute("pragma pagelog_unwaited = 0")))
+        same("nobody begins", "SQLITE_BUSY", code_of(lambda: one(writer, "select count(*) from t")))
+        same("torn", "SQLITE_IOERR_FSYNC", code_of(rows.fetchall))
+        if looker.in_transaction:
+            looker.rollback()
+        for connection in (looker, writer):
+            same("as it was", (300, "ok"), (one(connection, "select count(*) from t where b = zeroblob(3000)"),
+                                            one(connection, "pragma integrity_check")))
+        same("fenced", "SQLITE_READONLY", code_of(lambda: writer.execute("insert into t values (1000, 1)")))
+
+
 def test_a_reader_keeps_its_snapshot_and_the_past_stays():
     with Service() as service:
         writer = connect(service.address)
@@ -254,6 +352,7 @@ def test_settings():
                            (f"id=3&token={TOKENS[3]}&copies=6&written=3", "SQLITE_MISUSE"),
                            (f"id=3&token={TOKENS[3]}&op=1", "SQLITE_MISUSE"),
                            (f"id=3&token={TOKENS[3]}&mode=ro&spin=x", "SQLITE_MISUSE"),
+                           (f"id=3&token={TOKENS[3]}&unwaited=65", "SQLITE_MISUSE"),
                            (f"id=3&token={TOKENS[4]}&mode=ro", "SQLITE_PERM"),
                            (f"id=3&token={TOKENS[3]}&mode=ro&db=2", "SQLITE_PERM"),
                            (f"id=3&token={TOKENS[3]}", "SQLITE_READONLY"),
@@ -277,7 +376,7 @@ def test_pragmas():
         same("sleeps", "0", one(connection, "pragma pagelog_spin = 0"))
         if len(os.sched_getaffinity(0)) > 1:
             same("looks", "70", one(connection, "pragma pagelog_spin = 70"))
-            same("looks, of the URI", "30", one(connect(service.address, spin=30), "pragma pagelog_spin"))
+            same("looks, of the URI", "30", one(reader(service.address, spin=30), "pragma pagelog_spin"))
         same("sleeps, of the URI", "0", one(reader(service.address, spin=0), "pragma pagelog_spin"))
         true("all", one(connection, "pragma pagelog").startswith("writer lsn 1 end 1 transaction 1 size 16384 epoch 2"))
         same("another's", "pagelog", one(reader(service.address), "pragma pagelog_role").replace("reader", "pagelog"))

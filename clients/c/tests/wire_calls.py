@@ -350,6 +350,111 @@ def test_blocks_ahead_of_an_epoch_that_ends():
         same("log", blocks.all()[:1], blocks_of(reader.pull(1)[1]))
 
 
+def pulled(reader, count):
+    """The first blocks of the log, once there are so many."""
+    found = []
+    while len(found) < count:
+        found += blocks_of(reader.pull(len(found) + 1)[1])
+    return found
+
+
+def add_block(blocks, page):
+    same("put", DONE, blocks.put(page, 0, b"%d" % page))
+    blocks.end()
+
+
+def test_appends_that_nobody_waits_for():
+    """They come into the log by themselves, one after the other; the append behind them asks nothing twice, and waits once."""
+    seen, wanted = Seen(), []
+    with Service() as service, Log(service.address, 3) as reader, Proxy(service.address, between=seen) as proxy, \
+            Log(proxy.address, 2) as log:
+        same("take over", DONE, log.take_over())
+        for count in (1, 5, 64):
+            blocks, before, trips = Blocks(log.end + 1), seen.writes, log.counts.round_trips
+            for page in range(count):
+                add_block(blocks, page)
+                true("sent", log.append_unwaited(blocks))
+            same("in the log, and nobody asked", wanted + blocks.all(), pulled(reader, len(wanted) + count))
+            while log.in_flight() > 0:
+                same("all is well", False, log.is_due())
+            same("once more", (True, 0), (log.append_unwaited(blocks), log.in_flight()))
+            wanted += blocks.all()
+            same("append", (DONE, len(wanted)), (log.append(blocks), log.end))
+            same("writes", 2 * count, seen.writes - before)
+            same("round trips", 0, log.counts.round_trips - trips)
+        blocks = numbered(log.end + 1, 65)
+        same("more than a window", (False, 0), (log.append_unwaited(blocks), log.in_flight()))
+        same("append", DONE, log.append(blocks))
+        blocks = Blocks(log.end + 1)
+        add_block(blocks, 1)
+        true("sent", log.append_unwaited(blocks))
+        same("nothing else meanwhile", (MALFORMED, MALFORMED), (log.append(blocks, 3), log.status()[0]))
+        add_block(blocks, 2)
+        log.append_ahead(blocks)
+        add_block(blocks, 3)
+        same("a report in the midst", (DONE, len(wanted) + 68), (log.append(blocks), log.end))
+        log.disconnect()
+        blocks = numbered(log.end + 1, 1)
+        same("no connection", (False, DONE), (log.append_unwaited(blocks), log.append(blocks)))
+
+
+def test_appends_that_nobody_waits_for_and_lost_connections():
+    """Cut at each of their requests, the replies before it read or not: the append puts all of them into the log, once each."""
+    for cut in range(1, 10):
+        for reads in (False, True):
+            left = [None]
+
+            def between(frame):
+                if left[0] is None or frame[33] not in (wire.WRITE, wire.REPORT):
+                    return frame
+                left[0] -= 1
+                return None if left[0] == 0 else frame
+
+            with Service() as service, Log(service.address, 3) as reader, \
+                    Proxy(service.address, between=between) as proxy, Log(proxy.address, 2) as log:
+                same("take over", DONE, log.take_over())
+                left[0], blocks = cut, Blocks(1)
+                for page in range(3):
+                    add_block(blocks, page)
+                    log.append_unwaited(blocks)
+                    while reads and log.in_flight() > 0 and not log.is_due():
+                        pass
+                same(f"append, cut at {cut}", (DONE, 3), (log.append(blocks), log.end))
+                same("log", blocks.all(), pulled(reader, 3))
+                same("cuts", 1, proxy.cuts)
+
+
+def test_appends_that_nobody_waits_for_and_an_epoch_that_ends():
+    """Before any one of their requests. What was in two copies is in the log, the append tells, and what was not is not."""
+    for ends in range(1, 11):
+        left = [None]
+
+        def between(frame):
+            if left[0] is not None:
+                left[0] -= 1
+                if left[0] == 0:
+                    operator.failover(5)
+            return frame
+
+        with Service() as service, service.operator() as operator, Log(service.address, 3) as reader, \
+                Proxy(service.address, between=between) as proxy, Log(proxy.address, 2) as log:
+            same("take over", DONE, log.take_over())
+            left[0], blocks = ends, Blocks(1)
+            for page in range(3):
+                add_block(blocks, page)
+                true("sent", log.append_unwaited(blocks))
+            if ends < 10:
+                while not log.is_due():
+                    pass
+            kept = min((ends - 1) // 3 + (ends % 3 == 0), 3)
+            wanted = (DONE, 3) if kept == 3 else (FENCED, "A2")
+            outcome = log.append(blocks)
+            same(f"append, over before request {ends}", wanted, (outcome, log.end if outcome == DONE else log.row[0]))
+            if ends == 10:
+                operator.failover(5)
+            same("log", blocks.all()[:kept], blocks_of(reader.pull(1)[1]))
+
+
 def test_an_old_writer_is_fenced():
     with Service() as service, Log(service.address, 2) as old, Log(service.address, 5) as new, \
             service.operator() as operator:
@@ -590,7 +695,7 @@ def test_waits_that_look_for_their_reply():
     all_of_them = os.sched_getaffinity(0)
     between = lambda frame: time.sleep(0.02) or frame
     with Service() as service, Proxy(service.address, between=between) as slow, Log(service.address, 2) as near, \
-            Log(slow.address, 2) as far, Log(service.address, 2, spin_us=NO_SPIN) as sleeper:
+            Log(slow.address, 2, spin_us=15000) as far, Log(service.address, 2, spin_us=NO_SPIN) as sleeper:
         same("sleeps", 0, sleeper.spin)
         for log in (near, far, sleeper):
             same("join", DONE, log.join())
@@ -598,9 +703,9 @@ def test_waits_that_look_for_their_reply():
             same("near", DONE, near.status()[0])
             same("sleeper", DONE, sleeper.status()[0])
         before = time.thread_time()
-        for _ in range(30):
+        for _ in range(60):
             same("far", DONE, far.status()[0])
-        true("a wait that is long sleeps", time.thread_time() - before < 0.3)
+        true("a wait that is long sleeps", time.thread_time() - before < 0.5)
         try:
             os.sched_setaffinity(0, {min(all_of_them)})
             near.set_spin(100)

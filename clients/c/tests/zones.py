@@ -40,7 +40,7 @@ def ending_before(service, operation, count):
 
 def test_pairs_that_no_table_has():
     for copies, quorum in ((3, 3), (6, 2), (5, 3), (2, 2), (7, 4), (3, 4)):
-        options = Options(b"127.0.0.1:1", 2, token(2), 0, 0, 0, 0, copies, quorum)
+        options = Options(b"127.0.0.1:1", 2, token(2), 0, 0, 0, 0, 0, copies, quorum)
         same(f"{copies} and {quorum}", None, lib.pagelog_new(byref(options)))
     for copies, quorum, zone in ((0, 0, THREE), (3, 0, THREE), (6, 0, SIX), (6, 4, SIX)):
         with Log("127.0.0.1:1", 2, copies=copies, quorum=quorum) as log:
