@@ -40,7 +40,7 @@ struct append {
     /* What the last group was answered. */
     bool is_reported, is_ahead;    /* the report was Done; a write met an LSN in the log (C2) */
     bool has_fourth, lacks_fourth; /* a write to the fourth copy or above was Done; was denied C5 */
-    enum pagelog_outcome refusal;  /* the first refusal of a write, else that of the report, or DONE */
+    enum pagelog_outcome refusal;  /* that the epoch is over, else the first one, or DONE */
     struct pagelog_reply refused;
 };
 
@@ -122,11 +122,16 @@ static bool is_row(const struct pagelog_reply *refused, unsigned row) {
     return refused->kind == PAGELOG_REPLY_DENIED && refused->section == SECTION_C && refused->row == row;
 }
 
+static bool is_epoch_over(const struct pagelog_reply *refused) {
+    return refused->kind == PAGELOG_REPLY_DENIED && refused->section == SECTION_A && refused->row == 2;
+}
+
 /* Notes what a write or the report was answered; false where the connection is gone. */
 static bool note(struct append *append, enum pagelog_outcome outcome) {
     const struct pagelog_reply *refused = pagelog_refused(append->log);
     if (outcome == PAGELOG_CONFLICT && is_row(refused, 2)) append->is_ahead = true;
-    if (outcome != PAGELOG_DONE && append->refusal == PAGELOG_DONE) {
+    bool decides = is_epoch_over(refused) && !is_epoch_over(&append->refused);
+    if (outcome != PAGELOG_DONE && (append->refusal == PAGELOG_DONE || decides)) {
         append->refusal = outcome;
         append->refused = *refused;
     }
@@ -288,10 +293,6 @@ static enum pagelog_outcome conclude_after_epoch(struct append *append) {
     if (outcome != PAGELOG_DONE) return give_up(append, PAGELOG_IN_DOUBT);
     advance(append, left);
     return PAGELOG_DONE;
-}
-
-static bool is_epoch_over(const struct pagelog_reply *refused) {
-    return refused->kind == PAGELOG_REPLY_DENIED && refused->section == SECTION_A && refused->row == 2;
 }
 
 static bool is_dead(const struct pagelog_reply *refused) {

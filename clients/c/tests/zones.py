@@ -91,6 +91,48 @@ def test_failovers_before_each_request():
     same("of both kinds", {(True, DONE), (True, FENCED), (False, DONE), (False, FENCED)}, seen)
 
 
+def send_one_by_one(log, count):
+    """Blocks, each of which is sent with a report of its own, and nobody waits."""
+    blocks = Blocks(log.end + 1)
+    for page in range(count):
+        blocks.put(page, 0, b"%d" % page), blocks.end()
+        log.append_unwaited(blocks)
+    return blocks
+
+
+def test_appends_that_nobody_waits_for():
+    for zone, told in each_case():
+        with Service(text=ZONES[zone]) as service, Log(service.address, 3) as follower, \
+                Log(service.address, 2, copies=told[0], quorum=told[1]) as log:
+            same("take over", DONE, log.take_over())
+            wanted = []
+            for count in (3, 64):
+                blocks = send_one_by_one(log, count)
+                wanted += blocks.all()
+                same("append", (DONE, len(wanted)), (log.append(blocks), log.end))
+                same("zone", (*zone, True), log.zone)
+            found = []
+            while len(found) < len(wanted):
+                found += blocks_of(follower.pull(len(found) + 1)[1])
+            same("log", wanted, found)
+
+
+def test_failovers_before_each_request_of_what_nobody_waits_for():
+    for zone, told in each_case():
+        each = max(zone[1], told[1])
+        for operation, count in [(wire.WRITE, n) for n in range(1, 3 * each + 1)] + [(wire.REPORT, n) for n in (1, 2, 3)]:
+            with Service(text=ZONES[zone]) as service, Log(service.address, 3) as follower, \
+                    Proxy(service.address, between=ending_before(service, operation, count)) as proxy, \
+                    Log(proxy.address, 2, copies=told[0], quorum=told[1]) as log:
+                same("take over", DONE, log.take_over())
+                blocks = send_one_by_one(log, 3)
+                outcome = log.append(blocks)
+                found = blocks_of(follower.pull(1)[1])
+                what = f"zone {zone}, told {told}, {operation} {count}"
+                same(what, blocks.all()[: len(found)], found)
+                same(what, DONE if len(found) == 3 else FENCED, outcome)
+
+
 def test_who_may_not_look():
     """Without the role of a secondary, who was told the right zone knows what a failover hardened."""
     for zone, text in ZONES.items():
@@ -155,4 +197,5 @@ def test_rows_that_end_at_an_lsn():
 
 if __name__ == "__main__":
     # A service for each request, and the model takes long to start.
-    run("zones", globals(), not_with_the_model=["test_failovers_before_each_request"])
+    run("zones", globals(), not_with_the_model=["test_failovers_before_each_request",
+                                               "test_failovers_before_each_request_of_what_nobody_waits_for"])
