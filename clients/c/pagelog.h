@@ -391,10 +391,10 @@ enum pagelog_outcome pagelog_append(struct pagelog *log, const struct pagelog_bl
  * pagelog_take_over was DONE. */
 void pagelog_append_ahead(struct pagelog *log, const struct pagelog_blocks *blocks, unsigned copies);
 
-/* As pagelog_append_ahead, with a report behind the last block: where nothing goes wrong they are in the log
- * soon, and nobody waited for it. What has become of them the append tells, with those that are added to
- * them; so does whoever sends further blocks, up to 64 in all, each time with a report of its own. False
- * where the append is due at once: the blocks have not all left this process, or are more than 64. */
+/* As pagelog_append_ahead, with a report behind the last block: if nothing goes wrong they are in the log
+ * soon, and nobody waited for it. Blocks that are added to them may be sent so too, up to 64 in all. What has
+ * become of them the append tells. False where it is due at once: the blocks have not all left this process,
+ * or are more than 64. */
 bool pagelog_append_unwaited(struct pagelog *log, const struct pagelog_blocks *blocks, unsigned copies);
 
 /* Reads what replies to it have come, without waiting. True where the append is due: a reply is a refusal, or

@@ -108,13 +108,12 @@ uint64_t pagelog_file_size(const struct pagelog_file *file);
  * DONE: it is in the log. IN_DOUBT: it may be; the next begin looks. Any other outcome: it is not in the log
  * and never will be. After any outcome but DONE the changes are still there, until pagelog_file_undo.
  *
- * Where `unwaited` is not 0, DONE says only that it was sent, with a report. It comes into the log behind
- * those before it, and as a whole or not at all, with no further call; but if it does not, a later call has
- * that outcome in place of its own: a begin, a commit, a read that has to ask the service, or
- * pagelog_file_settle, and the first of them after the refusal has come or the connection has ended. Then the
- * last commits since the log was last known to have them are not in it, or may not be; the file is as it was
- * then, `is_over` says so, and every call is CONFLICT until a begin. What the log has got that begin tells.
- */
+ * Where `unwaited` is not 0, DONE may say only that it was sent, with a report: it comes into the log behind
+ * those before it, as a whole or not at all. If it does not, another call has that outcome in place of its
+ * own: the first begin after the refusal has come or the connection has ended, a read or a commit that has to
+ * ask the service, or pagelog_file_settle. Then some of the commits that were on their way are not in the
+ * log, or may not be. The file is as it was before them, `is_over` says so, and every call is CONFLICT until
+ * a begin, which tells what the log has got. */
 enum pagelog_outcome pagelog_file_commit(struct pagelog_file *file);
 
 /* Waits until what was committed is in the log. Any outcome but DONE: as above. */

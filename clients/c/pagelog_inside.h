@@ -72,10 +72,9 @@ void pagelog_push(struct pagelog *log);
 /* Whether all that was queued has left this process. */
 bool pagelog_is_pushed(const struct pagelog *log);
 
-/* Reads what has come, without waiting, and takes the replies from it that are Done, up to the first other
- * one: how many. In
- * `*is_over` whether there is another one, or the connection has ended; who waits for the replies meets it.
- */
+/* Reads what has come, without waiting, and takes the replies that are Done from it, up to the first other
+ * one: how many. `*is_over` tells whether there is another one, or the connection has ended; who waits meets
+ * it. */
 size_t pagelog_take_done(struct pagelog *log, bool *is_over);
 
 /* Learns what a reply tells about the service, and enters a refusal. */
