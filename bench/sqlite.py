@@ -16,11 +16,14 @@ share of that of plain SQLite in WAL with synchronous=off. Both are medians of a
     scan        pages a second of a scan of the table by such a connection
 
 `check 0` asks the service at the beginning of each transaction whether the epoch goes on, `check 50` where the last answer
-is older than 50 ms. A follower is a reader; its lag is from the moment that a commit was acknowledged to the end of the
-transaction in which the follower saw it, asked again and again. The service keeps its log in memory, and synchronous=full
-waits for a disk: the two are no equal promises.
+is older than 50 ms. Their commits wait for the service. `unwaited` is as `check 50`, with synchronous=off and unwaited=64, so that
+its commits wait for nothing, as those of plain SQLite with synchronous=off do. A follower is a reader; its lag is from the
+moment that a commit was acknowledged to the end of the transaction in which the follower saw it, asked again and again. The
+service keeps its log in memory, and synchronous=full waits for a disk: the two are no equal promises.
 
-Behind it stand what a transaction sends, and speedtest1 of SQLite's sources, if SPEEDTEST1 names the program, as built by
+Behind it stand what a transaction sends, what an insert takes of this process' time and of its processor time where its wait
+looks for the reply first and where it sleeps at once, and speedtest1 of SQLite's sources, if SPEEDTEST1 names the
+program, as built by
 
     apt-get source sqlite3 && gcc -O2 -o speedtest1 sqlite3-*/test/speedtest1.c -lsqlite3
 """
@@ -42,6 +45,7 @@ UPDATE = "update t set value = value + 1 where id = 1"
 ROUNDS = 10
 # How many there are in all rounds together, where the share is 1.
 COLUMNS = {"inserts": 8000, "updates": 8000, "thousands": 40, "warm": 40000, "in one": 80000, "cold": 4000, "scan": 10}
+WRITES = ("inserts", "updates", "thousands")
 LOADS = "import sqlite3; sqlite3.Connection.enable_load_extension"
 
 
@@ -118,15 +122,17 @@ class Work:
 class System:
     """A database, how it is opened to be written and to be read, and its rates: of each column one for each round."""
 
-    def __init__(self, name, opened, work=None, shares=False):
-        self.name, self.opened, self.shares = name, opened, shares
+    def __init__(self, name, opened, work=None, shares=False, columns=tuple(COLUMNS)):
+        self.name, self.opened, self.shares, self.columns = name, opened, shares, columns
         self.work, self.writes = work or Work(opened), work is None
         self.rates = {column: [] for column in COLUMNS}
         self.warm = None
 
     def once(self, column, number):
-        """One round of a column: so many a second, or None where this is a reader."""
-        if column in ("inserts", "updates", "thousands"):
+        """One round of a column: so many a second, or None where this is a reader, or has no such column."""
+        if column not in self.columns:
+            return None
+        if column in WRITES:
             return rate(number, getattr(self.work, column)) if self.writes else None
         if column in ("warm", "in one"):
             if not self.warm:
@@ -190,6 +196,22 @@ def cost(work, name, statement):
           f"{after['requests']:.1f} requests, {after['round_trips']:.1f} round trips")
 
 
+def waits(work):
+    """What an insert takes, in microseconds, with each way of waiting."""
+    number, ways = count(2000), {"looks for 50 us": 50, "sleeps at once": 0}
+    found = {way: [] for way in ways}
+    for _ in range(ROUNDS):
+        for way, spin in ways.items():
+            work.connection.execute(f"pragma pagelog_spin = {spin}").fetchone()
+            start, used = time.perf_counter(), time.process_time()
+            work.inserts(number // ROUNDS)
+            taken = time.perf_counter() - start, time.process_time() - used
+            found[way].append([1e6 * seconds / (number // ROUNDS) for seconds in taken])
+    for way, taken in found.items():
+        whole, used = (statistics.median(column) for column in zip(*taken))
+        print(f"an insert whose wait {way}: {whole:.0f} us, {used:.0f} us of the client's processor")
+
+
 def lag(work, follower):
     """Milliseconds from acknowledgement to sight, sorted."""
     found = []
@@ -241,17 +263,25 @@ def main():
     WORK.mkdir(parents=True)
     print(f"{os.cpu_count()} processors, load {os.getloadavg()[0]:.1f}, SQLite {sqlite3.sqlite_version}, share {SHARE}, "
           f"{ROUNDS} rounds")
-    with Service() as first, Service() as second:
+    with Service() as first, Service() as second, Service() as third:
+
+        def opened_unwaited():
+            connection = connect(third.address, check=50, unwaited=64)
+            connection.execute("pragma synchronous = off")
+            return connection
+
         checked = System("pagelog, check 0", lambda: connect(first.address), shares=True)
         trusted = System("pagelog, check 50", lambda: connect(second.address, check=50), shares=True)
+        unwaited = System("pagelog, unwaited", opened_unwaited, shares=True, columns=WRITES)
         follower = System("a follower", lambda: reader(second.address, check=50), trusted.work)
-        systems = [checked, trusted, follower, plain("full"), plain("off")]
+        systems = [checked, trusted, unwaited, follower, plain("full"), plain("off")]
         measure(systems)
         show(systems)
         cost(trusted.work, "an update of one number", UPDATE)
         cost(trusted.work, "an insert of one row",
              "insert into t(number, value, text) values (random(), 0, hex(randomblob(50)))")
         trusted.work.rows = trusted.work.connection.execute("select count(*) from t").fetchone()[0]
+        waits(trusted.work)
         lags = lag(trusted.work, reader(second.address))
         print(f"lag of a follower: median {lags[len(lags) // 2]:.2f} ms, 99 of 100 within {lags[-len(lags) // 100]:.2f} ms, "
               f"most {lags[-1]:.2f} ms")
