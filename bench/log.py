@@ -12,16 +12,22 @@ Builds bench/log, a program over pl_log, and drives it. For each number of harde
 
 beside the same pulls from a list, and the peak of memory for each hardened block, beside the bytes of its spelling.
 
-With --zones it prints the time of a write and of a report of 64 blocks of 100 bytes in a zone of three copies and of six, each
-the least of several runs in turn, and what a place of an open window takes in both. FOLDER is another checkout, whose
-program is built and driven in the same run; an older one may know three copies alone.
+Writes and reports are in nanoseconds of the processor, all else in those of a clock.
+
+With --zones it prints the time of a write of a block of 100 bytes to the first copy, of one to another copy, which compares
+it with what is there, and of a report of 64, in a zone of three copies and of six, the median of 15 rounds; and what a place
+of an open window takes in both. FOLDER is another checkout, of an older commit say: the same program is built over its crates
+and driven in the same rounds, and the ratios of the times of one round stand beside: the median, and in brackets the half of
+the rounds around it. The crates before zones of six have three copies alone.
 """
 
 import pathlib
+import statistics
 import subprocess
 import sys
 
 import programs
+import rounds
 
 
 def spelled(length):
@@ -102,19 +108,30 @@ def measure(path, blocks, length):
 
 
 ZONES = {"three copies, quorum two": (3, 2), "six copies, quorum four": (6, 4)}
-# Windows of one run, and runs of which the least counts; logs whose windows are held at once.
-LAPS, RUNS, LOGS = 2000, 7, 4000
+TIMES = ("a write to the first copy", "to another", "a report of 64")
+# Windows of a round, and rounds; logs whose windows are held at once.
+LAPS, ROUNDS, LOGS = 1000, 15, 4000
+
+
+def has_zone(path, copies, quorum):
+    """Whether the program's crates have such a zone."""
+    program = Program(path)
+    _, found = program.ask("zone", copies, quorum)
+    program.end()
+    return found == copies
 
 
 def times_of_zone(path, copies, quorum):
-    """Nanoseconds of a write to one copy, and of a report of 64."""
+    """Nanoseconds of a write to the first copy, of one to another copy, and of a report of 64."""
     program = Program(path)
     program.ask("zone", copies, quorum)
     program.ask("windows", LAPS // 10, 100)
     program.ask("zone", copies, quorum)
-    writes, reports = program.ask("windows", LAPS, 100)
+    _, reports = program.ask("windows", LAPS, 100)
+    program.ask("zone", copies, quorum)
+    first, others = program.ask("copies", LAPS, 100)
     program.end()
-    return writes / LAPS / 64 / quorum, reports / LAPS
+    return first / LAPS / 64, others / LAPS / 64 / (quorum - 1), reports / LAPS
 
 
 def bytes_of_place(path, copies, quorum, full):
@@ -126,19 +143,17 @@ def bytes_of_place(path, copies, quorum, full):
 
 
 def compare_zones(paths):
-    """The lines of both zones, for each program."""
-    keys = [(where, zone) for zone, (copies, quorum) in ZONES.items() for where, path in paths.items()
-            if Program(path).ask("zone", copies, quorum)[1] == copies]
-    least = dict.fromkeys(keys, (float("inf"), float("inf")))
-    for _ in range(RUNS):
-        for where, zone in keys:
-            times = times_of_zone(paths[where], *ZONES[zone])
-            least[where, zone] = tuple(map(min, least[where, zone], times))
+    """The lines of both zones, for each program, and its times beside those of three copies in the last program."""
+    keys = [(where, zone) for zone, numbers in ZONES.items() for where, path in paths.items() if has_zone(path, *numbers)]
+    times = rounds.in_turn(ROUNDS, keys, lambda key: times_of_zone(paths[key[0]], *ZONES[key[1]]))
+    base = list(paths)[-1]
+    beside = list(zip(*times[base, next(iter(ZONES))]))
+    print(f"medians of {ROUNDS} rounds; ratios beside three copies {base}")
     for where, zone in keys:
-        write, report = least[where, zone]
+        cells = (f"{name} {statistics.median(own):.1f} ns, {rounds.ratio(own, other)}"
+                 for name, own, other in zip(TIMES, zip(*times[where, zone]), beside))
         room, held = (bytes_of_place(paths[where], *ZONES[zone], full) for full in (0, 1))
-        print(f"{zone:<26}{where:<8} a write to one copy {write:6.1f} ns, a report of 64 {report:8.0f} ns, "
-              f"a place of a window {room:6.1f} bytes, with a shared block {held:6.1f}")
+        print(f"{zone:<26}{where:<8}{'; '.join(cells)}; a place of a window {room:.1f} bytes, with a shared block {held:.1f}")
 
 
 def main():
@@ -146,7 +161,9 @@ def main():
     if sys.argv[1:2] == ["--zones"]:
         paths = {"now": path}
         if sys.argv[2:]:
-            paths["before"] = programs.program("log", "pl_block pl_log bytes", pathlib.Path(sys.argv[2]))
+            folder = pathlib.Path(sys.argv[2])
+            is_older = not (folder / "crates" / "pl_table" / "src" / "zone.rt").exists()
+            paths["before"] = programs.program("log", "pl_block pl_log bytes", folder, is_older)
         return compare_zones(paths)
     for blocks in [int(word) for word in sys.argv[1:]] or [1000, 100_000, 1_000_000]:
         measure(path, blocks, 100)

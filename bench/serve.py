@@ -13,6 +13,8 @@ each other server's number stands what the service's best round is of its best, 
 the median of its rounds. Last come the processor time that the service took for a request, over all rounds, and the most
 memory that it held until then, which grows with its audit list.
 
+The service is crates/pagelog/out/pagelog, which scripts/pagelog proves and builds, or the program that PAGELOG names.
+
 Where etcd is installed, a client in Python asks the service and one node of etcd, which syncs nothing to its disk, one
 request at a time on one connection: a 100-byte write beside a put, and a pull of one block beside a range of one key.
 """
@@ -33,9 +35,11 @@ import time
 ROOT = pathlib.Path(__file__).resolve().parent.parent
 sys.path.insert(0, str(ROOT / "scripts"))
 
+import programs  # noqa: E402
 import wire  # noqa: E402
 
-CRATE = ROOT / "crates" / "pagelog"
+PROGRAM = programs.pagelog()
+TABLE = ROOT / "crates" / "pagelog" / "data" / "t0.toml"
 SHARE = float(sys.argv[1]) if len(sys.argv) > 1 else 1.0
 ROUNDS = 25
 # Connections, requests in flight on each, and requests of each connection in a round.
@@ -97,7 +101,7 @@ class Running:
 
 
 def service():
-    running = Running([CRATE / "out" / "pagelog", "serve", "--listen", "127.0.0.1:0", "--table", CRATE / "data" / "t0.toml",
+    running = Running([PROGRAM, "serve", "--listen", "127.0.0.1:0", "--table", TABLE,
                        "--primary", 2, "--dbs", 1, "--workers", 64, "--connections", 4294967295, "--audit", 16777216])
     running.port = int(running.process.stdout.readline().split()[1].rsplit(":", 1)[1])
     for request in SETUP:

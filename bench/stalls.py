@@ -11,11 +11,14 @@ Three cases, each on a service of its own with one database:
   block, 20 that get a page as it is applied, 20 that get one at its end, exactly, 2 that ask for the status, and one that
   advances a partition.
 
+The service is crates/pagelog/out/pagelog, which scripts/pagelog proves and builds, or the program that PAGELOG names.
+
 Delays are in microseconds: the 50th, 99th and 99.9th percentile and the longest, as bench/frames.c sees them, a thread each
 connection. Beside those of the mixed load stand those of an echo with as many connections that send as much, in the same
 run: what the machine and the loopback take without a database.
 """
 
+import os
 import pathlib
 import random
 import socket
@@ -27,9 +30,11 @@ import time
 ROOT = pathlib.Path(__file__).resolve().parent.parent
 sys.path.insert(0, str(ROOT / "scripts"))
 
+import programs  # noqa: E402
 import wire  # noqa: E402
 
-CRATE = ROOT / "crates" / "pagelog"
+PROGRAM = programs.pagelog()
+TABLE = ROOT / "crates" / "pagelog" / "data" / "t0.toml"
 SHARE = float(sys.argv[1]) if len(sys.argv) > 1 else 1.0
 WINDOW = 64
 
@@ -60,9 +65,10 @@ class Service:
     """A service that is ended with this program's leave alone, and a connection to it."""
 
     def __init__(self):
-        words = [CRATE / "out" / "pagelog", "serve", "--listen", "127.0.0.1:0", "--table", CRATE / "data" / "t0.toml", "--primary", 2,
-                 "--dbs", 1, "--workers", 64, "--connections", 4294967295, "--audit", 16777216]
-        self.process = subprocess.Popen([str(word) for word in words], stdout=subprocess.PIPE, stderr=subprocess.DEVNULL, text=True)
+        words = [PROGRAM, "serve", "--listen", "127.0.0.1:0", "--table", TABLE, "--primary", 2, "--dbs", 1, "--workers", 64,
+                 "--connections", 4294967295, "--audit", 16777216]
+        self.process = subprocess.Popen([str(word) for word in words], stdout=subprocess.PIPE, stderr=subprocess.DEVNULL,
+                                        text=True)
         self.port = int(self.process.stdout.readline().split()[1].rsplit(":", 1)[1])
         self.socket = socket.create_connection(("127.0.0.1", self.port))
         self.socket.setsockopt(socket.IPPROTO_TCP, socket.TCP_NODELAY, 1)
@@ -135,7 +141,8 @@ def mixed_load(work, frames):
     count = int(20_000 * SHARE)
     drawn = random.Random(2)
     held = 10_000
-    writes = [frame for lsn in range(held + 1, held + 1 + count) for frame in (*in_copies(small_block, lsn), primary(wire.REPORT, wire.report(lsn)))]
+    writes = [frame for lsn in range(held + 1, held + 1 + count)
+              for frame in (*in_copies(small_block, lsn), primary(wire.REPORT, wire.report(lsn)))]
     kinds = (
         ("write", 1, writes),
         ("pull", 20, [reader(wire.PULL, wire.pull(0, 65535, drawn.randrange(1, held), 1)) for _ in range(1000)]),
@@ -160,22 +167,26 @@ def mixed_load(work, frames):
     finally:
         bare.terminate()
         bare.wait()
-    print(f"{'mixed load':16}{'replies':>10}{'served':>10}" + "".join(f"{head:>10}" for head in ("50th", "99th", "99.9th", "longest")) +
-          f"{'99.9/50':>10}   echo: 50th, 99th, 99.9th, longest")
+    heads = ("replies", "served", "50th", "99th", "99.9th", "longest", "99.9/50")
+    print(f"{'mixed load':16}" + "".join(f"{head:>10}" for head in heads) + "   echo: 50th, 99th, 99.9th, longest")
     for own, other in zip(ours, plain):
         name, replies, served, *delays = own
         ratio = float(delays[2]) / float(delays[0])
-        print(f"{name:16}{replies:>10}{served:>10}" + "".join(f"{delay:>10}" for delay in delays) + f"{ratio:10.1f}   " + " ".join(f"{it:>9}" for it in other[3:]))
+        cells = "".join(f"{cell:>10}" for cell in (replies, served, *delays, f"{ratio:.1f}"))
+        print(f"{name:16}{cells}   " + " ".join(f"{it:>9}" for it in other[3:]))
 
 
 def delays_of(frames, port, count, words):
-    out = subprocess.run([str(it) for it in (frames, "delays", port, count, *words)], stdout=subprocess.PIPE, text=True, check=True).stdout
+    asked = [str(it) for it in (frames, "delays", port, count, *words)]
+    out = subprocess.run(asked, stdout=subprocess.PIPE, text=True, check=True).stdout
     return [line.split() for line in out.splitlines()]
 
 
 with tempfile.TemporaryDirectory() as work:
     frames = pathlib.Path(work) / "frames"
     subprocess.run(["gcc", "-O2", "-pthread", "-o", frames, ROOT / "bench" / "frames.c"], check=True)
+    print(f"{os.cpu_count()} processors, load {os.getloadavg()[0]:.1f}, {PROGRAM.name}, share {SHARE}", flush=True)
     mixed_load(work, frames)
     old_pages()
     first_get()
+    print(f"load at the end {os.getloadavg()[0]:.1f}")
