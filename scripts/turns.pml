@@ -1,0 +1,518 @@
+/*
+ * The turns of a worker's connections, in every interleaving: what a turn reads and writes, what it waits for, and which turns
+ * are due, of crates/pl_conn, as a model for the checker spin. scripts/waiting runs it.
+ *
+ * A peer sends the frames of requests part by part, as many as it likes, and stops inside a frame if it likes. Then it is
+ * silent for ever, or says that it sends no more, or is gone. It reads the replies when it likes, late or soon. The system
+ * tells of a connection where something changed (an edge), once, with all that is so at that moment; it tells that there is
+ * room to write only after a write that found none, and only once there is enough. Each read, each write and each poll is a
+ * step by itself. What a turn does besides concerns the worker alone.
+ *
+ * Once nobody can go on, each whole request has its reply, which the peer has, unless it is gone; a connection whose peer
+ * sends no more is closed; and no turn is due. In each state, the places that are due are those of the connections which say
+ * so, once each; no more than GATHERS replies wait; a connection is closed only where its peer sends no more, and not before
+ * its last reply is written; and a turn that found nothing to do leaves none due, so that no worker runs in circles.
+ *
+ * Behind each step stands the line of the code that it is for, under the name of its function; two dots stand for lines that
+ * the model leaves out. scripts/waiting compares these lines with the source.
+ *
+ * Left out: memory that is refused, and frames that are too long. New sockets come last in a round, so no event and no due
+ * place is of an earlier connection of the same place. worker.pml has how they come.
+ */
+
+#ifndef LINES
+#define LINES 1
+#endif
+#ifndef FRAMES
+#define FRAMES 3  /* how many a peer sends at most */
+#endif
+#ifndef WRITES
+#define WRITES 1  /* how often a turn writes replies, WRITES_A_TURN */
+#endif
+#ifndef GATHERS
+#define GATHERS 1 /* how many replies may wait together */
+#endif
+#ifndef ROOM
+#define ROOM 3    /* how many parts of frames a worker's inbox holds */
+#endif
+#ifndef INS
+#define INS 3     /* how many parts a socket holds */
+#endif
+#ifndef OUTS
+#define OUTS 2    /* how many replies a socket holds */
+#endif
+
+#define PARTS 2              /* the parts of a frame */
+#define ENOUGH (OUTS / 2)    /* with so many replies or fewer in it, a socket is reported to have room */
+
+/* Of the sockets. */
+byte in[LINES];              /* the parts that wait to be read */
+byte out[LINES];             /* the replies that wait for the peer */
+byte sent[LINES], got[LINES]; /* what the peer has sent and got in all */
+bit shut[LINES], gone[LINES];
+bit edge[LINES] = true;      /* whether something changed since a poll told so: at first, that it is registered */
+bit no_room[LINES];          /* whether a write found no room */
+
+/* Of the worker. */
+bit is_open[LINES] = true;
+bit is_due[LINES], is_closing[LINES];
+byte unread[LINES], waiting[LINES];
+byte due[2 * LINES], dues;   /* the list of places, and how long it is: those of this round, and of the next */
+
+/* Whose turn it is, what it came to, and whether it did anything. */
+byte at, rest;
+bit moved;
+
+mtype = { begins, ends };
+chan turns = [0] of { mtype };
+
+/* What a turn comes to, and what a read brings. */
+#define INPUT 1
+#define OUTPUT 2
+#define AGAIN 3
+#define OVER 4
+#define FAILED 5
+#define SOME 1
+#define ALL 2
+#define END 3
+
+/* What the system does. */
+
+#define IS_READY(at) (in[at] > 0 || shut[at] || gone[at] || out[at] <= ENOUGH)
+
+/* Tells of a connection, if something changed and it is ready for something now. */
+inline tell_of(at) {
+    if
+    :: is_open[at] && edge[at] ->
+       edge[at] = false;
+       if
+       :: IS_READY(at) -> event[at] = true; says_closed[at] = shut[at]; told = true
+       :: else
+       fi
+    :: else
+    fi
+}
+
+#if LINES == 1
+#define ARE_OPEN is_open[0]
+#define HAS_EDGE (is_open[0] && edge[0])
+#define TELL_OF_ALL tell_of(0)
+#else
+#define ARE_OPEN (is_open[0] || is_open[1])
+#define HAS_EDGE (is_open[0] && edge[0] || is_open[1] && edge[1])
+#define TELL_OF_ALL tell_of(0); tell_of(1)
+#endif
+
+#ifdef SLEEPS_ON_WHAT_IS_DUE
+#define HAS_TIME true
+#else
+#define HAS_TIME (dues == 0)
+#endif
+
+inline poll() {
+end_sleeps:
+    do
+    :: atomic { HAS_EDGE -> TELL_OF_ALL };
+       if
+       :: told || !HAS_TIME -> told = false; break
+       :: else
+       fi
+    :: !HAS_EDGE && !HAS_TIME -> break
+    od
+}
+
+active [LINES] proctype Peer() {
+    byte me = _pid;
+    do
+    :: atomic { sent[me] < FRAMES * PARTS && in[me] < INS && is_open[me] -> in[me]++; sent[me]++; edge[me] = true }
+    :: break
+    od;
+    if
+    :: skip
+    :: atomic { shut[me] = true; edge[me] = true };
+       if
+       :: skip
+       :: atomic { gone[me] = true; edge[me] = true }
+       fi
+    fi
+}
+
+active [LINES] proctype Reader() {
+    byte me = _pid - LINES;
+end_reads:
+    do
+    :: !is_open[me] && out[me] == 0 -> break
+    :: atomic {
+           out[me] > 0 && !gone[me] -> out[me]--; got[me]++;
+           if
+           :: no_room[me] && out[me] <= ENOUGH -> no_room[me] = false; edge[me] = true
+           :: else
+           fi
+       }
+    od
+}
+
+/* A turn. */
+
+// resuming.rt: write_ready
+inline write_ready(count) {
+                                                           // let mut count = 0;
+    do                                                     // while count < bytes.len() {
+                                                           // match writer.write(&bytes[count..]) {
+    :: atomic { count > 0 && gone[at] -> failed = true; break }
+                                                           // Ok(0) => return (count, Err(io::Error::from(
+                                                           // ErrorKind::WriteZero))),
+    :: atomic {
+           count > 0 && !gone[at] && out[at] < OUTS ->     // Ok(more) => count += more,
+           out[at]++; count--; moved = true
+       }
+#ifdef WRITES_ONCE
+       break
+#endif
+    :: atomic { count > 0 && !gone[at] && out[at] == OUTS -> no_room[at] = true; break }
+                                                           // Err(error) if error.kind() == ErrorKind::WouldBlock
+                                                           // => return (count, Ok(())),
+                                                           // Err(error) => return (count, Err(error)), } }
+    :: count == 0 -> break                                 // (count, Ok(()))
+    od
+}
+
+// resuming.rt: Conversation::tell
+inline tell() {
+    write_ready(waiting[at])                               // let (count, end) = write_ready(writer,
+                                                           // &self.waiting[self.sent..]); self.sent += count;
+                                                           // if self.sent == self.waiting.len() {
+                                                           // self.waiting = Vec::new(alloc); self.sent = 0; } end
+}
+
+// resuming.rt: hear
+inline hear() {
+    if
+    :: held >= PARTS -> heard = SOME                       // if !is_cut(inbox.as_slice()) { return Ok(Heard::Some); }
+    :: held < PARTS ->
+       d_step {                                            // match inbox.fill(reader) {
+           taken = (in[at] < ROOM - held -> in[at] : ROOM - held);
+           in[at] = in[at] - taken; held = held + taken;
+           if
+           :: taken == 0 && gone[at] -> failed = true; moved = true
+           :: taken == 0 && !gone[at] && shut[at] -> heard = END; moved = true // Ok(0) => Ok(Heard::End),
+#ifndef FULL_IS_ALL
+           :: taken > 0 && held == ROOM -> heard = SOME; moved = true // Ok(_) if inbox.is_full() => Ok(Heard::Some),
+           :: taken > 0 && held < ROOM -> heard = ALL; moved = true // Ok(_) => Ok(Heard::All),
+#else
+           :: taken > 0 -> heard = ALL; moved = true
+#endif
+           :: taken == 0 && !gone[at] && !shut[at] -> heard = ALL
+                                                           // Err(error) if error.kind() == ErrorKind::WouldBlock
+                                                           // => Ok(Heard::All),
+                                                           // Err(error) => Err(error), }
+           fi;
+           taken = 0
+       }
+    fi
+}
+
+// resuming.rt: answer_first
+inline answer_first() {
+                                                           // let body = body_in(bytes)?;
+                                                           // let reply = answer(decode_request(alloc, body), gate, pass);
+    replies++;                                            // outbox.put(&reply);
+    held = held - PARTS;                                   // Some(LENGTH_BYTES + body.len())
+    moved = true
+}
+
+/* A room holds no more frames than this loop answers. */
+// resuming.rt: answer_whole
+inline answer_whole() {
+    d_step {
+                                                           // let mut taken = 0;
+        do                                                 // for _ in 0..MOST_FRAMES {
+        :: replies == GATHERS -> break                     // if !outbox.may_gather() { break; }
+        :: replies < GATHERS && held < PARTS -> break      // let Some(count) = answer_first(alloc,
+                                                           // &bytes[taken..], gate, pass, outbox) else { break; };
+        :: replies < GATHERS && held >= PARTS -> answer_first()
+                                                           // taken += count; }
+        od                                                 // taken
+    }
+}
+
+// resuming.rt: speak
+inline speak() {
+                                                           // let mut taken = 0;
+    do                                                     // for _ in 0..WRITES_A_TURN {
+    :: writes < WRITES ->
+                                                           // outbox.restart();
+       answer_whole();                                     // taken += answer_whole(alloc, &bytes[taken..], gate,
+                                                           // pass, outbox);
+#ifndef ANSWERS_ARE_KEPT
+       write_ready(replies);                               // let (sent, end) = write_ready(writer, outbox.text());
+#endif
+       if
+       :: failed || replies > 0 -> break                   // if end.is_err() || sent < outbox.text().len() {
+                                                           // return (taken, sent, end); }
+       :: !failed && replies == 0 ->
+          if
+          :: held < PARTS -> break                         // if body_in(&bytes[taken..]).is_none() {
+          :: held >= PARTS -> writes++                     // return (taken, sent, end); }
+          fi
+       fi
+    :: writes == WRITES -> break                           // }
+    od                                                     // (taken, outbox.text().len(), Ok(()))
+}
+
+// resuming.rt: Conversation::keep_unread
+inline keep_unread() {
+                                                           // if self.unread.is_empty() && unread.is_empty() {
+                                                           // if self.unread.capacity() > spare.capacity() {
+                                                           // mem::swap(&mut self.unread, spare); }
+                                                           // self.unread = Vec::new(alloc); return Ok(()); }
+    unread[at] = held                                      // if put_all(&mut self.unread, unread).is_ok() {
+                                                           // return Ok(()); }
+                                                           // mem::swap(&mut self.unread, spare);
+                                                           // let end = put_all(&mut self.unread, unread);
+                                                           // if end.is_err() { self.unread.clear(); } end
+}
+
+// resuming.rt: Conversation::keep
+inline keep() {
+    atomic {
+#ifdef READS_WHILE_REPLIES_WAIT
+        waiting[at] = waiting[at] + replies;
+#else
+        waiting[at] = replies;                             // self.sent = 0; if put_all(&mut self.waiting, text).is_err()
+                                                           // { self.waiting.clear(); return Err(Cause::Write); }
+#endif
+        keep_unread();                                     // if self.keep_unread(alloc, unread, spare).is_err() {
+                                                           // if text.is_empty() { return Err(Cause::NoMemory); }
+                                                           // return Err(Cause::Write); }
+        assert(waiting[at] <= GATHERS)                     // Ok(())
+    }
+}
+
+// resuming.rt: rest_after
+inline rest_after() {
+    if
+    :: waiting[at] > 0 -> rest = OUTPUT                    // if waiting > 0 { return Ok(Rest::Output); }
+    :: waiting[at] == 0 ->                                 // match heard {
+       if
+       :: heard == END && unread[at] == 0 -> rest = OVER   // Heard::End if unread.is_empty() => Ok(Rest::Over),
+       :: heard == END && unread[at] > 0 -> rest = FAILED  // Heard::End => Err(Cause::Short),
+       :: heard == ALL && unread[at] < PARTS -> rest = INPUT // Heard::All if is_cut(unread) => Ok(Rest::Input),
+#ifdef FULL_TURN_WAITS
+       :: heard == ALL && unread[at] >= PARTS -> rest = INPUT
+       :: heard == SOME -> rest = AGAIN
+#elif defined UNREAD_INPUT_WAITS
+       :: heard == SOME && unread[at] < PARTS -> rest = INPUT
+       :: (heard == SOME || heard == ALL) && unread[at] >= PARTS -> rest = AGAIN
+#else
+       :: heard == ALL && unread[at] >= PARTS || heard == SOME -> rest = AGAIN
+#endif
+       fi                                                  // _ if is_cut(unread) || body_in(unread).is_some()
+                                                           // => Ok(Rest::Again), _ => Err(Cause::TooLong), }
+    fi
+}
+
+// resuming.rt: Conversation::resume
+inline resume() {
+    tell();                                                // if self.tell(alloc, writer).is_err() {
+    if                                                     // return Err(Cause::Write); }
+    :: failed -> rest = FAILED
+#ifndef READS_WHILE_REPLIES_WAIT
+    :: !failed && waiting[at] > 0 -> rest = OUTPUT         // if self.left() > 0 { return Ok(Rest::Output); }
+    :: !failed && waiting[at] == 0 ->
+#else
+    :: !failed ->
+#endif
+                                                           // let Room { inbox, outbox, spare, } = room;
+       held = unread[at];                                  // inbox.load(self.unread());
+       hear();                                             // let Ok(heard) = hear(reader, inbox) else {
+       if                                                  // return Err(Cause::Read); };
+       :: failed -> rest = FAILED
+       :: !failed ->
+                                                           // let bytes = inbox.as_slice();
+          speak();                                         // let (taken, sent, end) = speak(alloc, bytes, writer,
+                                                           // gate, pass, outbox);
+          if                                               // if end.is_err() {
+          :: failed -> rest = FAILED                       // return Err(Cause::Write); }
+          :: !failed ->
+             keep();                                       // match self.keep(alloc, &outbox.text()[sent..],
+                                                           // &bytes[taken..], spare) {
+             rest_after()                                  // Ok(()) => rest_after(heard, self.unread(), self.left()),
+          fi                                               // Err(cause) => Err(cause), }
+       fi
+    fi
+}
+
+/* A process of its own, so that the steps of a turn stand here once. The worker waits until it has ended. */
+active proctype Turn() {
+    byte held, replies, writes, taken, heard;
+    bit failed;
+end_rests:
+    do
+    :: turns?begins -> resume();
+       atomic { heard = 0; held = 0; replies = 0; writes = 0; failed = false; turns!ends }
+    :: !ARE_OPEN -> break
+    od
+}
+
+/* The turns of a worker. */
+
+// worker.rt: turn
+inline turn() {
+                                                           // let mut reader = &line.socket;
+                                                           // let mut writer = &line.socket;
+    turns!begins; turns?ends                               // line.talk.resume(alloc, &mut reader, &mut writer,
+                                                           // gate, pass, room)
+}
+
+#define IS_RIGHTLY_OVER(at) (gone[at] || shut[at] && in[at] == 0 && waiting[at] == 0 && unread[at] < PARTS)
+
+inline push(at) {
+    assert(dues < 2 * LINES);
+    due[dues] = at; dues++
+}
+
+// worker.rt: Lines::settle
+inline settle() {
+    d_step {
+                                                           // let Some(line) = self.items.get_mut(place)
+                                                           // else { return; };
+        if                                                 // let is_over = match end {
+#ifdef OUTPUT_IS_DUE
+        :: rest == OUTPUT -> is_due[at] = true; push(at)
+#else
+        :: rest == OUTPUT                                  // Ok(Rest::Output) => false,
+#endif
+#ifdef CLOSING_IS_FORGOTTEN
+        :: rest == INPUT
+#else
+        :: rest == INPUT && !is_closing[at]                // Ok(Rest::Input) if !line.is_closing => false,
+        :: rest == INPUT && is_closing[at] -> is_due[at] = true; push(at)
+#endif
+                                                           // Ok(Rest::Input) | Ok(Rest::Again) => {
+        :: rest == AGAIN -> is_due[at] = true; push(at)    // line.is_due = true; self.due.push(place).is_err() }
+        :: rest == OVER || rest == FAILED -> is_open[at] = false
+                                                           // Ok(Rest::Over) => true, Err(_) => {
+                                                           // self.faults = self.faults.saturating_add(1); true } };
+        fi;                                                // if is_over { self.items.try_remove(place);
+                                                           // post.closes(); }
+        assert(moved || !is_due[at]);
+        assert(is_open[at] || IS_RIGHTLY_OVER(at));
+        rest = 0; moved = false
+    }
+}
+
+// worker.rt: Lines::turn_at
+inline turn_at() {
+    if
+    :: !is_open[at]                                        // let Some(line) = self.items.get_mut(place)
+                                                           // else { return; };
+    :: is_open[at] ->
+#ifndef DUE_FOR_EVER
+       is_due[at] = false;                                 // line.is_due = false;
+#endif
+       turn();                                             // let end = turn(alloc, line, gate, pass, room);
+       settle()                                            // self.settle(post, place, end);
+    fi
+}
+
+// worker.rt: Lines::is_for_turn
+inline is_for_turn() {
+    d_step {
+                                                           // let Some(line) = self.items.get_mut(event.token().0)
+                                                           // else { return false; };
+#ifdef DUE_HIDES_THE_END
+        is_closing[at] = is_closing[at] || says_closed[at] && !is_due[at];
+#else
+        is_closing[at] = is_closing[at] || says_closed[at]; // line.is_closing = line.is_closing || event.is_read_closed();
+#endif
+        event[at] = false; says_closed[at] = false;
+#ifdef DUE_IS_TURNED_TWICE
+        is_for_now = true
+#else
+        is_for_now = !is_due[at]                           // !line.is_due
+#endif
+    }
+}
+
+// worker.rt: turn_ready
+inline turn_ready() {
+    do                                                     // for event in events.iter() {
+    :: atomic {
+           place < LINES && event[place] ->
+           at = place;
+           is_for_turn();                                  // if lines.is_for_turn(event) {
+           if
+           :: is_for_now -> is_for_now = false; turn_at()  // lines.turn_at(alloc, post, event.token().0, gate, pass, room);
+           :: !is_for_now
+           fi;
+           at = 0
+       }
+    :: atomic { place < LINES && !event[place] -> place++ }
+    :: atomic { place == LINES -> place = 0; break }       // } }
+    od
+}
+
+// worker.rt: Lines::turn_due
+inline turn_due() {
+    count = dues;                                          // let count = self.due.len();
+    do                                                     // for at in 0..count {
+    :: atomic {
+           place < count ->
+           at = due[place];                                // let Some(place) = self.due.get(at).copied() else { continue; };
+           turn_at();                                      // self.turn_at(alloc, post, place, gate, pass, room); }
+           at = 0; place++
+       }
+    :: atomic { place == count -> break }
+    od;
+    atomic {
+#ifdef FORGETS_WHO_CAME_BACK
+        count = dues;
+#endif
+        place = 0;
+        do                                                 // self.due.drain(..count.min(self.due.len()));
+        :: count + place < dues -> due[place] = due[count + place]; place++
+        :: else -> break
+        od;
+        dues = place;
+        do
+        :: place < 2 * LINES -> due[place] = 0; place++
+        :: else -> break
+        od;
+        place = 0; count = 0
+    }
+}
+
+/* The places that are due are those of the connections that say so, each once. */
+#define IS_DUE(at) (is_open[at] && is_due[at])
+#if LINES == 1
+#define ARE_LISTED (dues == IS_DUE(0))
+#else
+#define IS_LISTED(at) (dues > 0 && due[0] == at || dues > 1 && due[1] == at)
+#define ARE_LISTED (dues == IS_DUE(0) + IS_DUE(1) && IS_LISTED(0) == IS_DUE(0) && IS_LISTED(1) == IS_DUE(1))
+#endif
+
+active proctype Worker() {
+    bit event[LINES], says_closed[LINES];
+    byte place, count;
+    bit told, is_for_now;
+end_works:
+    do
+    :: !ARE_OPEN -> break
+    :: poll();
+       turn_ready();
+       turn_due();
+       assert(ARE_LISTED)
+    od
+}
+
+#define IS_SERVED(at) ((gone[at] || got[at] == sent[at] / PARTS) && (is_open[at] == !(shut[at] || gone[at])) && !is_due[at])
+
+/* Nobody can go on. */
+active proctype Watch() {
+    timeout;
+    assert(IS_SERVED(0));
+#if LINES > 1
+    assert(IS_SERVED(1))
+#endif
+}

@@ -1,0 +1,285 @@
+/*
+ * How accepted sockets come to the workers, and how the workers end, in every interleaving: the channels, the bells and the
+ * rounds of crates/pl_conn as a model for the checker spin. scripts/waiting runs it.
+ *
+ * The accepting thread hands over as many sockets as it likes, and rests for ever when it likes, as a listener does at which
+ * nobody comes, or ends. The peers of a worker's connections act as often as they like, and may be silent for ever. A turn of
+ * a connection leaves it at rest, or due, or closed: turns.pml has what happens in one. Each step of a channel, of a bell and
+ * of a poll is a step by itself. A poll with no time returns at once, and another one sleeps until something is to be told.
+ * Once nobody can go on, no socket lies in a channel and no connection has an event or a turn due; a worker whose channel is
+ * closed, and that has no connection, has ended.
+ *
+ * Behind each step stands the line of the code that it is for, under the name of its function; two dots stand for lines that
+ * the model leaves out. scripts/waiting compares these lines with the source.
+ *
+ * Left out: which worker has the fewest connections, since any of them may; memory that is refused; an error of a poll.
+ */
+
+#ifndef WORKERS
+#define WORKERS 2
+#endif
+#ifndef SOCKETS
+#define SOCKETS 3
+#endif
+#ifndef ROOM
+#define ROOM 1 /* how many sockets a channel holds, WAITING */
+#endif
+#ifndef EVENTS
+#define EVENTS 2 /* how many events a poll gives at most */
+#endif
+
+byte lying[WORKERS];   /* the sockets in the channel of a worker */
+bit dropped[WORKERS];  /* whether its sender is dropped */
+bit rung[WORKERS];     /* whether its bell has rung since a poll told so */
+byte resting[WORKERS]; /* its connections of which there is nothing to tell */
+byte ready[WORKERS];   /* those of which the next poll tells */
+byte due[WORKERS];     /* those whose turn is due */
+bit ended[WORKERS];
+
+#define IS_EMPTY (resting[me] == 0 && ready[me] == 0 && due[me] == 0)
+
+/* The accepting thread. */
+
+// worker.rt: Post::ring
+inline ring(post) {
+    rung[post] = true // let _rung = self.bell.wake();
+}
+
+/* A channel may say that it is full while its worker takes a socket. */
+// serving.rt: offer
+inline offer(post) {
+#ifdef RINGS_FIRST
+    ring(post);
+#endif
+                                                           // post.opens();
+    if
+    :: atomic { lying[post] < ROOM -> lying[post]++ };     // match channel.try_send(rt, socket) { Ok(()) => {
+#ifndef RINGS_FIRST
+       ring(post);                                         // post.ring();
+#endif
+       is_left = false                                     // None }
+    :: skip
+                                                           // Err(TrySendError::Full(socket))
+                                                           // | Err(TrySendError::Disconnected(socket))
+                                                           // | Err(TrySendError::OutOfMemory(socket)) => {
+                                                           // post.closes(); Some(socket) } }
+    fi
+}
+
+// serving.rt: hand_over
+inline hand_over() {
+    if                                                     // let place = fewest(posts);
+    :: place = 0
+    :: place = WORKERS - 1
+    fi;
+                                                           // let (Some(post), Some(channel)) =
+                                                           // (posts.get(place), channels.get(place)) else { return; };
+    is_left = true;
+    offer(place);                                          // let mut left = offer(rt, post, channel, socket);
+    do                                                     // for (other, its) in posts.iter().zip(channels) {
+    :: is_left && other < WORKERS ->                       // left = match left {
+       offer(other); other++                               // Some(socket) => offer(rt, other, its, socket),
+    :: else -> break                                       // None => None, }; }
+    od;
+    other = 0;
+    if
+    :: is_left ->                                          // if let Some(socket) = left {
+                                                           // post.opens();
+       atomic { lying[place] < ROOM -> lying[place]++ }    // if channel.send(rt, socket).is_err() { post.closes(); }
+#ifndef SENDS_SILENTLY
+       ring(place)                                         // post.ring();
+#endif
+    :: !is_left                                            // }
+    fi
+}
+
+// serving.rt: accept_all
+inline accept_all() {
+                                                           // let mut is_told = false;
+    do                                                     // for accepted in 0..connections {
+    :: accepted < SOCKETS -> accepted++;                   // let Ok(socket) = accept(rt, listener, watch, &mut is_told)
+       hand_over()
+    :: break                                               // else { return (accepted, Stop::Accept); };
+    :: goto rests                                          /* nobody comes any more */
+                                                           // hand_over(rt, posts, channels, socket); }
+    od                                                     // (connections, Stop::Limit)
+}
+
+// serving.rt: serve_in
+inline serve_in() {
+                                                           // ..
+    accept_all();                                          // let (accepted, stop) = accept_all(rt, listener, posts,
+                                                           // &channels, connections, watch);
+#ifdef RINGS_BEFORE_IT_DROPS
+    ring(0); ring(WORKERS - 1);
+#endif
+    do                                                     // drop(channels);
+    :: other < WORKERS -> dropped[other] = true; other++
+    :: else -> other = 0; break
+    od;
+#if !defined RINGS_BEFORE_IT_DROPS && !defined DROPS_SILENTLY
+    do                                                     // for post in posts {
+    :: other < WORKERS -> ring(other); other++             // post.ring();
+    :: else -> other = 0; break                            // }
+    od;
+#endif
+end_joins:
+    (ended[0] && ended[WORKERS - 1])                       // let (passes, faults) = join_all(rt, gate, workers, ended);
+                                                           // ..
+}
+
+active proctype Accepting() {
+    byte accepted, place, other;
+    bit is_left;
+    serve_in();
+rests:
+    skip
+}
+
+/* The peers of all connections. */
+
+active [WORKERS] proctype Peers() {
+    byte me = _pid - 1;
+    do
+    :: atomic { resting[me] > 0 -> resting[me]--; ready[me]++ }
+    :: break
+    od
+}
+
+/* A worker. */
+
+inline turn() {
+    if
+    :: resting[me]++
+    :: due[me]++
+    :: skip /* it is closed */
+    fi
+}
+
+#ifdef SLEEPS_ON_WHAT_IS_DUE
+#define HAS_NO_TIME false
+#else
+#define HAS_NO_TIME (due[me] > 0)
+#endif
+
+inline poll() {
+    if
+    :: HAS_NO_TIME
+    :: !HAS_NO_TIME ->
+end_sleeps:
+       rung[me] || ready[me] > 0
+    fi;
+    do
+    :: atomic { rung[me] && told < EVENTS -> rung[me] = false; told++ }
+    :: atomic { ready[me] > 0 && told < EVENTS -> ready[me]--; events++; told++ }
+    :: else -> told = 0; break
+    od
+}
+
+inline turn_ready() {
+    do
+    :: atomic { events > 0 -> events--; turn() }
+    :: events == 0 -> break
+    od
+}
+
+inline turn_due() {
+    count = due[me];
+    do
+    :: atomic { count > 0 -> count--; due[me]--; turn() }
+    :: count == 0 -> break
+    od
+}
+
+/* A poll tells at once of what is registered. */
+// worker.rt: Lines::open
+inline open() {
+                                                           // ..
+    if                                                     // let is_heard = poll.registry()
+    :: ready[me]++                                         // .register(&mut line.socket, Token(place), interest);
+    :: skip                                                // if is_heard.is_err() { self.items.try_remove(place); }
+    fi                                                     // is_heard.is_ok()
+}
+
+// worker.rt: take_new
+inline take_new() {
+    do                                                     // for _ in rt.forever() {
+    ::
+#ifdef COUNTS_SENDERS_LAST
+       skip
+#else
+       is_closed = dropped[me];                            // match post.sockets.try_recv(rt) {
+#endif
+       if
+       :: atomic { lying[me] > 0 -> lying[me]-- };         // Ok(socket) => {
+          open();                                          // if !lines.open(alloc, poll, socket) { post.closes(); } }
+#ifdef LOOKS_ONCE
+          more = true; break
+#endif
+       :: lying[me] == 0 ->
+#ifdef COUNTS_SENDERS_LAST
+          is_closed = dropped[me];
+#endif
+#ifdef CLOSED_IS_EMPTY
+          more = true;
+#else
+          more = !is_closed;
+#endif
+          break                                            // Err(TryRecvError::Empty) => return true,
+                                                           // Err(TryRecvError::Disconnected) => return false, } }
+       fi
+    od;                                                    // unreachable!()
+    is_closed = false
+}
+
+// worker.rt: Worker::round
+inline round() {
+                                                           // let Worker { poll, events, lines, room } = self;
+                                                           // let at_once = Duration::from_millis(0);
+                                                           // let timeout = if lines.due.is_empty() { None }
+                                                           // else { Some(at_once) };
+#ifdef TAKES_BEFORE_IT_WAITS
+    take_new();
+#endif
+    poll();                                                // if poll.poll(events, timeout).is_err() { return false; }
+    turn_ready();                                          // turn_ready(alloc, post, events, lines, gate, pass, room);
+    turn_due();                                            // lines.turn_due(alloc, post, gate, pass, room);
+#ifndef TAKES_BEFORE_IT_WAITS
+    take_new();                                            // take_new(rt, alloc, post, poll, lines)
+#endif
+#ifdef LEAVES_CONNECTIONS
+    skip
+#elif defined LEAVES_ITS_CHANNEL
+    more = !IS_EMPTY
+#else
+    more = more || !IS_EMPTY                               // || !lines.items.is_empty()
+#endif
+}
+
+// worker.rt: Worker::rounds
+inline rounds() {
+    do                                                     // for _ in rt.forever() {
+    :: round();                                            // if !self.round(rt, alloc, post, gate, pass) {
+       if
+       :: more
+       :: !more -> break                                   // return; } }
+       fi
+    od
+}
+
+active [WORKERS] proctype Worker() {
+    byte me = _pid - 1 - WORKERS;
+    byte events, told, count;
+    bit is_closed, more;
+    rounds();
+    assert(lying[me] == 0 && IS_EMPTY);
+    ended[me] = true
+}
+
+#define SLEEPS_WELL(me) (lying[me] == 0 && ready[me] == 0 && due[me] == 0 && (ended[me] || !dropped[me] || resting[me] > 0))
+
+/* Nobody can go on. */
+active proctype Watch() {
+    timeout;
+    assert(SLEEPS_WELL(0) && SLEEPS_WELL(WORKERS - 1))
+}
