@@ -311,23 +311,25 @@ fn ask_on_each(alloc: Global, streams: &mut [TcpStream]) -> Result<(), Stop> {
     Ok(())
 }
 
-// One connection stays silent, one sends half a frame, and the others ask. In the end the half is made whole.
+// One connection stays silent, one sends half a frame, and the others ask. In the end the half is made whole. All of them are
+// there before anything is asked, so that the service comes to its end.
 fn ask_beside_silent<R: Net<Stream = TcpStream>>(
     rt: &R,
     alloc: Global,
     addr: SocketAddr,
     started: &Started,
+    room: Vec<TcpStream>,
 ) -> Result<(), Stop> {
     started.waits()?;
     let silent = connect(rt, addr).map_err(stop_of)?;
     let mut half = connect(rt, addr).map_err(stop_of)?;
-    let frame = report(250).ok_or(Stop::Unread)?;
-    let (front, back) = frame.split_at(20);
-    half.write_all(front).map_err(stop_of)?;
-    let mut streams = Vec::new(alloc);
+    let mut streams = room;
     for _ in 0..SPEAKING {
         streams.push(connect(rt, addr).map_err(stop_of)?)?;
     }
+    let frame = report(250).ok_or(Stop::Unread)?;
+    let (front, back) = frame.split_at(20);
+    half.write_all(front).map_err(stop_of)?;
     ask_on_each(alloc, &mut streams)?;
     half.write_all(back).map_err(stop_of)?;
     check(told_lsn(alloc, &mut half)? == 250)?;
@@ -344,6 +346,7 @@ fn serve_hundred<R: Net<Listener = TcpListener, Stream = TcpStream> + Threads + 
     let started = &started;
     let (listener, addr) = listen(rt)?;
     let passes = Vec::from_array(alloc, [7_u64])?;
+    let room = Vec::with_capacity(alloc, usize::from(SPEAKING))?;
     let connections = u32::from(SPEAKING).saturating_add(2);
     let (served, are_told) = thread::join(
         rt,
@@ -355,10 +358,10 @@ fn serve_hundred<R: Net<Listener = TcpListener, Stream = TcpStream> + Threads + 
             drop(listener);
             served
         },
-        || ask_beside_silent(rt, alloc, addr, started),
+        move || ask_beside_silent(rt, alloc, addr, started, room),
     );
-    are_told?;
     check_served(&served, connections, 0, 1)?;
+    are_told?;
     check(served.passes.as_slice() == [208].as_slice())
 }
 
@@ -402,27 +405,34 @@ fn is_page(reply: &[u8]) -> bool {
         && page.iter().all(|byte| *byte == 0)
 }
 
-// One client asks for pages and does not read, while another one asks and is answered. Then it reads them all.
+// The frame of a status.
+fn status_frame(alloc: Global) -> Result<Vec<u8>, Stop> {
+    let words = ["2", "22", "primary", "1", "status"];
+    let request = request_of(alloc, 0, &words)?.ok_or(Stop::Unread)?;
+    let mut frame = Vec::new(alloc);
+    push_frame(&mut frame, &encode_request(alloc, &request)?)?;
+    Ok(frame)
+}
+
+// One client asks for pages and does not read, while another one asks and is answered. Then it reads them all. Both are there
+// before anything is asked.
 fn ask_beside_slow<R: Net<Stream = TcpStream>>(
     rt: &R,
     alloc: Global,
     addr: SocketAddr,
     started: &Started,
+    frames: (&[u8], &[u8]),
 ) -> Result<(), Stop> {
     started.waits()?;
-    let frames = gets_of_page(alloc)?;
     let mut slow = connect(rt, addr).map_err(stop_of)?;
     let mut other = connect(rt, addr).map_err(stop_of)?;
-    slow.write_all(&frames).map_err(stop_of)?;
+    let (gets, status) = frames;
+    slow.write_all(gets).map_err(stop_of)?;
     let mut told = [0; 15];
     slow.read_exact(&mut told).map_err(stop_of)?;
     check(told == [0, 0, 0, 1, 0, 0, 0, 0, 1, 0, 0, 0, 0, 1, 0])?;
-    let words = ["2", "22", "primary", "1", "status"];
-    let request = request_of(alloc, 0, &words)?.ok_or(Stop::Unread)?;
-    let mut status = Vec::new(alloc);
-    push_frame(&mut status, &encode_request(alloc, &request)?)?;
     for _ in 0..3 {
-        other.write_all(&status).map_err(stop_of)?;
+        other.write_all(status).map_err(stop_of)?;
         check(told_lsn(alloc, &mut other)? == 1)?;
     }
     let mut reply = vec![in alloc; 0; PAGE_REPLY]?;
@@ -452,6 +462,8 @@ where
     R: Net<Listener = TcpListener, Stream = TcpStream> + Threads + Wait + Sync + Drop,
     requires own { All (AreOf desks.now) passes.items }
 {
+    let (gets, status) = (gets_of_page(alloc)?, status_frame(alloc)?);
+    let frames = (gets.as_slice(), status.as_slice());
     let (listener, addr) = listen(rt)?;
     let started = Started::new();
     let started = &started;
@@ -467,10 +479,10 @@ where
             drop(listener);
             served
         },
-        || ask_beside_slow(rt, alloc, addr, started),
+        || ask_beside_slow(rt, alloc, addr, started, frames),
     );
-    are_told?;
-    check_served(&served, 2, 0, 1)
+    check_served(&served, 2, 0, 1)?;
+    are_told
 }
 
 /// One worker, and a connection that asks for 16 MB of pages before it reads any: another one is answered
