@@ -22,6 +22,9 @@ use std::mem;
 /// The most frames that a room holds: each has four bytes at least.
 const MOST_FRAMES: u32 = 16_385;
 
+/// How much memory a conversation keeps at most while nothing of it is unread.
+const MOST_KEPT: usize = 4_096;
+
 /// How often a turn writes at most, so that the next connection has its turn. Each time it writes as many replies as
 /// may wait together.
 const WRITES_A_TURN: u32 = 4;
@@ -279,8 +282,8 @@ impl Conversation {
         end
     }
 
-    // Keeps what is unread, in memory of its own, or in the spare one. It is given back once nothing was unread in two
-    // turns, and the larger of both stays as the spare one.
+    // Keeps what is unread, in memory of its own, or in the spare one. It is given back where nothing is unread: if it is long
+    // at once, else where nothing was unread before. The larger of both stays as the spare one.
     fn keep_unread(
         &mut self,
         alloc: Global,
@@ -290,7 +293,8 @@ impl Conversation {
         requires few { length unread.now ≤ 65540 }
         ensures ok { OnOk result (self.new ≡ middle unread.now self.old.waiting) }
     {
-        if self.unread.is_empty() && unread.is_empty() {
+        let is_long = self.unread.capacity() > MOST_KEPT;
+        if unread.is_empty() && (is_long || self.unread.is_empty()) {
             if self.unread.capacity() > spare.capacity() {
                 mem::swap(&mut self.unread, spare);
             }

@@ -50,6 +50,11 @@ impl Post {
         self.open.fetch_sub(1, SeqCst);
     }
 
+    // Has the worker given no more connections, as long as others have fewer than 2^62.
+    fn leaves(&self) {
+        self.open.store(1 << 62, SeqCst);
+    }
+
     /// Has the worker look for sockets. If the system refuses it, the worker looks at its next event.
     pub(crate) fn ring(&self) {
         let _rung = self.bell.wake();
@@ -317,6 +322,7 @@ impl Worker {
             Some(at_once)
         };
         if poll.poll(events, timeout).is_err() {
+            post.leaves();
             return false;
         }
         turn_ready(alloc, post, events, lines, gate, pass, room);
