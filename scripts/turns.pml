@@ -282,7 +282,7 @@ inline keep() {
         waiting[at] = replies;                             // self.sent = 0; if put_all(&mut self.waiting, text).is_err()
                                                            // { self.waiting.clear(); return Err(Cause::Write); }
 #endif
-        keep_unread();                                     // if self.keep_unread(alloc, unread, spare).is_err() {
+        unread[at] = held;                                 // if self.keep_unread(alloc, unread, spare).is_err() {
                                                            // if text.is_empty() { return Err(Cause::NoMemory); }
                                                            // return Err(Cause::Write); }
         assert(waiting[at] <= GATHERS)                     // Ok(())
@@ -323,7 +323,7 @@ inline resume() {
 #else
     :: !failed ->
 #endif
-                                                           // let Room { inbox, outbox, spare, } = room;
+                                                           // let Room { inbox, outbox, spare } = room;
        held = unread[at];                                  // inbox.load(self.unread());
        hear();                                             // let Ok(heard) = hear(reader, inbox) else {
        if                                                  // return Err(Cause::Read); };
