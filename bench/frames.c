@@ -10,6 +10,10 @@
  *     them unanswered. A reply has REPLY bytes; where REPLY is `+N` it ends at its N-th line feed. Prints the seconds that
  *     all took together, and the first bytes of what the first connection was replied, in hexadecimal.
  *
+ *   frames silent PORT CONNECTIONS REPLY FILE
+ *     Opens so many connections, one after the other. Each sends the bytes of FILE once and takes the reply, as above; then
+ *     it is silent. Prints how many there are, and holds them until its input ends. It fails where a reply takes ten seconds.
+ *
  *   frames delays PORT COUNT KIND CONNECTIONS FILE [KIND CONNECTIONS FILE ..]
  *     Opens so many connections of each kind, a thread each. Each sends the frames of its file one after the other, again
  *     and again, each once the reply to the one before has come, until the connections of the first kind have had COUNT
@@ -98,15 +102,20 @@ static void serve_echo(void) {
     struct sockaddr_in to = {.sin_family = AF_INET, .sin_addr.s_addr = htonl(INADDR_LOOPBACK)};
     socklen_t size = sizeof to;
     setsockopt(listener, SOL_SOCKET, SO_REUSEADDR, &one, sizeof one);
-    if (bind(listener, (struct sockaddr *)&to, sizeof to) || listen(listener, 128)) fail("listen");
+    if (bind(listener, (struct sockaddr *)&to, sizeof to) || listen(listener, 1024)) fail("listen");
     getsockname(listener, (struct sockaddr *)&to, &size);
     printf("%d\n", ntohs(to.sin_port));
     fflush(stdout);
+    /* A small stack, for thousands of threads. One that cannot be started costs its connection. */
+    pthread_attr_t small;
+    pthread_attr_init(&small);
+    pthread_attr_setstacksize(&small, 1 << 16);
+    pthread_attr_setdetachstate(&small, PTHREAD_CREATE_DETACHED);
     for (;;) {
         int fd = accept(listener, NULL, NULL);
         pthread_t thread;
-        if (fd < 0 || pthread_create(&thread, NULL, echo, (void *)(long)fd)) fail("accept");
-        pthread_detach(thread);
+        if (fd < 0) fail("accept");
+        if (pthread_create(&thread, &small, echo, (void *)(long)fd)) close(fd);
     }
 }
 
@@ -141,12 +150,17 @@ static size_t rest_of_reply(const char *bytes, size_t len, size_t *had, int *who
     return len;
 }
 
-static void *ask(void *given) {
-    struct outcome *outcome = given;
+static int connected(void) {
     struct sockaddr_in to = {.sin_family = AF_INET, .sin_port = htons(port), .sin_addr.s_addr = htonl(INADDR_LOOPBACK)};
     int fd = socket(AF_INET, SOCK_STREAM, 0);
-    if (connect(fd, (struct sockaddr *)&to, sizeof to)) fail("connect");
+    if (fd < 0 || connect(fd, (struct sockaddr *)&to, sizeof to)) fail("connect");
     no_delay(fd);
+    return fd;
+}
+
+static void *ask(void *given) {
+    struct outcome *outcome = given;
+    int fd = connected();
     char *out = malloc(request_len * flight), *in = malloc(ROOM);
     for (int i = 0; i < flight; i++) memcpy(out + i * request_len, request, request_len);
     long sent = 0, answered = 0;
@@ -176,13 +190,40 @@ static void *ask(void *given) {
     return NULL;
 }
 
-static void run_client(int connections, const char *reply, const char *path) {
+static void read_case(const char *reply, const char *path) {
     FILE *file = fopen(path, "rb");
     if (!file) fail(path);
     request = malloc(ROOM);
     request_len = fread(request, 1, ROOM, file);
+    fclose(file);
     feeds = reply[0] == '+';
     reply_bytes = strtoul(reply + feeds, NULL, 10);
+}
+
+static void hold_silent(int connections, const char *reply, const char *path) {
+    struct timeval ten = {.tv_sec = 10};
+    char *in = malloc(ROOM);
+    read_case(reply, path);
+    for (int i = 0; i < connections; i++) {
+        int fd = connected(), whole = 0;
+        size_t had = 0;
+        setsockopt(fd, SOL_SOCKET, SO_RCVTIMEO, &ten, sizeof ten);
+        write_all(fd, request, request_len);
+        while (!whole) {
+            ssize_t got = read(fd, in, ROOM);
+            if (got <= 0) fail("read");
+            rest_of_reply(in, got, &had, &whole);
+        }
+    }
+    free(in);
+    printf("%d\n", connections);
+    fflush(stdout);
+    while (getchar() != EOF) {
+    }
+}
+
+static void run_client(int connections, const char *reply, const char *path) {
+    read_case(reply, path);
     pthread_t *threads = calloc(connections, sizeof *threads);
     struct outcome *outcomes = calloc(connections, sizeof *outcomes);
     pthread_barrier_init(&ready, NULL, connections + 1);
@@ -229,10 +270,7 @@ static void read_all(int fd, char *bytes, size_t len) {
 
 static void *ask_one_by_one(void *given) {
     struct kind *kind = given;
-    struct sockaddr_in to = {.sin_family = AF_INET, .sin_port = htons(port), .sin_addr.s_addr = htonl(INADDR_LOOPBACK)};
-    int fd = socket(AF_INET, SOCK_STREAM, 0);
-    if (connect(fd, (struct sockaddr *)&to, sizeof to)) fail("connect");
-    no_delay(fd);
+    int fd = connected();
     char *in = malloc(ROOM);
     size_t at = 0;
     pthread_barrier_wait(&ready);
@@ -306,12 +344,16 @@ int main(int argc, char **argv) {
         flight = atoi(argv[4]);
         count = atol(argv[5]);
         run_client(atoi(argv[3]), argv[6], argv[7]);
+    } else if (argc == 6 && !strcmp(argv[1], "silent")) {
+        port = atoi(argv[2]);
+        hold_silent(atoi(argv[3]), argv[4], argv[5]);
     } else if (argc >= 7 && argc % 3 == 1 && argc <= 4 + 3 * KINDS && !strcmp(argv[1], "delays")) {
         port = atoi(argv[2]);
         count = atol(argv[3]);
         run_delays((argc - 4) / 3, argv + 4);
     } else {
         fprintf(stderr, "usage: frames echo REPLY | frames ask PORT CONNECTIONS FLIGHT COUNT REPLY FILE\n"
+                        "       frames silent PORT CONNECTIONS REPLY FILE\n"
                         "       frames delays PORT COUNT KIND CONNECTIONS FILE [KIND CONNECTIONS FILE ..]\n");
         return 2;
     }

@@ -2,16 +2,23 @@
 
 Usage: python3 bench/serve.py [SHARE]     (1; a tenth of the requests with 0.1)
 
-For each of a 100-byte write (the same block again and again), a report, a pull of one block and a get of a page, round
-trips a second at 1, 8 and 64 connections with one request each at a time, and with 64 requests in flight on one
-connection. All are asked by the same client, bench/frames.c, and so is the echo, which answers each frame by one as
-long as the service's, in a write of its own. Beside it stands, with requests in flight, an echo that gathers what it
-answers as the service does: it reads and writes whole batches and looks at nothing. Redis is asked for XADD of 100
-bytes, XRANGE of one entry and GET of 8,192 bytes. Each number is the best of 25 short rounds, in each of which all are
-asked in turn: where the machine is shared with others some rounds are disturbed, and a long one is rarely spared. Behind
-each other server's number stands what the service's best round is of its best, and the median of the service's rounds of
-the median of its rounds. Last come the processor time that the service took for a request, over all rounds, and the most
-memory that it held until then, which grows with its audit list.
+For each of a 100-byte write (the same block again and again), a report, a pull of one block and a get of a page, round trips
+a second of services of 2, 4 and 64 workers: at 1, 8 and 64 connections with one request each at a time; at 64 of 1,000 and of
+10,000 connections, of which the others asked once and are silent since (fewer where the limit of open files is lower); and
+with 64 requests in flight on one connection. All are asked by the same client, bench/frames.c, and so is the echo, which has
+a thread for each connection and answers each frame by one as long as the service's, in a write of its own. Beside it stands,
+with requests in flight, an echo that gathers what it answers as the service does: it reads and writes whole batches and looks
+at nothing. Redis is asked for XADD of 100 bytes, XRANGE of one entry and GET of 8,192 bytes.
+
+Each number is the best of 25 short rounds, in each of which all are asked in turn: where the machine is shared with others
+some rounds are disturbed, and a long one is rarely spared. Behind each other server's number stands what the service's best
+round is of its best, and the median of what the service's round is of the other's. Behind them come the processor time that
+the service took for a request, over all rounds, and the most memory that it held until then, which grows with its audit list.
+With silent connections there follow what the best round is of the one with 64 connections alone, and the memory that the
+service holds for each silent one. A server that does not serve so many has no number.
+
+Last come the delays of one request at a time on 64 connections, in microseconds: the 50th, 99th and 99.9th percentile and the
+longest, alone and beside silent connections.
 
 The service is crates/pagelog/out/pagelog, which scripts/pagelog proves and builds, or the program that PAGELOG names.
 
@@ -20,10 +27,12 @@ request at a time on one connection: a 100-byte write beside a put, and a pull o
 """
 
 import base64
+import contextlib
 import http.client
 import json
 import os
 import pathlib
+import resource
 import shutil
 import socket
 import statistics
@@ -36,14 +45,18 @@ ROOT = pathlib.Path(__file__).resolve().parent.parent
 sys.path.insert(0, str(ROOT / "scripts"))
 
 import programs  # noqa: E402
+import rounds  # noqa: E402
 import wire  # noqa: E402
 
 PROGRAM = programs.pagelog()
 TABLE = ROOT / "crates" / "pagelog" / "data" / "t0.toml"
 SHARE = float(sys.argv[1]) if len(sys.argv) > 1 else 1.0
 ROUNDS = 25
-# Connections, requests in flight on each, and requests of each connection in a round.
-SHAPES = ((1, 1, 4000), (8, 1, 2000), (64, 1, 400), (1, 64, 20000))
+WORKERS = (2, 4, 64)
+# Connections that ask, all connections, requests in flight on each, and requests of each connection in a round.
+SHAPES = ((1, 1, 1, 4000), (8, 8, 1, 2000), (64, 64, 1, 400), (64, 1000, 1, 400), (64, 10000, 1, 400), (1, 1, 64, 20000))
+# How many descriptors a server and a client have beside their connections.
+OTHERS = 100
 TICKS = os.sysconf("SC_CLK_TCK")
 
 
@@ -81,7 +94,8 @@ class Running:
     """A server that is ended with this program's leave alone."""
 
     def __init__(self, words, port=None):
-        self.process = subprocess.Popen([str(word) for word in words], stdout=subprocess.PIPE, stderr=subprocess.DEVNULL, text=True)
+        self.process = subprocess.Popen([str(word) for word in words], stdout=subprocess.PIPE, stderr=subprocess.DEVNULL,
+                                        text=True)
         self.port = port
 
     def seconds(self):
@@ -89,20 +103,20 @@ class Running:
         parts = open(f"/proc/{self.process.pid}/stat").read().rsplit(")", 1)[1].split()
         return (int(parts[11]) + int(parts[12])) / TICKS
 
-    def peak(self):
-        """The most memory that it held, in MiB."""
+    def memory(self, which):
+        """The memory that it holds (VmRSS), or the most that it held (VmHWM), in KiB."""
         for line in open(f"/proc/{self.process.pid}/status"):
-            if line.startswith("VmHWM:"):
-                return int(line.split()[1]) / 1024
+            if line.startswith(f"{which}:"):
+                return int(line.split()[1])
 
     def end(self):
         self.process.terminate()
         self.process.wait()
 
 
-def service():
+def service(workers):
     running = Running([PROGRAM, "serve", "--listen", "127.0.0.1:0", "--table", TABLE,
-                       "--primary", 2, "--dbs", 1, "--workers", 64, "--connections", 4294967295, "--audit", 16777216])
+                       "--primary", 2, "--dbs", 1, "--workers", workers, "--connections", 4294967295, "--audit", 16777216])
     running.port = int(running.process.stdout.readline().split()[1].rsplit(":", 1)[1])
     for request in SETUP:
         assert first_bytes(running.port, request) == b"\0\0\0\1\0"
@@ -147,50 +161,123 @@ def first_bytes(port, request):
         return data
 
 
-def seconds(port, shape, request, reply):
-    """How long it takes until all round trips are done."""
-    connections, flight, count = shape
+@contextlib.contextmanager
+def written(request):
+    """A file with the bytes of a request, for the client."""
     with tempfile.NamedTemporaryFile() as file:
         file.write(request)
         file.flush()
-        words = [FRAMES, "ask", port, connections, flight, count, reply, file.name]
-        return float(subprocess.run([str(word) for word in words], stdout=subprocess.PIPE, text=True, check=True).stdout.split()[0])
+        yield file.name
 
 
-def rates(shape, asked):
-    """Round trips a second of each of those that are asked, in each round."""
-    connections, _, count = shape
-    took = [[seconds(port, shape, request, reply) for port, request, reply in asked] for _ in range(ROUNDS)]
-    return [[connections * count / each for each in times] for times in zip(*took)]
+def client(*words):
+    """What the client prints."""
+    done = subprocess.run([FRAMES, *map(str, words)], stdout=subprocess.PIPE, text=True, check=True)
+    return done.stdout.split()
+
+
+def seconds(port, shape, request, reply):
+    """How long it takes until all round trips are done."""
+    connections, flight, count = shape
+    with written(request) as file:
+        return float(client("ask", port, connections, flight, count, reply, file)[0])
+
+
+def delays(port, count, request):
+    """The 50th, 99th and 99.9th percentile and the longest of the delays on 64 connections, which have so many replies each."""
+    with written(request) as file:
+        return client("delays", port, count, "all", 64, file)[3:]
+
+
+@contextlib.contextmanager
+def silent(port, count, request, reply):
+    """Has so many connections ask once, and keeps them. Whether the server served all of them."""
+    with written(request) as file:
+        words = [str(word) for word in (FRAMES, "silent", port, count, reply, file)]
+        holder = subprocess.Popen(words, stdin=subprocess.PIPE, stdout=subprocess.PIPE, stderr=subprocess.DEVNULL, text=True)
+        try:
+            yield bool(holder.stdout.readline())
+        finally:
+            holder.stdin.close()
+            holder.wait()
+
+
+class Asked:
+    """A server, what it is asked, and the bytes or line feeds of its reply."""
+
+    def __init__(self, name, server, request, reply):
+        self.name, self.server, self.request, self.reply = name, server, request, reply
+
+    def seconds(self, shape):
+        return seconds(self.server.port, shape, self.request, self.reply)
 
 
 def beside(own, other):
-    """The best of the other's rounds, and what of the other's best and of its median is ours."""
-    if not other:
+    """The best of the other's rates, what of it our best is, and the median of what ours are of the other's."""
+    if not own or not other:
         return f"{'':9} {'':6} {'':6}"
-    best, middle = max(own) / max(other), statistics.median(own) / statistics.median(other)
-    return f"{max(other):9,.0f} {best:6.2f} {middle:6.2f}"
+    middle = statistics.median(ours / theirs for ours, theirs in zip(own, other))
+    return f"{max(other):9,.0f} {max(own) / max(other):6.2f} {middle:6.2f}"
 
 
-def times(case, ours, bare, gathering, other):
-    name, request, reply, command = case
-    length = len(first_bytes(ours.port, request))
-    assert length == reply, f"{name}: a reply of {length} bytes"
-    for connections, flight, count in SHAPES:
-        count = max(1, int(count * SHARE))
-        asked = [(ours.port, request, reply), (bare.port, request, reply)]
-        if flight > 1:
-            asked.append((gathering.port, request, reply))
+class Case:
+    """A request, and the servers that are asked for it."""
+
+    def __init__(self, case, other, stack):
+        self.name, self.request, reply, command = case
+        self.services = {workers: self.started(stack, f"{workers} workers", service(workers), reply) for workers in WORKERS}
+        self.bare = self.started(stack, "echo", echo(reply), reply)
+        self.gathering = self.started(stack, "gathered", echo(reply, "gather"), reply)
+        self.other = None
         if other and command:
             wanted = "+2" if command[0] == "XADD" else len(first_bytes(other.port, spelled(command)))
-            asked.append((other.port, spelled(command), wanted))
-        before = ours.seconds()
-        own, plain, *others = rates((connections, flight, count), asked)
-        spent = (ours.seconds() - before) / (ROUNDS * connections * count)
-        most = others.pop(0) if flight > 1 else None
-        theirs = others.pop(0) if others else None
-        print(f"{name:18} {connections:4} x {flight:2} {max(own):9,.0f} {beside(own, plain)} {beside(own, most)} {beside(own, theirs)}"
-              f" {spent * 1e6:8.2f} {ours.peak():8.1f}", flush=True)
+            self.other = Asked("redis", other, spelled(command), wanted)
+        length = len(first_bytes(self.services[WORKERS[0]].server.port, self.request))
+        assert length == reply, f"{self.name}: a reply of {length} bytes"
+        # The best rate of each service with 64 connections alone, and the lines of delays.
+        self.alone, self.lines = {}, []
+
+    def started(self, stack, name, server, reply):
+        stack.callback(server.end)
+        return Asked(name, server, self.request, reply)
+
+    def shape(self, speaking, connections, flight, count):
+        """A line for each service."""
+        count = max(1, int(count * SHARE))
+        quiet = min(connections, resource.getrlimit(resource.RLIMIT_NOFILE)[0] - OTHERS) - speaking
+        others = self.bare, self.gathering if flight > 1 else None, self.other
+        asked = [*self.services.values(), *filter(None, others)]
+        before = {each: each.server.memory("VmRSS") for each in asked}
+        with contextlib.ExitStack() as stack:
+            served = [each for each in asked if not quiet
+                      or stack.enter_context(silent(each.server.port, quiet, each.request, each.reply))]
+            kept = {each: (each.server.memory("VmRSS") - before[each]) / quiet if quiet else None for each in served}
+            spent = {each: each.server.seconds() for each in served}
+            took = rounds.in_turn(ROUNDS, served, lambda each: each.seconds((speaking, flight, count)))
+            spent = {each: (each.server.seconds() - spent[each]) / (ROUNDS * speaking * count) for each in served}
+            rates = {each: [speaking * count / time for time in times] for each, times in took.items()}
+            if speaking == 64:
+                self.time_delays([each for each in served if each is not self.other], speaking + quiet, count)
+        for workers, each in self.services.items():
+            self.line(workers, each, speaking, speaking + quiet, flight, rates, spent, kept)
+
+    def line(self, workers, each, speaking, connections, flight, rates, spent, kept):
+        head = f"{self.name:18} {speaking:2} of {connections:6,} x {flight:2} {workers:7}"
+        own = rates.get(each)
+        if not own:
+            print(f"{head}   it does not serve so many", flush=True)
+            return
+        if connections == speaking == 64:
+            self.alone[workers] = max(own)
+        others = " ".join(beside(own, rates.get(other)) for other in (self.bare, self.gathering, self.other))
+        cost = f"{spent[each] * 1e6:8.2f} {each.server.memory('VmHWM') / 1024:8.1f}"
+        tail = f" {max(own) / self.alone[workers]:8.2f} {kept[each]:8.1f}" if connections > speaking else ""
+        print(f"{head} {max(own):9,.0f} {others} {cost}{tail}", flush=True)
+
+    def time_delays(self, asked, connections, count):
+        for each in asked:
+            cells = "".join(f"{cell:>10}" for cell in delays(each.server.port, count, each.request))
+            self.lines.append(f"{self.name:18} 64 of {connections:6,} {each.name:>12}{cells}")
 
 
 def free_port():
@@ -226,7 +313,7 @@ def rate_by_python(count, ask):
 
 def beside_etcd(work):
     count = max(1, int(2000 * SHARE))
-    store, ours = etcd(work), service()
+    store, ours = etcd(work), service(64)
     connection = http.client.HTTPConnection("127.0.0.1", store.port)
     key = base64.b64encode(b"key").decode()
 
@@ -257,19 +344,31 @@ def beside_etcd(work):
         store.end()
 
 
+def raise_limit():
+    """As many open files as the system allows, for this program and those that it starts."""
+    _, most = resource.getrlimit(resource.RLIMIT_NOFILE)
+    resource.setrlimit(resource.RLIMIT_NOFILE, (most, most))
+
+
 def main():
+    raise_limit()
     heads = " ".join(f"{head:>9} {'best':>6} {'median':>6}" for head in ("echo", "gathered", "redis"))
-    print(f"{'':18} {'':9} {'pagelog':>9} {heads} {'us each':>8} {'MiB':>8}")
-    other = redis() if shutil.which("redis-server") else None
-    for case in CASES:
-        ours, bare, gathering = service(), echo(case[2]), echo(case[2], "gather")
-        try:
-            times(case, ours, bare, gathering, other)
-        finally:
-            for running in (ours, bare, gathering):
-                running.end()
-    if other:
-        other.end()
+    print(f"{os.cpu_count()} processors, load {os.getloadavg()[0]:.1f}, {PROGRAM.name}, share {SHARE}")
+    tail = " ".join(f"{head:>8}" for head in ("us each", "MiB", "of alone", "KiB each"))
+    print(f"{'':18} {'connections':17} {'workers':>7} {'pagelog':>9} {heads} {tail}")
+    lines = []
+    with contextlib.ExitStack() as stack:
+        other = redis() if shutil.which("redis-server") else None
+        if other:
+            stack.callback(other.end)
+        for case in CASES:
+            with contextlib.ExitStack() as started:
+                asked = Case(case, other, started)
+                for shape in SHAPES:
+                    asked.shape(*shape)
+                lines += asked.lines
+    print(f"\n{'':31} {'':12}" + "".join(f"{head:>10}" for head in ("50th", "99th", "99.9th", "longest")) + "   (us)")
+    print("\n".join(lines), flush=True)
 
 
 with tempfile.TemporaryDirectory() as work:
