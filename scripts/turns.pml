@@ -262,7 +262,9 @@ inline speak() {
 
 // resuming.rt: Conversation::keep_unread
 inline keep_unread() {
-                                                           // if self.unread.is_empty() && unread.is_empty() {
+                                                           // let is_long = self.unread.capacity() > MOST_KEPT;
+                                                           // if unread.is_empty() &&
+                                                           // (is_long || self.unread.is_empty()) {
                                                            // if self.unread.capacity() > spare.capacity() {
                                                            // mem::swap(&mut self.unread, spare); }
                                                            // self.unread = Vec::new(alloc); return Ok(()); }

@@ -241,7 +241,8 @@ inline round() {
 #ifdef TAKES_BEFORE_IT_WAITS
     take_new();
 #endif
-    poll();                                                // if poll.poll(events, timeout).is_err() { return false; }
+    poll();                                                // if poll.poll(events, timeout).is_err() {
+                                                           // post.leaves(); return false; }
     turn_ready();                                          // turn_ready(alloc, post, events, lines, gate, pass, room);
     turn_due();                                            // lines.turn_due(alloc, post, gate, pass, room);
 #ifndef TAKES_BEFORE_IT_WAITS
