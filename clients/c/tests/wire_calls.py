@@ -3,6 +3,7 @@
 import ctypes
 import os
 import random
+import signal
 import socket
 import threading
 import time
@@ -662,8 +663,12 @@ def test_every_wait_ends():
         same("holder", DONE, holder.join())
         with Log(service.address, 3, reply_ms=200, patience_ms=300) as log:
             start = time.monotonic()
-            same("no worker", LOST, log.status(SECONDARY)[0])
+            service.process.send_signal(signal.SIGSTOP)
+            same("a service that is silent", LOST, log.status(SECONDARY)[0])
             true("no sooner than it was told", time.monotonic() - start > 0.19)
+            service.process.send_signal(signal.SIGCONT)
+        with Log(service.address, 3) as log:
+            same("one worker, two connections", (DONE, DONE), (log.status(SECONDARY)[0], holder.status(PRIMARY)[0]))
     with Log("127.0.0.1:1", 2, patience_ms=100) as log:
         same("nobody", (LOST, LOST, LOST), (log.status(SECONDARY)[0], log.take_over(), log.pull(1)[0]))
     for address in ("nonsense", "", "::::", "[::1", "127.0.0.1:no"):

@@ -2,6 +2,7 @@
 
 from __future__ import annotations
 
+import signal
 import socket
 import threading
 import time
@@ -141,16 +142,21 @@ class Refused(unittest.TestCase):
             Connection(Address("127.0.0.1", port), attempts=3, pause=0.05).ask(Request(PRIMARY, Status()))
         self.assertGreater(time.monotonic() - began, 0.14)
 
-    def test_all_workers_are_held(self) -> None:
+    def test_a_service_that_is_silent(self) -> None:
+        """It is stopped amid its work, and goes on later. Its one worker then answers both connections."""
         with Service(workers=1) as service, service.connection() as first:
             first.ask(Request(PRIMARY, Status()))
             with Connection(service.address, timeout=0.3) as second:
-                with self.assertRaises(pagelog.TimedOut) as raised:
-                    second.ask(Request(PRIMARY, Status()))
-                self.assertIn("workers", str(raised.exception))
-                first.close()
+                service.process.send_signal(signal.SIGSTOP)
+                try:
+                    with self.assertRaises(pagelog.TimedOut) as raised:
+                        second.ask(Request(PRIMARY, Status()))
+                    self.assertIn("nothing came", str(raised.exception))
+                finally:
+                    service.process.send_signal(signal.SIGCONT)
                 second.timeout = PATIENCE
                 self.assertIsInstance(second.ask(Request(PRIMARY, Status())), State)
+                self.assertIsInstance(first.ask(Request(PRIMARY, Status())), State)
 
     def test_a_service_that_ends_its_connections(self) -> None:
         with Service(connections=1) as service, Connection(service.address, attempts=2, pause=0.01) as connection:

@@ -217,7 +217,7 @@ class Connection:
         poll.register(self._socket, select.POLLIN | (select.POLLOUT if self._out else 0))
         ready = poll.poll(self.timeout * 1000)
         if not ready:
-            raise TimedOut(f"{self.address}: nothing came in {self.timeout} s; are all its workers held?")
+            raise TimedOut(f"{self.address}: nothing came in {self.timeout} s")
         try:
             if self._out:
                 del self._out[: self._socket.send(self._out)]

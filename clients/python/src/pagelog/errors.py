@@ -43,7 +43,7 @@ class ConnectionLost(PagelogError):
 class TimedOut(ConnectionLost):
     """No byte came or went for the connection's time-out.
 
-    A service whose workers are all held by other connections looks like this: it accepts, and does not answer.
+    A service that is stopped, or whose machine is gone, looks like this: the system accepts, and nobody answers.
     """
 
 
