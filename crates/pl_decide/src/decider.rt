@@ -219,7 +219,7 @@ impl Decider {
             _ => {}
         }
         let found = table.first_match(request);
-        if is_far(found, table.candidates(request)) {
+        if is_far(table, request, found) {
             self.cache(table, request, key, found);
         }
         found
@@ -247,9 +247,9 @@ impl Decider {
 
 // Whether it is to be cached: where no row matches, and where the one that does stands behind many of
 // the rows that can.
-fn is_far(found: Found, candidates: usize) -> bool {
+fn is_far(table: &Table, request: &Request, found: Found) -> bool {
     match found {
-        Some((row, _)) => candidates.min(usize::from(row)) > FEW_ROWS,
+        Some((row, _)) => usize::from(row) > FEW_ROWS && table.candidates(request) > FEW_ROWS,
         None => true,
     }
 }

@@ -128,8 +128,10 @@ impl Pages {
     /// searches, and where no version of the page is kept at the LSN a replay of the blocks that change
     /// the page: from a copy of the newest version below it on, or from the newest block below it that
     /// makes the whole page (a Zero, or a Put of 8,192 bytes), whichever is newer; where there is
-    /// neither, of all that change it. A new version takes a frame; once all have versions, it takes
-    /// that of the oldest. An error means that an allocation failed: no applied LSN has changed.
+    /// neither, of all that change it. A new version takes a frame; once all have versions, or there is
+    /// no memory for one more, it takes that of the oldest. Where there is no memory to note where the
+    /// version is, it is made anew when it is asked for again. An error means that another allocation
+    /// failed: no applied LSN has changed.
     pub fn get(
         &mut self,
         log: &mut DbLog,
@@ -364,6 +366,6 @@ fn show(
     let begun = begin(log, versions, page, found, image, lsn)?;
     let from = count_up_to(lsns, begun.lsn);
     bring_up(log, versions, begun.place, page, lsns, from, to)?;
-    versions.enter(begun.place)?;
+    versions.enter(begun.place);
     Ok(begun.place)
 }

@@ -7,7 +7,7 @@ ghost use Rattle.pl_pages.specs.Page.{zeros};
 
 use crate::changes::{clear, redo_block};
 use crate::newest::Newest;
-use pl_arena::{FrameId, TakeFault, VersionArena};
+use pl_arena::{FrameId, VersionArena};
 use pl_block::Block;
 use std::alloc::{AllocError, Global};
 use std::collections::BTreeMap;
@@ -29,8 +29,8 @@ pub(crate) struct Found {
     pub(crate) lsn: u64,
 }
 
-/// Versions of pages, each in a frame of its own. Once every frame has one, a new version takes the
-/// place and the frame of the oldest.
+/// Versions of pages, each in a frame of its own. Once every frame has one, or there is no memory for more,
+/// a new version takes the place and the frame of the oldest.
 #[derive(Drop)]
 pub(crate) struct Versions {
     arena: VersionArena,
@@ -164,16 +164,21 @@ impl Versions {
         };
     }
 
-    /// Lets the version at a place be found.
-    pub(crate) fn enter(&mut self, place: usize) -> Result<(), AllocError>
+    /// Lets the version at a place be found. Where an allocation fails, it is not found.
+    pub(crate) fn enter(&mut self, place: usize)
         requires within { place < length self.old.versions }
         ensures same { self.new ≡ self.old }
     {
         let version = self.kept[place];
-        self.places.insert((version.page, version.lsn), place)?;
+        if self
+            .places
+            .insert((version.page, version.lsn), place)
+            .is_err()
+        {
+            return;
+        }
         self.newest.grow(&self.kept);
         self.note_newest(version.page);
-        Ok(())
     }
 
     // Notes where the newest version of the page is.
@@ -185,9 +190,21 @@ impl Versions {
         }
     }
 
-    // A place whose version may be replaced: a new one, or that of the oldest version, which is
-    // found no more.
+    // A place whose version may be replaced: a new one, or else that of the oldest version.
     fn make_room(&mut self) -> Result<usize, AllocError>
+        ensures truth { StayTrue self.old.versions self.new.versions }
+        ensures stay { StayInPlace self.old.versions self.new.versions }
+        ensures chunks { self.new.chunks ≡ self.old.chunks }
+        ensures within { IfOk result (λ place. place < length self.new.versions) }
+    {
+        match self.add_place() {
+            Ok(place) => Ok(place),
+            Err(AllocError) => self.free_oldest().ok_or(AllocError),
+        }
+    }
+
+    // A place with a frame of its own. An error where every frame has a version, or an allocation failed.
+    fn add_place(&mut self) -> Result<usize, AllocError>
         ensures truth { StayTrue self.old.versions self.new.versions }
         ensures stay { StayInPlace self.old.versions self.new.versions }
         ensures chunks { self.new.chunks ≡ self.old.chunks }
@@ -204,16 +221,21 @@ impl Versions {
                 })?;
                 Ok(place)
             }
-            Err(TakeFault::NoMemory) => Err(AllocError),
-            Err(TakeFault::Full) => {
-                let place = self.oldest;
-                let version = self.kept[place];
-                self.places.remove(&(version.page, version.lsn));
-                self.note_newest(version.page);
-                self.oldest = (place + 1) % self.kept.len();
-                Ok(place)
-            }
+            Err(_) => Err(AllocError),
         }
+    }
+
+    // The place of the oldest version, which is found no more. `None` where there is no version.
+    fn free_oldest(&mut self) -> Option<usize>
+        ensures same { self.new ≡ self.old }
+        ensures within { IfSome result (λ place. place < length self.new.versions) }
+    {
+        let place = self.oldest;
+        let version = *self.kept.get(place)?;
+        self.places.remove(&(version.page, version.lsn));
+        self.note_newest(version.page);
+        self.oldest = (place + 1) % self.kept.len();
+        Some(place)
     }
 
     // Puts the page at LSN 0 into a place.

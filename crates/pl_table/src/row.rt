@@ -3,7 +3,7 @@
 ghost use Rattle.std.specs.Prelude.{◌≡◌, ◌==◌, ◌&&◌, IfOk, IsTrue};
 ghost use Rattle.pl_block.specs.Block.{touched};
 ghost use Rattle.pl_table.specs.Request.{InRange};
-ghost use Rattle.pl_table.specs.Acts.{partitions_of};
+ghost use Rattle.pl_table.specs.Acts.{number_of, partitions_of};
 ghost use Rattle.pl_table.specs.Absent.{part_matches};
 ghost use Rattle.pl_table.specs.Index.{is_asker, can_be, can_match};
 ghost use Rattle.pl_table.specs.Row.{is_about, range_matches, row_matches, through_matches};
@@ -101,7 +101,7 @@ impl Row {
             && matches_role(self.role, head.role)
             && matches_op(&self.op, request.act().op())
             && matches_range(self.allows, self.range, request.act())
-            && matches_through(self.allows, self.through, request.act().lsn())
+            && matches_through(self.allows, self.through, request.act())
     }
 
     // An equal row, in memory of its own.
@@ -127,7 +127,7 @@ impl Row {
         requires listed { IsTrue (can_match request.now self.now) }
         ensures value { result ≡ row_matches self.now request.now }
     {
-        self.is_about(request) && matches_through(self.allows, self.through, request.act().lsn())
+        self.is_about(request) && matches_through(self.allows, self.through, request.act())
     }
 
     // Whether the row is about the request, whatever LSN that names, where it can match by its
@@ -203,12 +203,21 @@ fn has_op_of(ops: &[Op], op: Op) -> bool
     ops.iter().any(|listed| listed.number() == op.number())
 }
 
-fn matches_through(allows: bool, part: Option<u64>, lsn: Option<u64>) -> bool
-    ensures value { result ≡ part_matches (through_matches allows lsn) part }
+fn matches_through(allows: bool, part: Option<u64>, act: &Act) -> bool
+    ensures value { result ≡ part_matches (through_matches allows (number_of act.now)) part }
 {
-    match (part, lsn) {
-        (Some(through), Some(lsn)) => (lsn <= through) == allows,
-        _ => true,
+    match part {
+        Some(through) => is_through(allows, through, act.lsn()),
+        None => true,
+    }
+}
+
+fn is_through(allows: bool, through: u64, lsn: Option<u64>) -> bool
+    ensures value { result ≡ through_matches allows lsn through }
+{
+    match lsn {
+        Some(lsn) => (lsn <= through) == allows,
+        None => true,
     }
 }
 

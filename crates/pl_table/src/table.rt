@@ -179,12 +179,18 @@ impl Table {
 
     /// A range of LSNs around that of the request, at each of which [`Table::first_match`] finds for it
     /// what it finds at its own: no row ends between two of them. `None` where the request names no
-    /// LSN.
+    /// LSN. Where no row ends at all no row is looked at.
     pub fn lsns_alike(&self, request: &Request) -> Option<LsnRange>
         ensures own { IsAtOne result (number_of request.now.act) }
         ensures alike { IfSome result (AreAlike self.now.rows request.now) }
     {
         let lsn = request.act().lsn()?;
+        if !self.has_ends {
+            return Some(LsnRange {
+                from: 0,
+                to: u64::MAX,
+            });
+        }
         Some(lsns_between_ends(&self.rows, lsn))
     }
 

@@ -183,7 +183,8 @@ impl Both {
             return Ok(());
         }
         self.plain.write(copy, block.share()?)?;
-        Ok(self.log.write(copy, block)?)
+        self.log.write(copy, block);
+        Ok(())
     }
 
     // Offers the block, where it may be offered.

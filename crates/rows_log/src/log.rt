@@ -61,7 +61,8 @@ impl Driven {
         if !may || self.log.copies() <= copy {
             return Err(Stop::Unread);
         }
-        Ok(self.log.write(copy, block)?)
+        self.log.write(copy, block);
+        Ok(())
     }
 
     // The block of the word, where it may be offered.
