@@ -29,7 +29,7 @@ const VACANT: u64 = 0;
 /// That somebody is.
 const TAKEN: u32 = 1;
 
-/// The mark of those who are behind the first in line.
+/// The mark of those who are after the first in line.
 const BEHIND: u32 = 1;
 
 // Whether no ticket is out.

@@ -1,4 +1,4 @@
-//! The rule of a desk's table, and what it speaks of: what the desk was made with, and the view of
+//! The rule of a desk's table, and what it is about: what the desk was made with, and the view of
 //! each pass. A view is for the proofs alone: no value of `Terms`, `Stage` or `View` is ever made.
 
 use crate::boxed::BoxedDb;
@@ -21,7 +21,7 @@ pub struct Terms {
     pub opening: Db,
 }
 
-/// Where a pass stands in a call or a meeting.
+/// How far a pass is in a call or a meeting.
 pub enum Stage {
     /// In none.
     Idle,

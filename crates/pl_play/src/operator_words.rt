@@ -63,7 +63,7 @@ fn failover_to(id: &str) -> Option<Act>
     Some(Act::Failover { primary })
 }
 
-// The audit of so many entries from the first on.
+// The audit of this many entries from the first on.
 fn audit_of(first: &str, max: &str) -> Option<Act>
     ensures exact { (word : List ℕ) (text : Option (List ℕ)) → word ≡ codes "audit" →
         ReadAs (word ∷ first.now ∷ max.now ∷ []) text result }

@@ -138,7 +138,7 @@ pub fn read_text<R: Read + Drop>(alloc: Global, reader: R) -> Result<Vec<u8>, Fi
 }
 
 /// A database of which nothing was asked, with the table that the text writes down, this primary, and
-/// an audit list of at most so many entries. Of several faults the text's comes first, then that the
+/// an audit list of at most this many entries. Of several faults the text's comes first, then that the
 /// primary is not listed.
 pub fn start_db(alloc: Global, text: &[u8], primary: u32, audit: u64) -> Result<Db, StartFault>
     requires { 1 ≤ audit }

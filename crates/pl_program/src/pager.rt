@@ -22,7 +22,7 @@ pub struct Pager {
     pub rounds: u32,
 }
 
-/// That the passes which a page server leaves came of these, by its rounds at so many databases.
+/// That the passes which a page server leaves came of these, by its rounds at this many databases.
 #[derive(Drop)]
 pub(crate) struct Rounds {
     start: Snapshot<Passes>,
@@ -34,7 +34,7 @@ impl Promise<Passes> for Rounds {
     ghost kept_by = { λ p left. Pages DesksCall p.pager p.databases p.start.value left };
 }
 
-// Applies the log of each of so many databases, one after the other, and returns the passes.
+// Applies the log of each of this many databases, one after the other, and returns the passes.
 #[tactic(auto, using(crate::proofs::Rounds::pages_start))]
 fn page<R: Wait + Drop>(desks: &Desks<R>, passes: Passes, pager: Pager, databases: u32) -> Passes
     requires of { AreOf desks.now passes }
@@ -55,7 +55,7 @@ fn page<R: Wait + Drop>(desks: &Desks<R>, passes: Passes, pager: Pager, database
     passes
 }
 
-/// Starts the page server of so many databases, with these passes. `None` where its thread could not be
+/// Starts the page server of this many databases, with these passes. `None` where its thread could not be
 /// started.
 pub(crate) fn start_pager<'s, E, R: Wait + Sync + Drop>(
     scope: &Scope<'s, E>,

@@ -26,7 +26,7 @@ use std::{fmt, fs};
 
 /// Does what the arguments of the process ask for, and tells how the program ends. Help is written;
 /// `play` answers the lines of the standard input on the standard output; `serve` writes its address,
-/// answers connections until so many were accepted, and writes how many; where it has fewer workers than asked
+/// answers connections until this many were accepted, and writes how many; where it has fewer workers than asked
 /// for, or a connection has to wait to be accepted, it tells that on the standard error and goes on; `ask` sends one request and
 /// writes the text of the reply.
 ///
@@ -157,7 +157,7 @@ where
     Ok(Ending::Done)
 }
 
-/// Serves the databases at the address until so many connections were accepted.
+/// Serves the databases at the address until this many connections were accepted.
 fn serve_all<R>(
     rt: &R,
     listen: &str,

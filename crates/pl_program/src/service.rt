@@ -121,7 +121,7 @@ fn serve_over<R: Threads + Wait + Net + Sync + Drop, W: Watch>(
     )
 }
 
-/// Serves connections over the databases, with so many workers, until so many were accepted. Where
+/// Serves connections over the databases, with this many workers, until this many were accepted. Where
 /// there is a pager, it works at the same time, in a thread of its own, and is waited for. What the service
 /// cannot do meanwhile is told to the watch.
 ///

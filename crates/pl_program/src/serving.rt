@@ -25,8 +25,8 @@ fn begin(alloc: Global, text: &[u8], primary: u32, audit: u32) -> Result<Db, Sta
     start_db(alloc, text, primary, u64::from(audit))
 }
 
-/// So many databases, each with the table that the text writes down and this primary, and with an
-/// audit list of at most so many entries. Of several faults the text's comes first.
+/// This many databases, each with the table that the text writes down and this primary, and with an
+/// audit list of at most this many entries. Of several faults the text's comes first.
 pub fn databases_of(
     alloc: Global,
     text: &[u8],
@@ -89,7 +89,7 @@ pub struct Opening {
     pub pager: Option<Pager>,
 }
 
-/// What a service with the table of this text begins with: so many databases as the numbers say, each with
+/// What a service with the table of this text begins with: this many databases as the numbers say, each with
 /// their primary and an audit list of at most as many entries as they say, and their page server.
 pub fn opening_of(alloc: Global, text: &[u8], numbers: ServeNumbers) -> Result<Opening, StartFault>
     requires { 1 ≤ numbers.audit }

@@ -36,7 +36,7 @@ pub(crate) fn take_u64(rest: &mut &[u8]) -> Result<u64, WireFault>
     Ok(rest.try_get_u64()?)
 }
 
-/// So many bytes.
+/// This many bytes.
 pub(crate) fn take_bytes<'a>(rest: &mut &'a [u8], len: usize) -> Result<&'a [u8], WireFault>
     ensures ok { IfOk result (λ bytes. bytes_at len rest.old.now ≡ Ok (bytes.now, rest.new.now)) }
     ensures err { IfErr result (λ fault. bytes_at len rest.old.now ≡ Err fault) }
@@ -50,7 +50,7 @@ pub(crate) fn take_bytes<'a>(rest: &mut &'a [u8], len: usize) -> Result<&'a [u8]
     Ok(bytes)
 }
 
-/// A count of at most so many.
+/// A count of at most this many.
 #[tactic(auto, unfolding(crate::specs::ReplyReading::count_at))]
 pub(crate) fn take_count(rest: &mut &[u8], most: u16) -> Result<u16, WireFault>
     ensures exact { Reads result rest.new.now (count_at most rest.old.now) }

@@ -1,7 +1,7 @@
-//! Frames, read: a length in four bytes, the high one first, and a body of so many bytes.
+//! Frames, read: a length in four bytes, the high one first, and a body of this many bytes.
 //!
-//! A contract sees what a call took from its reader, however the reader cuts its bytes. What stands
-//! behind a frame is left unread.
+//! A contract sees what a call took from its reader, however the reader cuts its bytes. What follows
+//! a frame is left unread.
 
 ghost use Rattle.std.specs.Prelude.{◌≡◌, ◌<◌, ◌≤◌, [], IfErr, IfNone, IfOk, IfSome, length, take, vec_len};
 ghost use Rattle.std.specs.Int.{w32, to_be_bytes};
@@ -32,12 +32,12 @@ const LENGTH_BYTES: usize = 4;
 pub enum FrameFault {
     /// The input ends inside the frame: what there was of it is read.
     Short,
-    /// The length is above the limit. It is read, and nothing behind it.
+    /// The length is above the limit. It is read, and nothing after it.
     TooLong,
     /// A read failed inside the frame, or before it, whatever made it fail: an interruption too. What
     /// was read before is lost.
     Io,
-    /// There is no memory for the body. The length is read, and nothing behind it.
+    /// There is no memory for the body. The length is read, and nothing after it.
     NoMemory,
 }
 
@@ -80,7 +80,7 @@ fn fill<R: Read>(reader: &mut R, buffer: &mut [u8]) -> Result<usize, usize>
 /// `Short` where the input ends inside them, `TooLong` where the length is above the limit, and `Io`
 /// where a read failed. No memory is asked for.
 pub fn read_head<R: Read>(reader: &mut R, limit: u32) -> Result<Option<u32>, FrameFault>
-    // A length within the limit, whose bytes were read and nothing behind them.
+    // A length within the limit, whose bytes were read and nothing after them.
     ensures some { IfOk result (λ head. IfSome head (λ len. (len ≤ limit)
         × Consumes (R.remaining reader.old) (R.remaining reader.new) (to_be_bytes w32 len))) }
     // Nothing is left to be read.
@@ -107,13 +107,13 @@ pub fn read_head<R: Read>(reader: &mut R, limit: u32) -> Result<Option<u32>, Fra
     }
 }
 
-/// Reads a body of so many bytes. Memory is asked for once, before a byte is read; a body of length 0
+/// Reads a body of this many bytes. Memory is asked for once, before a byte is read; a body of length 0
 /// takes none.
 ///
 /// `Short` where the input ends inside the body, `Io` where a read failed, and `NoMemory` where the
 /// allocation did: then nothing is read.
 pub fn read_body<R: Read>(alloc: Global, reader: &mut R, len: u32) -> Result<Vec<u8>, FrameFault>
-    // So many bytes were read, and nothing behind them.
+    // This many bytes were read, and nothing after them.
     ensures ok { IfOk result (λ body. (vec_len body ≡ len)
         × Consumes (R.remaining reader.old) (R.remaining reader.new) body.items) }
     // Which fault it is, and what was read.
@@ -134,7 +134,7 @@ pub fn read_body<R: Read>(alloc: Global, reader: &mut R, len: u32) -> Result<Vec
 }
 
 /// Reads a frame, and gives its body. `None` at the end of input before the frame's first byte. What
-/// stands behind the frame is left unread.
+/// follows the frame is left unread.
 ///
 /// The reader is read at most once for each byte of the frame, and once more. A length is tested
 /// before any memory is asked for. `Short` where the input ends inside the frame, `TooLong` where its length is above the limit, `Io` where a read failed, and `NoMemory` where there
@@ -144,7 +144,7 @@ pub fn read_frame<R: Read>(
     reader: &mut R,
     limit: u32,
 ) -> Result<Option<Vec<u8>>, FrameFault>
-    // The body of the frame that was read, and nothing behind it.
+    // The body of the frame that was read, and nothing after it.
     ensures some { IfOk result (λ taken. IfSome taken (λ body. (vec_len body ≤ limit)
         × Consumes (R.remaining reader.old) (R.remaining reader.new) (frame body.items))) }
     // Nothing is left to be read.
@@ -162,13 +162,13 @@ pub fn read_frame<R: Read>(
     Ok(Some(body))
 }
 
-/// Reads a frame, and the reply that its body spells. What stands behind the frame is left unread.
+/// Reads a frame, and the reply that its body spells. What follows the frame is left unread.
 ///
 /// `Ended` at the end of input before the frame's first byte, `Frame` where no frame was read, and
 /// `Body` where a whole frame was read whose body is no reply, or whose reply finds no memory. Memory
 /// is asked for the body, and for what the reply keeps.
 pub fn read_reply<R: Read>(alloc: Global, reader: &mut R) -> Result<Reply, ReplyFault>
-    // The reply whose frame was read, and nothing behind it.
+    // The reply whose frame was read, and nothing after it.
     ensures ok { IfOk result (λ reply. IsReply reply
         × Consumes (R.remaining reader.old) (R.remaining reader.new) (reply_frame reply)) }
     // Which fault it is, and what was read.

@@ -1,4 +1,4 @@
-//! Frames, written: a length in four bytes, the high one first, and a body of so many bytes.
+//! Frames, written: a length in four bytes, the high one first, and a body of this many bytes.
 
 ghost use Rattle.std.specs.Prelude.{◌≡◌, ◌+◌, ◌<◌, ◌≤◌, ◌^◌, ◌++◌, IfErr, IfOk, OnErr, OnOk, length, take};
 ghost use Rattle.std.specs.Io.KnownBytes.{Appends};

@@ -1,9 +1,9 @@
-//! Requests and replies as bytes, both ways, and the frames in which they stand on a connection.
+//! Requests and replies as bytes, both ways, and the frames that carry them on a connection.
 //!
 //! Each request, and each reply that fits, has one spelling. What is read is the request or the reply
 //! of its spelling. Of bytes that spell no request the fault of the least code is reported; of bytes
 //! that spell no reply, the fault that is met first. A frame is a length in four bytes, the high one
-//! first, and a body of so many bytes: [`read_frame`] and [`read_reply`] take one from a reader,
+//! first, and a body of this many bytes: [`read_frame`] and [`read_reply`] take one from a reader,
 //! [`write_request`] and [`write_reply`] write one.
 #![tactic(auto)]
 

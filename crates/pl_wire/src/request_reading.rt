@@ -17,7 +17,7 @@ use pl_block::seen::each_is_byte;
 use pl_table::{Act, Head, Op, Request, Role, TableText};
 use std::alloc::Global;
 
-/// The bytes of a head, and of the operation behind it.
+/// The bytes of a head, and of the operation after it.
 pub(crate) const OPENING_BYTES: usize = 30;
 
 /// The bytes of a token.
@@ -71,7 +71,7 @@ fn head_of(role: Role, body: &[u8]) -> Head
     }
 }
 
-// Whether there are so many bytes, no fewer and no more.
+// Whether there are this many bytes, no fewer and no more.
 fn check_size(bytes: &[u8], size: usize) -> Result<(), WireFault>
     ensures value { result ≡ sized size bytes.now tt }
 {

@@ -50,7 +50,7 @@ fn name_of(names: &mut Vec<FrameId>, id: FrameId) -> Result<u64, Stop> {
     }
 }
 
-// Takes so many frames, and tells how many there were.
+// Takes this many frames, and tells how many there were.
 fn take_all(
     arena: &mut VersionArena,
     names: &mut Vec<FrameId>,
@@ -229,7 +229,7 @@ fn frames_are_apart(rt: HostRuntime) -> Result<(), Fail> {
     plays::<Framed>(rt.alloc(), FRAMES_ARE_APART)
 }
 
-/// Takes so many frames of an arena, gives back the last, and lets the arena go.
+/// Takes this many frames of an arena, gives back the last, and lets the arena go.
 pub(crate) fn ends(alloc: Global, frames: u32, refused: &mut bool) -> Result<(), Stop> {
     let mut arena = VersionArena::new(alloc, 3);
     let mut last = None;

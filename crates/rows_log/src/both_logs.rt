@@ -63,7 +63,7 @@ impl Draws {
         ZONES[usize::from(self.below(4))]
     }
 
-    // A hardened LSN, or the one behind them.
+    // A hardened LSN, or the next one.
     fn lsn_to(&mut self, hard: u64) -> u64 {
         let bound = u16::try_from(hard).unwrap_or(u16::MAX);
         u64::from(self.below(bound)).saturating_add(1)

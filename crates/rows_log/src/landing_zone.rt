@@ -77,7 +77,7 @@ fn gives(zone: &mut Landing, hard: u64, wanted: &Block) -> Result<bool, Stop> {
     })
 }
 
-// The contents of the LSNs behind `hard` come out at the front, one by one, and the others stay.
+// The contents of the LSNs above `hard` come out at the front, one by one, and the others stay.
 fn take_fronts(alloc: Global, zone: &mut Landing, hard: u64, count: u64) -> Result<(), Stop> {
     for before in hard..hard.saturating_add(count) {
         let wanted = block(alloc, before.saturating_add(1), Size::Short)?;
@@ -87,7 +87,7 @@ fn take_fronts(alloc: Global, zone: &mut Landing, hard: u64, count: u64) -> Resu
     Ok(())
 }
 
-// The 64 LSNs behind 100 are put into two copies.
+// The 64 LSNs above 100 are put into two copies.
 fn fill_landing(alloc: Global, zone: &mut Landing) -> Result<(), Stop> {
     for lsn in 101..165u64 {
         land_block(alloc, zone, lsn, 0)?;
@@ -152,7 +152,7 @@ fn have_copies(zone: &Landing, wanted: &[(u64, u8)]) -> Result<(), Stop> {
     Ok(())
 }
 
-// There is a run of three, none behind it, and a run of one behind the gap.
+// There is a run of three, none after it, and a run of one after the gap.
 fn have_runs(zone: &Landing) -> Result<(), Stop> {
     has_run(zone, 0, 3)?;
     has_run(zone, 3, 0)?;

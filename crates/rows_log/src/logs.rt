@@ -158,7 +158,7 @@ fn two_failovers(rt: HostRuntime) -> Result<(), Fail> {
     plays::<Log>(rt.alloc(), TWO_FAILOVERS)
 }
 
-// 1 and 3 are offered, 1 before it is written and 3 behind it; 5 is in no copy.
+// 1 and 3 are offered, 1 before it is written and 3 after it; 5 is in no copy.
 const OFFERS_ARE_COUNTED: &str = "\
 log 3 2          = Ok
 offer 1:01       = Ok

@@ -30,7 +30,7 @@ struct Replayed {
     served: Option<Served>,
 }
 
-/// An empty log with its pages, which have so many chunks of versions, or one.
+/// An empty log with its pages, which have this many chunks of versions, or one.
 pub(crate) fn open(alloc: Global, chunks: u8) -> Result<Served, Stop> {
     Ok(Served {
         log: DbLog::new(alloc, 3, 2)?,

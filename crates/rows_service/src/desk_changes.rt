@@ -20,10 +20,10 @@ use transcripts::transcript::Stop;
 #[derive(Clone, Copy, Drop)]
 struct Asked {
     times: u64,
-    /// The words of the request. `BLOCK` stands for a block with the number of the question as its LSN
+    /// The words of the request. `BLOCK` is a block with the number of the question as its LSN
     /// and as its byte.
     words: &'static str,
-    /// The answers up to a change, and behind it.
+    /// The answers up to a change, and after it.
     answers: [&'static str; 2],
 }
 
@@ -58,7 +58,7 @@ fn ask_once(
     ask(rt, alloc, desk, pass, &line, refused)
 }
 
-// Asks, and returns how many answers are those up to the change. All others have to be behind it.
+// Asks, and returns how many answers are those up to the change. All others have to come after it.
 fn ask_over_a_change(
     rt: &impl Wait,
     alloc: Global,
@@ -220,7 +220,7 @@ fn push_write(out: &mut String, number: u64, lsn: u64, verdict: &str) -> Result<
     Ok(write!(out, " {number}/1/2/primary/1/write/{lsn}/0/{verdict}")?)
 }
 
-// The first 65 lines of the audit list, where so many writes were allowed.
+// The first 65 lines of the audit list, where this many writes were allowed.
 fn push_writes(out: &mut String, allowed: u64) -> Result<(), Stop> {
     for number in 1..=65 {
         if number <= allowed {

@@ -37,7 +37,7 @@ fn open_on(alloc: Global, audit: u64, refused: &mut bool) -> Result<Db, Stop> {
     open(alloc, audit)
 }
 
-/// A desk of such a database, with so many passes and turns. Where memory is refused to the desk, the
+/// A desk of such a database, with this many passes and turns. Where memory is refused to the desk, the
 /// database comes back, and a desk of it is opened.
 pub(crate) fn desk_of(
     alloc: Global,
@@ -185,7 +185,7 @@ fn play_last<R: Wait + Abort>(
     Ok((number, pass))
 }
 
-// Plays a row of the pass of the last of so many seats, and returns its number and how many entries
+// Plays a row of the pass of the last of this many seats, and returns its number and how many entries
 // there are in the end.
 fn play_alone<R: Wait + Abort>(
     rt: &R,
@@ -247,7 +247,7 @@ fn desk_of_65_seats(rt: HostRuntime) {
     assert!(&rt; matches!(ends, Ok((65, 4))));
 }
 
-// So many statuses, each with its reply.
+// This many statuses, each with its reply.
 fn statuses(alloc: Global, count: u32) -> Result<String, Stop> {
     let mut row = String::new(alloc);
     for _ in 0..count {

@@ -53,7 +53,7 @@ fn faults_of_frames(rt: HostRuntime) -> Result<(), Fail> {
     plays::<Frames>(rt.alloc(), FAULTS_OF_FRAMES)
 }
 
-// A read is interrupted behind so many bytes, and those behind it would bring the others: the frame
+// A read is interrupted after this many bytes, and those after it would bring the others: the frame
 // ends there, as where any other read fails.
 const INTERRUPTED_FRAMES: &str = "\
 interrupted 0 frames 65536 00000001aa   = Io 5

@@ -33,7 +33,7 @@ const MOST_FRAMES: u32 = 100;
 /// The most bytes that a row writes.
 const ROOM: usize = 10_000;
 
-/// What stands behind the bytes that a reader gives.
+/// What follows the bytes that a reader gives.
 #[derive(Clone, Copy)]
 enum Behind {
     /// The end of input.
@@ -42,12 +42,12 @@ enum Behind {
     Failure,
 }
 
-/// Gives its bytes, at most so many at once, and counts its reads.
+/// Gives its bytes, at most this many at once, and counts its reads.
 #[derive(Drop)]
 struct Feed<'a> {
     left: &'a [u8],
     at_once: usize,
-    /// How many bytes it gives before a read is interrupted. The reads behind that one go on.
+    /// How many bytes it gives before a read is interrupted. The reads after that one go on.
     interrupted: Option<usize>,
     behind: Behind,
     reads: u64,
@@ -103,11 +103,11 @@ enum Full {
     TakesNone,
     /// It fails.
     Fails,
-    /// It is interrupted, once; those behind it take all.
+    /// It is interrupted, once; those after it take all.
     IsInterrupted,
 }
 
-/// Takes so many bytes in all, and at most so many at once.
+/// Takes this many bytes in all, and at most this many at once.
 #[derive(Drop)]
 struct Sink {
     held: Vec<u8>,
@@ -192,7 +192,7 @@ enum Asked {
     Replies,
 }
 
-/// Reads and writes, each on its own, and the bytes that `send` has put one behind the other.
+/// Reads and writes, each on its own, and the bytes that `send` has put one after the other.
 #[derive(Drop)]
 pub(crate) struct Frames {
     alloc: Global,
@@ -318,7 +318,7 @@ impl Frames {
         Ok((held, whole))
     }
 
-    // Puts the frame of the reply behind what was sent, as it was written elsewhere.
+    // Puts the frame of the reply after what was sent, as it was written elsewhere.
     fn send_reply(&mut self, reply: &Reply, frame: &[u8]) -> Result<(), Stop> {
         if !reply.fits() {
             return Err(Stop::Unread);

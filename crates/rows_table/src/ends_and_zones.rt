@@ -87,7 +87,7 @@ fn through_out_of_range(rt: HostRuntime) -> Result<(), Fail> {
     walk_changed(&rt, rt.alloc(), &ENDS_OF_ROW_4)
 }
 
-// What stands in front of the start table.
+// What is before the start table.
 const ZONES: [Case; 18] = [
     ("neither", &[], 0),
     ("3 and 2", &["copies = 3\n", "quorum = 2\n"], 0),

@@ -31,7 +31,7 @@ fn debug_texts(alloc: Global) -> Result<String, AllocError> {
     format!(in alloc; "{HEAD:?}\n{PRINCIPAL:?}\n{text:?}")
 }
 
-// Whether bytes of the token stand in the text, in decimal or hexadecimal.
+// Whether bytes of the token are in the text, in decimal or hexadecimal.
 fn has_token(text: &str) -> bool {
     text.contains("171") || text.contains("abab") || text.contains("ABAB")
 }

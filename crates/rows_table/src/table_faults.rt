@@ -14,7 +14,7 @@ use transcripts::transcript::Stop;
 /// What a case is, the pieces of its text, and the code of the fault.
 pub(crate) type Case = (&'static str, &'static [&'static str], u8);
 
-/// What stands in front of the cases' pieces, the cases, and what stands behind.
+/// What is before the cases' pieces, the cases, and what is after them.
 pub(crate) type Group = (
     &'static [&'static str],
     &'static [Case],
@@ -117,7 +117,7 @@ fn text_of(alloc: Global, pieces: [&[&str]; 3]) -> Result<Vec<u8>, Stop> {
     Ok(text)
 }
 
-/// What a case is, what stands in front of the start table, a text in it, what stands in the place of
+/// What a case is, what is before the start table, a text in it, what is in the place of
 /// that, and the code of the fault.
 pub(crate) type Changed = (&'static str, &'static str, &'static str, &'static str, u8);
 
@@ -289,7 +289,7 @@ fn first_fault_of_two(rt: HostRuntime) -> Result<(), Fail> {
     walk(&rt, rt.alloc(), &[(&[], &TWO_FAULTS, &[])])
 }
 
-/// What a case is, how many principals, what stands behind the id of each, how many rows, and the
+/// What a case is, how many principals, what follows the id of each, how many rows, and the
 /// code of the fault.
 type Many = (&'static str, u8, &'static str, u16, u8);
 

@@ -1,4 +1,4 @@
-//! Tables that texts write down, and the first row of each that speaks of a request.
+//! Tables that texts write down, and the first row of each that matches a request.
 
 use crate::rules::Rules;
 use std::test::Fail;

@@ -28,7 +28,7 @@ pub fn push_fault(out: &mut String, code: u8) -> Result<(), Stop> {
     pushed(write!(out, " fault {code}"))
 }
 
-// Pushes so many equal bytes.
+// Pushes this many equal bytes.
 fn push_run(out: &mut String, byte: u8, count: usize) -> Result<(), Stop> {
     if LONG_RUN <= count {
         return pushed(write!(out, " {count}*{byte:02x} "));
@@ -40,7 +40,7 @@ fn push_run(out: &mut String, byte: u8, count: usize) -> Result<(), Stop> {
 }
 
 /// Pushes the bytes as one word of hexadecimal digits, with a word `COUNT*BYTE` in its midst where 64
-/// or more equal bytes stand in a row.
+/// or more equal bytes follow one another.
 pub fn push_bytes(out: &mut String, bytes: &[u8]) -> Result<(), Stop> {
     out.push(' ')?;
     let (mut last, mut count) = (0, 0);

@@ -120,7 +120,7 @@ fn failover_of(words: &[&str]) -> Result<Act, Stop> {
     })
 }
 
-// The text of a name, or of so many spaces.
+// The text of a name, or of this many spaces.
 fn text_of(alloc: Global, words: &[&str]) -> Result<Vec<u8>, Stop> {
     match words {
         [name] => text_named(alloc, name),

@@ -1,14 +1,14 @@
 //! A block as a word, `LSN:RECORD,RECORD..`, and the other way round.
 //!
-//! A Put is its bytes in hexadecimal, or `COUNT*BYTE`, and `@PAGE` or `@PAGE+OFFSET` behind them
-//! where they do not stand at the beginning of page 0. A Zero is `zero`, and `@PAGE` likewise.
+//! A Put is its bytes in hexadecimal, or `COUNT*BYTE`, and `@PAGE` or `@PAGE+OFFSET` after them
+//! where they are not at the beginning of page 0. A Zero is `zero`, and `@PAGE` likewise.
 
 use crate::transcript::{Stop, pushed};
 use bytes::Bytes;
 use pl_block::{Block, Record};
 use std::alloc::{AllocError, Global};
 
-// So many equal bytes.
+// This many equal bytes.
 fn run_of(alloc: Global, count: &str, byte: &str) -> Result<Vec<u8>, Stop> {
     let byte = u8::from_str_radix(byte, 16)?;
     Ok(vec![in alloc; byte; count.parse()?]?)

@@ -7,7 +7,7 @@ use bytes::Bytes;
 use pl_block::{Block, BlockFault, Record, decode, encode, encode_onto, encoded_len};
 use std::alloc::Global;
 
-/// The calls of the codec, each on its own, and the bytes that `onto` has put one behind the other.
+/// The calls of the codec, each on its own, and the bytes that `onto` has put one after the other.
 #[derive(Drop)]
 pub struct Codec {
     alloc: Global,
@@ -23,7 +23,7 @@ pub fn bytes_of(alloc: Global, words: &[&str]) -> Result<Vec<u8>, Stop> {
     Ok(bytes)
 }
 
-// A block of so many records, each a byte at the beginning of a page of its own.
+// A block of this many records, each a byte at the beginning of a page of its own.
 fn many_records(alloc: Global, count: u32) -> Result<Vec<Record>, Stop> {
     let mut records = Vec::new(alloc);
     for page in 0..count {
@@ -76,7 +76,7 @@ impl Codec {
         )
     }
 
-    // Puts the block behind what stands. Where memory is refused, it has what it had.
+    // Puts the block after what is there. Where memory is refused, it has what it had.
     fn put_behind(&mut self, block: &Block) -> Result<(), Stop> {
         let before = self.out.to_vec(self.alloc)?;
         match encode_onto(&mut self.out, block) {

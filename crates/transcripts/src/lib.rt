@@ -1,7 +1,7 @@
 //! The words that transcripts are made of, and what plays them.
 //!
 //! A transcript is a text. Each line asks a [`transcript::Subject`] something, and has the whole
-//! answer behind its `=`. A block, a request, a reply, a line of the audit list and a table are the
+//! answer after its `=`. A block, a request, a reply, a line of the audit list and a table are the
 //! same words in the transcripts of all subjects.
 #![tactic(auto)]
 

@@ -92,7 +92,7 @@ fn blocks_of(alloc: Global, words: &[&str]) -> Result<Blocks, Stop> {
     Ok(Blocks::new(blocks))
 }
 
-// A page of so many bytes, which are 0 but for those of the words, `BYTE+OFFSET`.
+// A page of this many bytes, which are 0 but for those of the words, `BYTE+OFFSET`.
 fn page_of(alloc: Global, len: usize, words: &[&str]) -> Result<PageBytes, Stop> {
     let mut bytes = vec![in alloc; 0; len]?;
     for word in words {
@@ -104,7 +104,7 @@ fn page_of(alloc: Global, len: usize, words: &[&str]) -> Result<PageBytes, Stop>
     Ok(PageBytes::new(bytes))
 }
 
-// The lines of the words, all of them so many times over.
+// The lines of the words, all of them this many times over.
 fn lines_of(alloc: Global, times: usize, words: &[&str]) -> Result<Lines, Stop> {
     let mut lines = Vec::new(alloc);
     for _ in 0..times {

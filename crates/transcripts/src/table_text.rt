@@ -187,7 +187,7 @@ to = 5
     ),
 ];
 
-// What stands beside the name.
+// What is written beside the name.
 fn named(texts: &'static [(&'static str, &'static str)], name: &str) -> Option<&'static str> {
     for (word, text) in texts {
         if *word == name {

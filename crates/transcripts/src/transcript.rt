@@ -1,4 +1,4 @@
-//! Plays a transcript: each line asks something, and has the answer behind its `=`.
+//! Plays a transcript: each line asks something, and has the answer after its `=`.
 
 use hex::FromHexError;
 use pl_block::BlockFault;
@@ -6,7 +6,7 @@ use std::alloc::{AllocError, AllocFailed, Global};
 use std::num::ParseIntError;
 use std::test::Fail;
 
-// What an answer may have beside the text that is wanted: a space in front, and one behind.
+// What an answer may have beside the text that is wanted: a space before it, and one after it.
 const ROOM: usize = 2;
 
 /// What a transcript speaks to.
@@ -18,7 +18,7 @@ pub trait Subject: Drop {
     ///
     /// A test may meet one refused allocation. `refused` says whether it has: what meets it amid a
     /// line of several calls asks again, once, and sets it. After an error of no memory the line is
-    /// asked again as it stands.
+    /// asked again unchanged.
     fn answer(&mut self, words: &[&str], out: &mut String, refused: &mut bool) -> Result<(), Stop>;
 }
 
@@ -31,7 +31,7 @@ pub enum Stop {
     Unread,
     /// Two calls that answer alike did not, or one was out of memory and yet something changed.
     Changed,
-    /// A step amid a run was out of memory, and those behind it were taken without it.
+    /// A step amid a run was out of memory, and those after it were taken without it.
     Amid,
 }
 
@@ -125,7 +125,7 @@ impl<S: Subject> Player<S> {
     }
 
     // Asks. There is room for a right answer before the question is asked, so that no allocation of
-    // the test's own fails behind it.
+    // the test's own fails after it.
     fn asks(&mut self, asked: &str, wanted: &str) -> Result<String, Stop> {
         let words: Vec<&str> = asked.split_whitespace().collect(self.alloc)?;
         let mut out = String::with_capacity(self.alloc, wanted.len().saturating_add(ROOM))?;
@@ -174,7 +174,7 @@ impl<S: Subject> Player<S> {
 /// answer.
 ///
 /// A test may meet one refused allocation and no more. The line that meets it is asked again in its
-/// place, and those behind it go on from there. Only a run in which one step was refused has answers of
+/// place, and those after it go on from there. Only a run in which one step was refused has answers of
 /// its own: after it the transcript is played from its beginning.
 pub fn plays<S: Subject>(alloc: Global, row: &str) -> Result<(), Fail> {
     let mut player: Player<S> = Player::new(alloc);

@@ -18,7 +18,7 @@ who = 1
 role = "operator"
 "#;
 
-/// A row of another partition. Behind 17 of them a row is so far from the first that its verdict is
+/// A row of another partition. After 17 of them a row is so far from the first that its verdict is
 /// cached.
 const ROW_BEFORE: &str = r#"[[row]]
 verdict = "allow"
@@ -109,7 +109,7 @@ const ON_ONE_SIDE: [(u16, u64, Verdict); 4] = [
     (1, 1, Verdict::Allowed),
 ];
 
-// The table of these rows behind 17 others of principal 3.
+// The table of these rows after 17 others of principal 3.
 fn table_of_ends(alloc: Global, rows: &str) -> Result<Table, AllocError> {
     let mut text = String::new(alloc);
     text.push_str(TWO_PRINCIPALS)?;
