@@ -19,6 +19,8 @@ mod refusals;
 #[cfg(test)]
 mod resting;
 #[cfg(test)]
+mod sharing;
+#[cfg(test)]
 mod talking;
 #[cfg(test)]
 mod talks;

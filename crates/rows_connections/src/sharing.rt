@@ -1,0 +1,265 @@
+//! Connections that share one worker: many of them, one that stays silent, and one that does not read.
+
+ghost use Rattle.std.specs.Prelude.{⊤};
+ghost use Rattle.std.specs.List.{All};
+ghost use Rattle.pl_conn.specs.Desks.{AreOf};
+
+use crate::connections::{Started, check_served, connect, listen, report, stop_of, unserved};
+use crate::conversations::FRAMES;
+use crate::memory::{check, is_refused, may_be_refused};
+use crate::talking::{TURNS, one_db, push_frame};
+use pl_conn::{Desks, Gate, Passes, Served, serve};
+use pl_core::Reply;
+use pl_table::{Act, Request};
+use pl_wire::{encode_request, read_reply};
+use std::alloc::Global;
+use std::io::{Read, Write};
+use std::net::{Net, SocketAddr, TcpListener, TcpStream};
+use std::sync::Wait;
+use std::thread;
+use std::thread::Threads;
+use transcripts::asking::request_of;
+use transcripts::transcript::Stop;
+
+/// A gate that tells the LSN of a report as the hardened end.
+#[derive(Drop)]
+struct Echoes;
+
+impl Gate for Echoes {
+    type Pass = u64;
+
+    ghost owns = { λ _ _. ⊤ };
+
+    ghost calls = { λ _ _ _ _ _. ⊤ };
+
+    fn call(&self, pass: &mut u64, request: Request) -> Reply {
+        *pass = pass.saturating_add(1);
+        match request.act() {
+            Act::Report { lsn } => Reply::Status {
+                epoch: 1,
+                primary: 2,
+                hard: *lsn,
+                pending: 0,
+                landing: 0,
+            },
+            _ => Reply::Done,
+        }
+    }
+}
+
+/// How many connections speak.
+const SPEAKING: u8 = 100;
+
+// Reads a reply of the gate that echoes: the LSN that was reported.
+fn told_lsn(alloc: Global, stream: &mut TcpStream) -> Result<u64, Stop> {
+    match read_reply(alloc, stream) {
+        Ok(Reply::Status { hard, .. }) => Ok(hard),
+        Ok(_) => Err(Stop::Changed),
+        Err(fault) => Err(if is_refused(fault) {
+            Stop::NoMemory
+        } else {
+            Stop::Changed
+        }),
+    }
+}
+
+// Two reports on each connection, the second once all have sent the first, and then the replies, from the last connection
+// to the first.
+fn ask_on_each(alloc: Global, streams: &mut [TcpStream]) -> Result<(), Stop> {
+    for more in [0, SPEAKING] {
+        for (number, stream) in (0..SPEAKING).zip(streams.iter_mut()) {
+            let frame = report(number.saturating_add(more)).ok_or(Stop::Unread)?;
+            stream.write_all(&frame).map_err(stop_of)?;
+        }
+    }
+    for (number, stream) in (0..SPEAKING).zip(streams.iter_mut()).rev() {
+        check(told_lsn(alloc, stream)? == u64::from(number))?;
+        check(told_lsn(alloc, stream)? == u64::from(number.saturating_add(SPEAKING)))?;
+    }
+    Ok(())
+}
+
+// One connection stays silent, one sends half a frame, and the others ask. In the end the half is made whole. All of them are
+// there before anything is asked, so that the service comes to its end.
+fn ask_beside_silent<R: Net<Stream = TcpStream>>(
+    rt: &R,
+    alloc: Global,
+    addr: SocketAddr,
+    started: &Started,
+    room: Vec<TcpStream>,
+) -> Result<(), Stop> {
+    started.waits()?;
+    let silent = connect(rt, addr).map_err(stop_of)?;
+    let mut half = connect(rt, addr).map_err(stop_of)?;
+    let mut streams = room;
+    for _ in 0..SPEAKING {
+        streams.push(connect(rt, addr).map_err(stop_of)?)?;
+    }
+    let frame = report(250).ok_or(Stop::Unread)?;
+    let (front, back) = frame.split_at(20);
+    half.write_all(front).map_err(stop_of)?;
+    ask_on_each(alloc, &mut streams)?;
+    half.write_all(back).map_err(stop_of)?;
+    check(told_lsn(alloc, &mut half)? == 250)?;
+    drop(silent);
+    Ok(())
+}
+
+// Serves them with one worker.
+fn serve_hundred<R: Net<Listener = TcpListener, Stream = TcpStream> + Threads + Wait + Sync>(
+    rt: &R,
+    alloc: Global,
+) -> Result<(), Stop> {
+    let started = Started::new();
+    let started = &started;
+    let (listener, addr) = listen(rt)?;
+    let passes = Vec::from_array(alloc, [7_u64])?;
+    let room = Vec::with_capacity(alloc, usize::from(SPEAKING))?;
+    let connections = u32::from(SPEAKING).saturating_add(2);
+    let (served, are_told) = thread::join(
+        rt,
+        move || {
+            if !started.begins() {
+                return unserved(passes);
+            }
+            let served = serve(rt, alloc, &listener, &Echoes, passes, connections);
+            drop(listener);
+            served
+        },
+        move || ask_beside_silent(rt, alloc, addr, started, room),
+    );
+    check_served(&served, connections, 0, 1)?;
+    are_told?;
+    check(served.passes.as_slice() == [208].as_slice())
+}
+
+/// A hundred connections with one worker. Each has its own replies in order, while one stays silent and one
+/// has sent half a frame.
+#[test]
+fn hundred_connections_one_worker(rt: HostRuntime) {
+    let mut done = serve_hundred(&rt, rt.alloc());
+    if matches!(done, Err(Stop::NoMemory)) && may_be_refused(&rt) {
+        done = serve_hundred(&rt, rt.alloc());
+    }
+    assert!(&rt; done.is_ok());
+}
+
+/// How many pages the slow reader asks for: their replies are more than sockets hold.
+const GETS: u32 = 2_000;
+
+/// The bytes of a page's reply: its length, its kind, its LSN and the page.
+const PAGE_REPLY: usize = 4 + 1 + 8 + 8_192;
+
+// The frames of a block on page 0, hardened, and then of so many gets of it.
+fn gets_of_page(alloc: Global) -> Result<Vec<u8>, Stop> {
+    let run = hex::decode(alloc, FRAMES)?;
+    let mut frames = Vec::new(alloc);
+    frames.extend_from_slice(run.get(..160).ok_or(Stop::Unread)?)?;
+    let words = ["3", "33", "secondary", "1", "get", "0", "1"];
+    let request = request_of(alloc, 0, &words)?.ok_or(Stop::Unread)?;
+    let body = encode_request(alloc, &request)?;
+    for _ in 0..GETS {
+        push_frame(&mut frames, &body)?;
+    }
+    Ok(frames)
+}
+
+// Whether the reply is that of a get of page 0 at 1: its byte 0 is aa, and the others are zero.
+fn is_page(reply: &[u8]) -> bool {
+    let Some((head, page)) = reply.split_at_checked(14) else {
+        return false;
+    };
+    head == [0, 0, 32, 9, 2, 0, 0, 0, 0, 0, 0, 0, 1, 0xaa].as_slice()
+        && page.iter().all(|byte| *byte == 0)
+}
+
+// The frame of a status.
+fn status_frame(alloc: Global) -> Result<Vec<u8>, Stop> {
+    let words = ["2", "22", "primary", "1", "status"];
+    let request = request_of(alloc, 0, &words)?.ok_or(Stop::Unread)?;
+    let mut frame = Vec::new(alloc);
+    push_frame(&mut frame, &encode_request(alloc, &request)?)?;
+    Ok(frame)
+}
+
+// One client asks for pages and does not read, while another one asks and is answered. Then it reads them all. Both are there
+// before anything is asked.
+fn ask_beside_slow<R: Net<Stream = TcpStream>>(
+    rt: &R,
+    alloc: Global,
+    addr: SocketAddr,
+    started: &Started,
+    frames: (&[u8], &[u8]),
+) -> Result<(), Stop> {
+    started.waits()?;
+    let mut slow = connect(rt, addr).map_err(stop_of)?;
+    let mut other = connect(rt, addr).map_err(stop_of)?;
+    let (gets, status) = frames;
+    slow.write_all(gets).map_err(stop_of)?;
+    let mut told = [0; 15];
+    slow.read_exact(&mut told).map_err(stop_of)?;
+    check(told == [0, 0, 0, 1, 0, 0, 0, 0, 1, 0, 0, 0, 0, 1, 0])?;
+    for _ in 0..3 {
+        other.write_all(status).map_err(stop_of)?;
+        check(told_lsn(alloc, &mut other)? == 1)?;
+    }
+    let mut reply = vec![in alloc; 0; PAGE_REPLY]?;
+    for _ in 0..GETS {
+        slow.read_exact(&mut reply).map_err(stop_of)?;
+        check(is_page(&reply))?;
+    }
+    Ok(())
+}
+
+// Serves both with one worker, over the desk of one database.
+fn serve_slow<R>(rt: &R, alloc: Global) -> Result<(), Stop>
+where
+    R: Net<Listener = TcpListener, Stream = TcpStream> + Threads + Wait + Sync + Copy + Drop,
+{
+    let (desks, passes) = Desks::new(alloc, *rt, one_db(alloc)?, 1, TURNS)?;
+    serve_both_at(rt, alloc, &desks, passes)
+}
+
+fn serve_both_at<R>(
+    rt: &R,
+    alloc: Global,
+    desks: &Desks<R>,
+    passes: Vec<Passes>,
+) -> Result<(), Stop>
+where
+    R: Net<Listener = TcpListener, Stream = TcpStream> + Threads + Wait + Sync + Drop,
+    requires own { All (AreOf desks.now) passes.items }
+{
+    let (gets, status) = (gets_of_page(alloc)?, status_frame(alloc)?);
+    let frames = (gets.as_slice(), status.as_slice());
+    let (listener, addr) = listen(rt)?;
+    let started = Started::new();
+    let started = &started;
+    let (served, are_told) = thread::join(
+        rt,
+        move || -> Served<Passes>
+            requires own { All (AreOf desks.now) passes.items }
+        {
+            if !started.begins() {
+                return unserved(passes);
+            }
+            let served = serve(rt, alloc, &listener, desks, passes, 2);
+            drop(listener);
+            served
+        },
+        || ask_beside_slow(rt, alloc, addr, started, frames),
+    );
+    check_served(&served, 2, 0, 1)?;
+    are_told
+}
+
+/// One worker, and a connection that asks for 16 MB of pages before it reads any: another one is answered
+/// meanwhile, and all pages come in the end.
+#[test]
+fn slow_reader_holds_nobody(rt: HostRuntime) {
+    let mut done = serve_slow(&rt, rt.alloc());
+    if matches!(done, Err(Stop::NoMemory)) && may_be_refused(&rt) {
+        done = serve_slow(&rt, rt.alloc());
+    }
+    assert!(&rt; done.is_ok());
+}
