@@ -11,6 +11,8 @@ mod database;
 #[cfg(test)]
 mod failovers;
 #[cfg(test)]
+mod many_requests;
+#[cfg(test)]
 mod offered_blocks;
 #[cfg(test)]
 mod one_database;
