@@ -3,11 +3,12 @@
 ghost use Rattle.std.specs.Prelude.{IfOk};
 ghost use Rattle.pl_conn.specs.Solo.{HasDatabases};
 
+use crate::connections::stop_of;
 use crate::memory::{Input, Output, Telling, check, ended_in_refusal};
 use pl_conn::{Cause, ConnFault, SoloPass, Source, converse};
 use pl_core::{Db, Limits};
 use std::alloc::Global;
-use std::io::{BufReader, Read};
+use std::io::{self, BufReader, ErrorKind, Read};
 use transcripts::table_text::table_named;
 use transcripts::transcript::Stop;
 
@@ -193,29 +194,50 @@ fn took_two<R: Source>(reader: &mut R) -> bool {
     true
 }
 
+// A buffered reader of four bytes, which is made again where memory is refused.
+fn buffered_on<'a>(
+    alloc: Global,
+    bytes: &'a [u8],
+    refused: &mut bool,
+) -> io::Result<BufReader<&'a [u8]>> {
+    let reader = BufReader::with_capacity(alloc, 4, bytes);
+    if reader.is_ok() {
+        return reader;
+    }
+    *refused = true;
+    BufReader::with_capacity(alloc, 4, bytes)
+}
+
+// Reads to the end, and goes on behind what was read where memory is refused. How many bytes come in all.
+fn read_on<R: Read>(reader: &mut R, rest: &mut Vec<u8>, refused: &mut bool) -> io::Result<usize> {
+    match reader.read_to_end(rest) {
+        Err(error) if error.kind() == ErrorKind::OutOfMemory && !*refused => {
+            *refused = true;
+            let before = rest.len();
+            Ok(reader.read_to_end(rest)?.saturating_add(before))
+        }
+        end => end,
+    }
+}
+
 // What is at hand at a buffered reader comes next, and is gone once it is taken.
 fn takes_at_hand(alloc: Global) -> Result<(), Stop> {
+    let mut refused = false;
     let bytes = [1, 2, 3, 4, 5, 6, 7];
-    let Ok(mut reader) = BufReader::with_capacity(alloc, 4, bytes.as_slice()) else {
-        return Err(Stop::NoMemory);
-    };
+    let mut reader = buffered_on(alloc, &bytes, &mut refused).map_err(stop_of)?;
     check(reader.at_hand().is_empty())?;
     let mut one = [0];
     check(matches!(reader.read(&mut one), Ok(1)) && one == [1])?;
     check(reader.at_hand() == [2, 3, 4].as_slice())?;
     check(took_two(&mut reader) && reader.at_hand() == [4].as_slice())?;
     let mut rest = Vec::new(alloc);
-    check(matches!(reader.read_to_end(&mut rest), Ok(4)))?;
+    check(matches!(read_on(&mut reader, &mut rest, &mut refused), Ok(4)))?;
     check(rest.as_slice() == [4, 5, 6, 7].as_slice() && reader.at_hand().is_empty())
 }
 
 #[test]
 fn bytes_at_hand_are_taken(rt: HostRuntime) {
-    let mut done = takes_at_hand(rt.alloc());
-    if matches!(done, Err(Stop::NoMemory)) {
-        done = takes_at_hand(rt.alloc());
-    }
-    assert!(&rt; done.is_ok());
+    assert!(&rt; takes_at_hand(rt.alloc()).is_ok());
 }
 
 // However few bytes come at once, and however many are at hand, the replies are the same.

@@ -2,8 +2,7 @@
 
 use pl_core::Db;
 use pl_play::{PlayFault, StartFault, play, start_db};
-use std::alloc::Global;
-use std::io::BufRead;
+use std::alloc::{AllocError, Global};
 use std::test::Fail;
 
 // Principal 2 may do what its role has.
@@ -14,42 +13,87 @@ token = \"22222222222222222222222222222222\"
 verdict = \"allow\"
 ";
 
-/// A database of which nothing was asked, with primary 2.
-pub(crate) fn fresh(alloc: Global) -> Result<Db, StartFault> {
+// A database of which nothing was asked, with primary 2.
+fn fresh(alloc: Global) -> Result<Db, StartFault> {
     start_db(alloc, TABLE.as_bytes(), 2, 65_536)
 }
 
-/// How `play` ended, and what it wrote.
-#[derive(Drop)]
-pub(crate) struct Outcome {
-    pub(crate) result: Result<u64, PlayFault>,
-    pub(crate) output: Vec<u8>,
+/// A database of which nothing was asked, with primary 2. It is made again where memory is refused, unless it was before.
+pub(crate) fn fresh_on(alloc: Global, refused: &mut bool) -> Result<Db, StartFault> {
+    let db = fresh(alloc);
+    if *refused || !matches!(db, Err(StartFault::NoMemory)) {
+        return db;
+    }
+    *refused = true;
+    fresh(alloc)
 }
 
-/// Plays the lines of the reader on such a database.
-pub(crate) fn run<R: BufRead>(alloc: Global, reader: &mut R) -> Result<Outcome, StartFault> {
-    let mut db = fresh(alloc)?;
-    let mut output = Vec::new(alloc);
-    let result = play(alloc, reader, &mut output, &mut db);
-    Ok(Outcome { result, output })
+/// An output with room for so many bytes, so that no write of `play` is refused memory: it would not tell that from a
+/// write that fails.
+pub(crate) fn room_on(
+    alloc: Global,
+    room: usize,
+    refused: &mut bool,
+) -> Result<Vec<u8>, AllocError> {
+    let output = Vec::with_capacity(alloc, room);
+    if *refused || output.is_ok() {
+        return output;
+    }
+    *refused = true;
+    Vec::with_capacity(alloc, room)
+}
+
+/// How many bytes the answer to an empty line has: `0a01` and a line feed.
+const ANSWER: usize = 5;
+
+/// How many empty lines are answered by these bytes.
+pub(crate) fn answered(output: &[u8]) -> usize {
+    output.len() / ANSWER
 }
 
 // An empty line, and one on which principal 2 as primary reports LSN 0.
 const LINES: &[u8] =
     b"\n0000000222222222222222222222222222222222010000000000000001030000000000000000\n";
 
-fn answers_all(alloc: Global) -> bool {
-    let mut lines = LINES;
-    match run(alloc, &mut lines) {
-        Ok(ran) => ran.result == Ok(2) && ran.output.as_slice() == b"0a01\n00\n".as_slice(),
-        Err(_) => false,
-    }
+// Plays the lines behind so many of them. How many it answered.
+fn play_behind(
+    alloc: Global,
+    lines: usize,
+    output: &mut Vec<u8>,
+    db: &mut Db,
+) -> Result<u64, PlayFault> {
+    let (_, mut left) = LINES.split_at(lines.min(LINES.len()));
+    play(alloc, &mut left, output, db)
 }
 
-// The second run meets no failed allocation, whichever one fails.
+// Whether memory was refused to it: it ended so, or the last reply says so.
+fn is_refused(end: &Result<u64, PlayFault>, output: &[u8]) -> bool {
+    *end == Err(PlayFault::NoMemory) || output.ends_with(b"\n06\n")
+}
+
+fn are_answers(output: &[u8]) -> bool {
+    *output == *b"0a01\n00\n".as_slice()
+}
+
+// Plays both lines. Where memory is refused, those that were not answered are played then, on the same database. The
+// report may have two entries then, since its step may have been taken where its answer was not written.
+fn answers_all(alloc: Global) -> Result<bool, Fail> {
+    let mut refused = false;
+    let mut db = fresh_on(alloc, &mut refused)?;
+    let mut output = room_on(alloc, 100, &mut refused)?;
+    let end = play_behind(alloc, 0, &mut output, &mut db);
+    if refused || !is_refused(&end, &output) {
+        return Ok(end == Ok(2) && are_answers(&output) && db.audit_len() == 1);
+    }
+    let behind = answered(&output).min(1);
+    output.truncate(behind * ANSWER);
+    let end = play_behind(alloc, behind, &mut output, &mut db);
+    let lines = if behind == 0 { 2 } else { 1 };
+    Ok(end == Ok(lines) && are_answers(&output) && matches!(db.audit_len(), 1 | 2))
+}
+
 #[test]
 fn one_failed_allocation(rt: HostRuntime) -> Result<(), Fail> {
-    let all = answers_all(rt.alloc()) || answers_all(rt.alloc());
-    assert!(rt; all);
+    assert!(rt; answers_all(rt.alloc())?);
     Ok(())
 }

@@ -1,8 +1,9 @@
 //! Reads that fail, and input that is not read to its end.
 
-use crate::plays::run;
-use pl_play::{FileFault, PlayFault, read_text};
-use std::alloc::Global;
+use crate::plays::{answered, fresh_on, room_on};
+use pl_core::Db;
+use pl_play::{FileFault, PlayFault, play, read_text};
+use std::alloc::{AllocError, Global};
 use std::io::{self, BufReader, ErrorKind, Read};
 use std::process::Abort;
 use std::test::Fail;
@@ -25,24 +26,78 @@ impl Read for Zeros {
     }
 }
 
-// So many empty lines and so many digits are read before a read fails.
+/// So many empty lines, and behind them so many digits of one more. Then each read fails.
+#[derive(Clone, Copy, Drop)]
+struct Given {
+    lines: usize,
+    digits: usize,
+}
+
+// So many empty lines.
+fn feeds(alloc: Global, lines: usize) -> Result<Vec<u8>, AllocError> {
+    vec![in alloc; b'\n'; lines]
+}
+
+// Plays the input on the database.
+fn play_given(
+    alloc: Global,
+    given: Given,
+    output: &mut Vec<u8>,
+    db: &mut Db,
+) -> Result<u64, PlayFault> {
+    let feeds = feeds(alloc, given.lines)?;
+    let input = feeds.as_slice().chain(Zeros { left: given.digits });
+    let Ok(mut reader) = BufReader::with_capacity(alloc, 1, input) else {
+        return Err(PlayFault::NoMemory);
+    };
+    play(alloc, &mut reader, output, db)
+}
+
+// The same. Where memory is refused, what was not answered is played then, on the same database. How it ended, and behind
+// how many lines.
+fn play_on(
+    alloc: Global,
+    given: Given,
+    output: &mut Vec<u8>,
+    db: &mut Db,
+    refused: &mut bool,
+) -> (Result<u64, PlayFault>, usize) {
+    let end = play_given(alloc, given, output, db);
+    if *refused || end != Err(PlayFault::NoMemory) {
+        return (end, given.lines);
+    }
+    *refused = true;
+    let left = Given {
+        lines: given.lines.saturating_sub(answered(output)),
+        ..given
+    };
+    (play_given(alloc, left, output, db), left.lines)
+}
+
+// So many empty lines and so many digits are read before a read fails, or the line of the digits is too long.
 fn stops_at(
     rt: &impl Abort,
     alloc: Global,
     lines: u16,
     digits: usize,
-    fault: PlayFault,
+    is_long: bool,
 ) -> Result<(), Fail> {
-    let feeds = vec![in alloc; b'\n'; usize::from(lines)]?;
-    let input = feeds.as_slice().chain(Zeros { left: digits });
-    let mut reader = BufReader::with_capacity(alloc, 1, input)?;
-    let ran = run(alloc, &mut reader)?;
+    let given = Given {
+        lines: usize::from(lines),
+        digits,
+    };
+    let mut refused = false;
+    let mut db = fresh_on(alloc, &mut refused)?;
+    let mut output = room_on(alloc, 5 * given.lines, &mut refused)?;
+    let (end, left) = play_on(alloc, given, &mut output, &mut db, &mut refused);
+    let fault = if is_long {
+        PlayFault::Long((left as u64).saturating_add(1))
+    } else {
+        PlayFault::Read
+    };
+    assert!(rt; end == Err(fault), "{lines} lines and {digits} digits");
     assert!(rt;
-        ran.result == Err(fault),
-        "{lines} lines and {digits} digits"
-    );
-    assert!(rt;
-        ran.output.len() == 5 * usize::from(lines),
+        output.len() == 5 * given.lines,
         "{lines} lines and {digits} digits"
     );
     Ok(())
@@ -51,8 +106,8 @@ fn stops_at(
 #[test]
 fn a_failed_read_ends_it(rt: HostRuntime) -> Result<(), Fail> {
     for lines in 0..4 {
-        stops_at(&rt, rt.alloc(), lines, 0, PlayFault::Read)?;
-        stops_at(&rt, rt.alloc(), lines, 3, PlayFault::Read)?;
+        stops_at(&rt, rt.alloc(), lines, 0, false)?;
+        stops_at(&rt, rt.alloc(), lines, 3, false)?;
     }
     Ok(())
 }
@@ -60,25 +115,56 @@ fn a_failed_read_ends_it(rt: HostRuntime) -> Result<(), Fail> {
 // The end of a line that is too long is not looked for.
 #[test]
 fn a_line_is_read_to_its_limit(rt: HostRuntime) -> Result<(), Fail> {
-    stops_at(&rt, rt.alloc(), 1, 131_072, PlayFault::Read)?;
-    stops_at(&rt, rt.alloc(), 1, 131_073, PlayFault::Long(2))
+    stops_at(&rt, rt.alloc(), 1, 131_072, false)?;
+    stops_at(&rt, rt.alloc(), 1, 131_073, true)
+}
+
+// Reads a text of so many zeros, behind which a read fails; and once more where memory is refused.
+fn text_on(alloc: Global, len: usize, refused: &mut bool) -> Result<Vec<u8>, FileFault> {
+    let read = read_text(alloc, Zeros { left: len });
+    if *refused || !matches!(read, Err(FileFault::NoMemory)) {
+        return read;
+    }
+    *refused = true;
+    read_text(alloc, Zeros { left: len })
 }
 
 #[test]
 fn a_text_is_read_to_its_limit(rt: HostRuntime) -> Result<(), Fail> {
-    let read = read_text(rt.alloc(), Zeros { left: 65_506 });
+    let mut refused = false;
+    let read = text_on(rt.alloc(), 65_506, &mut refused);
     assert!(rt; matches!(read, Err(FileFault::Read)));
-    let read = read_text(rt.alloc(), Zeros { left: 65_507 });
+    let read = text_on(rt.alloc(), 65_507, &mut refused);
     assert!(rt; matches!(read, Err(FileFault::Long)));
     Ok(())
 }
 
+// So many empty lines, which are made again where memory is refused.
+fn feeds_on(alloc: Global, lines: usize, refused: &mut bool) -> Result<Vec<u8>, AllocError> {
+    let made = feeds(alloc, lines);
+    if *refused || made.is_ok() {
+        return made;
+    }
+    *refused = true;
+    feeds(alloc, lines)
+}
+
 #[test]
 fn more_lines_than_the_audit_list_holds(rt: HostRuntime) -> Result<(), Fail> {
-    let feeds = vec![in rt.alloc(); b'\n'; 65_537]?;
+    let mut refused = false;
+    let feeds = feeds_on(rt.alloc(), 65_537, &mut refused)?;
+    let mut db = fresh_on(rt.alloc(), &mut refused)?;
+    let mut output = room_on(rt.alloc(), 327_685, &mut refused)?;
     let mut lines = feeds.as_slice();
-    let ran = run(rt.alloc(), &mut lines)?;
-    assert!(rt; ran.result == Ok(65_537));
-    assert!(rt; ran.output.len() == 327_685);
+    let mut end = play(rt.alloc(), &mut lines, &mut output, &mut db);
+    let mut wanted = 65_537;
+    // What was not answered is played behind a refusal.
+    if end == Err(PlayFault::NoMemory) && !refused {
+        let (_, mut left) = feeds.split_at(answered(&output).min(feeds.len()));
+        wanted = left.len() as u64;
+        end = play(rt.alloc(), &mut left, &mut output, &mut db);
+    }
+    assert!(rt; end == Ok(wanted));
+    assert!(rt; output.len() == 327_685);
     Ok(())
 }

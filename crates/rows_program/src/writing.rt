@@ -1,6 +1,6 @@
 //! Writes that fail or take a part.
 
-use crate::plays::fresh;
+use crate::plays::{answered, fresh_on};
 use pl_play::{PlayFault, play};
 use std::alloc::Global;
 use std::io::{self, ErrorKind, Write};
@@ -8,12 +8,21 @@ use std::process::Abort;
 use std::test::Fail;
 
 /// Takes at most `at_once` bytes a write. The write behind the first `before` fails, and those
-/// behind it do not.
+/// behind it do not. It needs no memory, and fails where it is full.
 #[derive(Drop)]
 struct Pipe {
-    held: Vec<u8>,
+    bytes: [u8; 16],
+    len: usize,
     at_once: usize,
     before: Option<usize>,
+}
+
+impl Pipe {
+    // What it took.
+    fn held(&self) -> &[u8] {
+        let (held, _) = self.bytes.split_at(self.len.min(16));
+        held
+    }
 }
 
 impl Write for Pipe {
@@ -26,14 +35,38 @@ impl Write for Pipe {
             Some(before) => self.before = Some(before - 1),
             None => {}
         }
+        let (_, room) = self.bytes.split_at_mut(self.len.min(16));
         let count = buf.len().min(self.at_once);
-        self.held.extend_from_slice(&buf[..count])?;
+        if count > room.len() {
+            return Err(io::Error::from(ErrorKind::WriteZero));
+        }
+        let (front, _) = room.split_at_mut(count);
+        let (now, _) = buf.split_at(count);
+        front.copy_from_slice(now);
+        self.len = self.len.saturating_add(count);
         Ok(count)
     }
 
     fn flush(&mut self) -> io::Result<()> {
         Ok(())
     }
+}
+
+const LINES: &[u8] = b"\n\n";
+
+// Plays the two empty lines. Where memory is refused, those that were not answered are played then, on the same database.
+// How it ended, and how many lines it was to answer.
+fn play_on(alloc: Global, pipe: &mut Pipe) -> Result<(Result<u64, PlayFault>, u64), Fail> {
+    let mut refused = false;
+    let mut db = fresh_on(alloc, &mut refused)?;
+    let mut lines = LINES;
+    let end = play(alloc, &mut lines, pipe, &mut db);
+    if refused || end != Err(PlayFault::NoMemory) {
+        return Ok((end, 2));
+    }
+    let (_, mut left) = LINES.split_at(answered(pipe.held()).min(2));
+    let count = left.len() as u64;
+    Ok((play(alloc, &mut left, pipe, &mut db), count))
 }
 
 // Two empty lines are answered by ten bytes: so many of them are held in the end.
@@ -45,24 +78,23 @@ fn holds(
     held: usize,
 ) -> Result<(), Fail> {
     let mut pipe = Pipe {
-        held: Vec::new(alloc),
+        bytes: [0; 16],
+        len: 0,
         at_once,
         before: Some(before),
     };
-    let mut lines = b"\n\n".as_slice();
-    let mut db = fresh(alloc)?;
-    let result = play(alloc, &mut lines, &mut pipe, &mut db);
+    let (result, count) = play_on(alloc, &mut pipe)?;
     let ended = if held == 10 {
-        Ok(2)
+        Ok(count)
     } else {
         Err(PlayFault::Write)
     };
     assert!(rt; result == ended, "{before} writes of {at_once} bytes");
     assert!(rt;
-        pipe.held.len() == held,
+        pipe.held().len() == held,
         "{before} writes of {at_once} bytes"
     );
-    assert!(rt; b"0a01\n0a01\n".starts_with(pipe.held.as_slice()));
+    assert!(rt; b"0a01\n0a01\n".starts_with(pipe.held()));
     Ok(())
 }
 
