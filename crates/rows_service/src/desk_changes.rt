@@ -1,6 +1,6 @@
 //! Desks that two threads call at once: what is so in the end whatever the schedule.
 
-ghost use Rattle.std.specs.Prelude.{◌≡◌, ◌≤◌, ◌^◌, IfOk};
+ghost use Rattle.std.specs.Prelude.{IfOk};
 ghost use Rattle.std.specs.List.{All};
 ghost use Rattle.pl_desk.specs.Passes.{IsOf};
 
@@ -31,13 +31,28 @@ struct Asked {
 #[derive(Clone, Copy, Drop)]
 struct Row {
     audit: u64,
-    turns: u64,
     /// What the first pass asks before the threads start.
     before: &'static str,
     first: Asked,
     second: Asked,
     /// What the first pass asks when it has met the second.
     after: &'static str,
+}
+
+// The words, with the block of the number.
+fn line_of(alloc: Global, words: &str, number: u64) -> Result<String, Stop> {
+    let block = format!(in alloc; "{number}:{number:02x}")?;
+    Ok(words.replace(alloc, "BLOCK", &block)?)
+}
+
+// The same, and once more where memory is refused.
+fn line_on(alloc: Global, words: &str, number: u64, refused: &mut bool) -> Result<String, Stop> {
+    let line = line_of(alloc, words, number);
+    if *refused || !matches!(line, Err(Stop::NoMemory)) {
+        return line;
+    }
+    *refused = true;
+    line_of(alloc, words, number)
 }
 
 // The answer to the words, with the block of the number.
@@ -53,8 +68,7 @@ fn ask_once(
     requires of { IsOf desk.now pass.old }
     ensures of { IsOf desk.now pass.new }
 {
-    let block = format!(in alloc; "{number}:{number:02x}")?;
-    let line = words.replace(alloc, "BLOCK", &block)?;
+    let line = line_on(alloc, words, number, refused)?;
     ask(rt, alloc, desk, pass, &line, refused)
 }
 
@@ -124,39 +138,16 @@ fn play_passes<R: Threads + Wait + Abort + Sync>(
 }
 
 // Plays a row. It returns how many answers of each thread are those up to the change, and the
-// database.
+// database. What memory is refused to, a request or the test itself, is asked again in its place.
 fn play_two<R: Threads + Wait + Abort + Sync>(
     rt: &R,
     alloc: Global,
     row: Row,
     refused: &mut bool,
-) -> Result<(u64, u64, Db), Stop>
-    requires some { 1 ≤ row.turns }
-    requires few { row.turns ≤ 2 ^ 62 }
-{
-    let (desk, passes) = desk_of(alloc, row.audit, 2, row.turns, refused)?;
+) -> Result<(u64, u64, Db), Stop> {
+    let (desk, passes) = desk_of(alloc, row.audit, 2, TURNS, refused)?;
     let (first, second, pass) = play_passes(rt, alloc, &desk, passes, row, refused)?;
     Ok((first, second, desk.close(pass).ok_or(Stop::Unread)?))
-}
-
-// The same. The row is played from its beginning, once, where memory was refused to the test itself; or to
-// the desk, of a row of a few turns, since a request that is asked again takes one more.
-fn play_again<R: Threads + Wait + Abort + Sync>(
-    rt: &R,
-    alloc: Global,
-    row: Row,
-) -> Result<(u64, u64, Db), Stop>
-    requires some { 1 ≤ row.turns }
-    requires few { row.turns ≤ 2 ^ 62 }
-{
-    let has_few = row.turns < TURNS;
-    let mut refused = has_few;
-    let ends = play_two(rt, alloc, row, &mut refused);
-    if matches!(ends, Err(Stop::NoMemory)) && refused == has_few {
-        refused = true;
-        return play_two(rt, alloc, row, &mut refused);
-    }
-    ends
 }
 
 // How many answers of both threads are those up to the change, and how many entries there are in the
@@ -165,17 +156,13 @@ fn ends_of<R: Threads + Wait + Abort + Sync>(
     rt: &R,
     alloc: Global,
     row: Row,
-) -> Result<(u64, u64), Stop>
-    requires some { 1 ≤ row.turns }
-    requires few { row.turns ≤ 2 ^ 62 }
-{
-    let (first, second, db) = play_again(rt, alloc, row)?;
+) -> Result<(u64, u64), Stop> {
+    let (first, second, db) = play_two(rt, alloc, row, &mut false)?;
     Ok((first.saturating_add(second), db.audit_len()))
 }
 
 const TWO_THREADS_TWO_COPIES: Row = Row {
     audit: 65_536,
-    turns: TURNS,
     before: "",
     first: Asked {
         times: 32,
@@ -201,7 +188,6 @@ fn two_threads_two_copies(rt: HostRuntime) {
 
 const FAILOVER_BENEATH_WRITES: Row = Row {
     audit: 65_536,
-    turns: TURNS,
     before: "",
     first: Asked {
         times: 64,
@@ -248,8 +234,24 @@ fn has_writes(alloc: Global, db: &mut Db, allowed: u64) -> Result<bool, Stop> {
     let request = request_of(alloc, 0, &words)?.ok_or(Stop::Unread)?;
     match db.step(1, request) {
         Reply::Entries { lines } => are_writes(alloc, lines.as_slice(), allowed),
-        _ => Err(Stop::NoMemory),
+        Reply::NoMemory => Err(Stop::NoMemory),
+        _ => Ok(false),
     }
+}
+
+// The same, and once more where memory is refused: the lines of the audits come behind these.
+fn has_writes_on(
+    alloc: Global,
+    db: &mut Db,
+    allowed: u64,
+    refused: &mut bool,
+) -> Result<bool, Stop> {
+    let has = has_writes(alloc, db, allowed);
+    if *refused || !matches!(has, Err(Stop::NoMemory)) {
+        return has;
+    }
+    *refused = true;
+    has_writes(alloc, db, allowed)
 }
 
 // Whether the audit list is as it has to be, and how many entries it has.
@@ -257,23 +259,23 @@ fn fail_over_beneath_writes<R: Threads + Wait + Abort + Sync>(
     rt: &R,
     alloc: Global,
 ) -> Result<(bool, u64), Stop> {
-    let (allowed, _, mut db) = play_again(rt, alloc, FAILOVER_BENEATH_WRITES)?;
+    let mut refused = false;
+    let (allowed, _, mut db) = play_two(rt, alloc, FAILOVER_BENEATH_WRITES, &mut refused)?;
     let entries = db.audit_len();
-    Ok((has_writes(alloc, &mut db, allowed)?, entries))
+    Ok((
+        has_writes_on(alloc, &mut db, allowed, &mut refused)?,
+        entries,
+    ))
 }
 
 #[test]
 fn failover_beneath_writes(rt: HostRuntime) {
-    let mut ends = fail_over_beneath_writes(&rt, rt.alloc());
-    if matches!(ends, Err(Stop::NoMemory)) {
-        ends = fail_over_beneath_writes(&rt, rt.alloc());
-    }
+    let ends = fail_over_beneath_writes(&rt, rt.alloc());
     assert!(&rt; matches!(ends, Ok((true, 66))));
 }
 
 const TABLE_BENEATH_PULLS: Row = Row {
     audit: 65_536,
-    turns: TURNS,
     before: HARDENS,
     first: Asked {
         times: 64,
@@ -302,7 +304,6 @@ const STATUSES: Asked = Asked {
 
 const AUDIT_LIMIT_BENEATH_THREADS: Row = Row {
     audit: 10,
-    turns: TURNS,
     before: "",
     first: STATUSES,
     second: STATUSES,
@@ -313,25 +314,4 @@ const AUDIT_LIMIT_BENEATH_THREADS: Row = Row {
 fn audit_limit_beneath_threads(rt: HostRuntime) {
     let ends = ends_of(&rt, rt.alloc(), AUDIT_LIMIT_BENEATH_THREADS);
     assert!(&rt; matches!(ends, Ok((10, 10))));
-}
-
-const STATUSES_UP_TO_SPENT: Asked = Asked {
-    times: 10,
-    words: "2 22 primary 1 status",
-    answers: ["Status 1 2 0 0 0", "Spent"],
-};
-
-const TURNS_BENEATH_THREADS: Row = Row {
-    audit: 65_536,
-    turns: 10,
-    before: "",
-    first: STATUSES_UP_TO_SPENT,
-    second: STATUSES_UP_TO_SPENT,
-    after: "2 22 primary 1 status = Spent",
-};
-
-#[test]
-fn turns_beneath_threads(rt: HostRuntime) {
-    let ends = ends_of(&rt, rt.alloc(), TURNS_BENEATH_THREADS);
-    assert!(&rt; matches!(ends, Ok((10, 10) | (11, 11))));
 }

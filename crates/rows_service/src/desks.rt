@@ -187,44 +187,19 @@ fn play_last<R: Wait + Abort>(
 
 // Plays a row of the pass of the last of this many seats, and returns its number and how many entries
 // there are in the end.
-fn play_alone<R: Wait + Abort>(
-    rt: &R,
-    alloc: Global,
-    seats: u32,
-    turns: u64,
-    row: &str,
-    refused: &mut bool,
-) -> Result<(u64, u64), Stop>
-    requires seats { 1 ≤ seats }
-    requires some { 1 ≤ turns }
-    requires few { turns ≤ 2 ^ 62 }
-{
-    let (desk, passes) = desk_of(alloc, 65_536, seats, turns, refused)?;
-    let (number, pass) = play_last(rt, alloc, &desk, passes, row, refused)?;
-    let db = desk.close(pass).ok_or(Stop::Unread)?;
-    Ok((number, db.audit_len()))
-}
-
-// The same. A row of a few turns is played from its beginning, once, where memory was refused: no request
-// of it is asked again, since each call takes a turn.
 fn ends_of<R: Wait + Abort>(
     rt: &R,
     alloc: Global,
     seats: u32,
-    turns: u64,
     row: &str,
+    refused: &mut bool,
 ) -> Result<(u64, u64), Stop>
     requires seats { 1 ≤ seats }
-    requires some { 1 ≤ turns }
-    requires few { turns ≤ 2 ^ 62 }
 {
-    let has_few = turns < TURNS;
-    let mut refused = has_few;
-    let ends = play_alone(rt, alloc, seats, turns, row, &mut refused);
-    if has_few && matches!(ends, Err(Stop::NoMemory)) {
-        return play_alone(rt, alloc, seats, turns, row, &mut refused);
-    }
-    ends
+    let (desk, passes) = desk_of(alloc, 65_536, seats, TURNS, refused)?;
+    let (number, pass) = play_last(rt, alloc, &desk, passes, row, refused)?;
+    let db = desk.close(pass).ok_or(Stop::Unread)?;
+    Ok((number, db.audit_len()))
 }
 
 const DESK_OF_ONE_SEAT: &str = "\
@@ -236,14 +211,14 @@ const DESK_OF_ONE_SEAT: &str = "\
 
 #[test]
 fn desk_of_one_seat(rt: HostRuntime) {
-    let ends = ends_of(&rt, rt.alloc(), 1, TURNS, DESK_OF_ONE_SEAT);
+    let ends = ends_of(&rt, rt.alloc(), 1, DESK_OF_ONE_SEAT, &mut false);
     assert!(&rt; matches!(ends, Ok((1, 4))));
 }
 
 /// A desk of 65 seats, called through the last of them, and closed.
 #[test]
 fn desk_of_65_seats(rt: HostRuntime) {
-    let ends = ends_of(&rt, rt.alloc(), 65, TURNS, DESK_OF_ONE_SEAT);
+    let ends = ends_of(&rt, rt.alloc(), 65, DESK_OF_ONE_SEAT, &mut false);
     assert!(&rt; matches!(ends, Ok((65, 4))));
 }
 
@@ -261,11 +236,15 @@ fn ends_of_statuses<R: Wait + Abort>(
     alloc: Global,
     count: u32,
 ) -> Result<(u64, u64), Stop> {
+    let mut refused = false;
     let row = match statuses(alloc, count) {
         Ok(row) => row,
-        Err(_) => statuses(alloc, count)?,
+        Err(_) => {
+            refused = true;
+            statuses(alloc, count)?
+        }
     };
-    ends_of(rt, alloc, 1, TURNS, &row)
+    ends_of(rt, alloc, 1, &row, &mut refused)
 }
 
 /// A desk gives its database back however many calls it had.
@@ -273,18 +252,6 @@ fn ends_of_statuses<R: Wait + Abort>(
 fn desk_closes_after_many_calls(rt: HostRuntime) {
     let ends = ends_of_statuses(&rt, rt.alloc(), 1_100);
     assert!(&rt; matches!(ends, Ok((1, 1_100))));
-}
-
-const TURNS_RUN_OUT: &str = "\
-2 22 primary 1 status = Status 1 2 0 0 0
-2 22 primary 1 status = Status 1 2 0 0 0
-2 22 primary 1 status = Spent
-";
-
-#[test]
-fn turns_run_out(rt: HostRuntime) {
-    let ends = ends_of(&rt, rt.alloc(), 1, 2, TURNS_RUN_OUT);
-    assert!(&rt; matches!(ends, Ok((1, 2))));
 }
 
 /// A block is hardened.

@@ -11,6 +11,8 @@ mod desk_changes;
 #[cfg(test)]
 mod desks;
 #[cfg(test)]
+mod few_turns;
+#[cfg(test)]
 mod frames;
 #[cfg(test)]
 mod framing;

@@ -1,0 +1,171 @@
+//! Desks of few turns: each call takes one, also one that is refused memory, so that none is asked again.
+
+ghost use Rattle.std.specs.Prelude.{IfOk};
+ghost use Rattle.std.specs.List.{All};
+ghost use Rattle.pl_desk.specs.Passes.{IsOf};
+
+use crate::desks::{desk_of, last_of};
+use pl_core::Reply;
+use pl_desk::{Desk, Pass};
+use pl_table::{Act, Request};
+use std::alloc::Global;
+use std::sync::Wait;
+use std::thread;
+use std::thread::Threads;
+use transcripts::asking::head_of;
+use transcripts::transcript::Stop;
+
+/// What became of calls: so many were answered, so many were refused memory, and so many had no turn.
+#[derive(Clone, Copy, Drop)]
+struct Calls {
+    answered: u64,
+    refused: u64,
+    spent: u64,
+}
+
+impl Calls {
+    // Counts the reply to one more status. One call of a test may be refused memory, and none has a turn behind one that
+    // had none.
+    fn count(&mut self, reply: &Reply, refused: &mut bool) -> Result<(), Stop> {
+        match reply {
+            Reply::Spent => self.spent = self.spent.saturating_add(1),
+            Reply::NoMemory if self.spent == 0 && !*refused => {
+                *refused = true;
+                self.refused = 1;
+            }
+            Reply::Status {
+                epoch: 1,
+                primary: 2,
+                hard: 0,
+                pending: 0,
+                landing: 0,
+            } if self.spent == 0 => self.answered = self.answered.saturating_add(1),
+            _ => return Err(Stop::Changed),
+        }
+        Ok(())
+    }
+}
+
+// A status, which needs no memory.
+fn status() -> Result<Request, Stop> {
+    let head = head_of(0, ["2", "22", "primary", "1"])?;
+    Request::new(head, Act::Status).ok_or(Stop::Unread)
+}
+
+// Asks for so many statuses.
+fn call_each(
+    rt: &impl Wait,
+    desk: &Desk,
+    pass: &mut Pass,
+    times: u64,
+    refused: &mut bool,
+) -> Result<Calls, Stop>
+    requires of { IsOf desk.now pass.old }
+    ensures of { IsOf desk.now pass.new }
+{
+    let mut calls = Calls {
+        answered: 0,
+        refused: 0,
+        spent: 0,
+    };
+    for _ in 0..times {
+        let reply = desk.call(rt, pass, status()?);
+        calls.count(&reply, refused)?;
+    }
+    Ok(calls)
+}
+
+// The same by the last of the passes.
+fn call_by_last(
+    rt: &impl Wait,
+    desk: &Desk,
+    mut passes: Vec<Pass>,
+    times: u64,
+    refused: &mut bool,
+) -> Result<(Calls, Pass), Stop>
+    requires of { All (IsOf desk.now) passes.items }
+    ensures of { IfOk result (λ ends. IsOf desk.now ends.1) }
+{
+    let mut pass = last_of(desk, &mut passes)?;
+    let calls = call_each(rt, desk, &mut pass, times, refused)?;
+    Ok((calls, pass))
+}
+
+// Asks a desk of two turns for three statuses, and how many entries there are in the end.
+fn spend_two(rt: &impl Wait, alloc: Global) -> Result<(Calls, u64), Stop> {
+    let mut refused = false;
+    let (desk, passes) = desk_of(alloc, 65_536, 1, 2, &mut refused)?;
+    let (calls, pass) = call_by_last(rt, &desk, passes, 3, &mut refused)?;
+    let db = desk.close(pass).ok_or(Stop::Unread)?;
+    Ok((calls, db.audit_len()))
+}
+
+// Two calls have a turn, and the third has none. An entry is what was answered.
+fn are_two(calls: Calls, entries: u64) -> bool {
+    let turns = calls.answered.saturating_add(calls.refused);
+    turns == 2 && calls.spent == 1 && entries == calls.answered
+}
+
+#[test]
+fn turns_run_out(rt: HostRuntime) {
+    let ends = spend_two(&rt, rt.alloc());
+    assert!(&rt; matches!(ends, Ok((calls, entries)) if are_two(calls, entries)));
+}
+
+// The first pass takes in the second.
+fn meet(desk: &Desk, pass: &mut Pass, other: Pass)
+    requires of { IsOf desk.now pass.old }
+    requires other { IsOf desk.now other }
+    ensures of { IsOf desk.now pass.new }
+{
+    desk.meet(pass, other);
+}
+
+// Two threads ask for ten statuses each, and their passes meet. Then the turns are spent.
+fn call_by_two<R: Threads + Wait + Sync>(
+    rt: &R,
+    desk: &Desk,
+    mut passes: Vec<Pass>,
+    refused: bool,
+) -> Result<(Calls, Calls, Pass), Stop>
+    requires of { All (IsOf desk.now) passes.items }
+    ensures of { IfOk result (λ ends. IsOf desk.now ends.2) }
+{
+    let mut q = last_of(desk, &mut passes)?;
+    let mut p = last_of(desk, &mut passes)?;
+    let (mut by_first, mut by_second) = (refused, refused);
+    let (first, second) = thread::join_mut(
+        rt,
+        &mut || call_each(rt, desk, &mut p, 10, &mut by_first),
+        &mut || call_each(rt, desk, &mut q, 10, &mut by_second),
+    );
+    let (first, second) = (first?, second?);
+    meet(desk, &mut p, q);
+    let behind = call_each(rt, desk, &mut p, 1, &mut by_first)?;
+    if behind.spent != 1 {
+        return Err(Stop::Changed);
+    }
+    Ok((first, second, p))
+}
+
+fn spend_ten<R: Threads + Wait + Sync>(rt: &R, alloc: Global) -> Result<(Calls, Calls, u64), Stop> {
+    let mut refused = false;
+    let (desk, passes) = desk_of(alloc, 65_536, 2, 10, &mut refused)?;
+    let (first, second, pass) = call_by_two(rt, &desk, passes, refused)?;
+    let db = desk.close(pass).ok_or(Stop::Unread)?;
+    Ok((first, second, db.audit_len()))
+}
+
+// Ten or eleven calls have a turn, and the others have none. An entry is what was answered.
+fn are_ten(first: Calls, second: Calls, entries: u64) -> bool {
+    let answered = first.answered.saturating_add(second.answered);
+    let refused = first.refused.saturating_add(second.refused);
+    let turns = answered.saturating_add(refused);
+    refused <= 1 && (turns == 10 || turns == 11) && entries == answered
+}
+
+#[test]
+fn turns_beneath_threads(rt: HostRuntime) {
+    let ends = spend_ten(&rt, rt.alloc());
+    assert!(&rt; matches!(ends, Ok((first, second, entries)) if are_ten(first, second, entries)));
+}
