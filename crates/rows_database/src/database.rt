@@ -23,8 +23,12 @@ const PASSES: [u64; 3] = [1, 0, 18_446_744_073_709_551_615];
 pub(crate) struct Database {
     pub(crate) alloc: Global,
     db: Option<Db>,
-    /// The words of the requests of the next run, each with how many requests were made before it.
+    /// The words that it was opened with.
+    opened: String,
+    /// The words of the requests of the runs, each with how many requests were made before it.
     queue: Vec<(usize, String)>,
+    /// How many of these were in a run. The others are for the next one.
+    ran: usize,
     /// How many requests were made, each once.
     asked: usize,
 }
@@ -85,7 +89,10 @@ impl Database {
             return Err(Stop::Unread);
         };
         let limits = limits_of(audit, chunks)?;
-        push_word(out, self.open(table, primary.parse()?, limits)?)
+        let opened = text_of(self.alloc, words)?;
+        push_word(out, self.open(table, primary.parse()?, limits)?)?;
+        self.opened = opened;
+        Ok(())
     }
 
     fn db(&self) -> Result<&Db, Stop> {
@@ -129,28 +136,32 @@ impl Database {
         self.step(asked)
     }
 
-    // Puts the words of a request into the queue, and pushes how many there are.
+    // Puts the words of a request into the queue, and pushes how many the next run has.
     fn queue(&mut self, words: &[&str], out: &mut String) -> Result<(), Stop> {
-        let mut text = String::new(self.alloc);
-        for word in words {
-            push_word(&mut text, word)?;
-        }
+        let text = text_of(self.alloc, words)?;
         self.queue.push((self.asked, text))?;
         self.asked = self.asked.wrapping_add(1);
-        push_numbers(out, &[self.queue.len() as u64])
+        let (_, waiting) = self.queues();
+        push_numbers(out, &[waiting.len() as u64])
     }
 
-    // The requests of the queue, each with its pass.
+    // The requests of the runs before, and those of the next run.
+    fn queues(&self) -> (&[(usize, String)], &[(usize, String)]) {
+        self.queue.split_at(self.ran.min(self.queue.len()))
+    }
+
+    // The requests of the next run, each with its pass.
     fn queued(&self) -> Result<Vec<(u64, Request)>, Stop> {
+        let (_, waiting) = self.queues();
         let mut requests = Vec::new(self.alloc);
-        for (asked, text) in &self.queue {
+        for (asked, text) in waiting {
             requests.push(queued_of(self.alloc, *asked, text)?)?;
         }
         Ok(requests)
     }
 
     // Pushes the replies to the requests of the queue, in one run. Where memory is refused to the run,
-    // no step was taken, and the queue is as it was.
+    // no step was taken, and the queue is as it was. One step of it may be refused memory.
     fn run(&mut self, out: &mut String, refused: &mut bool) -> Result<(), Stop> {
         let requests = self.queued()?;
         let db = self.db.as_mut().ok_or(Stop::Unread)?;
@@ -159,9 +170,58 @@ impl Database {
             let same = short_of(db) == before;
             return Err(if same { Stop::NoMemory } else { Stop::Changed });
         };
-        self.queue.clear();
         let (entries, _, _) = before;
-        push_replies(out, &replies, db.audit_len().wrapping_sub(entries), refused)
+        if db.audit_len().wrapping_sub(entries) != entered_by(&replies) {
+            return Err(Stop::Changed);
+        }
+        if !*refused && replies.iter().any(is_refused) {
+            *refused = true;
+            return Err(self.amid(&replies)?);
+        }
+        self.ran = self.queue.len();
+        push_replies(out, &replies)
+    }
+
+    // What it is that a step of the run was refused memory: the others have to be as if it had not been asked. That is
+    // seen where all that was asked was in runs.
+    fn amid(&self, replies: &[Reply]) -> Result<Stop, Stop> {
+        if self.asked != self.queue.len() {
+            return Ok(Stop::Amid);
+        }
+        let (ran, waiting) = self.queues();
+        let mut twin = self.opened_again()?;
+        for queued in ran {
+            twin.step_queued(queued)?;
+        }
+        let is_same = twin.steps_as(waiting, replies)?
+            && short_of(twin.db()?) == short_of(self.db()?);
+        Ok(if is_same { Stop::Amid } else { Stop::Changed })
+    }
+
+    // Another database, opened with the same words.
+    fn opened_again(&self) -> Result<Database, Stop> {
+        let mut twin: Database = Subject::new(self.alloc);
+        let words: Vec<&str> = self.opened.split_whitespace().collect(self.alloc)?;
+        twin.push_open(&words, &mut String::new(self.alloc))?;
+        Ok(twin)
+    }
+
+    // Takes a request of the queue as a step of its own.
+    fn step_queued(&mut self, queued: &(usize, String)) -> Result<Reply, Stop> {
+        let (asked, text) = queued;
+        let (pass, request) = queued_of(self.alloc, *asked, text)?;
+        let db = self.db.as_mut().ok_or(Stop::Unread)?;
+        Ok(db.step(pass, request))
+    }
+
+    // Takes those of the requests that were not refused memory, each as a step of its own. Whether they are replied so.
+    fn steps_as(&mut self, queued: &[(usize, String)], replies: &[Reply]) -> Result<bool, Stop> {
+        for (queued, reply) in queued.iter().zip(replies) {
+            if !is_refused(reply) && !is_told(self.alloc, &self.step_queued(queued)?, reply)? {
+                return Ok(false);
+            }
+        }
+        Ok(true)
     }
 
     // Pushes the bytes of the reply to the request that the bytes spell.
@@ -230,6 +290,15 @@ impl Database {
     }
 }
 
+// The words, as one text.
+fn text_of(alloc: Global, words: &[&str]) -> Result<String, Stop> {
+    let mut text = String::new(alloc);
+    for word in words {
+        push_word(&mut text, word)?;
+    }
+    Ok(text)
+}
+
 // The request of the words that were put into the queue behind so many requests, and its pass.
 fn queued_of(alloc: Global, asked: usize, text: &str) -> Result<(u64, Request), Stop> {
     let words: Vec<&str> = text.split_whitespace().collect(alloc)?;
@@ -268,22 +337,23 @@ fn is_entered(reply: &Reply) -> bool {
     )
 }
 
-// Pushes the replies of a run that has made so many entries. One step of it may be refused memory.
-fn push_replies(
-    out: &mut String,
-    replies: &[Reply],
-    entries: u64,
-    refused: &mut bool,
-) -> Result<(), Stop> {
-    let entered = replies.iter().filter(|reply| is_entered(reply)).count();
-    if entered as u64 != entries {
-        return Err(Stop::Changed);
-    }
-    let amid = replies.iter().any(|reply| matches!(reply, Reply::NoMemory));
-    if amid && !*refused {
-        *refused = true;
-        return Err(Stop::Amid);
-    }
+// Whether the reply is that memory was refused.
+fn is_refused(reply: &Reply) -> bool {
+    matches!(reply, Reply::NoMemory)
+}
+
+// Whether both replies have the same bytes.
+fn is_told(alloc: Global, told: &Reply, wanted: &Reply) -> Result<bool, Stop> {
+    Ok(encoded(alloc, told)? == encoded(alloc, wanted)?)
+}
+
+// How many entries the requests made that were replied so.
+fn entered_by(replies: &[Reply]) -> u64 {
+    replies.iter().filter(|reply| is_entered(reply)).count() as u64
+}
+
+// Pushes the replies of a run.
+fn push_replies(out: &mut String, replies: &[Reply]) -> Result<(), Stop> {
     for reply in replies {
         push_reply(out, reply)?;
         pushed(out.push(';'))?;
@@ -310,7 +380,9 @@ impl Subject for Database {
         Database {
             alloc,
             db: None,
+            opened: String::new(alloc),
             queue: Vec::new(alloc),
+            ran: 0,
             asked: 0,
         }
     }
