@@ -86,7 +86,7 @@ fn answers_all(alloc: Global) -> Result<bool, Fail> {
         return Ok(end == Ok(2) && are_answers(&output) && db.audit_len() == 1);
     }
     let behind = answered(&output).min(1);
-    output.truncate(behind * ANSWER);
+    output.truncate(if behind == 0 { 0 } else { ANSWER });
     let end = play_behind(alloc, behind, &mut output, &mut db);
     let lines = if behind == 0 { 2 } else { 1 };
     Ok(end == Ok(lines) && are_answers(&output) && matches!(db.audit_len(), 1 | 2))

@@ -88,7 +88,7 @@ fn stops_at(
     };
     let mut refused = false;
     let mut db = fresh_on(alloc, &mut refused)?;
-    let mut output = room_on(alloc, 5 * given.lines, &mut refused)?;
+    let mut output = room_on(alloc, 5 * usize::from(lines), &mut refused)?;
     let (end, left) = play_on(alloc, given, &mut output, &mut db, &mut refused);
     let fault = if is_long {
         PlayFault::Long((left as u64).saturating_add(1))
@@ -97,7 +97,7 @@ fn stops_at(
     };
     assert!(rt; end == Err(fault), "{lines} lines and {digits} digits");
     assert!(rt;
-        output.len() == 5 * given.lines,
+        output.len() == 5 * usize::from(lines),
         "{lines} lines and {digits} digits"
     );
     Ok(())

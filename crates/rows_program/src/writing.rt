@@ -64,7 +64,7 @@ fn play_on(alloc: Global, pipe: &mut Pipe) -> Result<(Result<u64, PlayFault>, u6
     if refused || end != Err(PlayFault::NoMemory) {
         return Ok((end, 2));
     }
-    let (_, mut left) = LINES.split_at(answered(pipe.held()).min(2));
+    let (_, mut left) = LINES.split_at(answered(pipe.held()).min(LINES.len()));
     let count = left.len() as u64;
     Ok((play(alloc, &mut left, pipe, &mut db), count))
 }
