@@ -9,7 +9,6 @@ use crate::memory::may_be_refused;
 use crate::talking::{TURNS, one_db};
 use pl_conn::{Desks, Passes, Served, Solo, SoloPass, Stop as Stopped, serve};
 use std::alloc::Global;
-use std::env::Env;
 use std::io::{Read, Write};
 use std::net::{Net, SocketAddr, TcpListener, TcpStream};
 use std::sync::Wait;
@@ -44,7 +43,7 @@ const TURNS_OF_RUN: [Part; 4] = [
 const PULL: Part = ((160, 208), (3, 4));
 
 /// The stored run and its replies, and the clients; without them one client asks again and again. Whether memory was
-/// refused before.
+/// refused before, or cannot be.
 #[derive(Clone, Copy, Drop)]
 struct Asked<'a> {
     frames: &'a [u8],
@@ -289,10 +288,10 @@ fn serve_on<R>(
     refused: &mut bool,
 ) -> Result<(), Stop>
 where
-    R: Net<Listener = TcpListener, Stream = TcpStream> + Threads + Wait + Env + Sync + Copy + Drop,
+    R: Net<Listener = TcpListener, Stream = TcpStream> + Threads + Wait + Sync + Copy + Drop,
 {
     let done = serve_in_turn(rt, alloc, clients, faults, refused);
-    if *refused || !matches!(done, Err(Stop::NoMemory)) || !may_be_refused(rt) {
+    if *refused || !matches!(done, Err(Stop::NoMemory)) {
         return done;
     }
     *refused = true;
@@ -302,13 +301,14 @@ where
 /// A client that reads the reply to each frame before it writes the next one, on one connection.
 #[test]
 fn asks_and_asks_again(rt: HostRuntime) {
-    let done = serve_on(&rt, rt.alloc(), None, 0, &mut false);
+    let mut refused = !may_be_refused(&rt);
+    let done = serve_on(&rt, rt.alloc(), None, 0, &mut refused);
     assert!(&rt; done.is_ok());
 }
 
 #[test]
 fn serve_two_clients(rt: HostRuntime) {
-    let mut refused = false;
+    let mut refused = !may_be_refused(&rt);
     for (clients, faults) in CLIENTS {
         let done = serve_on(&rt, rt.alloc(), Some(clients), faults, &mut refused);
         assert!(&rt; done.is_ok());
