@@ -68,7 +68,7 @@ impl Asked<'_> {
     }
 }
 
-/// Whether the clients were told what they want, and whether one of them went on behind a refusal.
+/// Whether the clients were told what they want, and whether one of them went on after a refusal.
 #[derive(Drop)]
 struct Told {
     end: Result<(), Stop>,
@@ -93,7 +93,7 @@ fn next_reply<'a>(stream: &mut TcpStream, bytes: &'a mut [u8; 64]) -> Result<&'a
         .ok_or(Stop::Changed)
 }
 
-// Reads these replies, each of which has to be that of the run, up to one that tells a refusal: its number. Those behind
+// Reads these replies, each of which has to be that of the run, up to one that tells a refusal: its number. Those after
 // it are read too.
 fn first_refused(
     stream: &mut TcpStream,
@@ -122,7 +122,7 @@ fn ask_once(stream: &mut TcpStream, asked: &Asked<'_>, part: Part) -> Result<Opt
     first_refused(stream, asked, replies)
 }
 
-// The same, and behind a refusal once more: the pull alone where it was refused, and otherwise all, since nothing is
+// The same, and after a refusal once more: the pull alone where it was refused, and otherwise all, since nothing is
 // hardened without the writes and the report.
 fn ask_on(
     stream: &mut TcpStream,

@@ -47,7 +47,7 @@ pub(crate) fn listen<R: Net<Listener = TcpListener, Stream = TcpStream>>(
     Ok((listener, addr))
 }
 
-/// So many connections were accepted, and so many ended in a fault, with a pass of each worker. A stop
+/// This many connections were accepted, and this many ended in a fault, with a pass of each worker. A stop
 /// that tells a refusal is one; and so are more faults, or fewer passes, since these tell no cause: who
 /// asks plays the test once more for them only where memory may be refused.
 pub(crate) fn check_served<P>(
@@ -78,7 +78,7 @@ impl Started {
     }
 
     /// For the service: whether its client has not given up. Where no thread could be started the service
-    /// begins behind its client.
+    /// begins after its client.
     pub(crate) fn begins(&self) -> bool {
         self.word.swap(1, Ordering::SeqCst) == 0
     }

@@ -82,7 +82,7 @@ fn talk(alloc: Global, input: Input<'_>, at_once: usize, room: usize) -> Result<
     })
 }
 
-// How many of these places are reached with so many bytes.
+// How many of these places are reached with this many bytes.
 pub(crate) fn whole(ends: &[usize], count: usize) -> u64 {
     let mut whole: u64 = 0;
     for end in ends {
@@ -141,7 +141,7 @@ fn converse_over_broken_frames(rt: HostRuntime) {
     assert!(&rt; done.is_ok());
 }
 
-// A frame whose body is so many zeros, with this length before it.
+// A frame whose body is this many zeros, with this length before it.
 fn zeros_behind(alloc: Global, length: [u8; 4], count: usize) -> Result<Vec<u8>, Stop> {
     let mut frame = Vec::with_capacity(alloc, 4 + count.min(100_000))?;
     frame.extend_from_slice(&length)?;
@@ -208,7 +208,7 @@ fn buffered_on<'a>(
     BufReader::with_capacity(alloc, 4, bytes)
 }
 
-// Reads to the end, and goes on behind what was read where memory is refused. How many bytes come in all.
+// Reads to the end, and goes on after what was read where memory is refused. How many bytes come in all.
 fn read_on<R: Read>(reader: &mut R, rest: &mut Vec<u8>, refused: &mut bool) -> io::Result<usize> {
     match reader.read_to_end(rest) {
         Err(error) if error.kind() == ErrorKind::OutOfMemory && !*refused => {
@@ -266,7 +266,7 @@ fn converse_any_cut(rt: HostRuntime) {
     assert!(&rt; done.is_ok());
 }
 
-// Where the input has so many bytes and then ends, or fails.
+// Where the input has this many bytes and then ends, or fails.
 fn cut_input(
     alloc: Global,
     frames: &[u8],
@@ -315,7 +315,7 @@ fn input_cut_anywhere(rt: HostRuntime) {
     assert!(&rt; done.is_ok());
 }
 
-// Where the writer takes so many bytes in all, and then fails.
+// Where the writer takes this many bytes in all, and then fails.
 fn cut_output(
     alloc: Global,
     frames: &[u8],
@@ -347,8 +347,8 @@ fn cut_output(
 }
 
 // The frames come one after the other, so that each reply is written before the next one is read, and
-// one step was taken behind those that are answered; or all at once, so that the replies go out
-// together, behind all of the steps.
+// one step was taken after those that are answered; or all at once, so that the replies go out
+// together, after all of the steps.
 fn cut_outputs(alloc: Global) -> Result<(), Stop> {
     let frames = hex::decode(alloc, FRAMES)?;
     let replies = hex::decode(alloc, REPLIES)?;

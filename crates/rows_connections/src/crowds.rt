@@ -34,7 +34,7 @@ const WORKERS: usize = 64;
 /// How many connections are open at the same time, one for each worker.
 const AT_ONCE: usize = 64;
 
-/// How many there are behind those: four threads have so many each, one after the other.
+/// How many there are after those: four threads have this many each, one after the other.
 const IN_TURN: u32 = 59;
 
 const CONNECTIONS: u32 = 300;
@@ -150,7 +150,7 @@ fn asks_in_turn<R: Net<Stream = TcpStream>>(rt: &R, addr: SocketAddr) -> Result<
     Ok(are_answered)
 }
 
-// So many connections, which are open at the same time. Each has asked before the first is closed, and
+// This many connections, which are open at the same time. Each has asked before the first is closed, and
 // has read its reply, from the last to the first.
 fn asks_at_once<R: Net<Stream = TcpStream>>(
     rt: &R,
@@ -213,7 +213,7 @@ fn check_passes(passes: &[u64]) -> Result<(), Stop> {
     check(passes.len() == WORKERS && calls == u64::from(CONNECTIONS))
 }
 
-// Serves the connections with so many workers.
+// Serves the connections with this many workers.
 fn serve_crowd<R: Net<Listener = TcpListener, Stream = TcpStream> + Threads + Wait + Sync>(
     rt: &R,
     alloc: Global,

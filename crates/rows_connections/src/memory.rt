@@ -62,10 +62,10 @@ impl Source for Input<'_> {
     }
 }
 
-/// A writer that takes a few bytes at once, and so many in all.
+/// A writer that takes a few bytes at once, and this many in all.
 #[derive(Drop)]
 pub(crate) struct Output {
-    /// What it took, and behind it what it did not take of the write that failed.
+    /// What it took, and after it what it did not take of the write that failed.
     text: Vec<u8>,
     taken: usize,
     at_once: usize,

@@ -54,7 +54,7 @@ impl Write for Told {
     }
 }
 
-/// The stored run, and the conversation that may come behind a refusal.
+/// The stored run, and the conversation that may come after a refusal.
 #[derive(Clone, Copy, Drop)]
 struct Run<'a> {
     frames: &'a [u8],
@@ -91,7 +91,7 @@ const REFUSED: [(&str, Again); 4] = [
     ),
 ];
 
-/// What is asked once more where the conversation ended with so many replies: all frames behind these. The
+/// What is asked once more where the conversation ended with this many replies: all frames after these. The
 /// next one may have had its step.
 const ENDED: [Again; 5] = [
     ((0, 0, 0), 0, (4, 5)),
@@ -159,7 +159,7 @@ fn again_of(
     }
 }
 
-// What is asked once more behind a reply NoMemory.
+// What is asked once more after a reply NoMemory.
 fn again_behind(told: &[u8]) -> Result<Again, Stop> {
     for (words, again) in REFUSED {
         if are_bytes(told, words) {
@@ -169,7 +169,7 @@ fn again_behind(told: &[u8]) -> Result<Again, Stop> {
     Err(Stop::Changed)
 }
 
-// What is asked once more where it ended with so many replies, which are those of the run.
+// What is asked once more where it ended with this many replies, which are those of the run.
 fn again_from(answered: u64, told: &[u8], run: Run<'_>) -> Result<Again, Stop> {
     let again = *ENDED.get(answered as usize).ok_or(Stop::Changed)?;
     let (_, replied, _) = again;
@@ -236,7 +236,7 @@ fn goes_on_at_desk<R: Wait + Drop>(rt: R, alloc: Global, run: Run<'_>) -> Result
     goes_on_with_last(alloc, run, &desks, passes)
 }
 
-// Both, over frames that come so many bytes at once. How many of them met a refusal.
+// Both, over frames that come this many bytes at once. How many of them met a refusal.
 fn goes_on_twice<R: Wait + Drop>(rt: R, alloc: Global, at_once: usize) -> Result<u64, Stop> {
     let (frames, replies) = (hex::decode(alloc, FRAMES)?, hex::decode(alloc, REPLIES)?);
     let run = Run {
@@ -262,7 +262,7 @@ fn goes_on_in_pieces<R: Wait + Drop + Copy>(
 }
 
 /// The frames of the stored run are all at hand. A refusal is replied NoMemory, or ends the conversation
-/// behind the frames that it answered; what was not answered is asked once more.
+/// after the frames that it answered; what was not answered is asked once more.
 #[test]
 fn stored_run_goes_on(rt: HostRuntime) {
     let alloc = rt.alloc();

@@ -9,7 +9,7 @@ use std::alloc::Global;
 use std::io::{self, ErrorKind, Read, Write};
 use transcripts::transcript::Stop;
 
-/// A reader that gives the bytes that came. Behind them it would wait, or the input ends.
+/// A reader that gives the bytes that came. After them it would wait, or the input ends.
 #[derive(Drop)]
 struct Coming<'a> {
     left: &'a [u8],
@@ -27,7 +27,7 @@ impl<'a> Coming<'a> {
         }
     }
 
-    // So many more bytes come, as far as there are any.
+    // This many more bytes come, as far as there are any.
     fn come(&mut self, count: usize) {
         self.came = self.came.saturating_add(count).min(self.left.len());
     }
@@ -48,7 +48,7 @@ impl Read for Coming<'_> {
     }
 }
 
-/// A writer that has room for so many bytes, and behind them would wait.
+/// A writer that has room for this many bytes, and after them would wait.
 #[derive(Drop)]
 struct Filling {
     text: Vec<u8>,
@@ -87,7 +87,7 @@ impl Write for Filling {
     }
 }
 
-// How many bytes of replies there are to the frames that are whole within so many bytes.
+// How many bytes of replies there are to the frames that are whole within this many bytes.
 fn told_by(len: usize) -> usize {
     let count = whole(&ENDS, len) as usize;
     match count.checked_sub(1).and_then(|at| REPLY_ENDS.get(at)) {
@@ -127,7 +127,7 @@ fn turns(
     Err(Stop::Changed)
 }
 
-// The frames come so many bytes at once: at each point the replies to those that are whole are written, and no
+// The frames come this many bytes at once: at each point the replies to those that are whole are written, and no
 // more. In the end the input is over.
 fn in_pieces(
     alloc: Global,
@@ -182,7 +182,7 @@ fn cut_at(
     check(rest == Rest::Input && writer.text.as_slice() == replies)
 }
 
-// The writer takes so many bytes at each turn. While a reply waits, no more is read.
+// The writer takes this many bytes at each turn. While a reply waits, no more is read.
 fn taken_in_pieces(
     alloc: Global,
     frames: &[u8],

@@ -150,7 +150,7 @@ const GETS: u32 = 2_000;
 /// The bytes of a page's reply: its length, its kind, its LSN and the page.
 const PAGE_REPLY: usize = 4 + 1 + 8 + 8_192;
 
-// The frames of a block on page 0, hardened, and then of so many gets of it.
+// The frames of a block on page 0, hardened, and then of this many gets of it.
 fn gets_of_page(alloc: Global) -> Result<Vec<u8>, Stop> {
     let run = hex::decode(alloc, FRAMES)?;
     let mut frames = Vec::new(alloc);

@@ -44,7 +44,7 @@ fn line_for(alloc: Global, line: &str, number: u64) -> Result<String, Stop> {
     Ok(line.replace(alloc, "LARGE", &large)?)
 }
 
-// The numbers that a line stands for, and the line behind them. `FIRST..LAST | LINE` stands for one
+// The numbers that a line stands for, and the line after them. `FIRST..LAST | LINE` stands for one
 // line of each number.
 fn numbers_of(line: &str) -> Result<(u64, u64, &str), Stop> {
     let Some((numbers, line)) = line.split_once('|') else {
@@ -65,7 +65,7 @@ fn body_of(alloc: Global, words: &[&str]) -> Result<Vec<u8>, Stop> {
     Ok(encode_request(alloc, &request)?)
 }
 
-// Puts the frame of the body behind the others.
+// Puts the frame of the body after the others.
 pub(crate) fn push_frame(frames: &mut Vec<u8>, body: &[u8]) -> Result<(), Stop> {
     let Ok(len) = u32::try_from(body.len()) else {
         return Err(Stop::Unread);
@@ -74,7 +74,7 @@ pub(crate) fn push_frame(frames: &mut Vec<u8>, body: &[u8]) -> Result<(), Stop> 
     Ok(frames.extend_from_slice(body)?)
 }
 
-// The words of the lines of so many statuses of principal 2, the first of a database.
+// The words of the lines of this many statuses of principal 2, the first of a database.
 fn statuses(alloc: Global, count: u64) -> Result<String, Stop> {
     let mut text = String::new(alloc);
     text.push_str("Entries")?;
@@ -103,7 +103,7 @@ impl Told {
         }
     }
 
-    // Puts the frames of a line behind the others.
+    // Puts the frames of a line after the others.
     fn push(&mut self, alloc: Global, line: &str) -> Result<(), Stop> {
         let (asked, wanted) = line.split_once('=').ok_or(Stop::Unread)?;
         let asked: Vec<&str> = asked.split_whitespace().collect(alloc)?;
@@ -120,7 +120,7 @@ impl Told {
         Ok(put_reply(&mut self.replies, reply)?)
     }
 
-    // Puts the frames of a line for each of its numbers behind the others.
+    // Puts the frames of a line for each of its numbers after the others.
     fn push_each(&mut self, alloc: Global, line: &str) -> Result<(), Stop> {
         let (first, last, line) = numbers_of(line)?;
         for number in first..=last {
@@ -185,7 +185,7 @@ fn first_wrong(alloc: Global, output: &[u8], told: &Told) -> Result<Option<u64>,
     Ok(None)
 }
 
-// Holds the conversation in pieces of so many bytes, and gives the number of the first wrong reply.
+// Holds the conversation in pieces of this many bytes, and gives the number of the first wrong reply.
 fn converses<G: Gate>(
     alloc: Global,
     told: &Told,
@@ -259,7 +259,7 @@ fn converses_at_desk<R: Wait + Drop>(
     converses_with_last(alloc, told, at_once, &desks, passes)
 }
 
-// Both conversations in pieces of so many bytes.
+// Both conversations in pieces of this many bytes.
 fn converses_twice<R: Wait + Drop>(
     rt: R,
     alloc: Global,

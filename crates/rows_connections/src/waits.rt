@@ -135,7 +135,7 @@ impl Source for Coming<'_> {
     }
 }
 
-/// A writer that takes so many bytes, and then fails.
+/// A writer that takes this many bytes, and then fails.
 #[derive(Drop)]
 struct Filling<'a> {
     room: usize,
@@ -158,7 +158,7 @@ impl Write for Filling<'_> {
     }
 }
 
-// So many statuses, as frames.
+// This many statuses, as frames.
 fn frames_of(alloc: Global, count: usize) -> Result<Vec<u8>, Stop> {
     let mut frames = Vec::new(alloc);
     for _ in 0..count {
@@ -167,7 +167,7 @@ fn frames_of(alloc: Global, count: usize) -> Result<Vec<u8>, Stop> {
     Ok(frames)
 }
 
-// A conversation over these frames, of which so many bytes come at once, with a writer of so much room.
+// A conversation over these frames, of which this many bytes come at once, with a writer of so much room.
 fn talk(
     alloc: Global,
     frames: &[u8],
@@ -196,7 +196,7 @@ fn talk(
     Ok(end)
 }
 
-// Twelve frames, of which so many bytes come at once: at no wait there are replies that are not written.
+// Twelve frames, of which this many bytes come at once: at no wait there are replies that are not written.
 fn answers_in_time(alloc: Global, frames: &[u8], piece: usize) -> Result<(), Stop> {
     let tally = Tally::new();
     let end = talk(alloc, frames, piece, usize::MAX, &tally)?;
@@ -226,7 +226,7 @@ fn replies_before_each_wait(rt: HostRuntime) {
     assert!(&rt; done.is_ok());
 }
 
-// Where the writer takes so many bytes of the replies to these frames, which are all at hand.
+// Where the writer takes this many bytes of the replies to these frames, which are all at hand.
 fn stops_soon(alloc: Global, frames: &[u8], room: usize) -> Result<(), Stop> {
     let tally = Tally::new();
     let end = talk(alloc, frames, frames.len(), room, &tally)?;
@@ -246,7 +246,7 @@ fn stops_at_each(alloc: Global) -> Result<(), Stop> {
     Ok(())
 }
 
-/// Twenty thousand frames that are all at hand, and a writer that fails: behind the answered ones no
+/// Twenty thousand frames that are all at hand, and a writer that fails: after the answered ones no
 /// more requests were handed to the gate than those whose replies wait, 256 KiB and one reply more.
 #[test]
 fn steps_before_a_failed_write(rt: HostRuntime) {

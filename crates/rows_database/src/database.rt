@@ -255,7 +255,7 @@ impl Database {
         }
     }
 
-    // The reply to the request of the words, or to the last of those that they stand for.
+    // The reply to the request of the words, or to the last of those that they mean.
     fn reply(
         &mut self,
         head: [&str; 4],
@@ -299,7 +299,7 @@ fn text_of(alloc: Global, words: &[&str]) -> Result<String, Stop> {
     Ok(text)
 }
 
-// The request of the words that were put into the queue behind so many requests, and its pass.
+// The request of the words that were put into the queue after this many requests, and its pass.
 fn queued_of(alloc: Global, asked: usize, text: &str) -> Result<(u64, Request), Stop> {
     let words: Vec<&str> = text.split_whitespace().collect(alloc)?;
     let request = request_of(alloc, DATABASES[asked % 4], &words)?.ok_or(Stop::Unread)?;

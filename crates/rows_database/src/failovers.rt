@@ -77,7 +77,7 @@ fn old_copies_count_no_more(rt: HostRuntime) -> Result<(), Fail> {
     plays::<Database>(rt.alloc(), OLD_COPIES_COUNT_NO_MORE)
 }
 
-// Ten contents stand in two copies, and twenty in one, which are annulled.
+// Ten contents are in two copies, and twenty in one, which are annulled.
 const FAILOVER_OVER_THIRTY_CONTENTS: &str = "\
 open start 2 65536                  = Ok
 2 22 primary 1 fill 1 10 0          = Done

@@ -48,7 +48,7 @@ impl Database {
         Ok(Reply::Done)
     }
 
-    // The reply to the last of so many writes or offers.
+    // The reply to the last of this many writes or offers.
     pub(crate) fn fill(
         &mut self,
         head: [&str; 4],
@@ -79,7 +79,7 @@ impl Database {
         self.ask(Asked::Words(&report), refused)
     }
 
-    // The reply to the last request that hardens so many times 64 blocks, from block 1 on, or to the first
+    // The reply to the last request that hardens this many times 64 blocks, from block 1 on, or to the first
     // that is not done.
     pub(crate) fn harden(
         &mut self,

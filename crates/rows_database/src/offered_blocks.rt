@@ -84,7 +84,7 @@ fn offers_fix_the_content(rt: HostRuntime) -> Result<(), Fail> {
     plays::<Database>(rt.alloc(), OFFERS_FIX_THE_CONTENT)
 }
 
-// A write that is denied leaves no content behind.
+// A write that is denied leaves no content.
 const DENIED_OFFERS_LEAVE_NOTHING: &str = "\
 open start 2 65536                    = Ok
 2 22 primary 0 write 1:01 0           = Denied A2 1

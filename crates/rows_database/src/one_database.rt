@@ -24,7 +24,7 @@ fn write_harden_pull(rt: HostRuntime) -> Result<(), Fail> {
     plays::<Database>(rt.alloc(), WRITE_HARDEN_PULL)
 }
 
-// The bytes of `write_harden_pull`: the bodies of its requests, and behind `=` those of the replies.
+// The bytes of `write_harden_pull`: the bodies of its requests, and after `=` those of the replies.
 const STORED_RUN: &str = "\
 open start 2 65536 = Ok
 bytes 00000002 22222222222222222222222222222222 01 00000000 00000001 01 \

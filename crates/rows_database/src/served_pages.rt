@@ -103,7 +103,7 @@ fn get_at_applied_number(rt: HostRuntime) -> Result<(), Fail> {
     plays::<Database>(rt.alloc(), GET_AT_APPLIED_NUMBER)
 }
 
-// The blocks 3 to 5 stand in one copy: the failover annuls them, and no page has shown them.
+// The blocks 3 to 5 are in one copy: the failover annuls them, and no page has shown them.
 const PAGES_OF_HARDENED_BLOCKS: &str = "\
 open start 2 65536                    = Ok
 2 22 primary 1 fill 1 5 0             = Done

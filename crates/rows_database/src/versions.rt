@@ -59,7 +59,7 @@ fn replayed(alloc: Global, log: &mut DbLog, page: u32, lsn: u64) -> Result<Vec<u
     Ok(bytes)
 }
 
-// A block that writes two bytes over one another, at the beginning of the page or one behind it.
+// A block that writes two bytes over one another, at the beginning of the page or one after it.
 fn block_of(alloc: Global, lsn: u64, page: u32, byte: u8) -> Result<Block, AllocError> {
     let mut records = Vec::new(alloc);
     for value in [0xee, byte] {
@@ -202,7 +202,7 @@ fn pages_outgrow_arena(rt: HostRuntime) -> Result<(), Fail> {
     plays::<Database>(rt.alloc(), PAGES_OUTGROW_ARENA)
 }
 
-// Hardens so many blocks of page 0, and tells whether each version is right.
+// Hardens this many blocks of page 0, and tells whether each version is right.
 fn has_versions(served: &mut Served, count: u8) -> Result<bool, AllocError> {
     for byte in 1..=count {
         if !served.harden(0, byte)? {
@@ -240,7 +240,7 @@ const GETS: &[Get] = &[
     (1, 3, false, 18),
     (1, 18, false, 18),
     (0, 18, false, 18),
-    // One block behind, and where no block changes the page.
+    // One block after, and where no block changes the page.
     (1, 19, true, 19),
     (0, 20, true, 20),
     // At an old LSN, with a version and without one.
@@ -307,7 +307,7 @@ fn harden_in_turn(served: &mut Served) -> Result<bool, AllocError> {
     Ok(true)
 }
 
-// Gets so many pages that no block changes, so that each frame has a version.
+// Gets this many pages that no block changes, so that each frame has a version.
 fn fill_frames(served: &mut Served) -> Result<bool, AllocError> {
     for page in 2..66_u32 {
         if !shows(served, page, 0, 0)? {

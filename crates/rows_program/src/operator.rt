@@ -154,7 +154,7 @@ fn write_and_report(alloc: Global, db: &mut Db) -> Option<u64> {
     play(alloc, &mut lines, &mut output, db).ok()
 }
 
-// Whether the list of the database has just those, and the tidy behind them its entry.
+// Whether the list of the database has just those, and the tidy after them its entry.
 fn lists(alloc: Global, db: &mut Db) -> Option<bool> {
     let audited = answer(alloc, db, "audit 1 10", None)?;
     let tidied = answer(alloc, db, "tidy", None)?;

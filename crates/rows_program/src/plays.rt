@@ -28,7 +28,7 @@ pub(crate) fn fresh_on(alloc: Global, refused: &mut bool) -> Result<Db, StartFau
     fresh(alloc)
 }
 
-/// An output with room for so many bytes, so that no write of `play` is refused memory: it would not tell that from a
+/// An output with room for this many bytes, so that no write of `play` is refused memory: it would not tell that from a
 /// write that fails.
 pub(crate) fn room_on(
     alloc: Global,
@@ -55,7 +55,7 @@ pub(crate) fn answered(output: &[u8]) -> usize {
 const LINES: &[u8] =
     b"\n0000000222222222222222222222222222222222010000000000000001030000000000000000\n";
 
-// Plays the lines behind so many of them. How many it answered.
+// Plays the lines after this many of them. How many it answered.
 fn play_behind(
     alloc: Global,
     lines: usize,

@@ -8,7 +8,7 @@ use std::io::{self, BufReader, ErrorKind, Read};
 use std::process::Abort;
 use std::test::Fail;
 
-/// Gives so many zeros, and then fails at each read.
+/// Gives this many zeros, and then fails at each read.
 #[derive(Drop)]
 struct Zeros {
     left: usize,
@@ -26,14 +26,14 @@ impl Read for Zeros {
     }
 }
 
-/// So many empty lines, and behind them so many digits of one more. Then each read fails.
+/// This many empty lines, and after them this many digits of one more. Then each read fails.
 #[derive(Clone, Copy, Drop)]
 struct Given {
     lines: usize,
     digits: usize,
 }
 
-// So many empty lines.
+// This many empty lines.
 fn feeds(alloc: Global, lines: usize) -> Result<Vec<u8>, AllocError> {
     vec![in alloc; b'\n'; lines]
 }
@@ -53,7 +53,7 @@ fn play_given(
     play(alloc, &mut reader, output, db)
 }
 
-// The same. Where memory is refused, what was not answered is played then, on the same database. How it ended, and behind
+// The same. Where memory is refused, what was not answered is played then, on the same database. How it ended, and after
 // how many lines.
 fn play_on(
     alloc: Global,
@@ -74,7 +74,7 @@ fn play_on(
     (play_given(alloc, left, output, db), left.lines)
 }
 
-// So many empty lines and so many digits are read before a read fails, or the line of the digits is too long.
+// This many empty lines and this many digits are read before a read fails, or the line of the digits is too long.
 fn stops_at(
     rt: &impl Abort,
     alloc: Global,
@@ -119,7 +119,7 @@ fn a_line_is_read_to_its_limit(rt: HostRuntime) -> Result<(), Fail> {
     stops_at(&rt, rt.alloc(), 1, 131_073, true)
 }
 
-// Reads a text of so many zeros, behind which a read fails; and once more where memory is refused.
+// Reads a text of this many zeros, after which a read fails; and once more where memory is refused.
 fn text_on(alloc: Global, len: usize, refused: &mut bool) -> Result<Vec<u8>, FileFault> {
     let read = read_text(alloc, Zeros { left: len });
     if *refused || !matches!(read, Err(FileFault::NoMemory)) {
@@ -139,7 +139,7 @@ fn a_text_is_read_to_its_limit(rt: HostRuntime) -> Result<(), Fail> {
     Ok(())
 }
 
-// So many empty lines, which are made again where memory is refused.
+// This many empty lines, which are made again where memory is refused.
 fn feeds_on(alloc: Global, lines: usize, refused: &mut bool) -> Result<Vec<u8>, AllocError> {
     let made = feeds(alloc, lines);
     if *refused || made.is_ok() {
@@ -158,7 +158,7 @@ fn more_lines_than_the_audit_list_holds(rt: HostRuntime) -> Result<(), Fail> {
     let mut lines = feeds.as_slice();
     let mut end = play(rt.alloc(), &mut lines, &mut output, &mut db);
     let mut wanted = 65_537;
-    // What was not answered is played behind a refusal.
+    // What was not answered is played after a refusal.
     if end == Err(PlayFault::NoMemory) && !refused {
         let (_, mut left) = feeds.split_at(answered(&output).min(feeds.len()));
         wanted = left.len() as u64;

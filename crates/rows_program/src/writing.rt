@@ -7,8 +7,8 @@ use std::io::{self, ErrorKind, Write};
 use std::process::Abort;
 use std::test::Fail;
 
-/// Takes at most `at_once` bytes a write. The write behind the first `before` fails, and those
-/// behind it do not. It needs no memory, and fails where it is full.
+/// Takes at most `at_once` bytes a write. The write after the first `before` fails, and those
+/// after it do not. It needs no memory, and fails where it is full.
 #[derive(Drop)]
 struct Pipe {
     bytes: [u8; 16],
@@ -69,7 +69,7 @@ fn play_on(alloc: Global, pipe: &mut Pipe) -> Result<(Result<u64, PlayFault>, u6
     Ok((play(alloc, &mut left, pipe, &mut db), count))
 }
 
-// Two empty lines are answered by ten bytes: so many of them are held in the end.
+// Two empty lines are answered by ten bytes: this many of them are held in the end.
 fn holds(
     rt: &impl Abort,
     alloc: Global,
