@@ -1,24 +1,17 @@
 -- How far partitions are applied, and what is kept of pages.
-use Rattle.std.proofs.Common.{◌≡◌, ℕ, ◌+◌, ◌≤◌, Bool, true, false, ◌==◌, cond, List, [], ◌∷◌, length, Result, Ok, Err, refl, sym, ap, subst, ◌∙◌, arith}
+use Rattle.std.proofs.Common.{◌≡◌, ℕ, ◌+◌, ◌≤◌, Bool, true, false, ◌==◌, cond, List, [], ◌∷◌, length, sym, ap, subst, ◌∙◌, arith}
 use Rattle.std.specs.Prelude.{min}
 use Rattle.pl_block.specs.Block.{Content}
 use Rattle.pl_pages.specs.State.{PagesState, FitsLog, applied_at}
 use Rattle.pl_pages.specs.Laws.{FitsLongerLogs}
-use Rattle.pl_table.specs.declared.fault.TableFault.{TableFault}
-use Rattle.pl_table.specs.declared.request.Act.{Act}
-use Rattle.pl_table.specs.declared.request.Act.TheVariants as acts
-use Rattle.pl_table.specs.declared.verdict.Verdict.{Verdict}
-use Rattle.pl_table.specs.declared.verdict.Verdict.TheVariants as verdicts
-use Rattle.pl_table.specs.Table.{WrittenTable}
-use Rattle.pl_table.specs.TableText.{table_reading}
 use Rattle.pl_core.specs.declared.kept.Kept.{Kept}
 use Rattle.pl_audit.specs.declared.audit.Entry.{Entry as KeptEntry}
-use Rattle.pl_core.specs.History.{Effect, wrote, offered, hardened, advanced, failed_over, set, nothing, Entry, Start, History, grown, effect_of_reading, effect_of_act, effect_of}
+use Rattle.pl_core.specs.History.{Effect, advanced, Entry, Start, History, grown}
 use Rattle.pl_core.specs.Log.{hardened_log, hard_of}
 use Rattle.pl_core.specs.Applied.{applied_by, applied_after, applied_of}
 use Rattle.pl_core.specs.Keeping.{history_kept, Holds, HoldsPages, IsKept, IsSound}
 use Rattle.pl_core.specs.Laws.{AppliedLsnsOnlyRise}
-use Rattle.pl_core.specs.Performing.{PagesFollow, with_unseen, applied_then, applied_by_verdict}
+use Rattle.pl_core.specs.Performing.{PagesFollow, with_unseen, applied_then}
 use Rattle.pl_decide.specs.Agreement.{AgreesWith}
 use Rattle.pl_decide.specs.Keys.{CachedVerdict}
 use Rattle.pl_audit.specs.Audit.{AuditList}
@@ -36,78 +29,43 @@ either : (P : ℕ → Type 0) (b : Bool) (x y : ℕ) → P x → P y → P (cond
 either P true x y is other = is
 either P false x y is other = other
 
-within_by : (f : Effect) (h : History) (partition before : ℕ) → before ≤ hard_of h → applied_by f h partition before ≤ hard_of h
-within_by (wrote copy block) h partition before le = le
-within_by (offered block) h partition before le = le
-within_by (hardened to) h partition before le = le
-within_by (advanced other steps) h partition before le = either (λ n. n ≤ hard_of h) (other == partition) (min (hard_of h) (before + steps)) before (omega arith) le
-within_by (failed_over primary) h partition before le = le
-within_by (set t) h partition before le = le
-within_by nothing h partition before le = le
+within_by : (f : Effect) (hard partition before : ℕ) → before ≤ hard → applied_by f hard partition before ≤ hard
+within_by (advanced other steps) hard partition before le = either (λ n. n ≤ hard) (other == partition) (min hard (before + steps)) before (omega arith) le
+within_by f hard partition before le = le
 
-rises_by : (f : Effect) (h : History) (partition before : ℕ) → before ≤ hard_of h → before ≤ applied_by f h partition before
-rises_by (wrote copy block) h partition before le = omega arith
-rises_by (offered block) h partition before le = omega arith
-rises_by (hardened to) h partition before le = omega arith
-rises_by (advanced other steps) h partition before le = either (λ n. before ≤ n) (other == partition) (min (hard_of h) (before + steps)) before (omega (arith, le)) (omega arith)
-rises_by (failed_over primary) h partition before le = omega arith
-rises_by (set t) h partition before le = omega arith
-rises_by nothing h partition before le = omega arith
+rises_by : (f : Effect) (hard partition before : ℕ) → before ≤ hard → before ≤ applied_by f hard partition before
+rises_by (advanced other steps) hard partition before le = either (λ n. before ≤ n) (other == partition) (min hard (before + steps)) before (omega (arith, le)) (omega arith)
+rises_by f hard partition before le = omega arith
 
 pub within_log : (start : Start) (es : List Entry) (partition : ℕ) → applied_after start es partition ≤ hard_of (record { start = start; entries = es })
 within_log start [] partition = omega arith
 within_log start (e ∷ es) partition =
     let h : History = record { start = start; entries = es } in
-    let before = within_by e.effect h partition (applied_after start es partition) (within_log start es partition) in
+    let before = within_by e.effect (hard_of h) partition (applied_after start es partition) (within_log start es partition) in
     let rises = hard_rises h e in
     omega (arith, before, rises)
 
 pub only_rise : AppliedLsnsOnlyRise
 only_rise h e partition =
     let within = within_log h.start h.entries partition in
-    record { within = within; rises = rises_by e.effect h partition (applied_of h partition) within }
+    record { within = within; rises = rises_by e.effect (hard_of h) partition (applied_of h partition) within }
 
 -- ---- what is kept of pages
 
--- a set_table advances nothing
-set_advances_nothing : (r : Result WrittenTable TableFault) (h : History) (partition before : ℕ) → before ≡ applied_by (effect_of_reading r) h partition before
-set_advances_nothing (Ok t) h partition before = refl
-set_advances_nothing (Err f) h partition before = refl
-
 -- what is kept says the same as the history
-record Agree (h : History) (kept : Kept) (partition : ℕ) : Type 0 where
-  hard : length kept.log.hardened ≡ hard_of h
-  applied : applied_at kept.pages partition ≡ applied_of h partition
-
-applied-act : (act : Act) (h : History) (kept : Kept) (partition : ℕ) → Agree h kept partition → applied_then act kept partition ≡ applied_by (effect_of_act act) h partition (applied_of h partition)
-applied-act (acts.Write copy block) h kept partition a = a.applied
-applied-act (acts.Offer block) h kept partition a = a.applied
-applied-act (acts.Report lsn) h kept partition a = a.applied
-applied-act (acts.Get page lsn exact) h kept partition a = a.applied
-applied-act (acts.Pull lo hi lsn max) h kept partition a = a.applied
-applied-act (acts.Advance other steps) h kept partition a =
-    ap (λ (n : ℕ). cond (other == partition) (min n (applied_at kept.pages partition + steps)) (applied_at kept.pages partition)) a.hard
-    ∙ ap (λ (n : ℕ). cond (other == partition) (min (hard_of h) (n + steps)) n) a.applied
-applied-act acts.Status h kept partition a = a.applied
-applied-act (acts.Failover primary) h kept partition a = a.applied
-applied-act (acts.SetTable text) h kept partition a = a.applied ∙ set_advances_nothing (table_reading text) h partition (applied_of h partition)
-applied-act (acts.Audit first max) h kept partition a = a.applied
-applied-act acts.Tidy h kept partition a = a.applied
-
-applied-verdict : (v : Verdict) (act : Act) (h : History) (kept : Kept) (partition : ℕ) → Agree h kept partition → applied_by_verdict v act kept partition ≡ applied_by (effect_of v act) h partition (applied_of h partition)
-applied-verdict verdicts.Allowed act h kept partition a = applied-act act h kept partition a
-applied-verdict (verdicts.Denied s row value) act h kept partition a = a.applied
+applied-then : (f : Effect) (h : History) (kept : Kept) (partition : ℕ) → length kept.log.hardened ≡ hard_of h → applied_at kept.pages partition ≡ applied_of h partition
+    → applied_then f kept partition ≡ applied_by f (hard_of h) partition (applied_of h partition)
+applied-then f h kept partition hard applied =
+    ap (λ (n : ℕ). applied_by f n partition (applied_at kept.pages partition)) hard ∙ ap (applied_by f (hard_of h) partition) applied
 
 -- so it does after a request
-pub holds_pages : FitsLongerLogs → (v : Verdict) (act : Act) (h : History) (e : Entry) (kept : Kept) (pages : PagesState) → Holds h kept.log → HoldsPages h kept.pages → e.effect ≡ effect_of v act → PagesFollow kept (λ p. applied_by_verdict v act kept p) pages → HoldsPages (grown h e) pages
-holds_pages law v act h e kept pages log held effect follow =
+pub holds_pages : FitsLongerLogs → (h : History) (e : Entry) (kept : Kept) (pages : PagesState) → Holds h kept.log → HoldsPages h kept.pages → PagesFollow kept (λ p. applied_then e.effect kept p) pages → HoldsPages (grown h e) pages
+holds_pages law h e kept pages log held follow =
     let more = (only_grow h e).log in
     let here : FitsLog pages (hardened_log h) = subst (λ (l : List Content). FitsLog pages l) log.hardened follow.fits in
     record {
       fits = subst (λ (l : List Content). FitsLog pages l) (sym more.1) (law pages (hardened_log h) more.0 here);
-      applied = λ p. follow.applied_are p
-          ∙ applied-verdict v act h kept p (record { hard = ap length log.hardened; applied = held.applied p })
-          ∙ ap (λ (f : Effect). applied_by f h p (applied_of h p)) (sym effect);
+      applied = λ p. follow.applied_are p ∙ applied-then e.effect h kept p (ap length log.hardened) (held.applied p);
       chunks = follow.chunks ∙ held.chunks;
     }
 

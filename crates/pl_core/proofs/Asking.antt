@@ -33,15 +33,6 @@ record Asked (h : History) (q : Query) (n : ℕ) : Type 0 where
   own : IfSome (number_of q.act) (λ own. (own ≤ hard_of h) × (allowed_at h q own ≡ true))
 
 asked_of : (head : Head) (act : Act) (h : History) (n : ℕ) → OrderLaws → reads_the_log (op_of act) ≡ true → verdict_of (record { head = head; act = act }) h ≡ verdicts.Allowed → Asked h (record { head = head; act = act }) n
-asked_of head (acts.Write copy block) h n order reads allowed = absurd cc
-asked_of head (acts.Offer block) h n order reads allowed = absurd cc
-asked_of head (acts.Report lsn) h n order reads allowed = absurd cc
-asked_of head (acts.Advance partition steps) h n order reads allowed = absurd cc
-asked_of head acts.Status h n order reads allowed = absurd cc
-asked_of head (acts.Failover primary) h n order reads allowed = absurd cc
-asked_of head (acts.SetTable text) h n order reads allowed = absurd cc
-asked_of head (acts.Audit first max) h n order reads allowed = absurd cc
-asked_of head acts.Tidy h n order reads allowed = absurd cc
 asked_of head (acts.Get page lsn exact) h n order reads allowed =
     let q : Query = record { head = head; act = acts.Get page lsn exact } in
     let to = order.reads q (table_of h) (epochs_of h) (view_of q.act h) reads allowed n in
@@ -60,6 +51,7 @@ asked_of head (acts.Pull lo hi lsn max) h n order reads allowed =
       ended = to.ended;
       own = ((order.served q (table_of h) (epochs_of h) (view_of q.act h) allowed).act, order.rows q (table_of h) (epochs_of h) (view_of q.act h) allowed);
     }
+asked_of head act h n order reads allowed = absurd cc
 
 not_both : (v : Verdict) (s : Section) (row value : ℕ) → v ≡ verdicts.Allowed → v ≡ verdicts.Denied s row value → ⊥
 not_both v s row value e f = let clash : verdicts.Allowed ≡ verdicts.Denied s row value = sym e ∙ f in cc

@@ -8,23 +8,24 @@ use Rattle.pl_core.specs.History.{Effect, wrote, offered, hardened, advanced, fa
 use Rattle.pl_core.specs.Epoch.{table_of}
 use Rattle.pl_core.specs.Log.{hard_of}
 
--- The applied LSN of a partition after an effect on a history. An advance of the partition makes it
--- the smaller of the hardened end and what it was plus the steps.
-abbrev pub applied_by : Effect → History → ℕ → ℕ → ℕ
-applied_by (wrote copy block) h partition before = before
-applied_by (offered block) h partition before = before
-applied_by (hardened to) h partition before = before
-applied_by (advanced other steps) h partition before =
-    if other == partition then min (hard_of h) (before + steps) else before
-applied_by (failed_over primary) h partition before = before
-applied_by (set table) h partition before = before
-applied_by nothing h partition before = before
+-- The applied LSN of a partition after an effect, where so many blocks are hardened. An advance of the
+-- partition makes it the smaller of the hardened end and what it was plus the steps.
+abbrev pub applied_by : Effect → ℕ → ℕ → ℕ → ℕ
+applied_by (wrote copy block) hard partition before = before
+applied_by (offered block) hard partition before = before
+applied_by (hardened to) hard partition before = before
+applied_by (advanced other steps) hard partition before =
+    if other == partition then min hard (before + steps) else before
+applied_by (failed_over primary) hard partition before = before
+applied_by (set table) hard partition before = before
+applied_by nothing hard partition before = before
 
 -- the applied LSN of a partition after these entries: 0 where there are none
 abbrev pub applied_after : Start → List Entry → ℕ → ℕ
 applied_after start [] partition = 0
 applied_after start (e ∷ es) partition =
-    applied_by e.effect (record { start = start; entries = es }) partition (applied_after start es partition)
+    let hard = hard_of (record { start = start; entries = es }) in
+    applied_by e.effect hard partition (applied_after start es partition)
 
 -- the LSN that a partition is applied to
 abbrev pub applied_of : History → ℕ → ℕ

@@ -1,5 +1,5 @@
 -- The epoch, its primary and the table in force.
-use Rattle.std.specs.Prelude.{ℕ, ◌+◌, Bool, true, false, List, [], ◌∷◌, if◌then◌else◌}
+use Rattle.std.specs.Prelude.{ℕ, ◌+◌, Bool, true, false, List, [], ◌∷◌, if◌then◌else◌, Option, Some, None, unwrap_or}
 use Rattle.pl_table.specs.Table.{WrittenTable}
 use Rattle.pl_core.specs.History.{Effect, wrote, offered, hardened, advanced, failed_over, set, nothing, Entry, Start, History}
 
@@ -46,15 +46,19 @@ primary_after start (e ∷ es) = primary_by e.effect (primary_after start es)
 abbrev pub primary_of : History → ℕ
 primary_of h = primary_after h.start h.entries
 
+-- the table that an effect sets
+abbrev pub table_set : Effect → Option WrittenTable
+table_set (wrote copy block) = None
+table_set (offered block) = None
+table_set (hardened to) = None
+table_set (advanced partition steps) = None
+table_set (failed_over primary) = None
+table_set (set table) = Some table
+table_set nothing = None
+
 -- the table after an effect
 abbrev pub table_by : Effect → WrittenTable → WrittenTable
-table_by (wrote copy block) before = before
-table_by (offered block) before = before
-table_by (hardened to) before = before
-table_by (advanced partition steps) before = before
-table_by (failed_over primary) before = before
-table_by (set table) before = table
-table_by nothing before = before
+table_by effect before = unwrap_or (table_set effect) before
 
 -- the table of the start, or the one that was set last
 abbrev pub table_after : Start → List Entry → WrittenTable
