@@ -154,7 +154,7 @@ end_reads:
 
 /* A turn. */
 
-// resuming.rt: write_ready
+// answering.rt: write_ready
 inline write_ready(count) {
                                                            // let mut count = 0;
     do                                                     // while count < bytes.len() {
@@ -212,7 +212,7 @@ inline hear() {
     fi
 }
 
-// resuming.rt: answer_first
+// answering.rt: answer_first
 inline answer_first() {
                                                            // let body = body_in(bytes)?;
                                                            // let reply = answer(decode_request(alloc, body), gate, pass);
@@ -222,11 +222,11 @@ inline answer_first() {
 }
 
 /* A room holds no more frames than this loop answers. */
-// resuming.rt: answer_whole
+// answering.rt: answer_whole
 inline answer_whole() {
     d_step {
                                                            // let mut taken = 0;
-        do                                                 // for _ in 0..MOST_FRAMES {
+        do                                                 // for _ in 0..most {
         :: replies == GATHERS -> break                     // if !outbox.may_gather() { break; }
         :: replies < GATHERS && held < PARTS -> break      // let Some(count) = answer_first(alloc,
                                                            // &bytes[taken..], gate, pass, outbox) else { break; };
@@ -242,8 +242,8 @@ inline speak() {
     do                                                     // for _ in 0..WRITES_A_TURN {
     :: writes < WRITES ->
                                                            // outbox.restart();
-       answer_whole();                                     // taken += answer_whole(alloc, &bytes[taken..], gate,
-                                                           // pass, outbox);
+       answer_whole();                                     // taken += answer_whole(alloc, &bytes[taken..],
+                                                           // MOST_FRAMES, gate, pass, outbox);
 #ifndef ANSWERS_ARE_KEPT
        write_ready(replies);                               // let (sent, end) = write_ready(writer, outbox.text());
 #endif

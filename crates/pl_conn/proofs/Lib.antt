@@ -1,8 +1,8 @@
 pub mod Talking
-pub mod Standing
+pub mod Gathered
 pub mod Reaching
 pub mod Working
-pub mod Finishing
+pub mod Blocking
 pub mod Places
 pub mod Dealing
 pub mod Meeting

@@ -2,22 +2,16 @@
 use Rattle.std.proofs.Common.{◌≡◌, ◌≤◌, ℕ, ◌==◌, Bool, true, false, List, [], ◌++◌, length, take, drop, Option, None, Some, Result, Ok, Err, if◌then◌else◌, refl, subst, sym, ap, ◌∙◌, inl, inr, arith}
 use Rattle.std.specs.Io.BufRead.{DropsConsumable}
 use Rattle.std.specs.Io.KnownBytes.{Consumes, prepend_known}
-use Rattle.std.proofs.KnownBytes.{Consumes-nil, Consumes-trans}
-use Rattle.std.specs.Int.{w32, to_be_bytes}
 use Rattle.std.proofs.lemmas.List.{take-append-drop, take-append-le}
 use Rattle.pl_block.specs.Faults.{Returns}
 use Rattle.pl_block.specs.declared.fault.Failed.{Failed}
 use Rattle.pl_block.specs.declared.fault.Failed.TheVariants.{Malformed, NoMemory}
 use Rattle.pl_table.specs.Request.{Query}
 use Rattle.pl_core.specs.declared.reply.Reply.{Reply}
-use Rattle.pl_wire.specs.FrameReading.{StopsFrame}
-use Rattle.pl_wire.specs.Frames.{frame}
-use Rattle.pl_wire.specs.declared.frame_reading.FrameFault.{FrameFault}
-use Rattle.pl_wire.specs.declared.frame_reading.FrameFault.TheVariants as frame_faults
 use Rattle.pl_wire.specs.Reading.{MayLackMemory, request_reading}
 use Rattle.pl_wire.specs.declared.fault.WireFault.{WireFault}
 use Rattle.pl_conn.specs.Conversation.{AnswersBody, AnswersReading, Calls}
-use Rattle.pl_conn.specs.Gathering.{AnswersRead, ReadsBody}
+use Rattle.pl_conn.specs.Gathering.{AnswersRead}
 
 -- a reply to what was read of a body is a reply to the body
 pub answers_body : {P : Type 0} (calls : Calls P) (body : List ℕ) (read : Result Query (Failed WireFault)) (before after : P) (reply : Reply)
@@ -42,31 +36,3 @@ pub takes_buffered : (has_no_room : Bool) (known new : Option (List ℕ)) (buffe
     → Consumes (if has_no_room then None else prepend_known buffer known) new (take count buffer)
 takes_buffered true known new buffer count few drops = tt
 takes_buffered false known new buffer count few drops = takes_known known new buffer count few drops
-
--- ---- bytes that are brought to hand, none of which is taken
-
-pub kept_self : (a : Option (List ℕ)) → Consumes a a []
-kept_self a = Consumes-nil a
-
-pub kept_more : (a b c : Option (List ℕ)) → Consumes a b [] → Consumes b c [] → Consumes a c []
-kept_more a b c first second = Consumes-trans a b c [] [] first second
-
--- what is read then was read all along
-pub reads_then : (a b c : Option (List ℕ)) (read : Result Query (Failed WireFault)) → Consumes a b [] → ReadsBody b c read → ReadsBody a c read
-reads_then a b c read kept reads = record {
-  body = reads.body;
-  short = reads.short;
-  taken = Consumes-trans a b c [] (frame reads.body) kept reads.taken;
-  exact = reads.exact;
-  no_memory = reads.no_memory;
-}
-
-pub stops_then : (a b c : Option (List ℕ)) (limit : ℕ) (fault : FrameFault) → Consumes a b [] → StopsFrame limit b c fault → StopsFrame limit a c fault
-stops_then a b c limit frame_faults.Short kept (bytes, some, cut, reads, end) = (bytes, some, cut, Consumes-trans a b c [] bytes kept reads, end)
-stops_then a b c limit frame_faults.TooLong kept (len, above, fits, reads) = (len, above, fits, Consumes-trans a b c [] (to_be_bytes w32 len) kept reads)
-stops_then a b c limit frame_faults.Io kept (bytes, cut, reads) = (bytes, cut, Consumes-trans a b c [] bytes kept reads)
-stops_then a b c limit frame_faults.NoMemory kept (len, some, within, reads) = (len, some, within, Consumes-trans a b c [] (to_be_bytes w32 len) kept reads)
-
--- a read that failed before a byte was taken
-pub stops_at_hand : (a b : Option (List ℕ)) (limit : ℕ) (fault : FrameFault) → fault ≡ frame_faults.Io → Consumes a b [] → StopsFrame limit a b fault
-stops_at_hand a b limit fault is kept = subst (StopsFrame limit a b) (sym is) ([], inl (omega arith), kept)

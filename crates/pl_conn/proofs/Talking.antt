@@ -8,22 +8,21 @@ use Rattle.std.proofs.lemmas.List.{length-append, drop_all}
 use Rattle.std.proofs.lemmas.Grind.{flat_map-append}
 use Rattle.pl_core.specs.declared.reply.Reply.{Reply}
 use Rattle.pl_wire.specs.FrameWriting.{reply_frame}
-use Rattle.pl_conn.specs.Conversation.{AnswersBody, Answered, Calls, MayWait, text_of}
+use Rattle.pl_conn.specs.Conversation.{Answered, Calls, MayWait, text_of}
 use Rattle.pl_conn.specs.Gathering.{whole_in}
 
--- the chain goes one further
-pub answered_more : {P : Type 0} (calls : Calls P) (p q r : P) (bodies : List (List ℕ)) (rs : List Reply) (body : List ℕ) (reply : Reply)
-    → Answered calls p bodies rs q → AnswersBody calls q body reply r → Answered calls p (bodies ++ body ∷ []) (rs ++ reply ∷ []) r
-answered_more calls p q r [] [] body reply done next = (r, subst (λ x. AnswersBody calls x body reply r) done next, refl)
-answered_more calls p q r [] (y ∷ ys) body reply done next = absurd done
-answered_more calls p q r (b ∷ bs) [] body reply done next = absurd done
-answered_more calls p q r (b ∷ bs) (y ∷ ys) body reply done next =
-    (done.0, done.1, answered_more calls done.0 q r bs ys body reply done.2 next)
+-- a chain, and one behind it
+pub answered_then : {P : Type 0} (calls : Calls P) (p q r : P) (bs cs : List (List ℕ)) (xs ys : List Reply)
+    → Answered calls p bs xs q → Answered calls q cs ys r → Answered calls p (bs ++ cs) (xs ++ ys) r
+answered_then calls p q r [] cs [] ys first then = subst (λ x. Answered calls x cs ys r) first then
+answered_then calls p q r [] cs (x ∷ xs) ys first then = absurd first
+answered_then calls p q r (b ∷ bs) cs [] ys first then = absurd first
+answered_then calls p q r (b ∷ bs) cs (x ∷ xs) ys first then = (first.0, first.1, answered_then calls first.0 q r bs cs xs ys first.2 then)
 
--- all, and one more
-pub all_more : {X : Type 0} (P : X → Type 0) (xs : List X) (x : X) → AllByRecursion P xs → P x → AllByRecursion P (xs ++ x ∷ [])
-all_more P [] x all one = (one, tt)
-all_more P (y ∷ ys) x all one = (all.0, all_more P ys x all.1 one)
+-- all of both
+pub all_then : {X : Type 0} (Q : X → Type 0) (xs ys : List X) → AllByRecursion Q xs → AllByRecursion Q ys → AllByRecursion Q (xs ++ ys)
+all_then Q [] ys first then = then
+all_then Q (x ∷ xs) ys first then = (first.0, all_then Q xs ys first.1 then)
 
 -- what the list gives, and what one more gives
 pub joined : {X A : Type 0} (f : X → List A) (xs : List X) (x : X) → flat_map f (xs ++ x ∷ []) ≡ flat_map f xs ++ f x
@@ -108,11 +107,3 @@ whole_cut lens i k within less = rw (drop-cons lens i 0 within, lt-ltb _ _ less)
 
 pub whole_past : (lens : List ℕ) (i k : ℕ) → length lens ≤ i → whole_in (drop i lens) k ≡ 0
 whole_past lens i k past = ap (λ (l : List ℕ). whole_in l k) (drop_all i lens past)
-
-pub whole_few : (lens : List ℕ) (k : ℕ) → whole_in lens k ≤ length lens
-whole_few [] k = omega arith
-whole_few (n ∷ ns) k = by (ltb k n) (whole_few ns (k - n))
-  where
-    by : (b : Bool) → whole_in ns (k - n) ≤ length ns → (if b then 0 else suc (whole_in ns (k - n))) ≤ suc (length ns)
-    by true few = omega arith
-    by false few = omega (arith, few)

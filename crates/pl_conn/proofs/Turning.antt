@@ -6,20 +6,10 @@ use Rattle.std.proofs.lemmas.Grind.{flat_map-append}
 use Rattle.std.proofs.lemmas.Slice.{take-put_mid_below}
 use Rattle.std.specs.Io.KnownBytes.{Appends, Consumes, IsAtEnd, Keeps, ReadConsumes}
 use Rattle.std.proofs.KnownBytes.{Appends-nil, Appends-trans, Consumes-nil, Consumes-trans, Consumes-kept}
-use Rattle.std.specs.List.{AllByRecursion}
 use borrow.Rule.Slice.PartMut.{put_mid}
-use Rattle.pl_block.specs.Faults.{Returns}
-use Rattle.pl_block.specs.declared.fault.Failed.{Failed}
-use Rattle.pl_block.specs.declared.fault.Failed.TheVariants.{NoMemory}
-use Rattle.pl_table.specs.Request.{Query}
-use Rattle.pl_core.specs.declared.reply.Reply.{Reply}
-use Rattle.pl_core.specs.Reply.{FitsReply}
 use Rattle.pl_wire.specs.Frames.{frame, frames_of, longest_request}
 use Rattle.pl_wire.specs.FrameWriting.{reply_frame}
-use Rattle.pl_wire.specs.Reading.{MayLackMemory, request_reading}
-use Rattle.pl_wire.specs.declared.fault.WireFault.{WireFault}
-use Rattle.pl_conn.specs.Conversation.{Answered, Calls, Scene, scene, text_of}
-use Rattle.pl_conn.specs.Gathering.{AnswersRead, Box, gathered}
+use Rattle.pl_conn.specs.Conversation.{Calls, Scene, scene, text_of}
 use Rattle.pl_conn.specs.Resting.{Hears, Middle, Replies, Rests, Resumes, Speaks, Tells, middle}
 use Rattle.pl_conn.specs.Serving.{Reaches}
 use Rattle.pl_conn.specs.declared.cause.Cause.{Cause}
@@ -29,7 +19,7 @@ use Rattle.pl_conn.specs.declared.resuming.Rest.{Rest}
 use Rattle.pl_conn.specs.declared.resuming.Rest.TheVariants as rests
 use Rattle.pl_conn.proofs.Filling.{behind}
 use Rattle.pl_conn.proofs.Reaching.{by_answers}
-use Rattle.pl_conn.proofs.Reading.{answers_body}
+use Rattle.pl_conn.proofs.Talking.{all_then, answered_then}
 
 -- a read puts bytes behind those that wait
 pub heard_behind : (a b : Option (List ℕ)) (at k n : ℕ) (xs ys : List ℕ) → at ≤ length xs → n ≤ length ys → Consumes a b (take n ys)
@@ -55,16 +45,6 @@ module _ {P : Type 0} (calls : Calls P) where
   pub replies_none : (p : P) (m : Middle) → Replies calls p m p m
   replies_none p m = record { bodies = []; replies = []; short = tt; fits = tt; read = refl; chain = refl; told = sym (append-nil m.waiting) }
 
-  answered_then : (p q r : P) (bs cs : List (List ℕ)) (xs ys : List Reply) → Answered calls p bs xs q → Answered calls q cs ys r → Answered calls p (bs ++ cs) (xs ++ ys) r
-  answered_then p q r [] cs [] ys first then = subst (λ x. Answered calls x cs ys r) first then
-  answered_then p q r [] cs (x ∷ xs) ys first then = absurd first
-  answered_then p q r (b ∷ bs) cs [] ys first then = absurd first
-  answered_then p q r (b ∷ bs) cs (x ∷ xs) ys first then = (first.0, first.1, answered_then first.0 q r bs cs xs ys first.2 then)
-
-  all_then : {X : Type 0} (Q : X → Type 0) (xs ys : List X) → AllByRecursion Q xs → AllByRecursion Q ys → AllByRecursion Q (xs ++ ys)
-  all_then Q [] ys first then = then
-  all_then Q (x ∷ xs) ys first then = (first.0, all_then Q xs ys first.1 then)
-
   -- some frames are answered, and then some more
   pub replies_then : (p q r : P) (a b c : Middle) → Replies calls p a q b → Replies calls q b r c → Replies calls p a r c
   replies_then p q r a b c first then = record {
@@ -74,35 +54,10 @@ module _ {P : Type 0} (calls : Calls P) where
     fits = all_then _ first.replies then.replies first.fits then.fits;
     read = first.read ∙ ap (λ l. frames_of first.bodies ++ l) then.read ∙ sym (append_assoc (frames_of first.bodies) (frames_of then.bodies) c.unread)
         ∙ ap (λ l. l ++ c.unread) (sym (flat_map-append frame first.bodies then.bodies));
-    chain = answered_then p q r first.bodies then.bodies first.replies then.replies first.chain then.chain;
+    chain = answered_then calls p q r first.bodies then.bodies first.replies then.replies first.chain then.chain;
     told = then.told ∙ ap (λ l. l ++ text_of then.replies) first.told ∙ append_assoc a.waiting (text_of first.replies) (text_of then.replies)
         ∙ ap (λ l. a.waiting ++ l) (sym (flat_map-append reply_frame first.replies then.replies));
   }
-
-  -- the frame that the bytes begin with is answered
-  pub first_answered : (p q : P) (bytes body : List ℕ) (box left : Box) (reply : Reply) (read : Result Query (Failed WireFault))
-      → length body ≤ longest_request → 4 + length body ≤ length bytes → take (4 + length body) bytes ≡ frame body
-      → Returns read (request_reading body) → (read ≡ Err NoMemory → MayLackMemory body) → AnswersRead calls read p reply q
-      → FitsReply reply → left ≡ gathered box reply
-      → Replies calls p (middle bytes box.text) q (middle (drop (4 + length body) bytes) left.text)
-  first_answered p q bytes body box left reply read short within whole exact lacks answers fits waits = record {
-    bodies = body ∷ [];
-    replies = reply ∷ [];
-    short = (short, tt);
-    fits = (fits, tt);
-    read = sym (take-append-drop (4 + length body) bytes) ∙ ap (λ l. l ++ drop (4 + length body) bytes) (whole ∙ sym (append-nil (frame body)));
-    chain = (q, answers_body calls body read p q reply exact lacks answers, refl);
-    told = ap (λ (b : Box). b.text) waits ∙ ap (λ l. box.text ++ l) (sym (append-nil (reply_frame reply)));
-  }
-
-  -- answered behind what was answered
-  pub more_answered : (p q r : P) (bytes : List ℕ) (n m : ℕ) (text then : List ℕ) → Replies calls p (middle bytes []) q (middle (drop n bytes) text)
-      → Replies calls q (middle (take (length bytes - n) (drop n bytes)) text) r (middle (drop m (take (length bytes - n) (drop n bytes))) then)
-      → Replies calls p (middle bytes []) r (middle (drop (n + m) bytes) then)
-  more_answered p q r bytes n m text then first second =
-      let rest = subst (λ (l : List ℕ). Replies calls q (middle l text) r (middle (drop m l) then)) (take_rest bytes n) second in
-      subst (λ (l : List ℕ). Replies calls p (middle bytes []) r (middle l then)) (drop-drop m n bytes)
-      (replies_then p q r (middle bytes []) (middle (drop n bytes) text) (middle (drop m (drop n bytes)) then) first rest)
 
   -- the same behind what waited
   replies_behind : (p q : P) (bytes rest waits text : List ℕ) → Replies calls p (middle bytes []) q (middle rest text)

@@ -1,14 +1,12 @@
 //! Replies that were given and are not yet written.
 
-ghost use Rattle.std.specs.Prelude.{◌≡◌, ◌+◌, ◌<◌, ◌≤◌, ◌^◌, ◌↔◌, IfOk, IsTrue, length};
+ghost use Rattle.std.specs.Prelude.{◌≡◌, ◌<◌, ◌≤◌, ◌↔◌, IfOk, IsTrue, length};
 ghost use Rattle.pl_core.specs.Reply.{FitsReply};
-ghost use Rattle.pl_conn.specs.Gathering.{MayGather, Sends, emptied, gathered, whole_in};
+ghost use Rattle.pl_conn.specs.Gathering.{MayGather, emptied, gathered, whole_in};
 
-use crate::cause::Cause;
 use pl_core::Reply;
-use pl_wire::{LARGEST_REPLY_FRAME, put_reply, write_bytes};
+use pl_wire::{LARGEST_REPLY_FRAME, put_reply};
 use std::alloc::{AllocError, Global};
-use std::io::Write;
 use std::marker::Model;
 
 /// From how many bytes on replies are written, whatever is at hand.
@@ -17,7 +15,7 @@ const MANY_BYTES: usize = 262_144;
 /// From how many replies on they are written.
 const MANY_REPLIES: usize = 4_096;
 
-/// The frames of replies that wait to be written, and how many replies were written whole.
+/// The frames of replies that wait to be written.
 ///
 /// The room of all that may wait is there from the start, so that no reply that was given lacks memory.
 #[derive(Drop)]
@@ -25,7 +23,6 @@ pub(crate) struct Outbox {
     text: Vec<u8>,
     // How long each frame in the text is.
     lens: Vec<usize>,
-    whole: u64,
 }
 
 impl Model for Outbox {
@@ -34,7 +31,7 @@ impl Model for Outbox {
 
     ghost Value = { Box };
 
-    ghost view = { λ o. record { text = o.text.items; lens = o.lens.items; whole = o.whole } };
+    ghost view = { λ o. record { text = o.text.items; lens = o.lens.items } };
 
     // Less than 256 KiB and one reply more, and the length of each.
     ghost invariant = { λ o. (786511 ≤ vec_capacity o.text) × (4096 ≤ vec_capacity o.lens) };
@@ -61,29 +58,35 @@ fn whole_in(lens: &[usize], bytes: usize) -> u64
 impl Outbox {
     /// No replies, and the room of all that may wait.
     pub(crate) fn new(alloc: Global) -> Result<Outbox, AllocError>
-        ensures value { IfOk result (λ outbox. outbox ≡ emptied 0) }
+        ensures value { IfOk result (λ outbox. outbox ≡ emptied) }
     {
         Ok(Outbox {
             text: Vec::with_capacity(alloc, MANY_BYTES + LARGEST_REPLY_FRAME)?,
             lens: Vec::with_capacity(alloc, MANY_REPLIES)?,
-            whole: 0,
         })
     }
 
     /// Begins anew, with no replies.
     pub(crate) fn restart(&mut self)
-        ensures value { self.new ≡ emptied 0 }
+        ensures value { self.new ≡ emptied }
     {
         self.text.clear();
         self.lens.clear();
-        self.whole = 0;
     }
 
-    /// How many replies were written whole.
-    pub(crate) fn whole(&self) -> u64
-        ensures value { result ≡ self.now.whole }
+    /// How many replies wait.
+    pub(crate) fn count(&self) -> u64
+        ensures value { result ≡ length self.now.lens }
     {
-        self.whole
+        self.lens.len() as u64
+    }
+
+    /// How many of them are whole within so many bytes of their frames.
+    pub(crate) fn whole_in(&self, bytes: usize) -> u64
+        ensures value { result ≡ whole_in self.now.lens bytes }
+        ensures few { result ≤ length self.now.lens }
+    {
+        whole_in(&self.lens, bytes)
     }
 
     /// The frames that wait.
@@ -111,25 +114,5 @@ impl Outbox {
             unreachable!();
         };
         self.lens.push_reserved(self.text.len() - before);
-    }
-
-    /// Writes all that waits. Where a write fails, the rest is dropped.
-    pub(crate) fn write_out<W: Write>(&mut self, writer: &mut W) -> Result<(), Cause>
-        requires few { self.old.whole + length self.old.lens ≤ 2 ^ 32 }
-        ensures sends { Sends (W.contents writer.old) self.old (W.contents writer.new) self.new result }
-    {
-        let end = match write_bytes(writer, &self.text) {
-            Ok(()) => {
-                self.whole += self.lens.len() as u64;
-                Ok(())
-            }
-            Err(bytes) => {
-                self.whole += whole_in(&self.lens, bytes);
-                Err(Cause::Write)
-            }
-        };
-        self.text.clear();
-        self.lens.clear();
-        end
     }
 }

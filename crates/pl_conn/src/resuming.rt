@@ -1,26 +1,24 @@
 //! A conversation that rests between any two bytes: what it keeps meanwhile, and its turns.
 
-ghost use Rattle.std.specs.Prelude.{◌≡◌, ◌<◌, ◌≤◌, ◌⊎◌, [], Err, IfErr, IfNone, IfOk, IfSome, Ok, OnOk, drop, length, take};
-ghost use Rattle.std.specs.Io.KnownBytes.{Appends, IsAtEnd};
+ghost use Rattle.std.specs.Prelude.{◌≡◌, ◌<◌, ◌≤◌, ◌⊎◌, [], Err, IfErr, IfOk, Ok, OnOk, drop, length};
+ghost use Rattle.std.specs.Io.KnownBytes.{IsAtEnd};
 ghost use Rattle.pl_wire.specs.FrameReading.{IsCut};
 ghost use Rattle.pl_wire.specs.Frames.{longest_request};
 ghost use Rattle.pl_conn.specs.Conversation.{scene};
-ghost use Rattle.pl_conn.specs.Gathering.{MayGather, emptied};
-ghost use Rattle.pl_conn.specs.Resting.{Hears, Replies, Rests, Speaks, Tells, TurnsJoin, middle};
+ghost use Rattle.pl_conn.specs.Resting.{Hears, Rests, Speaks, Tells, TurnsJoin, middle};
 
+use crate::answering::{answer_whole, body_in, is_cut, write_ready};
 use crate::cause::Cause;
-use crate::conversing::{LENGTH_BYTES, answer, body_in, is_cut};
 use crate::gate::Gate;
 use crate::inbox::{Inbox, LONGEST_FRAME};
 use crate::outbox::Outbox;
-use pl_wire::decode_request;
 use std::alloc::{AllocError, Global};
 use std::io::{self, ErrorKind, Read, Write};
 use std::marker::Model;
 use std::mem;
 
 /// The most frames that a room holds: each has four bytes at least.
-const MOST_FRAMES: u32 = 16_385;
+const MOST_FRAMES: u64 = 16_385;
 
 /// How much memory a conversation keeps at most while nothing of it is unread.
 const MOST_KEPT: usize = 4_096;
@@ -96,24 +94,6 @@ enum Heard {
     End,
 }
 
-// Writes as many of the bytes as the writer takes now, and gives how many. An error is that of a write that
-// failed, or took none.
-fn write_ready<W: Write>(writer: &mut W, bytes: &[u8]) -> (usize, io::Result<()>)
-    ensures few { result.0 ≤ length bytes.now }
-    ensures appends { Appends (W.contents writer.old) (W.contents writer.new) (take result.0 bytes.now) }
-{
-    let mut count = 0;
-    while count < bytes.len() {
-        match writer.write(&bytes[count..]) {
-            Ok(0) => return (count, Err(io::Error::from(ErrorKind::WriteZero))),
-            Ok(more) => count += more,
-            Err(error) if error.kind() == ErrorKind::WouldBlock => return (count, Ok(())),
-            Err(error) => return (count, Err(error)),
-        }
-    }
-    (count, Ok(()))
-}
-
 // Reads once, unless a whole frame is at hand, or the length of one that is too long.
 fn hear<R: Read>(reader: &mut R, inbox: &mut Inbox) -> io::Result<Heard>
     ensures hears { Hears (R.remaining reader.old) inbox.old (R.remaining reader.new) inbox.new }
@@ -129,57 +109,6 @@ fn hear<R: Read>(reader: &mut R, inbox: &mut Inbox) -> io::Result<Heard>
         Err(error) if error.kind() == ErrorKind::WouldBlock => Ok(Heard::All),
         Err(error) => Err(error),
     }
-}
-
-// Answers the frame that the bytes begin with, where they hold all of it, and gives its length.
-fn answer_first<G: Gate>(
-    alloc: Global,
-    bytes: &[u8],
-    gate: &G,
-    pass: &mut G::Pass,
-    outbox: &mut Outbox,
-) -> Option<usize>
-    requires own { G.owns gate.now pass.old }
-    requires room { MayGather outbox.old }
-    ensures own { G.owns gate.now pass.new }
-    ensures some { IfSome result (λ count. (count ≤ length bytes.now)
-        × Replies (G.calls gate.now) pass.old (middle bytes.now outbox.old.text)
-        pass.new (middle (drop count bytes.now) outbox.new.text)) }
-    ensures none { IfNone result ((pass.new ≡ pass.old) × (outbox.new ≡ outbox.old)) }
-{
-    let body = body_in(bytes)?;
-    let reply = answer(decode_request(alloc, body), gate, pass);
-    outbox.put(&reply);
-    Some(LENGTH_BYTES + body.len())
-}
-
-// Answers the frames that lie whole in the bytes, in order, as many as may wait together, and gives how many bytes
-// they have.
-fn answer_whole<G: Gate>(
-    alloc: Global,
-    bytes: &[u8],
-    gate: &G,
-    pass: &mut G::Pass,
-    outbox: &mut Outbox,
-) -> usize
-    requires own { G.owns gate.now pass.old }
-    requires empty { outbox.old ≡ emptied 0 }
-    ensures own { G.owns gate.now pass.new }
-    ensures few { result ≤ length bytes.now }
-    ensures replies { Replies (G.calls gate.now) pass.old (middle bytes.now [])
-        pass.new (middle (drop result bytes.now) outbox.new.text) }
-{
-    let mut taken = 0;
-    for _ in 0..MOST_FRAMES {
-        if !outbox.may_gather() {
-            break;
-        }
-        let Some(count) = answer_first(alloc, &bytes[taken..], gate, pass, outbox) else {
-            break;
-        };
-        taken += count;
-    }
-    taken
 }
 
 // Answers the frames that lie whole in the bytes, in order, and writes their replies, as long as the writer takes all of
@@ -202,7 +131,7 @@ fn speak<W: Write, G: Gate>(
     let mut taken = 0;
     for _ in 0..WRITES_A_TURN {
         outbox.restart();
-        taken += answer_whole(alloc, &bytes[taken..], gate, pass, outbox);
+        taken += answer_whole(alloc, &bytes[taken..], MOST_FRAMES, gate, pass, outbox);
         let (sent, end) = write_ready(writer, outbox.text());
         if end.is_err() || sent < outbox.text().len() {
             return (taken, sent, end);

@@ -1,12 +1,12 @@
 //! Readers that tell what they have at hand.
 
-ghost use Rattle.std.specs.Prelude.{◌≡◌, ◌≤◌, ℕ, [], List, IfSome, length, take};
+ghost use Rattle.std.specs.Prelude.{◌≡◌, ◌≤◌, ℕ, List, IfSome, length, take};
 ghost use Rattle.std.specs.Io.{StartsWith};
 ghost use Rattle.std.specs.Io.Buffered.{reader_buffer};
 ghost use Rattle.std.specs.Io.KnownBytes.{Consumes};
 
 use std::alloc::Allocator;
-use std::io::{self, BufRead, BufReader, Read};
+use std::io::{BufRead, BufReader, Read};
 
 /// A reader that tells which bytes can be read without waiting, and lends them.
 ///
@@ -25,15 +25,6 @@ pub trait Source: Read {
         requires few { count ≤ length (hand self.old) }
         ensures taken { Consumes (Self.remaining self.old) (Self.remaining self.new)
             (take count (hand self.old)) };
-
-    /// Brings more of the bytes that come next to hand, by one read, which may wait. `Ok(0)` at the end of
-    /// input, and where it brings none: reads take them then.
-    #[tactic(auto, using(crate::proofs::Reading::kept_self))]
-    fn fill(&mut self) -> io::Result<usize>
-        ensures kept { Consumes (Self.remaining self.old) (Self.remaining self.new) [] }
-    {
-        Ok(0)
-    }
 }
 
 impl<R: Read, A: Allocator> Source for BufReader<R, A> {

@@ -1,7 +1,7 @@
 -- what is counted is what was written
 use Rattle.std.proofs.Common.{◌-◌, ◌≤◌, length, take}
 use Rattle.std.specs.Io.KnownBytes.{Appends}
-use Rattle.pl_conn.proofs.resuming.write_ready.Given as goal
+use Rattle.pl_conn.proofs.answering.write_ready.Given as goal
 
 abbrev pub invariant-loop-count : goal.invariant-loop-count
 invariant-loop-count g l = record {

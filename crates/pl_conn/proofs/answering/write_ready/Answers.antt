@@ -1,6 +1,6 @@
 use Rattle.std.proofs.Common.{rules}
 use Rattle.pl_wire.proofs.Filling.{written_more}
-use Rattle.pl_conn.proofs.resuming.write_ready.Goals as goal
+use Rattle.pl_conn.proofs.answering.write_ready.Goals as goal
 
 pub loop-count-preserved : goal.loop-count-preserved
 loop-count-preserved g c = record {

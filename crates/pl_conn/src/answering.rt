@@ -1,0 +1,140 @@
+//! What each conversation does: it answers the frames that lie whole in some bytes, and writes the replies.
+
+ghost use Rattle.std.specs.Prelude.{◌≡◌, ◌+◌, ◌<◌, ◌≤◌, IfNone, IfSome, IsTrue, length, take};
+ghost use Rattle.std.specs.Io.KnownBytes.{Appends};
+ghost use Rattle.pl_core.specs.Reply.{FitsReply};
+ghost use Rattle.pl_wire.specs.FrameReading.{IsCut};
+ghost use Rattle.pl_wire.specs.Frames.{frame, longest_request};
+ghost use Rattle.pl_conn.specs.Gathering.{AnswersRead, Gathers, MayGather};
+
+use crate::gate::Gate;
+use crate::outbox::Outbox;
+use bytes::Buf;
+use pl_core::Reply;
+use pl_table::Request;
+use pl_wire::{BodyFault, LONGEST_REQUEST, decode_request};
+use std::alloc::Global;
+use std::io::{self, ErrorKind, Write};
+
+/// The bytes of a frame's length.
+const LENGTH_BYTES: usize = 4;
+
+// The body of the frame that the bytes begin with, where all of it is there.
+pub(crate) fn body_in(bytes: &[u8]) -> Option<&[u8]>
+    ensures whole { IfSome result (λ body. (4 + length body.now ≤ length bytes.now)
+        × (take (4 + length body.now) bytes.now ≡ frame body.now)) }
+    ensures short { IfSome result (λ body. length body.now ≤ longest_request) }
+{
+    if bytes.len() < LENGTH_BYTES {
+        return None;
+    }
+    let (mut head, rest) = bytes.split_at(LENGTH_BYTES);
+    let len = head.get_u32();
+    if len > LONGEST_REQUEST || rest.len() < len as usize {
+        return None;
+    }
+    let (body, _) = rest.split_at(len as usize);
+    Some(body)
+}
+
+// Whether the bytes are less than a frame, and more may make them one.
+pub(crate) fn is_cut(bytes: &[u8]) -> bool
+    ensures cut { IsTrue result → IsCut longest_request bytes.now }
+    ensures short { IsTrue result → length bytes.now < 65540 }
+{
+    if bytes.len() < LENGTH_BYTES {
+        return true;
+    }
+    let (mut head, rest) = bytes.split_at(LENGTH_BYTES);
+    let wanted = head.get_u32();
+    wanted <= LONGEST_REQUEST && rest.len() < wanted as usize
+}
+
+// The reply to what a body spells.
+pub(crate) fn answer<G: Gate>(
+    read: Result<Request, BodyFault>,
+    gate: &G,
+    pass: &mut G::Pass,
+) -> Reply
+    requires own { G.owns gate.now pass.old }
+    ensures own { G.owns gate.now pass.new }
+    ensures fits { FitsReply result }
+    ensures answers { AnswersRead (G.calls gate.now) read pass.old result pass.new }
+{
+    match read {
+        Ok(request) => gate.call(pass, request),
+        Err(BodyFault::Malformed(fault)) => Reply::Malformed { code: fault.code() },
+        Err(BodyFault::NoMemory) => Reply::NoMemory,
+    }
+}
+
+// Answers the frame that the bytes begin with, where they hold all of it, and gives its length.
+pub(crate) fn answer_first<G: Gate>(
+    alloc: Global,
+    bytes: &[u8],
+    gate: &G,
+    pass: &mut G::Pass,
+    outbox: &mut Outbox,
+) -> Option<usize>
+    requires own { G.owns gate.now pass.old }
+    requires room { MayGather outbox.old }
+    ensures own { G.owns gate.now pass.new }
+    ensures few { IfSome result (λ count. count ≤ length bytes.now) }
+    ensures some { IfSome result (λ count.
+        Gathers (G.calls gate.now) pass.old (take count bytes.now) outbox.old pass.new outbox.new) }
+    ensures one { IfSome result (λ count. length outbox.new.lens ≡ length outbox.old.lens + 1) }
+    ensures none { IfNone result ((pass.new ≡ pass.old) × (outbox.new ≡ outbox.old)) }
+{
+    let body = body_in(bytes)?;
+    let reply = answer(decode_request(alloc, body), gate, pass);
+    outbox.put(&reply);
+    Some(LENGTH_BYTES + body.len())
+}
+
+// Answers the frames that lie whole in the bytes, in order, at most so many, and as many as may wait together. Gives how
+// many bytes they have.
+pub(crate) fn answer_whole<G: Gate>(
+    alloc: Global,
+    bytes: &[u8],
+    most: u64,
+    gate: &G,
+    pass: &mut G::Pass,
+    outbox: &mut Outbox,
+) -> usize
+    requires own { G.owns gate.now pass.old }
+    ensures own { G.owns gate.now pass.new }
+    ensures few { result ≤ length bytes.now }
+    ensures gathers { Gathers (G.calls gate.now) pass.old (take result bytes.now) outbox.old pass.new outbox.new }
+    ensures more { length outbox.old.lens ≤ length outbox.new.lens }
+    ensures most { length outbox.new.lens ≤ length outbox.old.lens + most }
+{
+    let mut taken = 0;
+    for _ in 0..most {
+        if !outbox.may_gather() {
+            break;
+        }
+        let Some(count) = answer_first(alloc, &bytes[taken..], gate, pass, outbox) else {
+            break;
+        };
+        taken += count;
+    }
+    taken
+}
+
+// Writes as many of the bytes as the writer takes now, and gives how many. An error is that of a write that
+// failed, or took none.
+pub(crate) fn write_ready<W: Write>(writer: &mut W, bytes: &[u8]) -> (usize, io::Result<()>)
+    ensures few { result.0 ≤ length bytes.now }
+    ensures appends { Appends (W.contents writer.old) (W.contents writer.new) (take result.0 bytes.now) }
+{
+    let mut count = 0;
+    while count < bytes.len() {
+        match writer.write(&bytes[count..]) {
+            Ok(0) => return (count, Err(io::Error::from(ErrorKind::WriteZero))),
+            Ok(more) => count += more,
+            Err(error) if error.kind() == ErrorKind::WouldBlock => return (count, Ok(())),
+            Err(error) => return (count, Err(error)),
+        }
+    }
+    (count, Ok(()))
+}
