@@ -309,8 +309,9 @@ inline rest_after() {
 #else
        :: heard == ALL && unread[at] >= PARTS || heard == SOME -> rest = AGAIN
 #endif
-       fi                                                  // _ if is_cut(unread) || body_in(unread).is_some()
-                                                           // => Ok(Rest::Again), _ => Err(Cause::TooLong), }
+       fi                                                  // _ if has_moved && (is_cut(unread) ||
+                                                           // body_in(unread).is_some()) => Ok(Rest::Again),
+                                                           // _ => Err(Cause::TooLong), }
     fi
 }
 
@@ -337,9 +338,11 @@ inline resume() {
           if                                               // if end.is_err() {
           :: failed -> rest = FAILED                       // return Err(Cause::Write); }
           :: !failed ->
+                                                           // let has_moved = bytes.len() + taken > self.unread().len();
              keep();                                       // match self.keep(alloc, &outbox.text()[sent..],
                                                            // &bytes[taken..], spare) {
-             rest_after()                                  // Ok(()) => rest_after(heard, self.unread(), self.left()),
+             rest_after()                                  // Ok(()) => rest_after(heard, has_moved, self.unread(),
+                                                           // self.left()),
           fi                                               // Err(cause) => Err(cause), }
        fi
     fi

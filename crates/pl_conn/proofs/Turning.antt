@@ -1,7 +1,7 @@
 -- A turn of a conversation that rests: bytes are heard, frames answered, replies written, and the rest kept.
 use Rattle.std.proofs.Common.{◌≡◌, ℕ, ◌+◌, ◌-◌, ◌<◌, ◌≤◌, List, [], ◌∷◌, ◌++◌, length, take, drop, Option, None, Some, Result, Ok, Err, refl, sym, ap, ap₂, subst, ◌∙◌, append_assoc, append-nil, drop-drop, inl, inr, arith, le_refl}
 use Rattle.std.specs.Prelude.{◌⊎◌, IfErr, OnErr}
-use Rattle.std.proofs.lemmas.List.{take-append-drop, take_rest, drop_all}
+use Rattle.std.proofs.lemmas.List.{take-append-drop, take_rest, drop_all, length-append, length-drop}
 use Rattle.std.proofs.lemmas.Grind.{flat_map-append}
 use Rattle.std.proofs.lemmas.Slice.{take-put_mid_below}
 use Rattle.std.specs.Io.KnownBytes.{Appends, Consumes, IsAtEnd, Keeps, ReadConsumes}
@@ -40,7 +40,18 @@ pub none_left : (xs : List ℕ) → length xs ≡ 0 → xs ≡ []
 none_left [] none = refl
 none_left (x ∷ xs) none = absurd (omega (arith, none))
 
+-- of bytes that are more, or of which some were taken
+moved : (bodies : List (List ℕ)) (heard bytes unread rest : List ℕ) (taken : ℕ) → taken ≤ length bytes → length rest ≡ length bytes - taken
+    → bytes ≡ frames_of bodies ++ rest → bytes ≡ unread ++ heard → length unread < length bytes + taken → 0 < length heard + length bodies
+moved [] heard bytes unread rest taken within left read hears more =
+    omega (arith, within, left, ap length read, ap length hears, length-append unread heard, more)
+moved (b ∷ bs) heard bytes unread rest taken within left read hears more = omega arith
+
 module _ {P : Type 0} (calls : Calls P) where
+  -- a turn that heard a byte, or answered a frame
+  abbrev pub Moves : Scene P → Middle → Scene P → Middle → Type 0
+  Moves before old after new = (turn : Resumes calls before old after new) × (0 < length turn.heard + length turn.replies.bodies)
+
   -- nothing is answered
   pub replies_none : (p : P) (m : Middle) → Replies calls p m p m
   replies_none p m = record { bodies = []; replies = []; short = tt; fits = tt; read = refl; chain = refl; told = sym (append-nil m.waiting) }
@@ -157,6 +168,15 @@ module _ {P : Type 0} (calls : Calls P) where
           };
         }
 
+    -- that heard a byte, or answered a frame
+    pub turned_on : (q : P) (then : Option (List ℕ)) (old new : Middle) (bytes : List ℕ) (taken : ℕ) (text : List ℕ)
+        → Tells output old wrote new → new.waiting ≡ [] → Hears input new.unread heard_to bytes → Speaks calls p wrote bytes q then (middle (drop taken bytes) text)
+        → taken ≤ length bytes → length new.unread < length bytes + taken → Moves (scene input output p) old (scene heard_to then q) (middle (drop taken bytes) text)
+    turned_on q then old new bytes taken text t none h s within more = (
+      turned q then old new (middle (drop taken bytes) text) bytes t none h s,
+      moved s.replies.bodies h.0 bytes new.unread (drop taken bytes) taken within (length-drop taken bytes) s.replies.read h.2 more,
+    )
+
   -- a turn whose rest could not be kept
   pub lost : (before after : Scene P) (old new left : Middle) (cause : Cause) → Resumes calls before old after left
       → (cause ≡ causes.Write) ⊎ ((cause ≡ causes.NoMemory) × (left.waiting ≡ [])) → Rests calls before old after new (Err cause)
@@ -167,25 +187,28 @@ module _ {P : Type 0} (calls : Calls P) where
   pub kept_as : (before after : Scene P) (old new left : Middle) → Resumes calls before old after left → new ≡ left → Resumes calls before old after new
   kept_as before after old new left r is = subst (λ (m : Middle). Resumes calls before old after m) (sym is) r
 
+  pub moved_as : (before after : Scene P) (old new left : Middle) → Moves before old after left → new ≡ left → Moves before old after new
+  moved_as before after old new left r is = subst (λ (m : Middle). Moves before old after m) (sym is) r
+
   -- what a turn comes to
   pub rested : {E : Type 0} (before after : Scene P) (old new : Middle) (waiting : ℕ) (end : Result Rest Cause)
-      → Resumes calls before old after new → length new.waiting ≡ waiting → (E → IsAtEnd after.input)
+      → Resumes calls before old after new → (end ≡ Ok rests.Again → Moves before old after new) → length new.waiting ≡ waiting → (E → IsAtEnd after.input)
       → (end ≡ Ok rests.Input → (waiting ≡ 0) × IsCut longest_request new.unread) → (end ≡ Ok rests.Output → 0 < waiting)
       → (end ≡ Ok rests.Over → (waiting ≡ 0) × (new.unread ≡ []) × E) → (end ≡ Err causes.Short → (waiting ≡ 0) × (0 < length new.unread) × E)
       → IfErr end (λ cause. waiting ≡ 0) → Rests calls before old after new end
-  rested before after old new waiting (Ok rests.Again) r is at_end input output over short err = r
-  rested before after old new waiting (Ok rests.Input) r is at_end input output over short err =
+  rested before after old new waiting (Ok rests.Again) r again is at_end input output over short err = again refl
+  rested before after old new waiting (Ok rests.Input) r again is at_end input output over short err =
       let i = input refl in (r, none_left new.waiting (is ∙ i.0), i.1)
-  rested before after old new waiting (Ok rests.Output) r is at_end input output over short err =
+  rested before after old new waiting (Ok rests.Output) r again is at_end input output over short err =
       let some = output refl in (r, omega (arith, is, some))
-  rested before after old new waiting (Ok rests.Over) r is at_end input output over short err =
+  rested before after old new waiting (Ok rests.Over) r again is at_end input output over short err =
       let o = over refl in (r, ap₂ middle o.1 (none_left new.waiting (is ∙ o.0)), at_end o.2)
-  rested before after old new waiting (Err causes.Short) r is at_end input output over short err =
+  rested before after old new waiting (Err causes.Short) r again is at_end input output over short err =
       let s = short refl in (new, r, (none_left new.waiting (is ∙ s.0), s.1, at_end s.2))
-  rested before after old new waiting (Err causes.TooLong) r is at_end input output over short err = (new, r, none_left new.waiting (is ∙ err))
-  rested before after old new waiting (Err causes.Read) r is at_end input output over short err = (new, r, none_left new.waiting (is ∙ err))
-  rested before after old new waiting (Err causes.Write) r is at_end input output over short err = (new, r, tt)
-  rested before after old new waiting (Err causes.NoMemory) r is at_end input output over short err = (new, r, none_left new.waiting (is ∙ err))
+  rested before after old new waiting (Err causes.TooLong) r again is at_end input output over short err = (new, r, none_left new.waiting (is ∙ err))
+  rested before after old new waiting (Err causes.Read) r again is at_end input output over short err = (new, r, none_left new.waiting (is ∙ err))
+  rested before after old new waiting (Err causes.Write) r again is at_end input output over short err = (new, r, tt)
+  rested before after old new waiting (Err causes.NoMemory) r again is at_end input output over short err = (new, r, none_left new.waiting (is ∙ err))
 
   -- more is unread behind it all
   heard_later : (p q : P) (unread rest more waits then : List ℕ) → Replies calls p (middle unread waits) q (middle rest then)
@@ -237,7 +260,7 @@ module _ {P : Type 0} (calls : Calls P) where
 
   -- whatever it comes to
   pub by_rests : (before after : Scene P) (old new : Middle) (end : Result Rest Cause) → Rests calls before old after new end → Reaches calls before.pass after.pass
-  by_rests before after old new (Ok rests.Again) r = by_turn before after old new r
+  by_rests before after old new (Ok rests.Again) r = by_turn before after old new r.0
   by_rests before after old new (Ok rests.Input) r = by_turn before after old new r.0
   by_rests before after old new (Ok rests.Output) r = by_turn before after old new r.0
   by_rests before after old new (Ok rests.Over) r = by_turn before after old new r.0

@@ -1,5 +1,5 @@
 -- A conversation that rests between its turns.
-use Rattle.std.specs.Prelude.{◌≡◌, ℕ, ⊤, ◌<◌, ◌≤◌, List, [], ◌++◌, length, Option, Result, Ok, Err}
+use Rattle.std.specs.Prelude.{◌≡◌, ℕ, ⊤, ◌+◌, ◌<◌, ◌≤◌, List, [], ◌++◌, length, Option, Result, Ok, Err}
 use Rattle.std.specs.Io.KnownBytes.{Appends, Consumes, IsAtEnd}
 use Rattle.std.specs.List.{AllByRecursion}
 use Rattle.pl_core.specs.declared.reply.Reply.{Reply}
@@ -67,9 +67,9 @@ Loses causes.Read lost left = lost.waiting ≡ []
 Loses causes.Write lost left = ⊤
 Loses causes.NoMemory lost left = lost.waiting ≡ []
 
--- what a turn comes to
+-- What a turn comes to. Where another is due at once, it heard a byte at least, or answered a frame.
 abbrev pub Rests : {P : Type 0} → Calls P → Scene P → Middle → Scene P → Middle → Result Rest Cause → Type 0
-Rests calls before old after new (Ok rests.Again) = Resumes calls before old after new
+Rests calls before old after new (Ok rests.Again) = (turn : Resumes calls before old after new) × (0 < length turn.heard + length turn.replies.bodies)
 Rests calls before old after new (Ok rests.Input) = Resumes calls before old after new × (new.waiting ≡ []) × IsCut longest_request new.unread
 Rests calls before old after new (Ok rests.Output) = Resumes calls before old after new × (0 < length new.waiting)
 Rests calls before old after new (Ok rests.Over) = Resumes calls before old after new × (new ≡ middle [] []) × IsAtEnd after.input

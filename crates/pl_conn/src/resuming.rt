@@ -1,6 +1,6 @@
 //! A conversation that rests between any two bytes: what it keeps meanwhile, and its turns.
 
-ghost use Rattle.std.specs.Prelude.{◌≡◌, ◌<◌, ◌≤◌, ◌⊎◌, [], Err, IfErr, IfOk, Ok, OnOk, drop, length};
+ghost use Rattle.std.specs.Prelude.{◌≡◌, ◌<◌, ◌≤◌, ◌⊎◌, [], Err, IfErr, IfOk, IsTrue, Ok, OnOk, drop, length};
 ghost use Rattle.std.specs.Io.KnownBytes.{IsAtEnd};
 ghost use Rattle.pl_wire.specs.FrameReading.{IsCut};
 ghost use Rattle.pl_wire.specs.Frames.{longest_request};
@@ -30,7 +30,7 @@ const WRITES_A_TURN: u32 = 4;
 /// What a conversation waits for.
 #[derive(Clone, Copy, Debug, PartialEq, Eq)]
 pub enum Rest {
-    /// For nothing: more of the input is there, and a turn is due.
+    /// For nothing: more of the input may be there, and a turn is due. This one heard a byte of it, or answered a frame.
     Again,
     /// For input. All replies are written, and what was read behind the last frame is no whole frame.
     Input,
@@ -151,8 +151,10 @@ fn put_all(to: &mut Vec<u8>, bytes: &[u8]) -> Result<(), AllocError>
     to.extend_from_slice(bytes)
 }
 
-// What the conversation waits for after a turn that heard this, or why it ends.
-fn rest_after(heard: Heard, unread: &[u8], waiting: usize) -> Result<Rest, Cause>
+// What the conversation waits for after a turn that heard this, or why it ends. A turn that moved nothing, with more than
+// a part of a frame there, has a length that is too long in front of it.
+fn rest_after(heard: Heard, has_moved: bool, unread: &[u8], waiting: usize) -> Result<Rest, Cause>
+    ensures again { result ≡ Ok Rest.Again → IsTrue has_moved }
     ensures input { result ≡ Ok Rest.Input → (waiting ≡ 0) × IsCut longest_request unread.now }
     ensures output { result ≡ Ok Rest.Output → 0 < waiting }
     ensures over { result ≡ Ok Rest.Over → (waiting ≡ 0) × (unread.now ≡ []) × (heard ≡ Heard.End) }
@@ -166,7 +168,7 @@ fn rest_after(heard: Heard, unread: &[u8], waiting: usize) -> Result<Rest, Cause
         Heard::End if unread.is_empty() => Ok(Rest::Over),
         Heard::End => Err(Cause::Short),
         Heard::All if is_cut(unread) => Ok(Rest::Input),
-        _ if is_cut(unread) || body_in(unread).is_some() => Ok(Rest::Again),
+        _ if has_moved && (is_cut(unread) || body_in(unread).is_some()) => Ok(Rest::Again),
         _ => Err(Cause::TooLong),
     }
 }
@@ -317,8 +319,10 @@ impl Conversation {
         if end.is_err() {
             return Err(Cause::Write);
         }
+        // Whether a byte was heard, or a frame answered.
+        let has_moved = bytes.len() + taken > self.unread().len();
         match self.keep(alloc, &outbox.text()[sent..], &bytes[taken..], spare) {
-            Ok(()) => rest_after(heard, self.unread(), self.left()),
+            Ok(()) => rest_after(heard, has_moved, self.unread(), self.left()),
             Err(cause) => Err(cause),
         }
     }

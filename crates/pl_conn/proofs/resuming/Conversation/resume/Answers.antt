@@ -1,7 +1,8 @@
 use Rattle.std.proofs.Common.{refl, rules, sym}
+use Rattle.std.proofs.lemmas.Bool.{ltb-true}
 use Rattle.std.proofs.lemmas.List.{take_rest}
 use Rattle.pl_conn.specs.Resting.{middle}
-use Rattle.pl_conn.proofs.Turning.{kept_as, lost, none_left, only_heard, only_told, rested, turned}
+use Rattle.pl_conn.proofs.Turning.{kept_as, lost, moved_as, none_left, only_heard, only_told, rested, turned, turned_on}
 use Rattle.pl_conn.proofs.resuming.Conversation.resume.Goals as goal
 
 pub returns-then-is_err-clause-rests : goal.returns-then-is_err-clause-rests
@@ -38,5 +39,9 @@ returns-in-Ok-keep-clause-rests g c =
     at c.in-Ok-keep.ensures.ok in
     rested _ _ _ _ _ _ _
     (kept_as _ _ _ _ _ _ (turned _ _ _ _ _ _ _ _ _ _ _ c.hear.new.inbox c.tell.ensures.tells (none_left _ (search rules)) hears speaks) kept)
+    (λ again. moved_as _ _ _ _ _ _
+    (turned_on _ _ _ _ _ _ _ _ _ _ c.hear.new.inbox _ _ c.tell.ensures.tells (none_left _ (search rules)) hears speaks
+    (rw c.as_slice-bytes.ensures.value at c.speak-taken.ensures.taken)
+    (rw (c.unread-2.ensures.value, c.as_slice-bytes.ensures.value) at ltb-true _ _ (c.rest_after.ensures.again again))) kept)
     (sym c.left-in-Ok-keep.ensures.value) c.in-Ok.ensures.end (rw c.unread-in-Ok-keep.ensures.value at c.rest_after.ensures.input) c.rest_after.ensures.output
     (rw c.unread-in-Ok-keep.ensures.value at c.rest_after.ensures.over) (rw c.unread-in-Ok-keep.ensures.value at c.rest_after.ensures.short) c.rest_after.ensures.err
