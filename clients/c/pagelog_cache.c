@@ -184,6 +184,10 @@ bool pagelog_cache_changed(const struct pagelog_cache *cache, struct pagelog_fra
     return true;
 }
 
+bool pagelog_cache_is_changed(const struct pagelog_cache *cache) {
+    return cache->changed.count > 0;
+}
+
 void pagelog_cache_undo(struct pagelog_cache *cache) {
     struct pagelog_frame *frame;
     while ((frame = cache->changed.oldest)) {

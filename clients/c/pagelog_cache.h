@@ -31,6 +31,9 @@ struct pagelog_frame *pagelog_cache_make(struct pagelog_cache *cache, uint32_t p
  * `whole` is true the caller replaces all of its bytes, whatever they are. False where memory runs out. */
 bool pagelog_cache_change(struct pagelog_cache *cache, struct pagelog_frame *frame, bool whole);
 
+/* Whether there are changed frames. */
+bool pagelog_cache_is_changed(const struct pagelog_cache *cache);
+
 /* The changed frames, by rising page; `*frames` is to be freed. False where memory runs out. */
 bool pagelog_cache_changed(const struct pagelog_cache *cache, struct pagelog_frame ***frames, size_t *count);
 

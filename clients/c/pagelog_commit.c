@@ -272,6 +272,8 @@ enum pagelog_outcome pagelog_file_commit(struct pagelog_file *file) {
     enum pagelog_outcome outcome = PAGELOG_DONE;
     if (file->is_over) return pagelog_refuse_until_begin(file);
     file->reason = NULL;
+    bool is_resized = file->size != file->mark.size || file->least != file->size;
+    if (!is_resized && !pagelog_cache_is_changed(file->cache)) return PAGELOG_DONE;
     if (!pagelog_cache_changed(file->cache, &commit.frames, &commit.count)) return out_of_memory(file);
     commit.old_pages = pages_of(file->least);
     commit.fresh_pages = pages_of(file->size);

@@ -3,16 +3,16 @@
 #ifndef PAGELOG_COMMON_H
 #define PAGELOG_COMMON_H
 
+#include <endian.h>
 #include <stddef.h>
 #include <stdint.h>
+#include <string.h>
 #include <time.h>
 
-/* Writes a number in `size` bytes, and returns the place behind it. */
+/* Writes a number in `size` bytes, 1 to 8, and returns the place behind it. */
 static inline uint8_t *pagelog_write_number(uint8_t *to, uint64_t value, size_t size) {
-    for (size_t i = size; i > 0; i--) {
-        to[i - 1] = (uint8_t)value;
-        value >>= 8;
-    }
+    uint64_t bytes = htobe64(value << (64 - 8 * size));
+    memcpy(to, &bytes, size);
     return to + size;
 }
 

@@ -324,6 +324,14 @@ const struct pagelog_reply *pagelog_file_refused(const struct pagelog_file *file
     return pagelog_refused(file->log);
 }
 
+bool pagelog_file_may_commit(const struct pagelog_file *file) {
+    return is_writer(file) && !file->is_broken;
+}
+
+uint64_t pagelog_file_losses(const struct pagelog_file *file) {
+    return file->losses;
+}
+
 void pagelog_file_set_check(struct pagelog_file *file, unsigned check_ms) {
     file->options.check_ms = check_ms;
 }

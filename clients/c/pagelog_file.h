@@ -125,6 +125,12 @@ void pagelog_file_undo(struct pagelog_file *file);
 /* The reply behind the last outcome that was not DONE, as pagelog_refused. */
 const struct pagelog_reply *pagelog_file_refused(const struct pagelog_file *file);
 
+/* Whether a commit is allowed, as far as is known: it is a writer's, and the one before came to its end. */
+bool pagelog_file_may_commit(const struct pagelog_file *file);
+
+/* As `losses` of the state. */
+uint64_t pagelog_file_losses(const struct pagelog_file *file);
+
 /* Changes `check_ms`, `unwaited`, and `spin_us` of the service's options. */
 void pagelog_file_set_check(struct pagelog_file *file, unsigned check_ms);
 void pagelog_file_set_unwaited(struct pagelog_file *file, unsigned unwaited);

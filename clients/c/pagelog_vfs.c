@@ -410,7 +410,7 @@ static int file_close(sqlite3_file *file) {
 /* By these bytes of the database's first page SQLite sees whether its own cache is old. A counter among them
  * may come to the same number twice where commits were lost, so they are none of any page then. */
 static bool is_cache_lost(struct connection *connection, int length, sqlite3_int64 offset) {
-    uint64_t losses = pagelog_file_state_of(connection->database->file).losses;
+    uint64_t losses = pagelog_file_losses(connection->database->file);
     if (length != VERSION_BYTES || offset != VERSION_OFFSET || connection->losses == losses) return false;
     connection->losses = losses;
     return true;
@@ -472,14 +472,19 @@ static int refuse_write(struct database *database, const struct pagelog_file_sta
     return SQLITE_READONLY;
 }
 
-static int lock_reserved(struct database *database, struct connection *connection) {
-    if (database->reserved && database->reserved != connection) return SQLITE_BUSY;
+/* Why no commit is allowed; SQLITE_OK where this connection may go on nevertheless. */
+static int refuse_commit(struct database *database) {
     struct pagelog_file_state state = pagelog_file_state_of(database->file);
     if (!state.is_writer) return refuse_write(database, &state);
     /* A file that is broken begins again once all connections have let go of it. */
-    if (state.is_broken && database->sharing > 1) return SQLITE_BUSY;
-    database->reserved = connection;
-    return SQLITE_OK;
+    return database->sharing > 1 ? SQLITE_BUSY : SQLITE_OK;
+}
+
+static int lock_reserved(struct database *database, struct connection *connection) {
+    if (database->reserved && database->reserved != connection) return SQLITE_BUSY;
+    int code = pagelog_file_may_commit(database->file) ? SQLITE_OK : refuse_commit(database);
+    if (code == SQLITE_OK) database->reserved = connection;
+    return code;
 }
 
 /* The lock stays at SQLITE_LOCK_PENDING while others share the database: nobody else is let in then. */
@@ -769,7 +774,7 @@ static int open_database(sqlite3_filename name, struct connection *connection, i
     int code = find_or_open(&options, &connection->database);
     if (code != SQLITE_OK) return code;
     connection->lock = SQLITE_LOCK_NONE;
-    connection->losses = pagelog_file_state_of(connection->database->file).losses;
+    connection->losses = pagelog_file_losses(connection->database->file);
     connection->base.pMethods = &file_methods;
     if (out_flags && options.reads_only)
         *out_flags = (flags & ~(SQLITE_OPEN_READWRITE | SQLITE_OPEN_CREATE)) | SQLITE_OPEN_READONLY;
