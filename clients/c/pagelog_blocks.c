@@ -222,6 +222,10 @@ enum pagelog_outcome pagelog_blocks_difference(struct pagelog_blocks *blocks, ui
             continue;
         }
         uint64_t now = at < PAGELOG_PAGE_BYTES ? differing_bytes(old + at, new_bytes + at) : 0;
+        if (!is_in_run && now == 0) {
+            before = drawn = 0;
+            continue;
+        }
         drawn = now == UINT64_MAX ? now : drawn_out(now, before);
         before = now;
         for (uint64_t turns = drawn ^ (drawn << 1 | is_in_run); turns; turns &= turns - 1) {
