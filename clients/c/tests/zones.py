@@ -12,6 +12,14 @@ ZONES = {THREE: TABLE.read_text(), **({SIX: SIX_COPIES} if KNOWS_SIX else {})}
 NOT_KNOWN = "not tried: this service's tables have no"
 
 
+def same_log(follower, wanted):
+    """The log has these blocks, from its first one on, and is pulled until so many are there."""
+    found = []
+    while len(found) < len(wanted):
+        found += blocks_of(follower.pull(len(found) + 1)[1])
+    same("log", wanted, found)
+
+
 def numbered(first, count):
     blocks = Blocks(first)
     for lsn in range(first, first + count):
@@ -22,6 +30,15 @@ def numbered(first, count):
 def each_case():
     """Each zone that the service knows, with each that a client may be told."""
     return [(zone, told) for zone in ZONES for told in (THREE, SIX)]
+
+
+def each_log():
+    """Each case, with a follower, and a writer that has begun its epoch."""
+    for zone, told in each_case():
+        with Service(text=ZONES[zone]) as service, Log(service.address, 3) as follower, \
+                Log(service.address, 2, copies=told[0], quorum=told[1]) as log:
+            same("take over", DONE, log.take_over())
+            yield zone, told, follower, log
 
 
 def ending_before(service, operation, count):
@@ -49,25 +66,19 @@ def test_pairs_that_no_table_has():
 
 def test_appends():
     """They are in the log in every case, and the object knows the zone after the first one."""
-    for zone, told in each_case():
-        with Service(text=ZONES[zone]) as service, Log(service.address, 3) as follower, \
-                Log(service.address, 2, copies=told[0], quorum=told[1]) as log:
-            same("take over", DONE, log.take_over())
-            wanted = []
-            for count, copies in ((3, 0), (1, 0), (64, 0), (65, 3), (2, 6)):
-                blocks, before = numbered(log.end + 1, count), log.counts
-                wanted += blocks.all()
-                same("append", (DONE, len(wanted)), (log.append(blocks, copies), log.end))
-                after, each = log.counts, min(max(copies, zone[1]), zone[0])
-                if wanted[0] != blocks.all()[0] or zone == told:
-                    same("requests", count * each + -(-count // 64), after.requests - before.requests)
-                same("zone", (*zone, True), log.zone)
-            found = []
-            while len(found) < len(wanted):
-                found += blocks_of(follower.pull(len(found) + 1)[1])
-            same("log", wanted, found)
-            same("arguments", (MALFORMED, MALFORMED), (log.append(numbered(log.end + 1, 1), 1),
-                                                       log.append(numbered(log.end + 1, 1), 7)))
+    for zone, told, follower, log in each_log():
+        wanted = []
+        for count, copies in ((3, 0), (1, 0), (64, 0), (65, 3), (2, 6)):
+            blocks, before = numbered(log.end + 1, count), log.counts
+            wanted += blocks.all()
+            same("append", (DONE, len(wanted)), (log.append(blocks, copies), log.end))
+            after, each = log.counts, min(max(copies, zone[1]), zone[0])
+            if wanted[0] != blocks.all()[0] or zone == told:
+                same("requests", count * each + -(-count // 64), after.requests - before.requests)
+            same("zone", (*zone, True), log.zone)
+        same_log(follower, wanted)
+        same("arguments", (MALFORMED, MALFORMED), (log.append(numbered(log.end + 1, 1), 1),
+                                                   log.append(numbered(log.end + 1, 1), 7)))
 
 
 def test_failovers_before_each_request():
@@ -101,20 +112,14 @@ def send_one_by_one(log, count):
 
 
 def test_appends_that_nobody_waits_for():
-    for zone, told in each_case():
-        with Service(text=ZONES[zone]) as service, Log(service.address, 3) as follower, \
-                Log(service.address, 2, copies=told[0], quorum=told[1]) as log:
-            same("take over", DONE, log.take_over())
-            wanted = []
-            for count in (3, 64):
-                blocks = send_one_by_one(log, count)
-                wanted += blocks.all()
-                same("append", (DONE, len(wanted)), (log.append(blocks), log.end))
-                same("zone", (*zone, True), log.zone)
-            found = []
-            while len(found) < len(wanted):
-                found += blocks_of(follower.pull(len(found) + 1)[1])
-            same("log", wanted, found)
+    for zone, _, follower, log in each_log():
+        wanted = []
+        for count in (3, 64):
+            blocks = send_one_by_one(log, count)
+            wanted += blocks.all()
+            same("append", (DONE, len(wanted)), (log.append(blocks), log.end))
+            same("zone", (*zone, True), log.zone)
+        same_log(follower, wanted)
 
 
 def test_failovers_before_each_request_of_what_nobody_waits_for():
