@@ -37,20 +37,12 @@ import shutil
 import socket
 import statistics
 import subprocess
-import sys
 import tempfile
 import time
 
-ROOT = pathlib.Path(__file__).resolve().parent.parent
-sys.path.insert(0, str(ROOT / "scripts"))
+import rounds
+from serving import PROGRAM, SHARE, TABLE, about, build_frames, primary, reader, wire
 
-import programs  # noqa: E402
-import rounds  # noqa: E402
-import wire  # noqa: E402
-
-PROGRAM = programs.pagelog()
-TABLE = ROOT / "crates" / "pagelog" / "data" / "t0.toml"
-SHARE = float(sys.argv[1]) if len(sys.argv) > 1 else 1.0
 ROUNDS = 25
 WORKERS = (2, 4, 64)
 # Connections that ask, all connections, requests in flight on each, and requests of each connection in a round.
@@ -60,20 +52,8 @@ OTHERS = 100
 TICKS = os.sysconf("SC_CLK_TCK")
 
 
-def frame(body):
-    return wire.number(len(body), 4) + body
-
-
 def hundred_bytes(lsn):
     return wire.block(lsn, [(0, 0, bytes(100))])
-
-
-def primary(op, rest):
-    return frame(wire.head(2, wire.PRIMARY, op) + rest)
-
-
-def reader(op, rest):
-    return frame(wire.head(3, wire.SECONDARY, op) + rest)
 
 
 # What is asked before the timed requests: one hardened block, and a table of one row for each role.
@@ -353,7 +333,7 @@ def raise_limit():
 def main():
     raise_limit()
     heads = " ".join(f"{head:>9} {'best':>6} {'median':>6}" for head in ("echo", "gathered", "redis"))
-    print(f"{os.cpu_count()} processors, load {os.getloadavg()[0]:.1f}, {PROGRAM.name}, share {SHARE}")
+    print(about())
     tail = " ".join(f"{head:>8}" for head in ("us each", "MiB", "of alone", "KiB each"))
     print(f"{'':18} {'connections':17} {'workers':>7} {'pagelog':>9} {heads} {tail}")
     lines = []
@@ -372,8 +352,7 @@ def main():
 
 
 with tempfile.TemporaryDirectory() as work:
-    FRAMES = pathlib.Path(work) / "frames"
-    subprocess.run(["gcc", "-O2", "-pthread", "-o", FRAMES, ROOT / "bench" / "frames.c"], check=True)
+    FRAMES = build_frames(work)
     main()
     if shutil.which("etcd"):
         beside_etcd(work)

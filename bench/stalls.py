@@ -23,28 +23,12 @@ import pathlib
 import random
 import socket
 import subprocess
-import sys
 import tempfile
 import time
 
-ROOT = pathlib.Path(__file__).resolve().parent.parent
-sys.path.insert(0, str(ROOT / "scripts"))
+from serving import PROGRAM, SHARE, TABLE, about, build_frames, primary, reader, wire
 
-import programs  # noqa: E402
-import wire  # noqa: E402
-
-PROGRAM = programs.pagelog()
-TABLE = ROOT / "crates" / "pagelog" / "data" / "t0.toml"
-SHARE = float(sys.argv[1]) if len(sys.argv) > 1 else 1.0
 WINDOW = 64
-
-
-def primary(op, rest):
-    return wire.frame(wire.head(2, wire.PRIMARY, op) + rest)
-
-
-def reader(op, rest):
-    return wire.frame(wire.head(3, wire.SECONDARY, op) + rest)
 
 
 def get(page, lsn, exact):
@@ -183,9 +167,8 @@ def delays_of(frames, port, count, words):
 
 
 with tempfile.TemporaryDirectory() as work:
-    frames = pathlib.Path(work) / "frames"
-    subprocess.run(["gcc", "-O2", "-pthread", "-o", frames, ROOT / "bench" / "frames.c"], check=True)
-    print(f"{os.cpu_count()} processors, load {os.getloadavg()[0]:.1f}, {PROGRAM.name}, share {SHARE}", flush=True)
+    frames = build_frames(work)
+    print(about(), flush=True)
     mixed_load(work, frames)
     old_pages()
     first_get()
