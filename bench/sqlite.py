@@ -1,11 +1,11 @@
 """Times SQLite over the service beside plain SQLite in WAL, with synchronous=full and off, on a file.
 
-Usage: python3 bench/sqlite.py [SHARE]     (1; a tenth of the work with 0.1)
+Usage: python3 bench/sqlite.py [SHARE | --short]     (1; a tenth of the work with 0.1; --short is 0.3, a minute or two)
 
 The service is crates/pagelog/out/pagelog, or the program that PAGELOG names; the client is built by `make -C clients/c`.
 Everything is measured in this one run, by the same statements, in this one process, round after round in turns: a table with
 a text of a hundred bytes and an index on a random number. Plain SQLite has its file in bench/work. Beside each rate stands its
-share of that of plain SQLite in WAL with synchronous=off. Both are medians of all rounds.
+share of that of plain SQLite in WAL with synchronous=off. Both are medians of all rounds; who comes first in a round is drawn.
 
     inserts     transactions of one row a second
     updates     transactions that change one number
@@ -26,6 +26,8 @@ looks for the reply first and where it sleeps at once, and speedtest1 of SQLite'
 program, as built by
 
     apt-get source sqlite3 && gcc -O2 -o speedtest1 sqlite3-*/test/speedtest1.c -lsqlite3
+
+Last comes a table: what this client aims at, what it is measured at in this run, and the half of the rounds around that.
 """
 
 import os
@@ -40,9 +42,9 @@ import time
 ROOT = pathlib.Path(__file__).resolve().parent.parent
 CLIENT = ROOT / "clients" / "c"
 WORK = ROOT / "bench" / "work" / "sqlite"
-SHARE = float(sys.argv[1]) if len(sys.argv) > 1 else 1.0
+SHARE = 0.3 if "--short" in sys.argv else float(sys.argv[1]) if len(sys.argv) > 1 else 1.0
 UPDATE = "update t set value = value + 1 where id = 1"
-ROUNDS = 10
+ROUNDS = 20
 # How many there are in all rounds together, where the share is 1.
 COLUMNS = {"inserts": 8000, "updates": 8000, "thousands": 40, "warm": 40000, "in one": 80000, "cold": 4000, "scan": 10}
 WRITES = ("inserts", "updates", "thousands")
@@ -154,8 +156,8 @@ class System:
 def measure(systems):
     """Each column in so many rounds, and in each round of every system, so that what else the machine does falls on all."""
     for column, most in COLUMNS.items():
-        for _ in range(ROUNDS):
-            for system in systems:
+        for number in range(ROUNDS):
+            for system in random.Random(number).sample(systems, len(systems)):
                 found = system.once(column, max(int(most * SHARE / ROUNDS), 1 if column == "thousands" else 10))
                 if found:
                     system.rates[column].append(found)
@@ -173,27 +175,73 @@ def plain(synchronous):
     return System(f"plain, WAL, {synchronous}", opened)
 
 
+def shares(system, other, column):
+    """What its rates are of another's, round by round."""
+    return [one / plain for one, plain in zip(system.rates[column], other.rates[column])]
+
+
 def show(systems):
     """The rates, and beside them what they are of those of plain SQLite with synchronous=off: the medians of all rounds."""
     print(f"{'a second':20}" + "".join(f"{column:>17}" for column in COLUMNS))
     for system in systems:
         cells = []
         for column in COLUMNS:
-            rates, others = system.rates[column], systems[-1].rates[column]
-            shares = [one / other for one, other in zip(rates, others)]
-            cells.append(f"{statistics.median(rates):>11,.0f} {statistics.median(shares):>5.2f}" if rates else " " * 17)
+            rates = system.rates[column]
+            share = statistics.median(shares(system, systems[-1], column)) if rates else 0
+            cells.append(f"{statistics.median(rates):>11,.0f} {share:>5.2f}" if rates else " " * 17)
         print(f"{system.name:20}" + "".join(cells))
 
 
+class Aims:
+    """The table of what is aimed at and what was measured."""
+
+    def __init__(self):
+        self.lines = []
+
+    def add(self, what, values, least=None, most=None, digits=2):
+        """The median of the values, of which there may be one, is at least or at most so much."""
+        middle = statistics.median(values)
+        low, _, high = statistics.quantiles(values, method="inclusive") if len(values) > 1 else [middle] * 3
+        is_met = middle >= least if most is None else middle <= most
+        aim = f"at least {least:,}" if most is None else f"at most {most:,}"
+        around = f"{low:,.{digits}f} to {high:,.{digits}f}" if len(values) > 1 else ""
+        self.lines.append((what, aim, f"{middle:,.{digits}f}", around, "met" if is_met else "missed"))
+
+    def lacks(self, what, why):
+        self.lines.append((what, "", "", "", why))
+
+    def show(self):
+        lines = [("aim", "wanted", "measured", "half of the rounds", ""), *self.lines]
+        widths = [max(len(line[i]) for line in lines) for i in range(5)]
+        for line in lines:
+            print("  ".join(text.ljust(width) for text, width in zip(line, widths)).rstrip())
+
+
+def add_rates(aims, systems):
+    """The aims that are of rates."""
+    _, trusted, unwaited, follower, _, plain_off = systems
+    for column, what, least in (("inserts", "one-row inserts", 0.5), ("thousands", "transactions of 1,000 rows", 1)):
+        aims.add(f"{what}, a COMMIT waits: share of WAL, off", shares(trusted, plain_off, column), least=least)
+        aims.add(f"{what}, nobody waits: share of WAL, off", shares(unwaited, plain_off, column), least=least)
+    for who, system in (("a writer", trusted), ("a follower", follower)):
+        times = [1 / share for share in shares(system, plain_off, "warm")]
+        aims.add(f"warm reads, check=50, {who}: time beside WAL, off", times, most=1.2)
+    aims.add("cold reads of a follower, a second", follower.rates["cold"], least=12000, digits=0)
+
+
 def cost(work, name, statement):
-    """What a transaction of this statement sends."""
+    """What a transaction of this statement sends: the bytes and the round trips of each of fifty."""
     told = lambda what: int(work.connection.execute(f"pragma pagelog_{what}").fetchone()[0])
-    before = {what: told(what) for what in ("bytes_sent", "requests", "round_trips", "blocks_written")}
+    sent = {what: [] for what in ("bytes_sent", "requests", "round_trips", "blocks_written")}
     for _ in range(50):
+        before = {what: told(what) for what in sent}
         work.connection.execute(statement)
-    after = {what: (told(what) - before[what]) / 50 for what in before}
-    print(f"{name}: {after['bytes_sent']:,.0f} bytes sent, {after['blocks_written']:.1f} blocks, "
-          f"{after['requests']:.1f} requests, {after['round_trips']:.1f} round trips")
+        for what, values in sent.items():
+            values.append(told(what) - before[what])
+    middle = {what: statistics.median(values) for what, values in sent.items()}
+    print(f"{name}: {middle['bytes_sent']:,.0f} bytes sent, {middle['blocks_written']:.0f} blocks, "
+          f"{middle['requests']:.0f} requests, {middle['round_trips']:.0f} round trips")
+    return sent["bytes_sent"], sent["round_trips"]
 
 
 def waits(work):
@@ -225,7 +273,7 @@ def lag(work, follower):
 
 
 def speedtest(program, opened):
-    """Seconds of speedtest1, over the service and on a file, in turns."""
+    """Seconds of speedtest1, over the service and on a file, in turns: those over the service beside WAL, off."""
     size, found = str(max(int(20 * SHARE), 2)), {}
     subprocess.run(["make", "-s", "-C", CLIENT, "out/pagelog_preload.so"], check=True)
     preload = {"LD_PRELOAD": str(CLIENT / "out" / "pagelog_preload.so")}
@@ -244,52 +292,77 @@ def speedtest(program, opened):
                     sys.exit(f"speedtest1: {ran.stdout[-300:]}{ran.stderr[-300:]}")
                 found.setdefault(name, []).append(time.perf_counter() - start)
     for name, seconds in found.items():
-        shares = [one / other for one, other in zip(seconds, found["WAL, off"])]
+        beside = [one / other for one, other in zip(seconds, found["WAL, off"])]
         print(f"speedtest1, size {size}, {name}: {statistics.median(seconds):.2f} s, {min(seconds):.2f} at best, "
-              f"{statistics.median(shares):.2f} of WAL, off")
+              f"{statistics.median(beside):.2f} of WAL, off")
+    return [one / other for one, other in zip(found["pagelog"], found["WAL, off"])]
 
 
-def main():
-    subprocess.run(["make", "-s", "-C", CLIENT], check=True)
-    from database import connect, reader, uri
-    from service import PROGRAM, Service
+def systems_of(first, second, third):
+    """The systems that are compared, over three services: plain SQLite with synchronous=off is the last one."""
+    from database import connect, reader
 
-    def opened_for_speedtest():
+    def opened_unwaited():
+        connection = connect(third.address, check=50, unwaited=64)
+        connection.execute("pragma synchronous = off")
+        return connection
+
+    checked = System("pagelog, check 0", lambda: connect(first.address), shares=True)
+    trusted = System("pagelog, check 50", lambda: connect(second.address, check=50), shares=True)
+    unwaited = System("pagelog, unwaited", opened_unwaited, shares=True, columns=WRITES)
+    follower = System("a follower", lambda: reader(second.address, check=50), trusted.work)
+    return [checked, trusted, unwaited, follower, plain("full"), plain("off")]
+
+
+def measure_writer(aims, work, follower):
+    """What its transactions cost, and how soon a follower sees them."""
+    sent, trips = cost(work, "an update of one number", UPDATE)
+    aims.add("an update of one number: bytes sent", sent, most=303, digits=0)
+    aims.add("an update of one number: round trips", trips, most=1, digits=0)
+    cost(work, "an insert of one row", "insert into t(number, value, text) values (random(), 0, hex(randomblob(50)))")
+    work.rows = work.connection.execute("select count(*) from t").fetchone()[0]
+    waits(work)
+    lags = lag(work, follower)
+    most = lags[-len(lags) // 100]
+    print(f"lag of a follower: median {statistics.median(lags):.2f} ms, 99 of 100 within {most:.2f} ms, most {lags[-1]:.2f} ms")
+    aims.add("lag of a follower, ms", lags, most=10)
+    aims.add("lag of a follower, ms: 99 of 100 within", [most], most=10)
+
+
+def measure_speedtest(aims):
+    from database import uri
+    from service import Service
+
+    def opened():
         service = Service()
         service.uri = uri(service.address, check=50)
         return service
 
+    program, what = os.environ.get("SPEEDTEST1"), "speedtest1: time beside WAL, off"
+    if program:
+        aims.add(what, speedtest(program, opened), most=1.1)
+    else:
+        aims.lacks(what, "not run: SPEEDTEST1 names no program")
+
+
+def main():
+    subprocess.run(["make", "-s", "-C", CLIENT], check=True)
+    from database import reader
+    from service import PROGRAM, Service
+
+    aims = Aims()
     shutil.rmtree(WORK, ignore_errors=True)
     WORK.mkdir(parents=True)
     print(f"{os.cpu_count()} processors, load {os.getloadavg()[0]:.1f}, SQLite {sqlite3.sqlite_version}, share {SHARE}, "
           f"{ROUNDS} rounds")
     with Service() as first, Service() as second, Service() as third:
-
-        def opened_unwaited():
-            connection = connect(third.address, check=50, unwaited=64)
-            connection.execute("pragma synchronous = off")
-            return connection
-
-        checked = System("pagelog, check 0", lambda: connect(first.address), shares=True)
-        trusted = System("pagelog, check 50", lambda: connect(second.address, check=50), shares=True)
-        unwaited = System("pagelog, unwaited", opened_unwaited, shares=True, columns=WRITES)
-        follower = System("a follower", lambda: reader(second.address, check=50), trusted.work)
-        systems = [checked, trusted, unwaited, follower, plain("full"), plain("off")]
+        systems = systems_of(first, second, third)
         measure(systems)
         show(systems)
-        cost(trusted.work, "an update of one number", UPDATE)
-        cost(trusted.work, "an insert of one row",
-             "insert into t(number, value, text) values (random(), 0, hex(randomblob(50)))")
-        trusted.work.rows = trusted.work.connection.execute("select count(*) from t").fetchone()[0]
-        waits(trusted.work)
-        lags = lag(trusted.work, reader(second.address))
-        print(f"lag of a follower: median {lags[len(lags) // 2]:.2f} ms, 99 of 100 within {lags[-len(lags) // 100]:.2f} ms, "
-              f"most {lags[-1]:.2f} ms")
-    program = os.environ.get("SPEEDTEST1")
-    if program:
-        speedtest(program, opened_for_speedtest)
-    else:
-        print("speedtest1: not run, SPEEDTEST1 names no program")
+        add_rates(aims, systems)
+        measure_writer(aims, systems[1].work, reader(second.address))
+    measure_speedtest(aims)
+    aims.show()
     print(f"load at the end {os.getloadavg()[0]:.1f}, service {pathlib.Path(PROGRAM).name}")
     shutil.rmtree(WORK, ignore_errors=True)
 
