@@ -44,7 +44,12 @@ module _ {P : Type 0} (calls : Calls P) where
 
   -- there is no memory to begin with
   pub converses_none : (input output : Option (List ℕ)) (p : P) → Converses calls (scene input output p) (scene input output p) (Err (record { cause = causes.NoMemory; answered = 0 }))
-  converses_none input output p = let t = told_none input input output p (Consumes-nil input) in (told_talk [] [], t.talks, refl, ((refl, refl), inl (omega arith)))
+  converses_none input output p = (
+    told_talk [] [],
+    record { short = tt; read = Consumes-nil input; chain = refl; fits = tt; written = Appends-nil output },
+    refl,
+    ((refl, refl), inl (omega arith)),
+  )
 
   -- what is told goes on
   talks_behind : (before now after : Scene P) (bodies : List (List ℕ)) (replies : List Reply) (talk : Talk)
@@ -149,16 +154,16 @@ module _ {P : Type 0} (calls : Calls P) where
         )
 
   -- a turn at whose start there is no frame
-  pub turn_stops : (a b output : Option (List ℕ)) (p q : P) (box left : Box) (cause : Cause) → Takes calls a p box b q left (Err cause)
+  pub turn_stops : (a b output : Option (List ℕ)) (p q : P) (cause : Cause)
+      → (q ≡ p) × ((fault : FrameFault) × (cause ≡ cause_of fault) × StopsFrame longest_request a b fault)
       → Turns calls (scene a output p) (scene b output q) (Err (record { cause = cause; answered = 0 }))
-  turn_stops a b output p q box left cause (same, (fault, is, stops)) =
+  turn_stops a b output p q cause (same, (fault, is, stops)) =
       subst (λ (x : P). Converses calls (scene a output p) (scene b output x) (Err (record { cause = cause; answered = 0 }))) (sym same)
       (subst (λ (x : Cause). Converses calls (scene a output p) (scene b output p) (Err (record { cause = x; answered = 0 }))) (sym is) (stopped a b output p fault stops))
 
   -- a turn at the end of input
-  pub turn_ends : (a b output : Option (List ℕ)) (p q : P) (box left : Box) → Takes calls a p box b q left (Ok false)
-      → Turns calls (scene a output p) (scene b output q) (Ok 0)
-  turn_ends a b output p q box left (same, reads, end) =
+  pub turn_ends : (a b output : Option (List ℕ)) (p q : P) → (q ≡ p) × Consumes a b [] × IsAtEnd b → Turns calls (scene a output p) (scene b output q) (Ok 0)
+  turn_ends a b output p q (same, reads, end) =
       (subst (λ (x : P). Told calls (scene a output p) (scene b output x) 0) (sym same) (told_none a b output p reads), λ none. end)
 
   module _ (a b c output out : Option (List ℕ)) (p q r : P) (box left last : Box) (ys : List ℕ) (n : ℕ) (is : box ≡ emptied)

@@ -14,15 +14,15 @@ use Rattle.pl_conn.specs.Gathering.{whole_in}
 -- a chain, and one behind it
 pub answered_then : {P : Type 0} (calls : Calls P) (p q r : P) (bs cs : List (List ℕ)) (xs ys : List Reply)
     → Answered calls p bs xs q → Answered calls q cs ys r → Answered calls p (bs ++ cs) (xs ++ ys) r
-answered_then calls p q r [] cs [] ys first then = subst (λ x. Answered calls x cs ys r) first then
-answered_then calls p q r [] cs (x ∷ xs) ys first then = absurd first
-answered_then calls p q r (b ∷ bs) cs [] ys first then = absurd first
-answered_then calls p q r (b ∷ bs) cs (x ∷ xs) ys first then = (first.0, first.1, answered_then calls first.0 q r bs cs xs ys first.2 then)
+answered_then calls p q r [] cs [] ys first second = subst (λ x. Answered calls x cs ys r) first second
+answered_then calls p q r [] cs (x ∷ xs) ys first second = absurd first
+answered_then calls p q r (b ∷ bs) cs [] ys first second = absurd first
+answered_then calls p q r (b ∷ bs) cs (x ∷ xs) ys first second = (first.0, first.1, answered_then calls first.0 q r bs cs xs ys first.2 second)
 
 -- all of both
 pub all_then : {X : Type 0} (Q : X → Type 0) (xs ys : List X) → AllByRecursion Q xs → AllByRecursion Q ys → AllByRecursion Q (xs ++ ys)
-all_then Q [] ys first then = then
-all_then Q (x ∷ xs) ys first then = (first.0, all_then Q xs ys first.1 then)
+all_then Q [] ys first second = second
+all_then Q (x ∷ xs) ys first second = (first.0, all_then Q xs ys first.1 second)
 
 -- what the list gives, and what one more gives
 pub joined : {X A : Type 0} (f : X → List A) (xs : List X) (x : X) → flat_map f (xs ++ x ∷ []) ≡ flat_map f xs ++ f x

@@ -172,6 +172,7 @@ module _ {P : Type 0} (calls : Calls P) where
     pub turned_on : (q : P) (then : Option (List ℕ)) (old new : Middle) (bytes : List ℕ) (taken : ℕ) (text : List ℕ)
         → Tells output old wrote new → new.waiting ≡ [] → Hears input new.unread heard_to bytes → Speaks calls p wrote bytes q then (middle (drop taken bytes) text)
         → taken ≤ length bytes → length new.unread < length bytes + taken → Moves (scene input output p) old (scene heard_to then q) (middle (drop taken bytes) text)
+    unfolding turned
     turned_on q then old new bytes taken text t none h s within more = (
       turned q then old new (middle (drop taken bytes) text) bytes t none h s,
       moved s.replies.bodies h.0 bytes new.unread (drop taken bytes) taken within (length-drop taken bytes) s.replies.read h.2 more,

@@ -35,7 +35,7 @@ fn request_in(alloc: Global, body: Vec<u8>) -> Result<Request, BodyFault>
 
 // Takes the next frame and answers it: where it lies, if all of it is at hand, and else by reads. The reply has its
 // room before the request has its step. False at the end of input.
-#[tactic(auto, using(crate::proofs::Gathered::takes_at_hand, crate::proofs::Gathered::takes_read, crate::proofs::Gathered::takes_fault))]
+#[tactic(auto, using(crate::proofs::Gathered::takes_at_hand, crate::proofs::Gathered::takes_fault))]
 fn take_next<R: Source, G: Gate>(
     alloc: Global,
     reader: &mut R,

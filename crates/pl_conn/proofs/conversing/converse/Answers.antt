@@ -18,7 +18,7 @@ pub loop-answered-preserved : goal.loop-answered-preserved
 loop-answered-preserved g c = record {
   own = c.turn.ensures.own;
   few = search rules;
-  told = told_more _ _ _ _ _ _ c.loop-answered.invariant.told c.in-Ok.ensures.turns.0;
+  told = told_more _ _ _ _ _ _ c.loop-answered.invariant.told c.in-Ok-turn.ensures.turns.0;
 }
 
 pub returns-in-Err-clause-talk : goal.returns-in-Err-clause-talk

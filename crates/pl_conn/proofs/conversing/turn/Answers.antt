@@ -3,10 +3,10 @@ use Rattle.pl_conn.proofs.Blocking.{turn_cut, turn_ends, turn_stops, turn_tells}
 use Rattle.pl_conn.proofs.conversing.turn.Goals as goal
 
 pub returns-in-Ok-false-clause-turns : goal.returns-in-Ok-false-clause-turns
-returns-in-Ok-false-clause-turns g c = turn_ends _ _ _ _ _ _ _ _ (rw c.in-Ok-false.field-0-test at c.in-Ok-false.ensures.takes)
+returns-in-Ok-false-clause-turns g c = turn_ends _ _ _ _ _ _ (rw c.in-Ok-false.field-0-test at c.in-Ok-false.ensures.takes)
 
 pub returns-in-Err-clause-turns : goal.returns-in-Err-clause-turns
-returns-in-Err-clause-turns g c = turn_stops _ _ _ _ _ _ _ _ _ c.in-Err.ensures.takes
+returns-in-Err-clause-turns g c = turn_stops _ _ _ _ _ _ _ c.in-Err.ensures.takes
 
 pub returns-then-sent-text-clause-turns : goal.returns-then-sent-text-clause-turns
 returns-then-sent-text-clause-turns g c =

@@ -42,6 +42,6 @@ returns-in-Ok-keep-clause-rests g c =
     (λ again. moved_as _ _ _ _ _ _
     (turned_on _ _ _ _ _ _ _ _ _ _ c.hear.new.inbox _ _ c.tell.ensures.tells (none_left _ (search rules)) hears speaks
     (rw c.as_slice-bytes.ensures.value at c.speak-taken.ensures.taken)
-    (rw (c.unread-2.ensures.value, c.as_slice-bytes.ensures.value) at ltb-true _ _ (c.rest_after.ensures.again again))) kept)
+    (rw (c.unread-2.ensures.value, c.as_slice-bytes.ensures.value) at (ltb-true _ _ (c.rest_after.ensures.again again)))) kept)
     (sym c.left-in-Ok-keep.ensures.value) c.in-Ok.ensures.end (rw c.unread-in-Ok-keep.ensures.value at c.rest_after.ensures.input) c.rest_after.ensures.output
     (rw c.unread-in-Ok-keep.ensures.value at c.rest_after.ensures.over) (rw c.unread-in-Ok-keep.ensures.value at c.rest_after.ensures.short) c.rest_after.ensures.err
