@@ -79,7 +79,7 @@ impl Served {
         if !may || self.log.copies() <= copy {
             return Ok(false);
         }
-        self.log.write(copy, block)?;
+        self.log.write(copy, block);
         Ok(true)
     }
 
