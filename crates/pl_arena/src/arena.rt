@@ -73,9 +73,12 @@ impl Model for VersionArena {
 impl VersionArena {
     /// An arena of 1 to 65,536 chunks, of which no frame is out. It allocates nothing.
     pub fn new(alloc: Global, max_chunks: u32) -> VersionArena
+        // 1 to 65,536 chunks.
         requires some { 1 ≤ max_chunks }
         requires few { max_chunks ≤ 65536 }
+        // The arena may have this many chunks.
         ensures chunks { result.max_chunks ≡ max_chunks }
+        // No frame is out.
         ensures none { result.out ≡ maps.empty }
     {
         VersionArena {
@@ -88,6 +91,7 @@ impl VersionArena {
 
     /// Whether the frame is out. The cost is constant.
     pub fn is_out(&self, id: FrameId) -> bool
+        // Whether the frame is out.
         ensures value { result ≡ is_some (frame self.now id) }
     {
         flag_at(&self.out, id.number as usize)
@@ -99,11 +103,17 @@ impl VersionArena {
     /// in those that there are. `Full` comes where all 64 frames of each of the chunks are out, and
     /// `NoMemory` where an allocation failed; after either all is as before.
     pub fn take(&mut self) -> Result<FrameId, TakeFault>
+        // The frame's number is below 64 times the chunks.
         ensures within { IfOk result (λ id. id < capacity self.old) }
+        // The frame was not out.
         ensures fresh { IfOk result (λ id. frame self.old id ≡ None) }
+        // The frame has 8,192 zeros, and all others are as before.
         ensures taken { IfOk result (λ id. self.new ≡ with_frame self.old id zeros) }
+        // The frame is out.
         ensures out { IfOk result (λ id. IsOut self.new id) }
+        // The fault is `Full` exactly where all frames were out.
         ensures full { IsErrOf result Full ↔ IsFull self.old }
+        // After a fault all is as before.
         ensures err { OnErr result (self.new ≡ self.old) }
     {
         if self.free > 0 {
@@ -123,7 +133,9 @@ impl VersionArena {
 
     /// Takes back a frame that is out. Its memory is kept for the next that is taken.
     pub fn give(&mut self, id: FrameId)
+        // The frame is out.
         requires out { IsOut self.old id }
+        // The frame is not out, and all others are as before.
         ensures value { self.new ≡ without_frame self.old id }
     {
         let place = id.number as usize;
@@ -134,8 +146,11 @@ impl VersionArena {
 
     /// The 8,192 bytes of a frame that is out.
     pub fn bytes(&self, id: FrameId) -> &[u8]
+        // The frame is out.
         requires out { IsOut self.now id }
+        // The frame's bytes.
         ensures value { frame self.now id ≡ Some result.now }
+        // There are 8,192.
         ensures len { length result.now ≡ 8192 }
     {
         self.frames.get(id.number as usize)
@@ -143,9 +158,14 @@ impl VersionArena {
 
     /// The 8,192 bytes of a frame that is out, to be written.
     pub fn bytes_mut(&mut self, id: FrameId) -> &mut [u8]
+        // The frame is out.
         requires out { IsOut self.old id }
+        // Once the bytes are given back, the frame has what was written, and all others are as
+        // before.
         ensures* writes_back { sem 𝓛 (LendsFrame self.entry id result) }
+        // The frame's bytes.
         ensures value { frame self.old id ≡ Some result.now }
+        // There are 8,192.
         ensures len { length result.now ≡ 8192 }
     {
         // Looked at first, so that the length of what is lent is known.
@@ -156,8 +176,10 @@ impl VersionArena {
 
     /// Writes the bytes of `from` into `to`, which may be the same frame.
     pub fn copy(&mut self, from: FrameId, to: FrameId)
+        // Both frames are out.
         requires from { IsOut self.old from }
         requires to { IsOut self.old to }
+        // The frame `to` has the bytes of `from`, and all others are as before.
         ensures value { IfSome (frame self.old from) (λ bytes. self.new ≡ with_frame self.old to bytes) }
     {
         self.frames.copy(from.number as usize, to.number as usize);

@@ -34,7 +34,9 @@ pub enum Fault {
 impl Fault {
     /// The fault's code in the block format, 1 to 9.
     pub fn code(self) -> u8
+        // The code of the fault (`code_of`).
         ensures value { result ≡ code_of self }
+        // It is 1 to 9.
         ensures fits { (1 ≤ result) × (result ≤ 9) }
     {
         self as u8

@@ -102,11 +102,12 @@ impl Block {
     /// The LSN is tested first, then each record in turn, and the length of the spelling last. After
     /// a fault the records are dropped.
     pub fn new(alloc: Global, lsn: u64, records: Vec<Record>) -> Result<Block, BlockFault>
+        // What is made is a block by the grammar (`IsBlock`).
         ensures valid { IfOk result (λ b. IsBlock b) }
-        // Whatever is a block is made, unless memory runs out.
+        // An LSN and records that are a block make it, unless memory runs out.
         ensures only { IsBlock (record { lsn = lsn; records = records.items }) →
             Returns result (Ok (record { lsn = lsn; records = records.items })) }
-        // Which fault it is.
+        // The block of them, the first fault, or out of memory (`block_made`).
         ensures exact { Returns result (block_made lsn records.items) }
         // Memory runs out only after the tests of the LSN and of the records.
         ensures no_memory { result ≡ Err NoMemory →

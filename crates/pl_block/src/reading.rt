@@ -157,13 +157,13 @@ fn parts_in(alloc: Global, input: Bytes) -> Result<Parts, BlockFault>
 /// The first fault is reported in the order of the format: the length of the input, then each
 /// field from the front, then bytes that are left over, and the annotations last.
 pub fn decode(alloc: Global, input: Bytes) -> Result<Block, BlockFault>
-    // What is read is spelled so.
+    // What is read is a block, and the bytes are its spelling.
     ensures found { IfOk result (λ b. IsBlock b × (input ≡ block_spelling b)) }
-    // What is spelled so is read, unless memory runs out.
+    // Bytes that spell a block are read as that block, unless memory runs out.
     ensures only { (b : Content) → IsBlock b → input ≡ block_spelling b → Returns result (Ok b) }
-    // Which fault it is.
+    // The block that the bytes spell, the first fault, or out of memory (`block_reading`).
     ensures exact { Returns result (block_reading input) }
-    // Memory runs out only after the test of the length.
+    // Memory runs out only where the length fits.
     ensures no_memory { result ≡ Err NoMemory → length input ≤ longest_block }
 {
     each_is_byte(input.as_slice());

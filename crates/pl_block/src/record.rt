@@ -34,6 +34,7 @@ pub enum Record {
 impl Record {
     /// The page that the record changes.
     pub fn page(&self) -> u32
+        // The page that the record changes.
         ensures value { result ≡ changed_page self.now }
     {
         match self {
@@ -43,6 +44,7 @@ impl Record {
 
     /// The partition of the page that the record changes.
     pub fn partition(&self) -> u16
+        // The partition of the page that the record changes.
         ensures value { result ≡ partition_of self.now }
     {
         (self.page() / PAGES_PER_PARTITION) as u16

@@ -10,6 +10,7 @@ use crate::block::Block;
 
 /// Each element of the slice is a byte.
 pub fn each_is_byte(bytes: &[u8])
+    // Each byte that is looked at has the range of its type. It does nothing when run.
     ensures value { AreBytes bytes.now }
 {
     let _all = bytes;
@@ -17,6 +18,7 @@ pub fn each_is_byte(bytes: &[u8])
 
 /// The number has 32 bits.
 pub fn is_u32(number: &u32)
+    // The number that is looked at has the range of its type. It does nothing when run.
     ensures value { number.now < 2 ^ 32 }
 {
     let _number = *number;
@@ -24,6 +26,7 @@ pub fn is_u32(number: &u32)
 
 /// Each element of the slice is a block.
 pub fn each_is_block(blocks: &[Block])
+    // Each block that is looked at is one by the grammar. It does nothing when run.
     ensures value { AllByRecursion IsBlock blocks.now }
 {
     for block in blocks {

@@ -32,6 +32,7 @@ fn any_at(bytes: &[u8], count: u16, lo: u16, hi: u16) -> bool
 /// The annotations are read in place, up to the first that is in the range: nothing is decoded and
 /// nothing allocated. Of bytes that spell no block nothing is said.
 pub fn spelling_touches(spelling: &[u8], lo: u16, hi: u16) -> bool
+    // Whether the block of the spelling touches a partition from `lo` to `hi`.
     ensures value { (b : Content) → IsBlock b → spelling.now ≡ block_spelling b →
         result ≡ touches_between lo hi b }
 {

@@ -65,8 +65,11 @@ fn put_records(out: &mut Vec<u8>, records: &[Record]) -> Result<(), AllocError>
 
 /// The length of the spelling of the block, at least 12. It is kept, so the call costs nothing.
 pub fn encoded_len(block: &Block) -> usize
+    // The length of the block's spelling.
     ensures value { result ≡ length (block_spelling block.now) }
+    // It is at most 32,768.
     ensures fits { result ≤ longest_block }
+    // What is a `Block` is one by the grammar (`IsBlock`).
     ensures valid { IsBlock block.now }
 {
     let _lsn = block.lsn();
@@ -87,10 +90,13 @@ fn put_block(out: &mut Vec<u8>, block: &Block) -> Result<(), AllocError>
 /// Appends the one spelling of the block to `out`. Memory is asked for once, and only where `out`
 /// lacks room for the whole of it. Where the allocation fails, `out` has what it had.
 pub fn encode_onto(out: &mut Vec<u8>, block: &Block) -> Result<(), AllocError>
+    // The block's spelling is appended.
     ensures ok { OnOk result (out.new.items ≡ out.old.items ++ block_spelling block.now) }
+    // After a failure nothing is appended.
     ensures err { OnErr result (out.new.items ≡ out.old.items) }
-    // It fails only where the spelling does not fit in the room left, and uses no more than that.
+    // It fails only where the vector lacks room for the spelling, and uses no more room.
     ensures spare { UsesSpare result out.old out.new (length (block_spelling block.now)) }
+    // The spelling has at most 32,768 bytes.
     ensures fits { length (block_spelling block.now) ≤ longest_block }
 {
     out.reserve(encoded_len(block))?;
@@ -99,7 +105,9 @@ pub fn encode_onto(out: &mut Vec<u8>, block: &Block) -> Result<(), AllocError>
 
 /// The one spelling of the block, in a vector of its own, for which memory is asked once.
 pub fn encode(alloc: Global, block: &Block) -> Result<Vec<u8>, AllocError>
+    // The block's spelling.
     ensures ok { IfOk result (λ bytes. bytes.items ≡ block_spelling block.now) }
+    // It has at most 32,768 bytes.
     ensures fits { IfOk result (λ bytes. length bytes.items ≤ longest_block) }
 {
     let mut out = Vec::new(alloc);

@@ -13,8 +13,11 @@ use pl_block::{Block, PAGE_SIZE, Record};
 /// The page has 8,192 bytes, and a Put ends within them, as each Put of a block does. Whether the
 /// record is of this page is not looked at. No memory is taken.
 pub fn redo(change: &Record, page: &mut [u8])
+    // The page has 8,192 bytes.
     requires len { length page.old ≡ page_size }
+    // A Put ends within them, as each Put of a block does.
     requires within { EndsWithin page_size change.now }
+    // The page after the record.
     ensures value { page.new ≡ changed change.now page.old }
 {
     match change {

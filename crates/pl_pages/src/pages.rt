@@ -58,10 +58,14 @@ impl Pages {
     /// Pages of which none was applied, with 1 to 65,536 chunks of 64 versions. It allocates
     /// nothing.
     pub fn new(alloc: Global, chunks: usize) -> Pages
+        // 1 to 65,536 chunks.
         requires some { 1 ≤ chunks }
         requires few { chunks ≤ 65536 }
+        // The pages fit every log (`FitsLog`).
         ensures fits { (log : List Content) → FitsLog result log }
+        // No partition is applied.
         ensures applied { (partition : ℕ) → applied_at result partition ≡ 0 }
+        // The pages may have this many chunks.
         ensures chunks { result.chunks ≡ chunks }
     {
         Pages {
@@ -73,6 +77,7 @@ impl Pages {
 
     /// The LSN up to which the partition is applied, 0 at the start. The cost is constant.
     pub fn applied(&self, partition: u16) -> u64
+        // The LSN that the partition is applied to.
         ensures value { result ≡ applied_at self.now partition }
     {
         applied_in(&self.applied, partition)
@@ -84,14 +89,21 @@ impl Pages {
     /// It allocates only for a partition above all that were advanced before: 8 bytes for each up to
     /// it. An error means that an allocation failed: no applied LSN has changed.
     pub fn advance(&mut self, log: &mut DbLog, partition: u16, steps: u64) -> Result<(), AllocError>
+        // The pages fit the log.
         requires fits { FitsLog self.old log.old.hardened }
+        // The log is as before.
         ensures log { log.new ≡ log.old }
+        // The pages fit the log.
         ensures fits { FitsLog self.new log.old.hardened }
+        // The applied LSN becomes the smaller of `hard` and what it was plus the steps.
         ensures ok { OnOk result (applied_at self.new partition ≡
             min (length log.old.hardened) (applied_at self.old partition + steps)) }
+        // No other partition's applied LSN changes.
         ensures others { (other : ℕ) → other ≢ partition →
             applied_at self.new other ≡ applied_at self.old other }
+        // After an error no applied LSN has changed.
         ensures err { OnErr result (SameApplied self.old self.new) }
+        // The number of chunks stays.
         ensures chunks { self.new.chunks ≡ self.old.chunks }
     {
         let applied = self.applied(partition);
@@ -106,12 +118,18 @@ impl Pages {
     /// An error means that an allocation failed: some of the blocks may be in the index, and a get
     /// enters the others.
     pub fn follow(&mut self, log: &mut DbLog) -> Result<(), AllocError>
+        // The pages fit the log.
         requires fits { FitsLog self.old log.old.hardened }
+        // The log is as before.
         ensures log { log.new ≡ log.old }
+        // The pages fit the log.
         ensures fits { FitsLog self.new log.old.hardened }
+        // 64 blocks more, or as many as there are, are in the index.
         ensures ok { OnOk result
             (self.new.indexed ≡ min (length log.old.hardened) (self.old.indexed + 64)) }
+        // No applied LSN changes.
         ensures applied { SameApplied self.old self.new }
+        // The number of chunks stays.
         ensures chunks { self.new.chunks ≡ self.old.chunks }
     {
         let entered = self.index.entered();
@@ -139,13 +157,21 @@ impl Pages {
         lsn: u64,
         exact: bool,
     ) -> Result<(u64, &[u8]), AllocError>
+        // The pages fit the log.
         requires fits { FitsLog self.old log.old.hardened }
+        // The LSN is at most `hard`.
         requires hard { lsn ≤ length log.old.hardened }
+        // When the bytes are no longer lent, the pages fit the log, and the applied LSNs and the
+        // number of chunks are as before, after an error too.
         ensures* keeps { sem 𝓛 (EndsFitting self.entry log.old.hardened) }
+        // The LSN that is answered (`choice_of`).
         ensures at { IfOk result (λ given. given.0 ≡ choice_of self.old page lsn exact) }
+        // The page at that LSN: the log up to it, replayed.
         ensures page { IfOk result (λ given. given.1.now ≡
             page_of page (take (choice_of self.old page lsn exact) log.old.hardened)) }
+        // The page has 8,192 bytes.
         ensures len { IfOk result (λ given. length given.1.now ≡ page_size) }
+        // The log is as before.
         ensures log { log.new ≡ log.old }
     {
         let partition = (page / PAGES_PER_PARTITION) as u16;
