@@ -1,4 +1,4 @@
-"""Reads what the crates define, for scripts/pages: functions with the labels of their clauses, laws, edits, names."""
+"""Reads what the crates define, for scripts/pages: functions with their clauses and the words of these, laws, edits, names."""
 
 import functools
 import pathlib
@@ -7,23 +7,40 @@ import re
 ROOT = pathlib.Path(__file__).resolve().parent.parent
 
 
-class Function:
-    """A function with the labels of its clauses; of a method, `owner` is its type."""
+class Clause:
+    """A clause: its kind, its label, '' for none, and its words, those of the comment right above it."""
 
-    def __init__(self, file, owner, name, is_public, requires, ensures):
+    def __init__(self, kind, label, words):
+        self.kind, self.label, self.words = kind, label, words
+
+
+class Function:
+    """A function with its clauses; of a method, `owner` is its type or its trait."""
+
+    def __init__(self, file, owner, name, is_public, clauses):
         self.file, self.owner, self.name, self.is_public = file, owner, name, is_public
-        self.requires, self.ensures = requires, ensures
+        self.clauses = clauses
+
+    @property
+    def requires(self):
+        return [clause.label for clause in self.clauses if clause.kind == "requires"]
+
+    @property
+    def ensures(self):
+        return [clause.label for clause in self.clauses if clause.kind == "ensures"]
 
     @property
     def is_law(self):
-        return "laws" in self.file.with_suffix("").parts
+        return bool(self.file) and "laws" in self.file.with_suffix("").parts
 
     @property
     def has_contract(self):
-        return bool(self.requires or self.ensures)
+        return bool(self.clauses)
 
     @property
     def path(self):
+        if not self.file:
+            return f"{self.name} for {self.owner}"
         return f"{self.owner}::{self.name}" if self.owner else self.name
 
     @property
@@ -59,16 +76,34 @@ CLAUSE = re.compile(r"\s*(requires|ensures)\*?(?:\s+([a-z_][A-Za-z0-9_]*))?\s*\{
 GHOST = re.compile(r"\s*ghost\s+\w+\s*:\s*\{")
 
 
-def clauses_at(text, at):
-    """The labels of the clauses from here on: of requires, and of ensures; '' for a clause with none."""
-    found = {"requires": [], "ensures": []}
+def words_above(source, at):
+    """The comment lines right above the line of this place, as one text."""
+    words = []
+    for line in reversed(source[:at].split("\n")[:-1]):
+        found = re.fullmatch(r"\s*//(?![/!])\s*(.*?)\s*", line)
+        if not found:
+            break
+        words.insert(0, found.group(1))
+    return " ".join(words)
+
+
+def clauses_at(source, text, at):
+    """The clauses from here on. `text` is the source without comments."""
+    clauses = []
     while True:
         clause, ghost = CLAUSE.match(text, at), GHOST.match(text, at)
         if clause:
-            found[clause.group(1)].append(clause.group(2) or "")
+            words = words_above(source, clause.start(1))
+            clauses.append(Clause(clause.group(1), clause.group(2) or "", words))
         elif not ghost:
-            return found["requires"], found["ensures"]
+            return clauses
         at = end_of(text, (clause or ghost).end() - 1, "{", "}")
+
+
+def traits_of(text):
+    """Each public trait: its name, and where it begins and ends."""
+    for found in re.finditer(r"^[ \t]*pub\s+trait\s+(\w+)[^{;]*\{", text, flags=re.M):
+        yield found.group(1), found.end(), end_of(text, found.end() - 1, "{", "}")
 
 
 def impls_of(text):
@@ -102,21 +137,43 @@ def functions_of(crate):
     """All functions of a crate outside its tests."""
     tests, functions = set(test_files(crate)), []
     for file in sorted(set((crate / "src").rglob("*.rt")) - tests):
-        text = without_tests(without_comments(file.read_text()))
-        impls = list(impls_of(text))
+        source = file.read_text()
+        text = without_tests(without_comments(source))
+        impls, traits = list(impls_of(text)), list(traits_of(text))
         for found in re.finditer(r"\b(pub(?:\([a-z]+\))?\s+)?fn\s+(\w+)", text):
-            owner, trait = "", ""
-            for kind, of, first, last in impls:
+            is_public, owner = (found.group(1) or "").strip() == "pub", ""
+            for kind, trait, first, last in impls:
                 if first <= found.start() < last:
-                    owner, trait = kind, of
+                    owner, is_public = kind, is_public and not trait
+            for trait, first, last in traits:
+                if first <= found.start() < last:
+                    owner, is_public = trait, True
             at = end_of(text, text.index("(", found.end()), "(", ")")
             # The `;` of a type such as [u8; 16] ends no signature.
             result = re.sub(r"\[[^\[\]]*\]", blank, text[at:])
             start = re.search(r"\b(?:requires|ensures|ghost)\b|[{;]", result)
-            requires, ensures = clauses_at(text, at + start.start()) if start else ([], [])
-            is_public = (found.group(1) or "").strip() == "pub" and not trait
-            functions.append(Function(file.relative_to(crate), owner, found.group(2), is_public, requires, ensures))
+            clauses = clauses_at(source, text, at + start.start()) if start else []
+            functions.append(Function(file.relative_to(crate), owner, found.group(2), is_public, clauses))
     return functions
+
+
+@functools.lru_cache(maxsize=None)
+def impls_with_words(crate):
+    """The impls of the crate's public traits whose parts have words: the name, and the parts as clauses."""
+    files = sorted(set((crate / "src").rglob("*.rt")) - set(test_files(crate)))
+    texts = [(file.read_text(), without_tests(without_comments(file.read_text()))) for file in files]
+    public = {trait for _, text in texts for trait, _, _ in traits_of(text)}
+    found = []
+    for source, text in texts:
+        for owner, trait, first, last in impls_of(text):
+            parts = []
+            for part in re.finditer(r"^[ \t]*(ghost (\w+)) =", text[first:last], flags=re.M):
+                words = words_above(source, first + part.start(1))
+                if words:
+                    parts.append(Clause("ensures", part.group(2), words))
+            if trait in public and parts:
+                found.append(Function(None, owner, trait, True, parts))
+    return found
 
 
 CLOSURE = re.compile(r"\|[^|\n]*\|[^\n{]*\n(?:[ \t]*(?:requires|ensures)\b.*\n(?:(?![ \t]*(?:requires|ensures|\{)).*\n)*)+")
@@ -131,19 +188,6 @@ def count_of_clauses(crate):
 
 def edits_of(crate):
     return sorted(file.stem for file in (crate / "must-fail").glob("*.edit"))
-
-
-def has_impl(crate, name):
-    """Whether a name such as `Display for Stop` or `From<AllocError>` is an impl or a type of the crate."""
-    plain = re.sub(r"<[^<>]*>", "", name)
-    wanted = plain.split(" for ")[-1].split("::")[0].strip()
-    for file in (crate / "src").rglob("*.rt"):
-        text = file.read_text()
-        if re.search(rf"\b(?:struct|enum|trait|type)\s+{re.escape(wanted)}\b", text):
-            return True
-        if " for " not in plain and re.search(rf"\bimpl\b[^{{]*\b{re.escape(wanted)}\b[^{{]*\bfor\b", text):
-            return True
-    return False
 
 
 def defines(text, name):

@@ -22,9 +22,12 @@ For more information, try '--help'.
 /// What the arguments ask for, where they could be read. An argument that is not UTF-8 is a usage
 /// error.
 pub fn asked(alloc: Global, arguments: io::Result<Vec<String>>) -> Result<CommandLine, CommandFault>
+    // What is asked for follows from the arguments (`AsksFor`).
     ensures ok { IfOk result (λ line. IsOkAnd arguments (λ ws. AsksFor (map string_bytes ws.items) line)) }
+    // Arguments that `clap` takes are never a usage error.
     ensures usage { IfErr result (λ fault. IsUsage fault →
         IsOkAnd arguments (λ ws. takes own_app (map string_bytes ws.items) ≡ true) → ⊥) }
+    // If memory ran out while the arguments were read, the fault is `NoMemory`.
     ensures memory { IfErr arguments (λ error. error_kind error ≡ ErrorKind.OutOfMemory →
         result ≡ Err CommandFault.NoMemory) }
 {

@@ -420,7 +420,9 @@ fn outcome_of(alloc: Global, error: &clap::Error) -> Result<CommandLine, Command
 ///
 /// `Usage` comes where `clap` does not take them, and `NoMemory` where an allocation failed.
 pub fn command(alloc: Global, arguments: Vec<String>) -> Result<CommandLine, CommandFault>
+    // What is asked for follows from the arguments (`AsksFor`), and each number is in its range.
     ensures ok { IfOk result (AsksFor (map string_bytes arguments.items)) }
+    // Arguments that `clap` takes are never a usage error.
     ensures usage { IfErr result (λ fault. IsUsage fault →
         takes own_app (map string_bytes arguments.items) ≢ true) }
 {

@@ -125,10 +125,12 @@ pub fn converse<R: Source, W: Write, G: Gate>(
     gate: &G,
     pass: &mut G::Pass,
 ) -> Result<u64, ConnFault>
+    // The pass is the gate's.
     requires own { G.owns gate.now pass.old }
+    // The pass stays the gate's.
     ensures own { G.owns gate.now pass.new }
-    // The output is the frames of the replies to the frames read, in order, a chain of calls; and what
-    // stands in it at a fault.
+    // The output is the frames of the replies to the frames that were read, in order, by a chain of
+    // calls, and this is what it has at a fault (`Converses`).
     ensures talk { Converses (G.calls gate.now)
         (scene (R.remaining reader.old) (W.contents writer.old) pass.old)
         (scene (R.remaining reader.new) (W.contents writer.new) pass.new)

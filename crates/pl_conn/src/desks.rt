@@ -111,14 +111,21 @@ impl<R> Desks<R> {
     ) -> Result<(Desks<R>, Vec<Passes>), AllocError>
     where
         R: Drop,
+        // 1 to 16 databases.
         requires some_dbs { 1 ≤ vec_len dbs }
         requires few_dbs { vec_len dbs ≤ 16 }
+        // At least one seat.
         requires seats { 1 ≤ seats }
+        // 1 to 2^62 turns.
         requires some { 1 ≤ turns }
         requires few { turns ≤ 2 ^ 62 }
+        // A desk for each database, in order, with this many seats and turns.
         ensures terms { IfOk result (λ r. map (λ desk. desk.terms) r.0 ≡
             terms_of_each seats turns dbs.items) }
+        // As many `Passes` as seats, in the order of their numbers from 1, each with the fresh pass
+        // of that number of each desk.
         ensures passes { IfOk result (λ r. r.1.items ≡ all_fresh r.0 seats) }
+        // All of them are of these desks (`AreOf`).
         ensures of { IfOk result (λ r. All (AreOf r.0) r.1.items) }
     {
         let mut all = empty_passes(alloc, seats)?;
@@ -137,9 +144,13 @@ impl<R> Desks<R> {
     /// Takes in other passes: at each desk the first pass has then seen what both had. It neither
     /// waits nor takes a turn.
     pub fn meet(&self, passes: &mut Passes, other: Passes)
+        // Both passes are of these desks.
         requires of { AreOf self.now passes.old }
         requires other { AreOf self.now other }
+        // The passes are of these desks.
         ensures of { AreOf self.now passes.new }
+        // At each desk the pass has met the other one, as `Desk::meet` says, and is the same pass
+        // (`HaveMet`).
         ensures met { HaveMet passes.old other passes.new }
     {
         let Passes { items } = other;
@@ -150,8 +161,12 @@ impl<R> Desks<R> {
 impl<R: Wait> Gate for Desks<R> {
     type Pass = Passes;
 
+    // The passes of these desks.
     ghost owns = { AreOf };
 
+    // The pass of the database that the head names was called, as `Desk::call` says, and the other
+    // passes stay. `NoDatabase` comes exactly where there is none of that number, and then all
+    // stays (`DesksCall`).
     ghost calls = { λ _. DesksCall };
 
     fn call(&self, passes: &mut Passes, request: Request) -> Reply {

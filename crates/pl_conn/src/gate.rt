@@ -23,8 +23,12 @@ pub trait Gate {
 
     /// Answers the request. The reply can be written.
     fn call(&self, pass: &mut Self::Pass, request: Request) -> Reply
+        // The pass is the gate's.
         requires own { owns self.now pass.old }
+        // The pass stays the gate's.
         ensures own { owns self.now pass.new }
+        // It was one of the gate's calls.
         ensures call { calls self.now pass.old request result pass.new }
+        // The reply can be written.
         ensures fits { FitsReply result };
 }

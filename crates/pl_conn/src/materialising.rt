@@ -108,8 +108,14 @@ pub fn materialise<G: Gate>(
     partition: u16,
     rounds: u32,
 ) -> Worked
+    // The pass is the gate's.
     requires own { G.owns gate.now pass.old }
+    // The pass stays the gate's.
     ensures own { G.owns gate.now pass.new }
+    // At most the given number of calls, each the advance of the partition by 16 as page server, at
+    // the epoch that was told last, 1 at first. Only the last reply may be other than Done and a
+    // denial that tells the current epoch, and fewer calls are made only after such a reply. `done`
+    // counts the replies of Done, and `epoch` is the one told last (`Works`).
     ensures works { Works (G.calls gate.now) (advance_at principal token database partition) rounds
         pass.old result pass.new }
 {

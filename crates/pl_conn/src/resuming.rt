@@ -176,6 +176,7 @@ fn rest_after(heard: Heard, has_moved: bool, unread: &[u8], waiting: usize) -> R
 impl Conversation {
     /// A conversation that has not begun.
     pub fn new(alloc: Global) -> Conversation
+        // Nothing was read, and no reply waits.
         ensures value { result ≡ middle [] [] }
     {
         Conversation {
@@ -291,10 +292,12 @@ impl Conversation {
         pass: &mut G::Pass,
         room: &mut Room,
     ) -> Result<Rest, Cause>
+        // The pass is the gate's.
         requires own { G.owns gate.now pass.old }
+        // The pass stays the gate's.
         ensures own { G.owns gate.now pass.new }
-        // The output goes on with the replies to the frames that the input goes on with, in order, a chain of
-        // calls, however either is cut.
+        // The output goes on with the replies to the frames that the input goes on with, in order,
+        // by a chain of calls, however either is cut (`Rests`).
         ensures rests { Rests (G.calls gate.now)
             (scene (R.remaining reader.old) (W.contents writer.old) pass.old) self.old
             (scene (R.remaining reader.new) (W.contents writer.new) pass.new) self.new result }
@@ -332,5 +335,6 @@ impl Conversation {
 /// turns together answered the frames of all that they heard, in order, however it was cut.
 #[tactic(auto, using(crate::proofs::Turning::resumes_then))]
 pub fn turns_join<G: Gate>(_gate: &G)
+    // Two turns, one after the other, are as one (`TurnsJoin`).
     ensures turns { TurnsJoin (G.calls _gate.now) }
 {}

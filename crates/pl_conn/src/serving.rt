@@ -376,8 +376,11 @@ pub fn serve<R: Threads + Wait + Net + Sync, G: Gate + Sync>(
 ) -> Served<G::Pass>
 where
     G::Pass: Send + Drop,
+    // Each pass is the gate's.
     requires own { All (G.owns gate.now) passes.items }
-    // How many were accepted, and each pass that comes back is one that was handed in, after calls.
+    // At most `connections` are accepted, and exactly that many if the stop is `Limit`; at `Start`
+    // none, and no pass is returned. The returned passes are a prefix of those given, in order,
+    // each after a list of the gate's calls, and are the gate's (`Serves`).
     ensures serves { Serves (G.calls gate.now) (G.owns gate.now) passes.items connections
         result.accepted result.stop result.passes.items }
 {
@@ -396,7 +399,11 @@ pub fn serve_watched<R: Threads + Wait + Net + Sync, G: Gate + Sync, W: Watch>(
 ) -> Served<G::Pass>
 where
     G::Pass: Send + Drop,
+    // Each pass is the gate's.
     requires own { All (G.owns gate.now) passes.items }
+    // At most `connections` are accepted, and exactly that many if the stop is `Limit`; at `Start`
+    // none, and no pass is returned. The returned passes are a prefix of those given, in order,
+    // each after a list of the gate's calls, and are the gate's (`Serves`).
     ensures serves { Serves (G.calls gate.now) (G.owns gate.now) passes.items connections
         result.accepted result.stop result.passes.items }
 {

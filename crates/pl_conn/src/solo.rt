@@ -38,10 +38,14 @@ fn step(db: &mut Db, number: u64, request: Request) -> Reply
 impl SoloPass {
     /// A pass that holds these databases, 1 to 16. The number is that of each entry that it makes.
     pub fn new(dbs: Vec<Db>, number: u64) -> SoloPass
+        // 1 to 16 databases.
         requires some { 1 ≤ length dbs.items }
         requires few { length dbs.items ≤ 16 }
+        // The pass has these databases, in their order.
         ensures dbs { result.dbs ≡ dbs.items }
+        // It has this number.
         ensures number { result.number ≡ number }
+        // It has 1 to 16 databases (`HasDatabases`).
         ensures has { HasDatabases result }
     {
         SoloPass { dbs, number }
@@ -49,6 +53,7 @@ impl SoloPass {
 
     /// The databases, in the order of their numbers.
     pub fn into_dbs(self) -> Vec<Db>
+        // The databases, in their order.
         ensures value { result.items ≡ self.dbs }
     {
         let SoloPass { dbs, number: _ } = self;
@@ -80,8 +85,12 @@ pub struct Solo;
 impl Gate for Solo {
     type Pass = SoloPass;
 
+    // A pass of 1 to 16 databases.
     ghost owns = { λ _ pass. HasDatabases pass };
 
+    // One step of the database that the head names, under the pass's number, and the others stay.
+    // `NoDatabase` comes exactly where there is none of that number, and then all stays
+    // (`SoloCall`).
     ghost calls = { λ _. SoloCall };
 
     fn call(&self, pass: &mut SoloPass, request: Request) -> Reply {

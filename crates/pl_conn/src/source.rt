@@ -17,12 +17,16 @@ pub trait Source: Read {
 
     /// The bytes that come next and are at hand. There may be more.
     fn at_hand(&self) -> &[u8]
+        // The buffered bytes.
         ensures value { result.now ≡ hand self.now }
+        // Reads give these bytes next.
         ensures next { IfSome (Self.remaining self.now) (λ bytes. StartsWith bytes (hand self.now)) };
 
     /// Takes so many of the bytes at hand, as reads of them would.
     fn consume(&mut self, count: usize)
+        // This many bytes are buffered.
         requires few { count ≤ length (hand self.old) }
+        // The reader has lost this many of the buffered bytes, from the front.
         ensures taken { Consumes (Self.remaining self.old) (Self.remaining self.new)
             (take count (hand self.old)) };
 }

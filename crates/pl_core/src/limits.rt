@@ -15,6 +15,7 @@ pub struct Limits {
 impl Limits {
     /// Whether both numbers are in their ranges.
     pub fn are_valid(&self) -> bool
+        // Whether the limits are in their ranges (`AreLimits`).
         ensures exact { IsTrue result ↔ AreLimits self.now.audit self.now.chunks }
     {
         1 <= self.audit && 1 <= self.chunks && self.chunks <= 65_536

@@ -35,6 +35,7 @@ impl Model for Blocks {
 impl Blocks {
     /// These blocks.
     pub fn new(blocks: Vec<Block>) -> Blocks
+        // What is given, in its order.
         ensures value { result ≡ blocks.items }
     {
         Blocks { items: blocks }
@@ -42,6 +43,7 @@ impl Blocks {
 
     /// The blocks.
     pub fn as_slice(&self) -> &[Block]
+        // What it was made of, in its order.
         ensures value { result.now ≡ self.now }
     {
         &self.items
@@ -49,6 +51,7 @@ impl Blocks {
 
     /// The blocks as a `Vec`, without an allocation.
     pub fn into_vec(self) -> Vec<Block>
+        // What it was made of, in its order.
         ensures value { result.items ≡ self }
     {
         let Blocks { items } = self;
@@ -73,6 +76,7 @@ impl Model for PageBytes {
 impl PageBytes {
     /// These bytes.
     pub fn new(bytes: Vec<u8>) -> PageBytes
+        // What is given, in its order.
         ensures value { result ≡ bytes.items }
     {
         PageBytes { bytes }
@@ -80,6 +84,7 @@ impl PageBytes {
 
     /// The bytes.
     pub fn as_slice(&self) -> &[u8]
+        // What it was made of, in its order.
         ensures value { result.now ≡ self.now }
     {
         &self.bytes
@@ -87,6 +92,7 @@ impl PageBytes {
 
     /// The bytes as a `Vec`, without an allocation.
     pub fn into_vec(self) -> Vec<u8>
+        // What it was made of, in its order.
         ensures value { result.items ≡ self }
     {
         let PageBytes { bytes } = self;
@@ -112,6 +118,7 @@ impl Model for Lines {
 impl Lines {
     /// These lines.
     pub fn new(lines: Vec<Line>) -> Lines
+        // What is given, in its order.
         ensures value { result ≡ lines.items }
     {
         Lines { items: lines }
@@ -119,6 +126,7 @@ impl Lines {
 
     /// The lines.
     pub fn as_slice(&self) -> &[Line]
+        // What it was made of, in its order.
         ensures value { result.now ≡ self.now }
     {
         &self.items
@@ -126,6 +134,7 @@ impl Lines {
 
     /// The lines as a `Vec`, without an allocation.
     pub fn into_vec(self) -> Vec<Line>
+        // What it was made of, in its order.
         ensures value { result.items ≡ self }
     {
         let Lines { items } = self;
@@ -187,6 +196,7 @@ impl Reply {
     /// Whether counts, codes and the length of a page are in the ranges of the reply format, so
     /// that the reply can be written.
     pub fn fits(&self) -> bool
+        // Whether the reply can be written (`FitsReply`).
         ensures exact { IsTrue result ↔ FitsReply self.now }
     {
         match self {

@@ -14,9 +14,12 @@ impl Db {
     /// Takes one step for each request, each under the pass of its number, and returns the replies in
     /// the same order. Room for them is made first: where that fails, no step is taken.
     pub fn run(&mut self, requests: Vec<(u64, Request)>) -> Result<Vec<Reply>, AllocError>
+        // One reply a request, in order, each by one step (`IsRun`).
         ensures run { IfOk result (λ replies.
             IsRun self.old requests.items replies.items self.new) }
+        // Each reply can be written.
         ensures fits { IfOk result (λ replies. All FitsReply replies.items) }
+        // Out of memory, nothing has changed.
         ensures err { OnErr result (self.new ≡ self.old) }
     {
         let mut replies = Vec::with_capacity(self.alloc, requests.len())?;

@@ -26,6 +26,7 @@ use std::num::NonZeroUsize;
 /// Whether the table lists the principal with this token, which is what the first rule asks. The
 /// principals, at most 64, are looked at one by one, without memory.
 pub fn known(table: &Table, head: &Head) -> bool
+    // Whether the table lists the principal with the request's token (`is_known`).
     ensures value { result ≡ is_known table.now head.now }
 {
     match table.token(head.principal) {
@@ -67,7 +68,9 @@ impl Decider {
     ///
     /// It allocates two entries of its cache; the others are allocated as verdicts are cached.
     pub fn new(alloc: Global) -> Result<Decider, AllocError>
+        // No verdict is cached.
         ensures empty { IfOk result (λ d. d ≡ []) }
+        // It agrees with each table (`AgreesWith`).
         ensures agrees { IfOk result (λ d. (table : WrittenTable) → AgreesWith d table) }
     {
         let most = NonZeroUsize::new(MOST_CACHED).unwrap();
@@ -78,7 +81,9 @@ impl Decider {
 
     /// To be called when another table comes into force. Nothing of an older one is kept.
     pub fn new_table(&mut self)
+        // No verdict is cached.
         ensures empty { self.new ≡ [] }
+        // It agrees with each table (`AgreesWith`).
         ensures agrees { (table : WrittenTable) → AgreesWith self.new table }
     {
         self.verdicts.clear();
@@ -86,7 +91,9 @@ impl Decider {
 
     /// How many verdicts are cached, at most 1,024. Nothing is allocated.
     pub fn cached(&self) -> usize
+        // How many verdicts are cached.
         ensures value { result ≡ length self.now }
+        // At most 1,024.
         ensures most { result ≤ most_cached }
     {
         self.verdicts.len()
@@ -95,6 +102,8 @@ impl Decider {
     /// Whether each cached verdict is that of the table's rows, for all requests of its key at its LSNs.
     /// Each row is looked at for each of them, up to the first that matches. Nothing is allocated.
     pub fn agrees_with(&self, table: &Table) -> bool
+        // Whether each cached verdict is that of the table's rows, for every request of its key at
+        // its LSNs (`AgreesWith`).
         ensures exact { IsTrue result ↔ AgreesWith self.now table.now }
     {
         are_of_rows(&self.verdicts, table.rows())
@@ -113,12 +122,18 @@ impl Decider {
         view: &View,
         request: &Request,
     ) -> Verdict
+        // The decider agrees with the table (`AgreesWith`).
         requires agrees { AgreesWith self.old table.now }
+        // The verdict is that of the written order (`decision`), whatever was asked before.
         ensures value { result ≡ decision request.now table.now epochs.now view.now }
+        // It is Allowed exactly where no rule of the order denies the request (`NoneStands`).
         ensures allowed { (result ≡ Verdict.Allowed)
             ↔ NoneStands (order_of table.now) request.now table.now epochs.now view.now }
+        // A denial is that of a rule that denies, with its section, number and value, and no rule
+        // before it in the order does (`IsFirstDenial`).
         ensures first { result ≢ Verdict.Allowed → IsFirstDenial result
             (order_of table.now) request.now table.now epochs.now view.now }
+        // The decider still agrees with the table.
         ensures agrees { AgreesWith self.new table.now }
     {
         if known(table, request.head()) {
@@ -137,13 +152,19 @@ impl Decider {
         view: &View,
         request: &Request,
     ) -> Verdict
+        // The decider agrees with the table (`AgreesWith`).
         requires agrees { AgreesWith self.old table.now }
+        // The table lists the principal with this token (`known`).
         requires known { is_known table.now request.now.head ≡ true }
+        // As for `decide`.
         ensures value { result ≡ decision request.now table.now epochs.now view.now }
+        // As for `decide`.
         ensures allowed { (result ≡ Verdict.Allowed)
             ↔ NoneStands (order_of table.now) request.now table.now epochs.now view.now }
+        // As for `decide`.
         ensures first { result ≢ Verdict.Allowed → IsFirstDenial result
             (order_of table.now) request.now table.now epochs.now view.now }
+        // As for `decide`.
         ensures agrees { AgreesWith self.new table.now }
     {
         self.decide_by_head(table, *epochs, *view, request)
@@ -157,8 +178,12 @@ impl Decider {
     ///
     /// [`decide`]: Decider::decide
     pub fn reach(&self, table: &Table, hard: u64, request: &Request) -> u64
+        // The rows allow the request, as `Table::first_match` tells.
         requires allowed { rows_allow table.now.rows request.now ≡ true }
+        // An LSN up to `hard`.
         ensures within { result ≤ hard }
+        // Of the LSNs up to `hard`, the rows allow the request at those up to this one, and at no
+        // other (`rows_allow`).
         ensures exact { (lsn : ℕ) → lsn ≤ hard →
             rows_allow table.now.rows (asked_at request.now lsn) ≡ nat_le lsn result }
     {
@@ -169,7 +194,9 @@ impl Decider {
     ///
     /// The rows that can match are looked at once. Nothing is allocated.
     pub fn allows_at(&self, table: &Table, request: &Request, lsn: u64) -> bool
+        // The rows allow the request, as `Table::first_match` tells.
         requires allowed { rows_allow table.now.rows request.now ≡ true }
+        // Whether the rows allow the request at this LSN.
         ensures value { result ≡ rows_allow table.now.rows (asked_at request.now lsn) }
     {
         lsn <= table.reach(request, lsn)

@@ -45,6 +45,7 @@ pub enum Rule {
 impl Rule {
     /// The section in which the rule stands.
     pub fn section(self) -> Section
+        // The section of the rule (`place_of`).
         ensures value { result ≡ (place_of self).0 }
     {
         self.place().0
@@ -52,6 +53,7 @@ impl Rule {
 
     /// The number of the rule in its section, from 1; [`NoRowMatches`](Rule::NoRowMatches) has 0.
     pub fn number(self) -> u16
+        // The number of the rule in its section (`place_of`).
         ensures value { result ≡ (place_of self).1 }
     {
         self.place().1

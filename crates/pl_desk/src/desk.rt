@@ -51,13 +51,20 @@ impl Desk {
     /// fails, the database is given back.
     #[tactic(auto, using(crate::proofs::Dealing::fresh_of))]
     pub fn new(alloc: Global, db: Db, seats: u32, turns: u64) -> Result<(Desk, Vec<Pass>), Db>
+        // At least one seat.
         requires seats { 1 ≤ seats }
+        // 1 to 2^62 turns.
         requires some { 1 ≤ turns }
         requires few { turns ≤ 2 ^ 62 }
+        // The desk was made with these seats and turns, and the history of the database, its
+        // opening.
         ensures terms { IfOk result (λ r. r.0.terms ≡
             record { seats = seats; turns = turns; opening = db }) }
+        // As many passes as seats, numbered from 1 on, each of which has seen the opening.
         ensures passes { IfOk result (λ r. r.1.items ≡ fresh_passes r.0 seats) }
+        // Each pass is of this desk.
         ensures of { IfOk result (λ r. All (IsOf r.0) r.1.items) }
+        // Out of memory, the database is given back.
         ensures err { IfErr result (λ back. back ≡ db) }
     {
         let (Ok(passes), Ok(bells)) = (Vec::with_capacity(alloc, seats as usize), Bells::new(alloc))
@@ -82,9 +89,16 @@ impl Desk {
     ///
     /// Nothing is promised of how long it waits, or that a turn comes at all.
     pub fn call(&self, rt: &impl Wait, pass: &mut Pass, request: Request) -> Reply
+        // The pass is of this desk.
         requires of { IsOf self.now pass.old }
+        // It is the same pass.
         ensures same { IsSamePass pass.old pass.new }
+        // `Spent` comes exactly where the ticket read was `turns` or more, and then nothing has
+        // changed. Else the call was one step (`IsStep` of pl_core) at a history that begins with
+        // what the pass had seen, and what it has seen now is the history after that step
+        // (`WasCalled`).
         ensures called { WasCalled pass.old request result pass.new }
+        // The reply can be written.
         ensures fits { FitsReply result }
     {
         let board = &self.table.shared;
@@ -104,9 +118,13 @@ impl Desk {
     /// Takes in another pass of this desk: the first pass has then seen what both had. It neither
     /// waits nor takes a turn.
     pub fn meet(&self, pass: &mut Pass, other: Pass)
+        // Both passes are of this desk.
         requires of { IsOf self.now pass.old }
         requires other { IsOf self.now other }
+        // It is the same pass.
         ensures same { IsSamePass pass.old pass.new }
+        // What the pass has seen now begins with what both had seen, and has no more entries of
+        // either (`HasMet`).
         ensures met { HasMet pass.old other pass.new }
     {
         let board = &self.table.shared;
@@ -118,7 +136,10 @@ impl Desk {
     /// Takes the database out, once all calls have returned. There is none where a call was left in
     /// the middle, as in a thread that was never joined.
     pub fn close(self, pass: Pass) -> Option<Db>
+        // The pass is of this desk.
         requires of { IsOf self pass }
+        // The database's history begins with what the pass has seen, and has no more entries of it
+        // (`IsAhead`).
         ensures value { IfSome result (λ h. IsAhead pass.terms pass.number pass.seen h) }
     {
         let Desk {
@@ -137,7 +158,9 @@ impl Desk {
 
     /// The number of a pass, from 1.
     pub fn number(pass: &Pass) -> u64
+        // The pass's number.
         ensures value { result ≡ pass.now.number }
+        // 1 to the number of seats.
         ensures fits { (1 ≤ result) × (result ≤ pass.now.terms.seats) }
     {
         let Pass { number, chair: _ } = pass;

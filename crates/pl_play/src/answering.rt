@@ -27,10 +27,14 @@ const NO_MEMORY: &[u8] = b"06\n";
 /// A written block keeps the bytes of the body. A step that runs out of memory has a reply too.
 /// `AllocError` comes where the records of a block or a table's text found no memory, before any step.
 pub(crate) fn reply_to(alloc: Global, body: Bytes, db: &mut Db) -> Result<Reply, AllocError>
+    // The reply of a step under pass 1, or the code of the body's fault (`AnswersBody`).
     ensures answers { IfOk result (λ reply.
         AnswersBody own_pass db.old body (reply_spelling reply) db.new) }
+    // The reply can be written.
     ensures fits { IfOk result (λ reply. FitsReply reply) }
+    // `AllocError` changes nothing.
     ensures same { OnErr result (db.new ≡ db.old) }
+    // `AllocError` comes only of a write, an offer or a set_table.
     ensures copied { OnErr result (IsCopied body) }
 {
     match decode_request_shared(alloc, body) {
@@ -63,7 +67,10 @@ pub(crate) fn write_reply<W: Write>(
     reply: &Reply,
     writer: &mut W,
 ) -> Result<(), PlayFault>
+    // The reply fits its format.
     requires { FitsReply reply.now }
+    // The reply's line is written whole, cut by `Write`, or lost by `NoMemory`, but the reply
+    // `NoMemory` is never lost.
     ensures value { WritesReply (reply_spelling reply.now)
         (W.contents writer.old) (W.contents writer.new) result }
 {

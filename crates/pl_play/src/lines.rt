@@ -24,6 +24,7 @@ pub(crate) enum InputFault {
 impl InputFault {
     /// The fault of `play` at the line of this number.
     pub(crate) fn at_line(self, number: u64) -> PlayFault
+        // Which fault of `play` it is, at the line of this number.
         ensures value { result ≡ input_fault_at self number }
     {
         match self {
@@ -61,10 +62,14 @@ pub(crate) fn take_line<R: BufRead>(
     alloc: Global,
     reader: &mut R,
 ) -> Result<Option<Vec<u8>>, InputFault>
+    // The next line, without its line feed.
     ensures some { IfOk result (λ taken. IfSome taken (λ line.
         TakesLine (R.remaining reader.old) (R.remaining reader.new) line.items)) }
+    // It has at most 131,072 bytes.
     ensures fits { IfOk result (λ taken. IfSome taken (λ line. vec_len line ≤ longest_line)) }
+    // There is no other line.
     ensures none { IfOk result (λ taken. IfNone taken (HasNoLine (R.remaining reader.old))) }
+    // `Long` comes only where the line has more.
     ensures err { IfErr result (λ stop.
         stop ≡ InputFault.Long → BeginsLong (R.remaining reader.old)) }
 {
@@ -81,6 +86,7 @@ pub(crate) fn take_line<R: BufRead>(
 
 /// Whether the input is known to end here: it is looked at once, and a read that fails is no end.
 pub(crate) fn is_at_end<R: BufRead>(reader: &mut R) -> bool
+    // Where it is true, the input has no other line.
     ensures end { IsTrue result → HasNoLine (R.remaining reader.old) }
 {
     match reader.fill_buf() {

@@ -135,8 +135,11 @@ pub fn admin(
     words: &[String],
     text: Option<Vec<u8>>,
 ) -> Result<Request, AdminFault>
+    // The request has the credentials, as operator.
     ensures head { IfOk result (λ q. q.head ≡ operator_head credentials) }
+    // The act is the one that the words ask for (`AskFor`).
     ensures act { IfOk result (λ q. AskFor (map string_bytes words.now) (bytes_of text) q.act) }
+    // `Words` comes only where no act in its ranges is asked for.
     ensures words { result ≡ Err AdminFault.Words → (act : ActSeen) → InRange act →
         AskFor (map string_bytes words.now) (bytes_of text) act → ⊥ }
 {

@@ -31,6 +31,9 @@ pub fn play<R: BufRead, W: Write>(
     writer: &mut W,
     db: &mut Db,
 ) -> Result<u64, PlayFault>
+    // As many lines as it returns are answered in order, each by the line of its reply, and each
+    // step begins where the last one ended. On a fault, it says which line stopped it, and what was
+    // written and done by then (`Played`).
     ensures value { Played (AnswersBody own_pass) (R.remaining reader.old)
         (moment (W.contents writer.old) db.old)
         (moment (W.contents writer.new) db.new) result }
@@ -56,10 +59,14 @@ fn play_line<W: Write>(
     writer: &mut W,
     db: &mut Db,
 ) -> Result<(), PlayFault>
+    // The line has at most 131,072 bytes.
     requires { length line.now ≤ longest_line }
+    // The line is answered by the line of its reply, after one step. On a fault, it says what was
+    // written and done by then (`PlaysLine`).
     ensures value { PlaysLine (AnswersBody own_pass) number line.now
         (moment (W.contents writer.old) db.old)
         (moment (W.contents writer.new) db.new) result }
+    // The fault is never `Read`.
     ensures no_read { IfErr result (λ fault. fault ≢ PlayFault.Read) }
 {
     let body = match bytes_of_line(alloc, line) {

@@ -99,7 +99,9 @@ impl From<FileFault> for StartFault {
 
 /// The fault of a file that could not be opened or read.
 pub fn file_fault_of(error: &io::Error) -> FileFault
+    // `NoMemory` exactly for an error of that kind.
     ensures memory { (result ≡ FileFault.NoMemory) ↔ (error_kind error.now ≡ ErrorKind.OutOfMemory) }
+    // It is never `Long`.
     ensures read { result ≢ FileFault.Long }
 {
     if error.kind() == ErrorKind::OutOfMemory {
@@ -128,8 +130,11 @@ fn text_of(read: io::Result<usize>, text: Vec<u8>) -> Result<Vec<u8>, FileFault>
 /// All that the reader has, where that is at most 65,506 bytes. `Long` comes where it has more, of
 /// which at most one byte is read.
 pub fn read_text<R: Read + Drop>(alloc: Global, reader: R) -> Result<Vec<u8>, FileFault>
+    // The whole of the file.
     ensures ok { IfOk result (λ text. IsWhole (R.remaining reader) text.items) }
+    // It has at most 65,506 bytes.
     ensures fits { IfOk result (λ text. length text.items ≤ longest_text) }
+    // `Long` comes only where the file has more.
     ensures long { result ≡ Err FileFault.Long → IsTooLong (R.remaining reader) }
 {
     let mut text = Vec::new(alloc);
@@ -141,7 +146,10 @@ pub fn read_text<R: Read + Drop>(alloc: Global, reader: R) -> Result<Vec<u8>, Fi
 /// an audit list of at most this many entries. Of several faults the text's comes first, then that the
 /// primary is not listed.
 pub fn start_db(alloc: Global, text: &[u8], primary: u32, audit: u64) -> Result<Db, StartFault>
+    // The limit is at least 1.
     requires { 1 ≤ audit }
+    // The database with that table, primary and limit of its audit list, of which nothing was
+    // asked; or the first fault, or `NoMemory` (`start_of`).
     ensures value { (result ≡ Err StartFault.NoMemory) ⊎ (result ≡ start_of text.now primary audit) }
 {
     let table = read_table(alloc, text)?;
@@ -154,6 +162,8 @@ pub fn start_db(alloc: Global, text: &[u8], primary: u32, audit: u64) -> Result<
 
 /// The database of `play`: as [`start_db`] makes it, with an audit list of at most 65,536 entries.
 pub fn start_play(alloc: Global, text: &[u8], primary: u32) -> Result<Db, StartFault>
+    // The database with that table, that primary and an audit list of at most 65,536, of which
+    // nothing was asked; or the first fault, or `NoMemory`.
     ensures value { (result ≡ Err StartFault.NoMemory) ⊎ (result ≡ start_of text.now primary audit_of_play) }
 {
     start_db(alloc, text, primary, AUDIT_OF_PLAY)

@@ -20,6 +20,7 @@ pub(crate) enum HexFault {
 impl HexFault {
     /// The fault of `play` at the line of this number.
     pub(crate) fn at_line(self, number: u64) -> PlayFault
+        // Which fault of `play` it is, at the line of this number.
         ensures value { result ≡ hex_fault_at self number }
     {
         match self {

@@ -12,9 +12,10 @@ pub(crate) struct WriteFailed;
 /// Writes until the whole is written. A write that fails ends it, whatever the cause, an interruption
 /// too, and is not tried again.
 pub(crate) fn write_whole<W: Write>(writer: &mut W, bytes: &[u8]) -> Result<(), WriteFailed>
+    // All the bytes are written.
     ensures ok { OnOk result (Appends (W.contents writer.old) (W.contents writer.new) bytes.now) }
 
-    // What was written is a beginning of the bytes, and never all of them.
+    // A beginning of the bytes is written, and not all of them.
     ensures err { OnErr result ((k : ℕ) × (k < length bytes.now)
         × Appends (W.contents writer.old) (W.contents writer.new) (take k bytes.now)) }
 {

@@ -23,9 +23,12 @@ pub fn credentials_of(
     database: u32,
     epoch: u32,
 ) -> Result<Credentials, RunFault>
+    // The token is the one that 32 hexadecimal digits spell.
     ensures token { IfOk result (λ c. decode_sized token.now 16 ≡ Ok c.token) }
+    // The id, database and epoch are those given.
     ensures others { IfOk result (λ c.
         (c.principal ≡ principal) × (c.database ≡ database) × (c.epoch ≡ epoch)) }
+    // The fault is `Words`, and the token is not 32 hexadecimal digits.
     ensures err { IfErr result (λ fault. (fault ≡ RunFault.Words) × IsErr (decode_sized token.now 16)) }
 {
     let mut bytes = [0; TOKEN_BYTES];
@@ -56,8 +59,10 @@ fn file_behind<'a>(word: &str, file: &'a str) -> Option<&'a str>
 
 /// The file whose text the words need: that of `set_table FILE`.
 pub fn file_of(words: &[String]) -> Option<&str>
+    // The file of `set_table FILE`.
     ensures some { IfSome result (λ file.
         map string_bytes words.now ≡ codes "set_table" ∷ file.now ∷ []) }
+    // The words are not `set_table FILE`.
     ensures none { IsNone result → (file : _) →
         map string_bytes words.now ≡ codes "set_table" ∷ file ∷ [] → ⊥ }
 {
@@ -76,9 +81,11 @@ pub fn exchange<R: Read, W: Write>(
     writer: &mut W,
     request: &Request,
 ) -> Result<Reply, RunFault>
+    // The request's frame is written, and then the reply's is read.
     ensures ok { IfOk result (Exchanged request.now
         (ends (R.remaining reader.old) (W.contents writer.old))
         (ends (R.remaining reader.new) (W.contents writer.new))) }
+    // The error says which of them failed, and what was written and read by then.
     ensures err { IfErr result (StopsExchange request.now
         (ends (R.remaining reader.old) (W.contents writer.old))
         (ends (R.remaining reader.new) (W.contents writer.new))) }

@@ -90,6 +90,7 @@ pub enum Ending {
 impl Ending {
     /// The ending of a run that came to this.
     pub fn of(ended: Result<Ending, Failure>) -> Ending
+        // How the program ends (`ending_of`).
         ensures value { result ≡ ending_of ended }
     {
         match ended {
@@ -100,6 +101,7 @@ impl Ending {
 
     /// The ending of `ask`, where this was the reply.
     pub fn of_reply(reply: &Reply) -> Ending
+        // How `ask` ends at its reply.
         ensures value { result ≡ ending_of_reply reply.now }
     {
         match reply {
@@ -110,6 +112,7 @@ impl Ending {
 
     /// The exit status: 0 where all is done, 2 for a usage error, and else 1.
     pub fn status(&self) -> u8
+        // The program's exit status.
         ensures value { result ≡ ending_status self.now }
     {
         match self {

@@ -64,7 +64,9 @@ pub(crate) fn start_pager<'s, E, R: Wait + Sync + Drop>(
     pager: Pager,
     databases: u32,
 ) -> Option<PromisedHandle<Passes, Rounds>>
+    // The passes are of the desks.
     requires of { AreOf desks.now passes }
+    // The thread that was started makes these rounds.
     ensures of { IfSome result (λ handle. (handle.promise.start.value ≡ passes)
         × (handle.promise.pager ≡ pager) × (handle.promise.databases ≡ databases)) }
 {

@@ -137,13 +137,18 @@ pub fn serve_databases<R: Threads + Wait + Net + Sync + Copy + Drop, W: Watch>(
     pager: Option<Pager>,
     watch: &W,
 ) -> Result<Served<Passes>, RunFault>
+    // 1 to 16 databases.
     requires some { 1 ≤ vec_len dbs }
     requires few { vec_len dbs ≤ 16 }
+    // At most 64 workers.
     requires workers { workers ≤ 64 }
-    // Each database has a desk, each pass that comes back is one of these desks, after calls, and the
-    // page server made its rounds at each of them.
+    // Each database has a desk, with a seat for each worker and one for the page server. The passes
+    // that come back are passes of these desks, each after a list of calls. It says how many
+    // connections were accepted, by why it stopped. Where there is a page server, it made its
+    // rounds at each database, in turn (`ServesDatabases`).
     ensures serves { IfOk result
         (λ s. ServesDatabases dbs.items workers connections pager s.accepted s.stop s.passes.items) }
+    // The fault is `NoMemory`, or `Threads` where there is a page server.
     ensures err { IfErr result (λ fault. (fault ≡ RunFault.NoMemory)
         ⊎ ((fault ≡ RunFault.Threads) × IsSome pager)) }
 {

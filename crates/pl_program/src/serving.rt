@@ -34,9 +34,13 @@ pub fn databases_of(
     audit: u32,
     count: u32,
 ) -> Result<Vec<Db>, StartFault>
+    // The limit is at least 1.
     requires { 1 ≤ audit }
+    // This many databases.
     ensures count { IfOk result (λ dbs. vec_len dbs ≡ count) }
+    // Each has the table of the text, that primary and that limit of its audit list.
     ensures each { IfOk result (λ dbs. All (λ db. start_of text.now primary audit ≡ Ok db) dbs.items) }
+    // The first fault of these, or `NoMemory`.
     ensures err { IfErr result (λ fault. (fault ≡ StartFault.NoMemory)
         ⊎ (start_of text.now primary audit ≡ Err fault)) }
 {
@@ -53,6 +57,8 @@ pub fn databases_of(
 
 /// The token that the table of this text lists for the principal. `NotListed` where it lists none.
 pub fn token_of(alloc: Global, text: &[u8], principal: u32) -> Result<[u8; 16], StartFault>
+    // The token that the table of the text lists for the principal, or the first fault, or
+    // `NoMemory`.
     ensures value { (result ≡ Err StartFault.NoMemory) ⊎ (result ≡ token_in text.now principal) }
 {
     read_table(alloc, text)?
@@ -67,6 +73,8 @@ pub fn pager_of(
     text: &[u8],
     numbers: ServeNumbers,
 ) -> Result<Option<Pager>, StartFault>
+    // The page server of these numbers, with the token that the table lists for it; `None` of no
+    // rounds; or the first fault, or `NoMemory`.
     ensures value { (result ≡ Err StartFault.NoMemory) ⊎ (result ≡ pager_in text.now numbers) }
 {
     if numbers.rounds == 0 {
@@ -92,10 +100,16 @@ pub struct Opening {
 /// What a service with the table of this text begins with: this many databases as the numbers say, each with
 /// their primary and an audit list of at most as many entries as they say, and their page server.
 pub fn opening_of(alloc: Global, text: &[u8], numbers: ServeNumbers) -> Result<Opening, StartFault>
+    // The limit is at least 1.
     requires { 1 ≤ numbers.audit }
+    // This many databases.
     ensures count { IfOk result (λ o. vec_len o.dbs ≡ numbers.dbs) }
+    // Each has the table of the text, and the primary and the limit of its audit list that the
+    // numbers say.
     ensures each { IfOk result (λ o. All (λ db. start_of text.now numbers.primary numbers.audit ≡ Ok db) o.dbs.items) }
+    // Their page server, if the numbers ask for one.
     ensures pager { IfOk result (λ o. pager_in text.now numbers ≡ Ok o.pager) }
+    // A fault of these, or `NoMemory`.
     ensures err { IfErr result (λ fault. (fault ≡ StartFault.NoMemory)
         ⊎ ((start_of text.now numbers.primary numbers.audit ≡ Err fault)
         ⊎ (pager_in text.now numbers ≡ Err fault))) }
@@ -113,6 +127,7 @@ pub fn opening_of(alloc: Global, text: &[u8], numbers: ServeNumbers) -> Result<O
 
 /// What a stop of the service comes to: all is done where all connections were accepted.
 pub fn result_of(stop: Stop) -> Result<(), RunFault>
+    // The stop of the service as a fault: none where all connections were accepted.
     ensures value { result ≡ result_of_stop stop }
 {
     match stop {
@@ -134,6 +149,7 @@ pub struct Tally {
 
 /// The last line of a service that came to this, or the fault of its stop.
 pub fn tally_of(served: &Served<Passes>) -> Result<Tally, RunFault>
+    // The numbers of the last line where all connections were accepted, else the fault of the stop.
     ensures value { result ≡ tally_at served.now.stop served.now.accepted served.now.faults }
 {
     result_of(served.stop)?;

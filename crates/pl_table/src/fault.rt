@@ -44,7 +44,9 @@ pub enum TableFault {
 impl TableFault {
     /// The code of the fault, 1 to 13.
     pub fn code(self) -> u8
+        // The code of the fault (`fault_number`).
         ensures value { result ≡ fault_number self }
+        // It is 1 to 13.
         ensures fits { (1 ≤ result) × (result ≤ 13) }
     {
         self as u8

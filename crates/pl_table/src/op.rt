@@ -50,6 +50,7 @@ pub enum Op {
 impl Role {
     /// The number of the role in a request, 1 to 4.
     pub fn number(self) -> u8
+        // Its number.
         ensures value { result ≡ role_number self }
     {
         self as u8
@@ -57,6 +58,7 @@ impl Role {
 
     /// The role with this number, or `None` where there is none.
     pub fn of_number(number: u8) -> Option<Role>
+        // What has this number, `None` where nothing has it.
         ensures value { result ≡ role_of_number number }
     {
         match number {
@@ -70,6 +72,7 @@ impl Role {
 
     /// The word for the role, in lower case, as tables and texts have it.
     pub fn name(self) -> &'static str
+        // Its word.
         ensures value { result.now ≡ role_name self }
     {
         match self {
@@ -83,6 +86,7 @@ impl Role {
     /// The role with this word, or `None` where there is none.
     #[tactic(auto, unfolding(crate::specs::Part::role_of_name))]
     pub fn of_name(name: &str) -> Option<Role>
+        // What has this word, `None` where nothing has it.
         ensures value { result ≡ role_of_name name.now }
     {
         let roles = [
@@ -96,6 +100,7 @@ impl Role {
 
     /// Whether the role has the operation at all, whatever the table allows.
     pub fn has(self, op: Op) -> bool
+        // Whether the role has the operation (`has_op`).
         ensures value { result ≡ has_op self op }
     {
         match self {
@@ -116,6 +121,7 @@ impl Role {
 impl Op {
     /// The number of the operation in a request, 1 to 11.
     pub fn number(self) -> u8
+        // Its number.
         ensures value { result ≡ op_number self }
     {
         self as u8
@@ -123,6 +129,7 @@ impl Op {
 
     /// The operation with this number, or `None` where there is none.
     pub fn of_number(number: u8) -> Option<Op>
+        // What has this number, `None` where nothing has it.
         ensures value { result ≡ op_of_number number }
     {
         match number {
@@ -143,6 +150,7 @@ impl Op {
 
     /// The word for the operation, in lower case, as tables and texts have it.
     pub fn name(self) -> &'static str
+        // Its word.
         ensures value { result.now ≡ op_name self }
     {
         match self {
@@ -163,6 +171,7 @@ impl Op {
     /// The operation with this word, or `None` where there is none.
     #[tactic(auto, unfolding(crate::specs::Part::op_of_name))]
     pub fn of_name(name: &str) -> Option<Op>
+        // What has this word, `None` where nothing has it.
         ensures value { result ≡ op_of_name name.now }
     {
         Op::all().iter().copied().find(|op| op.name() == name)

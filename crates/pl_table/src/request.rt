@@ -82,6 +82,7 @@ pub enum Act {
 impl Act {
     /// The operation that is asked for.
     pub fn op(&self) -> Op
+        // The operation of the act (`op_of`).
         ensures value { result ≡ op_of self.now }
     {
         match self {
@@ -102,6 +103,7 @@ impl Act {
     /// The LSN that the act names: that of its block, the one hardened up to, the one read at, or the first
     /// one pulled. `None` where it names none.
     pub fn lsn(&self) -> Option<u64>
+        // The LSN that the act names, if any (`number_of`).
         ensures value { result ≡ number_of self.now }
     {
         match self {
@@ -121,6 +123,7 @@ impl Act {
     /// 1 to 16 blocks; an advance has 1 to 1,024 steps; a text has at most 65,506 bytes; an audit is
     /// of 1 to 1,024 entries from 1 on. The other acts have no range but that of their fields.
     pub fn is_in_range(&self) -> bool
+        // Whether the act is in its ranges (`is_in_range`).
         ensures value { result ≡ is_in_range self.now }
     {
         match self {
@@ -159,8 +162,11 @@ impl Request {
     /// The request of this principal for this act. `None` where the act is not in its ranges; the
     /// arguments are dropped then.
     pub fn new(head: Head, act: Act) -> Option<Request>
+        // It is `None` exactly where the act is not in its ranges (`InRange`).
         ensures found { IsSome result ↔ InRange act }
+        // The head and the act are those given.
         ensures some { IfSome result (λ r. (r.head ≡ head) × (r.act ≡ act)) }
+        // The request is in range (`IsRequest`).
         ensures valid { IfSome result (λ r. IsRequest r) }
     {
         if !act.is_in_range() {
@@ -173,7 +179,9 @@ impl Request {
 
     /// Who asks.
     pub fn head(&self) -> &Head
+        // This part of the request.
         ensures value { result.now ≡ self.now.head }
+        // The request is in range (`IsRequest`).
         ensures valid { IsRequest self.now }
     {
         &self.head
@@ -181,7 +189,9 @@ impl Request {
 
     /// What is asked.
     pub fn act(&self) -> &Act
+        // This part of the request.
         ensures value { result.now ≡ self.now.act }
+        // The request is in range (`IsRequest`).
         ensures valid { IsRequest self.now }
     {
         &self.act
@@ -189,8 +199,11 @@ impl Request {
 
     /// Who asks, and what.
     pub fn into_parts(self) -> (Head, Act)
+        // The head.
         ensures head { result.0 ≡ self.head }
+        // The act.
         ensures act { result.1 ≡ self.act }
+        // They were those of a request in range (`IsRequest`).
         ensures valid { IsRequest self }
     {
         let Request { head, act } = self;

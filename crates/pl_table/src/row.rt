@@ -34,6 +34,7 @@ impl Model for Ops {
 impl Ops {
     /// The operations in this order.
     pub fn new(items: Vec<Op>) -> Ops
+        // The operations, in their order.
         ensures value { result ≡ items.items }
     {
         Ops { items }
@@ -41,6 +42,7 @@ impl Ops {
 
     /// The operations in their order.
     pub fn as_slice(&self) -> &[Op]
+        // The operations, in their order.
         ensures value { result.now ≡ self.now }
     {
         &self.items
@@ -57,6 +59,7 @@ impl Ops {
 
     /// The operations in their order, in the memory that they were made with.
     pub fn into_vec(self) -> Vec<Op>
+        // The operations, in their order.
         ensures value { result.items ≡ self }
     {
         self.items
@@ -94,6 +97,7 @@ pub struct Row {
 impl Row {
     /// Whether the row matches the request. Nothing is allocated.
     pub fn matches(&self, request: &Request) -> bool
+        // Whether the row matches the request (`row_matches`).
         ensures value { result ≡ row_matches self.now request.now }
     {
         let head = request.head();

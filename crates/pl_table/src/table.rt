@@ -106,7 +106,9 @@ impl Table {
 
     /// The principals, 1 to 64, in the order in which they are listed.
     pub fn principals(&self) -> &[Principal]
+        // What is listed.
         ensures value { result.now ≡ self.now.principals }
+        // The table keeps its rules (`IsTable`).
         ensures valid { IsTable self.now }
     {
         &self.principals
@@ -114,7 +116,9 @@ impl Table {
 
     /// The rows, at most 256, in their order. The first has the number 1.
     pub fn rows(&self) -> &[Row]
+        // What is listed.
         ensures value { result.now ≡ self.now.rows }
+        // The table keeps its rules (`IsTable`).
         ensures valid { IsTable self.now }
     {
         &self.rows
@@ -122,7 +126,9 @@ impl Table {
 
     /// How many copies the landing zone has in the epochs that begin under this table, 3 or 6.
     pub fn copies(&self) -> u8
+        // The copies of the table's zone (`copies_in`).
         ensures value { result ≡ copies_in self.now.zone }
+        // 1 to 6.
         ensures fits { (1 ≤ result) × (result ≤ 6) }
     {
         self.zone.copies()
@@ -130,7 +136,9 @@ impl Table {
 
     /// How many of these copies harden an LSN, 2 or 4.
     pub fn quorum(&self) -> u8
+        // The quorum of the table's zone (`quorum_in`).
         ensures value { result ≡ quorum_in self.now.zone }
+        // 1 to the number of copies.
         ensures fits { (1 ≤ result) × (result ≤ copies_in self.now.zone) }
     {
         self.zone.quorum()
@@ -138,6 +146,7 @@ impl Table {
 
     /// An equal table, in memory of its own. `Err` where an allocation failed.
     pub fn clone_table(&self) -> Result<Table, AllocError>
+        // Where no allocation fails, an equal table.
         ensures ok { IfOk result (λ t. t ≡ self.now) }
     {
         let alloc = *self.rows.allocator();
@@ -150,10 +159,14 @@ impl Table {
     /// where no row matches. Only the rows are tested that can match a request of the principal for
     /// the operation, each once, up to that one. Nothing is allocated.
     pub fn first_match(&self, request: &Request) -> Option<(u16, bool)>
+        // The number of the first row that matches, and whether it allows (`first_match_from`).
         ensures value { result ≡ first_match_from 1 self.now.rows request.now }
+        // That row matches, and no row above it does.
         ensures some { IfSome result (IsFirstMatch self.now.rows request.now) }
+        // Where it is `None`, no row matches.
         ensures none { IfNone result
             (All (λ row. row_matches row request.now ≡ false) self.now.rows) }
+        // The table keeps its rules (`IsTable`).
         ensures valid { IsTable self.now }
     {
         self.index.first_in(&self.rows, request)
@@ -163,8 +176,12 @@ impl Table {
     /// do. They allow it at each lower LSN too. Where no row ends, and where the request names no LSN,
     /// that is `most`. [`Table::first_match`] tells whether they allow it. Nothing is allocated.
     pub fn reach(&self, request: &Request, most: u64) -> u64
+        // The rows allow the request.
         requires allowed { rows_allow self.now.rows request.now ≡ true }
+        // A number up to `most`.
         ensures within { result ≤ most }
+        // Of the LSNs up to `most`, the rows allow the request at those up to this number, and at
+        // no other (`rows_allow`, `asked_at`).
         ensures exact { (lsn : ℕ) → lsn ≤ most →
             rows_allow self.now.rows (asked_at request.now lsn) ≡ nat_le lsn result }
     {
@@ -181,7 +198,9 @@ impl Table {
     /// what it finds at its own: no row ends between two of them. `None` where the request names no
     /// LSN. Where no row ends at all no row is looked at.
     pub fn lsns_alike(&self, request: &Request) -> Option<LsnRange>
+        // A range with the request's LSN, or `None` where the request names none (`IsAtOne`).
         ensures own { IsAtOne result (number_of request.now.act) }
+        // At each LSN of the range `first_match` finds the same (`AreAlike`).
         ensures alike { IfSome result (AreAlike self.now.rows request.now) }
     {
         let lsn = request.act().lsn()?;
@@ -197,6 +216,7 @@ impl Table {
     /// How many rows can match the request: those that name nobody or its principal, and list no operation
     /// or its own. [`Table::first_match`] tests no others. It costs as much as finding their list does.
     pub fn candidates(&self, request: &Request) -> usize
+        // How many rows can match the request (`can_match`): the most that `first_match` tests.
         ensures value { result ≡ length (filter (can_match request.now) self.now.rows) }
     {
         self.index.count(request)
@@ -204,10 +224,12 @@ impl Table {
 
     /// The token listed for the id, or `None` where the id is not listed.
     pub fn token(&self, id: u32) -> Option<[u8; 16]>
+        // The token listed for the id (`token_of`).
         ensures value { result ≡ token_of id self.now.principals }
+        // It is `None` exactly where the id is not listed.
         ensures found { IsSome result ↔ Contains (map (λ p. p.id) self.now.principals) id }
 
-        // An id has one token, since no two principals have the same id.
+        // Each principal of that id has this token.
         ensures only { All (λ p. p.id ≡ id → result ≡ Some p.token) self.now.principals }
     {
         token_in(&self.principals, id)

@@ -17,6 +17,7 @@ pub enum Section {
 impl Section {
     /// The number of the section in a reply, 1 to 3.
     pub fn number(self) -> u8
+        // Its number.
         ensures value { result ≡ section_number self }
     {
         self as u8

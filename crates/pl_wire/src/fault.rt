@@ -37,7 +37,9 @@ pub enum WireFault {
 impl WireFault {
     /// The fault's code in the format of bodies, 1 to 15.
     pub fn code(self) -> u8
+        // The code of the fault (`code_of`).
         ensures value { result ≡ code_of self }
+        // It is 1 to 15.
         ensures fits { (1 ≤ result) × (result ≤ 15) }
     {
         match self {

@@ -83,11 +83,11 @@ pub fn read_head<R: Read>(reader: &mut R, limit: u32) -> Result<Option<u32>, Fra
     // A length within the limit, whose bytes were read and nothing after them.
     ensures some { IfOk result (λ head. IfSome head (λ len. (len ≤ limit)
         × Consumes (R.remaining reader.old) (R.remaining reader.new) (to_be_bytes w32 len))) }
-    // Nothing is left to be read.
+    // At the end of input there is no length, and nothing was read.
     ensures none { IfOk result (λ head. IfNone head (
         Consumes (R.remaining reader.old) (R.remaining reader.new) []
         × IsAtEnd (R.remaining reader.new))) }
-    // Which fault it is, and what was read.
+    // `Short`, `TooLong` or `Io`, and what was read then (`StopsHead`).
     ensures err { IfErr result (λ fault.
         StopsHead limit (R.remaining reader.old) (R.remaining reader.new) fault) }
 {
@@ -116,7 +116,8 @@ pub fn read_body<R: Read>(alloc: Global, reader: &mut R, len: u32) -> Result<Vec
     // This many bytes were read, and nothing after them.
     ensures ok { IfOk result (λ body. (vec_len body ≡ len)
         × Consumes (R.remaining reader.old) (R.remaining reader.new) body.items) }
-    // Which fault it is, and what was read.
+    // `Short` or `Io` with a part of them read, or out of memory with none, and then of a length
+    // above 0 (`CutsBody`).
     ensures err { IfErr result (λ fault.
         CutsBody len (R.remaining reader.old) (R.remaining reader.new) fault) }
 {
@@ -144,14 +145,15 @@ pub fn read_frame<R: Read>(
     reader: &mut R,
     limit: u32,
 ) -> Result<Option<Vec<u8>>, FrameFault>
-    // The body of the frame that was read, and nothing after it.
+    // The body of the frame that was read, of at most as many bytes as the limit, and nothing after
+    // it was read.
     ensures some { IfOk result (λ taken. IfSome taken (λ body. (vec_len body ≤ limit)
         × Consumes (R.remaining reader.old) (R.remaining reader.new) (frame body.items))) }
-    // Nothing is left to be read.
+    // At the end of input before a frame there is no body, and nothing was read.
     ensures none { IfOk result (λ taken. IfNone taken (
         Consumes (R.remaining reader.old) (R.remaining reader.new) []
         × IsAtEnd (R.remaining reader.new))) }
-    // Which fault it is, and what was read.
+    // `Short`, `TooLong`, `Io` or out of memory, and what was read then (`StopsFrame`).
     ensures err { IfErr result (λ fault.
         StopsFrame limit (R.remaining reader.old) (R.remaining reader.new) fault) }
 {
@@ -168,10 +170,12 @@ pub fn read_frame<R: Read>(
 /// `Body` where a whole frame was read whose body is no reply, or whose reply finds no memory. Memory
 /// is asked for the body, and for what the reply keeps.
 pub fn read_reply<R: Read>(alloc: Global, reader: &mut R) -> Result<Reply, ReplyFault>
-    // The reply whose frame was read, and nothing after it.
+    // The reply whose frame was read, and nothing after it was read.
     ensures ok { IfOk result (λ reply. IsReply reply
         × Consumes (R.remaining reader.old) (R.remaining reader.new) (reply_frame reply)) }
-    // Which fault it is, and what was read.
+    // `Ended` at the end of input before a frame; `Frame` as `read_frame` with a limit of 2^20
+    // bytes; `Body` where the body of a whole frame is no reply, or its reply asks for memory
+    // (`StopsReply`).
     ensures err { IfErr result (λ fault.
         StopsReply (R.remaining reader.old) (R.remaining reader.new) fault) }
 {

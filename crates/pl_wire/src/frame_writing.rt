@@ -35,7 +35,9 @@ const LENGTH_BYTES: usize = 4;
 /// `Err` says how many were written, fewer than there are, before a write took none or failed,
 /// whatever made it fail: an interruption too. There is at most one write for each byte.
 pub fn write_bytes<W: Write>(writer: &mut W, bytes: &[u8]) -> Result<(), usize>
+    // All of the bytes are written.
     ensures ok { OnOk result (Appends (W.contents writer.old) (W.contents writer.new) bytes.now) }
+    // The first of them are written, fewer than all, and the error says how many.
     ensures err { IfErr result (λ count. (count < length bytes.now)
         × Appends (W.contents writer.old) (W.contents writer.new) (take count bytes.now)) }
 {
@@ -68,11 +70,15 @@ fn put_frame(out: &mut Vec<u8>, len: usize, reply: &Reply) -> Result<(), AllocEr
 /// [`Reply::fits`] tests the condition. The only error is a failed allocation: then `out` has what it
 /// had. Where `out` has room for [`LARGEST_REPLY_FRAME`] bytes more, there is no allocation.
 pub fn put_reply(out: &mut Vec<u8>, reply: &Reply) -> Result<(), AllocError>
+    // The reply fits its format (`Reply::fits`).
     requires { FitsReply reply.now }
+    // The frame of the reply is appended.
     ensures ok { OnOk result (out.new.items ≡ out.old.items ++ reply_frame reply.now) }
+    // Out of memory, nothing is appended.
     ensures err { OnErr result (out.new.items ≡ out.old.items) }
     // It takes no more of the room than the frame, and fails only where the room is less.
     ensures room { UsesSpare result out.old out.new (length (reply_frame reply.now)) }
+    // The frame has at most 524,367 bytes.
     ensures fits { length (reply_frame reply.now) ≤ largest_reply_frame }
 {
     let len = reply_len(reply);
@@ -85,7 +91,10 @@ pub fn put_reply(out: &mut Vec<u8>, reply: &Reply) -> Result<(), AllocError>
 /// [`Reply::fits`] tests the condition. Out of memory, nothing is written; where a write fails, a
 /// beginning of the frame may be.
 pub fn write_reply<W: Write>(alloc: Global, writer: &mut W, reply: &Reply) -> Result<(), WriteFault>
+    // The reply fits its format (`Reply::fits`).
     requires { FitsReply reply.now }
+    // The frame of the reply is written; at `Io` a part of it, and not the whole; out of memory,
+    // nothing.
     ensures value { WritesText (W.contents writer.old) (W.contents writer.new)
         (reply_frame reply.now) result }
 {
@@ -115,6 +124,8 @@ pub fn write_request<W: Write>(
     writer: &mut W,
     request: &Request,
 ) -> Result<(), WriteFault>
+    // The frame of the request is written; at `Io` a part of it, and not the whole; out of memory,
+    // nothing.
     ensures value { WritesText (W.contents writer.old) (W.contents writer.new)
         (request_frame request.now) result }
 {

@@ -44,6 +44,7 @@ impl ReplyKind {
     /// The first byte of each reply of this kind. The replies `NoMemory`, `AuditFull`, `Spent`,
     /// `NoDatabase` and `Done` have no other.
     pub fn number(self) -> u8
+        // The first byte of a reply of this kind.
         ensures value { result ≡ kind_number self }
     {
         self as u8

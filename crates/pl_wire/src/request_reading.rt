@@ -308,14 +308,16 @@ fn request_in(alloc: Global, body: Bytes) -> Result<Request, BodyFault>
 /// writes down no table is a request all the same. The other requests ask for no memory.
 #[tactic(auto, using(crate::proofs::Requests::is_found, crate::proofs::Requests::is_only))]
 pub fn decode_request(alloc: Global, body: &[u8]) -> Result<Request, BodyFault>
-    // What is read is a request, and is spelled so.
+    // What is read is a request, and the bytes are its spelling.
     ensures found { IfOk result (λ q. IsRequest q × (body.now ≡ request_spelling q)) }
-    // The request that is spelled so is read, unless memory runs out.
+    // Bytes that spell a request are read as that request, unless memory runs out.
     ensures only { (q : Query) → IsRequest q → body.now ≡ request_spelling q →
         Returns result (Ok q) }
-    // Which fault it is.
+    // The request that the bytes spell, the fault of the least code, or out of memory
+    // (`request_reading`).
     ensures exact { Returns result (request_reading body.now) }
-    // Memory runs out only where a block or a table's text was to be kept.
+    // Memory runs out only for a write with a copy, an offer or a set_table, after a head whose
+    // role is known.
     ensures no_memory { result ≡ Err NoMemory → MayLackMemory body.now }
 {
     each_is_byte(body);
@@ -329,9 +331,15 @@ pub fn decode_request(alloc: Global, body: &[u8]) -> Result<Request, BodyFault>
 /// are.
 #[tactic(auto, using(crate::proofs::Requests::is_found, crate::proofs::Requests::is_only))]
 pub fn decode_request_shared(alloc: Global, body: Bytes) -> Result<Request, BodyFault>
+    // What is read is a request, and the bytes are its spelling.
     ensures found { IfOk result (λ q. IsRequest q × (body ≡ request_spelling q)) }
+    // Bytes that spell a request are read as that request, unless memory runs out.
     ensures only { (q : Query) → IsRequest q → body ≡ request_spelling q → Returns result (Ok q) }
+    // The request that the bytes spell, the fault of the least code, or out of memory
+    // (`request_reading`).
     ensures exact { Returns result (request_reading body) }
+    // Memory runs out only for a write with a copy, an offer or a set_table, after a head whose
+    // role is known.
     ensures no_memory { result ≡ Err NoMemory → MayLackMemory body }
 {
     each_is_byte(body.as_slice());

@@ -120,7 +120,9 @@ pub(crate) fn put_request(out: &mut Vec<u8>, request: &Request) -> Result<(), Al
 /// The only error is a failed allocation. Room is made once, for the whole request, and the bytes of a
 /// block or of a text are copied into it once.
 pub fn encode_request(alloc: Global, request: &Request) -> Result<Vec<u8>, AllocError>
+    // The spelling of the request.
     ensures ok { IfOk result (λ bytes. bytes.items ≡ request_spelling request.now) }
+    // It has at most 65,536 bytes.
     ensures fits { IfOk result (λ bytes. length bytes.items ≤ 65536) }
 {
     let mut out = Vec::with_capacity(alloc, request_len(request))?;

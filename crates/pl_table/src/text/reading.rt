@@ -28,7 +28,9 @@ use toml::{Table as Tree, Value};
 /// `NoMemory` is returned where an allocation failed. The text may have any length.
 #[tactic(auto, unfolding(crate::specs::TableText::table_reading))]
 pub fn read_table(alloc: Global, text: &[u8]) -> Result<Table, ReadFault>
+    // The table that the text reads as, or its first fault (`table_reading`), or out of memory.
     ensures exact { Gives (λ t. t) result (table_reading text.now) }
+    // Memory runs out only where the text is UTF-8.
     ensures no_memory { result ≡ Err NoMemory → IsUtf8 text.now }
 {
     let tree = tree::read_tree(alloc, text)?;

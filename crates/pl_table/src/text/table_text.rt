@@ -56,6 +56,7 @@ impl TableText {
     /// Reads the text. `Err` where an allocation of the reader failed; the text is dropped then. A
     /// text with a fault is a `TableText` too: [`reading`](TableText::reading) has the fault.
     pub fn new(alloc: Global, text: Vec<u8>) -> Result<TableText, AllocError>
+        // Where no allocation fails, a text with these bytes.
         ensures ok { IfOk result (λ t. t ≡ text.items) }
     {
         let reading = reading_of(read_table(alloc, &text))?;
@@ -64,6 +65,7 @@ impl TableText {
 
     /// The text, byte for byte.
     pub fn text(&self) -> &[u8]
+        // The bytes of the text.
         ensures value { result.now ≡ self.now }
     {
         &self.text
@@ -71,6 +73,7 @@ impl TableText {
 
     /// The table that the text reads as, or the first of its faults.
     pub fn reading(&self) -> &Result<Table, TableFault>
+        // What the text reads as: a table, or the first fault (`table_reading`).
         ensures value { result.now ≡ table_reading self.now }
     {
         &self.reading
@@ -78,6 +81,7 @@ impl TableText {
 
     /// The table that the text reads as, or the first of its faults. The text is dropped.
     pub fn into_reading(self) -> Result<Table, TableFault>
+        // What the text reads as: a table, or the first fault (`table_reading`).
         ensures value { result ≡ table_reading self }
     {
         let TableText { reading, .. } = self;
