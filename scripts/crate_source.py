@@ -210,7 +210,8 @@ class Source:
             for file in list((crate / "src").rglob("*.rt")) + list((crate / "specs").rglob("*.antt")):
                 text = file.read_text()
                 self.tests.update(re.findall(r"\bfn (\w+)", text))
-                self.words.update(re.findall(r"\w+", text))
+                code = re.sub(r"^\s*(?://|--).*", "", text, flags=re.M)
+                self.words.update(re.findall(r"\w+", code))
                 self.words.add(file.stem)
             self.words.add(crate.name)
         for file in (ROOT / "scripts").glob("*"):
