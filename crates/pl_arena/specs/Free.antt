@@ -52,12 +52,12 @@ pub record IsKept (frames : List (List ℕ)) (outs : List Bool) (head max_chunks
 abbrev pub held : List (List ℕ) → List Bool → ℕ → Option (List ℕ)
 held frames outs id = if slice_index_or outs id false then Some (slice_index_or frames id []) else None
 
--- a map with what stands at one more number, if anything does
+-- a map with what is at one more number, if anything does
 abbrev pub put : maps.FinMap nat_cmp (List ℕ) → ℕ → Option (List ℕ) → maps.FinMap nat_cmp (List ℕ)
 put m id None = m
 put m id (Some bytes) = maps.insert m id bytes
 
--- the map of what stands at the numbers below n
+-- the map of what is at the numbers below n
 unfoldable pub gathered : ℕ → (ℕ → Option (List ℕ)) → maps.FinMap nat_cmp (List ℕ)
 gathered zero f = maps.empty
 gathered (suc n) f = put (gathered n f) n (f n)

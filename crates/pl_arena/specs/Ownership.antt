@@ -16,11 +16,11 @@ module _ (R : RattleType) where
   abbrev pub places : ℕ → Ty
   places n = raw (ty_array (lone R.mir) n)
 
-  -- the items, and the room for n behind them, take fewer than 2 ^ 63 bytes
+  -- the items, and the room for n after them, take fewer than 2 ^ 63 bytes
   abbrev pub is_small : List R.Denot → ℕ → Fml
   is_small items n = flt ((length items + n) * type_size R) (2 ^ 63)
 
-  -- the items one behind the other, and room for n behind them
+  -- the items one after the other, and room for n after them
   abbrev pub items_own : Ptr → List R.Denot → ℕ → Fml
   items_own (block_ptr b o) items n = fsep (is_small items n) (fsep (cells (mem R) items b o) (froom (places n) b (length items * type_size R + o)))
   items_own null_ptr items n = ffalse

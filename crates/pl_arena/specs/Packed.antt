@@ -1,4 +1,4 @@
--- Chunks of up to 64 frames, one behind the other.
+-- Chunks of up to 64 frames, one after the other.
 use Rattle.std.specs.Prelude.{◌≡◌, ℕ, ◌<◌, ◌≤◌, List, [], ◌∷◌, length, slice_index_or, slice_set}
 use Rattle.std.specs.List.{flat_map}
 

@@ -186,7 +186,7 @@ impl VersionArena {
     }
 }
 
-// Whether the frame at the place is out; those behind the end never were.
+// Whether the frame at the place is out; those after the end never were.
 fn flag_at(out: &[bool], place: usize) -> bool
     ensures value { result ≡ slice_index_or out.now place false }
 {

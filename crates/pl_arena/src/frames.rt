@@ -11,7 +11,7 @@ use crate::chunk::{CHUNK_FRAMES, Chunk};
 use std::alloc::{AllocError, Global};
 use std::marker::Model;
 
-/// Chunks of up to 64 frames, one behind the other; each but the last has 64. A frame stays where it
+/// Chunks of up to 64 frames, one after the other; each but the last has 64. A frame stays where it
 /// is as long as the arena lives.
 #[derive(Drop)]
 pub(crate) struct Frames {

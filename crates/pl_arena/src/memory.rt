@@ -1,4 +1,4 @@
-//! One block of memory: items side by side at its start, and room for more behind them.
+//! One block of memory: items side by side at its start, and room for more after them.
 //!
 //! All of the crate's raw memory is here. The functions that follow an address are proved by hand.
 
@@ -35,7 +35,7 @@ unsafe impl<T> Send for Start<T> {}
 
 unsafe impl<T> Sync for Start<T> {}
 
-/// The owner of the items and of the room behind them. It takes no space itself.
+/// The owner of the items and of the room after them. It takes no space itself.
 pub(crate) struct Items<T> {
     mark: PhantomData<*const T>,
     ghost at: { Ptr },
@@ -122,7 +122,7 @@ impl<T> Items<T> {
         }
     }
 
-    /// Writes an item behind the `len` that there are.
+    /// Writes an item after the `len` that there are.
     pub(crate) fn push(&mut self, start: Start<T>, len: usize, item: T)
         requires room { (start.first ≡ self.old.at) × (len ≡ length self.old.items) × (0 < self.old.room) }
         ensures value { HasMore self.old item self.new }

@@ -10,7 +10,7 @@ use Rattle.pl_block.specs.declared.record.Record.TheVariants.{Put, Zero}
 use Rattle.pl_block.specs.Block.{Content, touched}
 use Rattle.pl_block.specs.Faults.{◌>>=◌}
 
--- a number of so many bytes
+-- a number of this many bytes
 abbrev pub number_at : Width → List ℕ → Result (ℕ × List ℕ) Fault
 number_at w bytes = if nat_lt (length bytes) (byte_len w) then Err EndsInField else Ok (from_be_bytes w (take (byte_len w) bytes), drop (byte_len w) bytes)
 
@@ -18,11 +18,11 @@ number_at w bytes = if nat_lt (length bytes) (byte_len w) then Err EndsInField e
 abbrev pub lsn_fault : ℕ → Result (Unit {0}) Fault
 lsn_fault lsn = if lsn == 0 || nat_lt last_lsn lsn then Err NumberOutOfRange else Ok tt
 
--- the fault of a Put of so many bytes at an offset, if any: it has bytes, and they end within its page
+-- the fault of a Put of this many bytes at an offset, if any: it has bytes, and they end within its page
 abbrev pub put_fault : ℕ → ℕ → Result (Unit {0}) Fault
 put_fault offset len = if len == 0 then Err EmptyPut else if nat_lt page_size (offset + len) then Err PutPastPage else Ok tt
 
--- the fault of so many bytes of a block, if any: they are at most longest_block
+-- the fault of this many bytes of a block, if any: they are at most longest_block
 abbrev pub len_fault : ℕ → Result (Unit {0}) Fault
 len_fault len = if nat_lt longest_block len then Err TooLong else Ok tt
 
@@ -30,7 +30,7 @@ len_fault len = if nat_lt longest_block len then Err TooLong else Ok tt
 unfoldable pub lsn_at : List ℕ → Result (ℕ × List ℕ) Fault
 lsn_at bytes = number_at w64 bytes >>= λ lsn. lsn_fault lsn.0 >>= λ _. Ok lsn
 
--- so many partitions, the first at least low, each above the one before
+-- this many partitions, the first at least low, each above the one before
 unfoldable pub rising_at : ℕ → ℕ → List ℕ → Result (List ℕ × List ℕ) Fault
 rising_at zero low bytes = Ok ([], bytes)
 rising_at (suc n) low bytes = do
@@ -62,7 +62,7 @@ unfoldable pub record_at : List ℕ → Result (Record × List ℕ) Fault
 record_at [] = Err EndsInField
 record_at (kind ∷ rest) = if kind == 1 then put_at rest else if kind == 2 then zero_at rest else Err UnknownKind
 
--- so many records
+-- this many records
 unfoldable pub records_at : ℕ → List ℕ → Result (List Record × List ℕ) Fault
 records_at zero bytes = Ok ([], bytes)
 records_at (suc n) bytes = do

@@ -28,7 +28,7 @@ pub(crate) fn check_lsn(lsn: u64) -> Result<(), Fault>
     Ok(())
 }
 
-/// Whether a Put can have so many bytes at the offset.
+/// Whether a Put can have this many bytes at the offset.
 pub(crate) fn check_put(offset: u16, len: usize) -> Result<(), Fault>
     ensures value { result ≡ put_fault offset len }
 {
@@ -41,7 +41,7 @@ pub(crate) fn check_put(offset: u16, len: usize) -> Result<(), Fault>
     Ok(())
 }
 
-/// Whether a block can have so many bytes.
+/// Whether a block can have this many bytes.
 pub(crate) fn check_len(len: usize) -> Result<(), Fault>
     ensures value { result ≡ len_fault len }
 {

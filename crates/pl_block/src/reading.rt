@@ -25,7 +25,7 @@ fn take_lsn(rest: &mut Bytes) -> Result<u64, Fault>
     Ok(lsn)
 }
 
-// So many partitions, each above the one before it.
+// This many partitions, each above the one before it.
 fn take_rising(alloc: Global, count: u16, rest: &mut Bytes) -> Result<Vec<u16>, BlockFault>
     ensures exact { Takes (λ ps. ps.items) result rest.new (rising_at count 0 rest.old) }
 {
@@ -88,7 +88,7 @@ fn take_record(rest: &mut Bytes) -> Result<Record, BlockFault>
     }
 }
 
-// So many records.
+// This many records.
 fn take_records(alloc: Global, count: u16, rest: &mut Bytes) -> Result<Vec<Record>, BlockFault>
     ensures exact { Takes (λ rs. rs.items) result rest.new (records_at count rest.old) }
 {

@@ -72,7 +72,7 @@ MayEndWith lsn may old new = (new ≡ old) ⊎ ((may ≡ true) × (new ≡ old +
 abbrev pub count_before : ℕ → List Content → ℕ → ℕ
 count_before page log n = length (lsns_of page (take n log))
 
--- the version at a place is of the page, behind the first i of the blocks that change it
+-- the version at a place is of the page, after the first i of the blocks that change it
 pub record IsBehind (versions : List Version) (place p : ℕ) (log : List Content) (i : ℕ) : Type 0 where
   pub within : place < length versions
   pub page : (version_at versions place).page ≡ p

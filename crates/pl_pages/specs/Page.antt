@@ -15,7 +15,7 @@ abbrev pub changed : Record → List ℕ → List ℕ
 changed (Put page offset bytes) old = take offset old ++ bytes ++ drop (offset + length bytes) old
 changed (Zero page) old = replicate (length old) 0
 
--- what a record writes ends within so many bytes; a Zero writes what is there
+-- what a record writes ends within this many bytes; a Zero writes what is there
 abbrev pub EndsWithin : ℕ → Record → Type 0
 EndsWithin len (Put page offset bytes) = offset + length bytes ≤ len
 EndsWithin len (Zero page) = Unit {0}

@@ -13,7 +13,7 @@ pub record Version : Type 0 where
   pub lsn : ℕ
   pub bytes : List ℕ
 
--- The applied LSN of each partition, those behind the end of the list being 0; how many blocks of the
+-- The applied LSN of each partition, those after the end of the list being 0; how many blocks of the
 -- log the index was made of, and the index, which has under a page the LSNs of those that change it;
 -- the versions that are kept; how many chunks of 64 versions there may be.
 pub record PagesState : Type 0 where

@@ -138,7 +138,7 @@ fn is_last(lsns: &[u64], lsn: u64) -> bool
     }
 }
 
-// Puts an LSN behind the others, if it is not there.
+// Puts an LSN after the others, if it is not there.
 fn add_once(lsns: &mut Vec<u64>, lsn: u64) -> Result<(), AllocError>
     requires some { 0 < lsn }
     ensures ok { OnOk result (lsns.new.items ≡ with_lsn lsn lsns.old.items) }

@@ -6,8 +6,8 @@ use std::alloc::Global;
 // The place of no version.
 const NOWHERE: usize = usize::MAX;
 
-/// The place of the newest version of most pages. That of a page stands at the page's number modulo
-/// the length, a power of two that grows with the versions, unless another page's stands there.
+/// The place of the newest version of most pages. That of a page is at the page's number modulo
+/// the length, a power of two that grows with the versions, unless another page's is there.
 ///
 /// What it leads to is looked at before it is used, since the version of another page may have taken
 /// the place.
@@ -55,7 +55,7 @@ impl Newest {
         }
     }
 
-    // Moves what stands in the slot to the slot of its page, which is another for every second page
+    // Moves what is in the slot to the slot of its page, which is another for every second page
     // once there are twice as many.
     fn move_to_its_slot(&mut self, slot: usize, kept: &[Kept]) {
         let Some(place) = self.places.get(slot).copied() else {

@@ -24,7 +24,7 @@ use std::marker::Model;
 /// How many blocks a call of `follow` enters at most: as many as the window of a log has.
 const MOST_FOLLOWED: u64 = 64;
 
-/// The pages of a database whose log stands beside it: how far each partition is applied, which
+/// The pages of a database whose log is kept beside it: how far each partition is applied, which
 /// blocks change each page, and versions of pages.
 ///
 /// Every call takes the log that the pages are of. The pages fit each log that begins with the one

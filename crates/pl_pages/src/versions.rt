@@ -22,7 +22,7 @@ pub(crate) struct Kept {
     frame: FrameId,
 }
 
-/// A version that was found: where it stands, and its LSN.
+/// A version that was found: where it is, and its LSN.
 #[derive(Clone, Copy, Debug, PartialEq, Eq)]
 pub(crate) struct Found {
     pub(crate) place: usize,
@@ -254,7 +254,7 @@ impl Versions {
         };
     }
 
-    // Copies the version at a place to another place, or leaves it where it stands.
+    // Copies the version at a place to another place, or leaves it where it is.
     fn copy(&mut self, from: usize, to: usize)
         requires from { from < length self.old.versions }
         requires to { to < length self.old.versions }
