@@ -133,8 +133,8 @@ pub(crate) fn is_refused(fault: ReplyFault) -> bool {
     )
 }
 
-// Whether one of the replies that the bytes begin with is NoMemory, or its reader is refused memory.
-fn has_refusal(alloc: Global, bytes: &[u8]) -> bool {
+/// Whether one of the replies that the bytes begin with is NoMemory, or its reader is refused memory.
+pub(crate) fn has_refusal(alloc: Global, bytes: &[u8]) -> bool {
     let mut left = bytes;
     for _ in 0..bytes.len() {
         match read_reply(alloc, &mut left) {

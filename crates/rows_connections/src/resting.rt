@@ -3,7 +3,7 @@
 ghost use Rattle.pl_conn.specs.Solo.{HasDatabases};
 
 use crate::conversations::{ENDS, FRAMES, REPLIES, REPLY_ENDS, one_pass, whole};
-use crate::memory::{Telling, check};
+use crate::memory::{Telling, check, has_refusal};
 use pl_conn::{Cause, Conversation, Rest, Room, SoloPass};
 use std::alloc::Global;
 use std::io::{self, ErrorKind, Read, Write};
@@ -127,6 +127,15 @@ fn turns(
     Err(Stop::Changed)
 }
 
+// How a conversation went. Where a reply that it wrote says that a body found no memory, of which the gate
+// knows nothing, it went wrong for that.
+fn went(alloc: Global, writer: &Filling, done: Result<(), Stop>) -> Result<(), Stop> {
+    if matches!(done, Err(Stop::Changed)) && has_refusal(alloc, &writer.text) {
+        return Err(Stop::NoMemory);
+    }
+    done
+}
+
 // The frames come this many bytes at once: at each point the replies to those that are whole are written, and no
 // more. In the end the input is over.
 fn in_pieces(
@@ -134,20 +143,20 @@ fn in_pieces(
     frames: &[u8],
     replies: &[u8],
     room: &mut Room,
+    writer: &mut Filling,
     piece: usize,
 ) -> Result<(), Stop> {
     let mut pass = one_pass(alloc)?;
     let mut talk = Conversation::new(alloc);
     let mut reader = Coming::of(frames);
-    let mut writer = Filling::new(alloc, usize::MAX);
     for _ in 0..=frames.len() / piece.max(1) {
         reader.come(piece);
-        let rest = turns(alloc, &mut talk, &mut reader, &mut writer, &mut pass, room)?;
+        let rest = turns(alloc, &mut talk, &mut reader, writer, &mut pass, room)?;
         let came = frames.len().saturating_sub(reader.left.len());
         check(rest == Rest::Input && Some(&*writer.text) == replies.get(..told_by(came)))?;
     }
     reader.is_over = true;
-    let rest = turns(alloc, &mut talk, &mut reader, &mut writer, &mut pass, room)?;
+    let rest = turns(alloc, &mut talk, &mut reader, writer, &mut pass, room)?;
     check(rest == Rest::Over && writer.text.as_slice() == replies)
 }
 
@@ -157,28 +166,28 @@ fn cut_at(
     frames: &[u8],
     replies: &[u8],
     room: &mut Room,
+    writer: &mut Filling,
     place: usize,
     is_over: bool,
 ) -> Result<(), Stop> {
     let mut pass = one_pass(alloc)?;
     let mut talk = Conversation::new(alloc);
     let mut reader = Coming::of(frames);
-    let mut writer = Filling::new(alloc, usize::MAX);
     reader.come(place);
-    let rest = turns(alloc, &mut talk, &mut reader, &mut writer, &mut pass, room)?;
+    let rest = turns(alloc, &mut talk, &mut reader, writer, &mut pass, room)?;
     check(rest == Rest::Input && Some(&*writer.text) == replies.get(..told_by(place)))?;
     if is_over {
         reader.left = &[];
         reader.is_over = true;
         let is_whole = place == 0 || ENDS.contains(&place);
-        return match turns(alloc, &mut talk, &mut reader, &mut writer, &mut pass, room) {
+        return match turns(alloc, &mut talk, &mut reader, writer, &mut pass, room) {
             Ok(rest) => check(is_whole && rest == Rest::Over),
             Err(Stop::Unread) => check(!is_whole),
             Err(stop) => Err(stop),
         };
     }
     reader.come(usize::MAX);
-    let rest = turns(alloc, &mut talk, &mut reader, &mut writer, &mut pass, room)?;
+    let rest = turns(alloc, &mut talk, &mut reader, writer, &mut pass, room)?;
     check(rest == Rest::Input && writer.text.as_slice() == replies)
 }
 
@@ -188,19 +197,19 @@ fn taken_in_pieces(
     frames: &[u8],
     replies: &[u8],
     room: &mut Room,
+    writer: &mut Filling,
     at_once: usize,
 ) -> Result<(), Stop> {
     let mut pass = one_pass(alloc)?;
     let mut talk = Conversation::new(alloc);
     let mut reader = Coming::of(frames);
-    let mut writer = Filling::new(alloc, 0);
     reader.come(160);
-    let rest = turns(alloc, &mut talk, &mut reader, &mut writer, &mut pass, room)?;
+    let rest = turns(alloc, &mut talk, &mut reader, writer, &mut pass, room)?;
     check(rest == Rest::Output && reader.left.len() == 48 && writer.text.is_empty())?;
     reader.come(usize::MAX);
     for _ in 0..replies.len() {
         writer.room = at_once;
-        let rest = turns(alloc, &mut talk, &mut reader, &mut writer, &mut pass, room)?;
+        let rest = turns(alloc, &mut talk, &mut reader, writer, &mut pass, room)?;
         check(Some(&*writer.text) == replies.get(..writer.text.len()))?;
         check((reader.left.len() == 48) == (writer.text.len() < 15))?;
         if rest == Rest::Input {
@@ -217,14 +226,29 @@ fn any_pieces(alloc: Global) -> Result<(), Stop> {
     let replies = hex::decode(alloc, REPLIES)?;
     let mut room = Room::new(alloc)?;
     for piece in 1..=208 {
-        in_pieces(alloc, &frames, &replies, &mut room, piece)?;
+        let mut writer = Filling::new(alloc, usize::MAX);
+        let done = in_pieces(alloc, &frames, &replies, &mut room, &mut writer, piece);
+        went(alloc, &writer, done)?;
     }
     for place in 0..=208 {
-        cut_at(alloc, &frames, &replies, &mut room, place, false)?;
-        cut_at(alloc, &frames, &replies, &mut room, place, true)?;
+        for is_over in [false, true] {
+            let mut writer = Filling::new(alloc, usize::MAX);
+            let done = cut_at(
+                alloc,
+                &frames,
+                &replies,
+                &mut room,
+                &mut writer,
+                place,
+                is_over,
+            );
+            went(alloc, &writer, done)?;
+        }
     }
     for at_once in 1..=58 {
-        taken_in_pieces(alloc, &frames, &replies, &mut room, at_once)?;
+        let mut writer = Filling::new(alloc, 0);
+        let done = taken_in_pieces(alloc, &frames, &replies, &mut room, &mut writer, at_once);
+        went(alloc, &writer, done)?;
     }
     Ok(())
 }
