@@ -126,17 +126,17 @@ fn is_done(stream: &mut TcpStream) -> Result<bool, Stop> {
     Ok(told == [0, 0, 0, 1, 0])
 }
 
-// A connection over which a request was sent.
-fn asking<R: Net<Stream = TcpStream>>(rt: &R, addr: SocketAddr) -> Result<TcpStream, Stop> {
-    let mut stream = connect(rt, addr).map_err(stop_of)?;
+// Sends a request.
+fn asks(stream: &mut TcpStream) -> Result<(), Stop> {
     let frame = report(2).ok_or(Stop::Unread)?;
-    stream.write_all(&frame).map_err(stop_of)?;
-    Ok(stream)
+    stream.write_all(&frame).map_err(stop_of)
 }
 
 // One connection, which is closed again. Whether it is answered.
 fn is_answered<R: Net<Stream = TcpStream>>(rt: &R, addr: SocketAddr) -> Result<bool, Stop> {
-    is_done(&mut asking(rt, addr)?)
+    let mut stream = connect(rt, addr).map_err(stop_of)?;
+    asks(&mut stream)?;
+    is_done(&mut stream)
 }
 
 // One connection after the other, each whatever came of those before, so that the service comes to its
@@ -150,16 +150,10 @@ fn asks_in_turn<R: Net<Stream = TcpStream>>(rt: &R, addr: SocketAddr) -> Result<
     Ok(are_answered)
 }
 
-// This many connections, which are open at the same time. Each has asked before the first is closed, and
-// has read its reply, from the last to the first.
-fn asks_at_once<R: Net<Stream = TcpStream>>(
-    rt: &R,
-    alloc: Global,
-    addr: SocketAddr,
-) -> Result<bool, Stop> {
-    let mut streams = Vec::new(alloc);
-    for _ in 0..AT_ONCE {
-        streams.push(asking(rt, addr)?)?;
+// Asks on each of these connections, and then reads their replies, from the last to the first.
+fn asks_on_each(streams: &mut [TcpStream]) -> Result<bool, Stop> {
+    for stream in streams.iter_mut() {
+        asks(stream)?;
     }
     for stream in streams.iter_mut().rev() {
         if !is_done(stream)? {
@@ -167,6 +161,20 @@ fn asks_at_once<R: Net<Stream = TcpStream>>(
         }
     }
     Ok(true)
+}
+
+// This many connections, which are open at the same time. All of them are there before anything is asked, so that
+// the service comes to its end.
+fn asks_at_once<R: Net<Stream = TcpStream>>(
+    rt: &R,
+    addr: SocketAddr,
+    room: Vec<TcpStream>,
+) -> Result<bool, Stop> {
+    let mut streams = room;
+    for _ in 0..AT_ONCE {
+        streams.push(connect(rt, addr).map_err(stop_of)?)?;
+    }
+    asks_on_each(&mut streams)
 }
 
 // Two threads of connections.
@@ -181,12 +189,12 @@ fn asks_by_two<R: Net<Listener = TcpListener, Stream = TcpStream> + Threads + Sy
 // Connections at the same time, and then those of four threads.
 fn asks_all<R: Net<Listener = TcpListener, Stream = TcpStream> + Threads + Sync>(
     rt: &R,
-    alloc: Global,
     addr: SocketAddr,
     started: &Started,
+    room: Vec<TcpStream>,
 ) -> Result<bool, Stop> {
     started.waits()?;
-    let at_once = asks_at_once(rt, alloc, addr);
+    let at_once = asks_at_once(rt, addr, room);
     let (first, second) = thread::join(rt, || asks_by_two(rt, addr), || asks_by_two(rt, addr));
     Ok(at_once? && first? && second?)
 }
@@ -221,6 +229,7 @@ fn serve_crowd<R: Net<Listener = TcpListener, Stream = TcpStream> + Threads + Wa
     let (gate, started) = (Holds::new(), Started::new());
     let (listener, addr) = listen(rt)?;
     let passes = passes_of(alloc)?;
+    let room = Vec::with_capacity(alloc, AT_ONCE)?;
     let (gate, started) = (&gate, &started);
     let (served, are_done) = thread::join(
         rt,
@@ -232,7 +241,7 @@ fn serve_crowd<R: Net<Listener = TcpListener, Stream = TcpStream> + Threads + Wa
             drop(listener);
             served
         },
-        || asks_all(rt, alloc, addr, started),
+        move || asks_all(rt, addr, started, room),
     );
     check_served(&served, CONNECTIONS, 0, WORKERS)?;
     check(are_done?)?;
