@@ -14,6 +14,9 @@ enum { SHORTEST_PIECE = 64 };
  * the service reads at once: so it needs not move the half of one before it can read on. */
 enum { WRITE_HEAD_BYTES = 35, FULL_BLOCK = (4 + PAGELOG_REQUEST_BYTES) / 2 - WRITE_HEAD_BYTES };
 
+/* What stands before the records of a block that touches one partition, as most do. */
+enum { USUAL_HEAD_BYTES = BLOCK_HEAD_BYTES + 2 };
+
 struct pagelog_blocks {
     uint64_t next_lsn; /* of the block that is being filled */
     /* Ended blocks, one behind the other; block i ends at ends[i], counted from the start of `bytes`. */
@@ -21,8 +24,8 @@ struct pagelog_blocks {
     size_t room;
     size_t *ends;
     size_t count, ends_room;
-    /* The block that is being filled. */
-    uint8_t records[PAGELOG_BLOCK_BYTES];
+    /* The block that is being filled. Its records stand in `bytes` already, behind the ended blocks and the
+     * room for a usual head. */
     size_t length;
     unsigned record_count;
     uint16_t *partitions; /* rising */
@@ -69,20 +72,23 @@ static bool grow(void **array, size_t *room, size_t wanted, size_t size) {
     return true;
 }
 
+/* Where the records of the block that is being filled begin. */
+static uint8_t *records_of(const struct pagelog_blocks *blocks) {
+    return blocks->bytes + end_of(blocks) + USUAL_HEAD_BYTES;
+}
+
 enum pagelog_outcome pagelog_blocks_end(struct pagelog_blocks *blocks) {
     if (blocks->record_count == 0) return PAGELOG_DONE;
-    size_t start = end_of(blocks);
-    size_t length = BLOCK_HEAD_BYTES + 2 * blocks->partition_count + blocks->length;
-    if (!grow((void **)&blocks->bytes, &blocks->room, start + length, 1) ||
-        !grow((void **)&blocks->ends, &blocks->ends_room, blocks->count + 1, sizeof *blocks->ends))
+    size_t start = end_of(blocks), head = BLOCK_HEAD_BYTES + 2 * blocks->partition_count;
+    if (!grow((void **)&blocks->ends, &blocks->ends_room, blocks->count + 1, sizeof *blocks->ends))
         return PAGELOG_NO_MEMORY;
+    if (head != USUAL_HEAD_BYTES) memmove(blocks->bytes + start + head, records_of(blocks), blocks->length);
     uint8_t *at = pagelog_write_number(blocks->bytes + start, blocks->next_lsn, 8);
     at = pagelog_write_number(at, blocks->partition_count, 2);
     for (size_t i = 0; i < blocks->partition_count; i++)
         at = pagelog_write_number(at, blocks->partitions[i], 2);
-    at = pagelog_write_number(at, blocks->record_count, 2);
-    memcpy(at, blocks->records, blocks->length);
-    blocks->ends[blocks->count++] = start + length;
+    pagelog_write_number(at, blocks->record_count, 2);
+    blocks->ends[blocks->count++] = start + head + blocks->length;
     blocks->next_lsn++;
     empty_record_area(blocks);
     return PAGELOG_DONE;
@@ -110,6 +116,8 @@ static uint8_t *add_record(struct pagelog_blocks *blocks, uint32_t page, size_t 
     bool found;
     uint16_t partition = (uint16_t)(page >> 16);
     size_t place = place_of(blocks, partition, &found);
+    if (!grow((void **)&blocks->bytes, &blocks->room, end_of(blocks) + USUAL_HEAD_BYTES + FULL_BLOCK, 1))
+        return NULL;
     if (!found) {
         if (!grow((void **)&blocks->partitions, &blocks->partition_room, blocks->partition_count + 1,
                   sizeof *blocks->partitions))
@@ -119,7 +127,7 @@ static uint8_t *add_record(struct pagelog_blocks *blocks, uint32_t page, size_t 
         blocks->partitions[place] = partition;
         blocks->partition_count++;
     }
-    uint8_t *at = blocks->records + blocks->length;
+    uint8_t *at = records_of(blocks) + blocks->length;
     blocks->length += length;
     blocks->record_count++;
     return at;
@@ -253,8 +261,9 @@ size_t pagelog_blocks_count(const struct pagelog_blocks *blocks) {
 
 void pagelog_blocks_drop(struct pagelog_blocks *blocks, size_t count) {
     if (count == 0) return;
-    size_t gone = blocks->ends[count - 1];
-    memmove(blocks->bytes, blocks->bytes + gone, end_of(blocks) - gone);
+    size_t gone = blocks->ends[count - 1], end = end_of(blocks);
+    if (blocks->record_count > 0) end += USUAL_HEAD_BYTES + blocks->length;
+    memmove(blocks->bytes, blocks->bytes + gone, end - gone);
     blocks->count -= count;
     for (size_t i = 0; i < blocks->count; i++)
         blocks->ends[i] = blocks->ends[i + count] - gone;

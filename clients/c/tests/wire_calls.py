@@ -5,6 +5,7 @@ import os
 import random
 import signal
 import socket
+import stat
 import threading
 import time
 
@@ -201,6 +202,24 @@ def test_blocks_are_cut_where_they_are_full():
     same("ranges", [MALFORMED] * 2, [blocks.put(0, 0, b""), blocks.put(0, 1, bytes(8192))])
 
 
+def test_blocks_that_are_dropped():
+    """Those behind them stay, and the one that is being filled, whatever partitions it touches."""
+    numbers = random.Random(4)
+    for _ in range(30):
+        blocks, whole, dropped = Blocks(5), Blocks(5), 0
+        for _ in range(numbers.randrange(1, 80)):
+            page, data = numbers.choice([1, 2, 65536, 200000]), numbers.randbytes(numbers.randrange(1, 2000))
+            same("put", [DONE] * 2, [made.put(page, 7, data) for made in (blocks, whole)])
+            if numbers.random() < 0.1:
+                same("end", [DONE] * 2, [made.end() for made in (blocks, whole)])
+            if numbers.random() < 0.2:
+                count = numbers.randrange(len(blocks.all()) + 1)
+                blocks.drop(count)
+                dropped += count
+        same("end", [DONE] * 2, [made.end() for made in (blocks, whole)])
+        same("blocks", whole.all()[dropped:], blocks.all())
+
+
 def test_differences_make_the_new_page():
     numbers = random.Random(3)
     for _ in range(200):
@@ -296,6 +315,49 @@ def test_blocks_that_are_sent_ahead():
         while len(found) < len(wanted):
             found += blocks_of(reader.pull(len(found) + 1)[1])
         same("log", wanted, found)
+
+
+def make_small(address):
+    """The sockets of this process that are connected to an address hold little from now on."""
+    host, port = address.rsplit(":", 1)
+    for number in map(int, os.listdir("/proc/self/fd")):
+        try:
+            if not stat.S_ISSOCK(os.fstat(number).st_mode):
+                continue
+            with socket.socket(fileno=os.dup(number)) as end:
+                if end.getpeername() == (host, int(port)):
+                    end.setsockopt(socket.SOL_SOCKET, socket.SO_SNDBUF, 65536)
+        except OSError:
+            pass
+
+
+def test_blocks_ahead_that_do_not_all_go_at_once():
+    """The service reads nothing before all were sent ahead, and the sockets do not hold them."""
+    may_go = threading.Event()
+
+    def held(frame):
+        if frame[33] == wire.WRITE:
+            may_go.wait(60)
+        return frame
+
+    with Service() as service, Log(service.address, 3) as reader, Proxy(service.address, between=held) as proxy, \
+            Log(proxy.address, 2) as log:
+        same("take over", DONE, log.take_over())
+        make_small(proxy.address)
+        before, numbers, blocks = log.counts.bytes_sent, random.Random(5), Blocks(1)
+        for number in range(40):
+            for page in range(4):
+                same("put", DONE, blocks.put(page, 0, numbers.randbytes(8000)))
+            blocks.end()
+            log.append_ahead(blocks)
+        same("blocks", (40, 80), (len(blocks.all()), log.in_flight()))
+        true("not all of them went", log.counts.bytes_sent - before < 2 * sum(map(len, blocks.all())))
+        may_go.set()
+        same("append", (DONE, 40), (log.append(blocks), log.end))
+        found = []
+        while len(found) < 40:
+            found += blocks_of(reader.pull(len(found) + 1)[1])
+        same("log", blocks.all(), found)
 
 
 def test_blocks_ahead_that_are_given_up():
