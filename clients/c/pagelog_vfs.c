@@ -75,7 +75,13 @@
 SQLITE_EXTENSION_INIT1
 #endif
 
-enum { SECTOR_BYTES = 8192, NAME_BYTES = 1024, VALUE_BYTES = 256, ERROR_BYTES = 160 };
+enum {
+    SECTOR_BYTES = 8192,
+    LEAST_SECTOR_BYTES = 512,
+    NAME_BYTES = 1024,
+    VALUE_BYTES = 256,
+    ERROR_BYTES = 160
+};
 
 /* How long a wait looks for its reply, in microseconds. */
 enum { DEFAULT_SPIN_US = 50, MOST_SPIN_US = 1000000 };
@@ -107,6 +113,7 @@ struct connection {
     struct database *database;
     int lock;
     uint64_t losses; /* of the file, when SQLite last asked whether its own cache is old */
+    bool is_sized;   /* SQLite has asked for the size of a sector */
 };
 
 /* A journal. */
@@ -521,9 +528,13 @@ static int file_check_reserved_lock(sqlite3_file *file, int *is_reserved) {
     return leave(database, SQLITE_OK);
 }
 
+/* SQLite asks twice when it opens a database. The first answer is the page size of a new one, the second the
+ * length of each journal's head, which is as short as it may be: a commit is whole, whatever a sector is. */
 static int file_sector_size(sqlite3_file *file) {
-    (void)file;
-    return SECTOR_BYTES;
+    struct connection *connection = (struct connection *)file;
+    int bytes = connection->is_sized ? LEAST_SECTOR_BYTES : SECTOR_BYTES;
+    connection->is_sized = true;
+    return bytes;
 }
 
 /* A journal in memory is written in order, and never longer than what it has. */
@@ -774,6 +785,7 @@ static int open_database(sqlite3_filename name, struct connection *connection, i
     int code = find_or_open(&options, &connection->database);
     if (code != SQLITE_OK) return code;
     connection->lock = SQLITE_LOCK_NONE;
+    connection->is_sized = false;
     connection->losses = pagelog_file_losses(connection->database->file);
     connection->base.pMethods = &file_methods;
     if (out_flags && options.reads_only)
