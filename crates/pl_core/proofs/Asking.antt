@@ -9,9 +9,10 @@ use Rattle.pl_table.specs.declared.verdict.Section.{Section}
 use Rattle.pl_table.specs.declared.verdict.Section.TheVariants as sections
 use Rattle.pl_table.specs.declared.verdict.Verdict.{Verdict}
 use Rattle.pl_table.specs.declared.verdict.Verdict.TheVariants as verdicts
-use Rattle.pl_table.specs.Acts.{number_of, asked_at}
+use Rattle.pl_table.specs.Acts.{number_of}
+use Rattle.pl_table.specs.Asking.{asked_in, asked_at}
 use Rattle.pl_table.specs.FirstMatch.{rows_allow}
-use Rattle.pl_decide.specs.Asked.{reads_the_log}
+use Rattle.pl_decide.specs.Asked.{reads_the_log, request_at}
 use Rattle.pl_table.specs.Request.{Query, op_of}
 use Rattle.pl_core.specs.History.{History}
 use Rattle.pl_core.specs.Epoch.{table_of}
@@ -23,13 +24,13 @@ use Rattle.pl_core.specs.Performing.{OrderLaws}
 
 -- the rows of the table in force allow the request at an LSN
 abbrev pub allowed_at : History → Query → ℕ → Bool
-allowed_at h q n = rows_allow (table_of h).rows (asked_at q n)
+allowed_at h q n = rows_allow (table_of h).rows (asked_at (asked_in q) n)
 
 -- what is said of it at another LSN, and at its own
 record Asked (h : History) (q : Query) (n : ℕ) : Type 0 where
-  within : allowed_at h q n ≡ true → n ≤ hard_of h → verdict_of (asked_at q n) h ≡ verdicts.Allowed
-  above : allowed_at h q n ≡ true → hard_of h < n → verdict_of (asked_at q n) h ≡ verdicts.Denied sections.C 1 (hard_of h)
-  ended : allowed_at h q n ≡ false → (row : ℕ) × (verdict_of (asked_at q n) h ≡ verdicts.Denied sections.B row 0)
+  within : allowed_at h q n ≡ true → n ≤ hard_of h → verdict_of (request_at q n) h ≡ verdicts.Allowed
+  above : allowed_at h q n ≡ true → hard_of h < n → verdict_of (request_at q n) h ≡ verdicts.Denied sections.C 1 (hard_of h)
+  ended : allowed_at h q n ≡ false → (row : ℕ) × (verdict_of (request_at q n) h ≡ verdicts.Denied sections.B row 0)
   own : IfSome (number_of q.act) (λ own. (own ≤ hard_of h) × (allowed_at h q own ≡ true))
 
 asked_of : (head : Head) (act : Act) (h : History) (n : ℕ) → OrderLaws → reads_the_log (op_of act) ≡ true → verdict_of (record { head = head; act = act }) h ≡ verdicts.Allowed → Asked h (record { head = head; act = act }) n
@@ -61,15 +62,15 @@ record IsFree (h : History) (q : Query) (n : ℕ) : Type 0 where
   within : n ≤ hard_of h
   rows : allowed_at h q n ≡ true
 
-free_at : OrderLaws → (h : History) (q : Query) (n : ℕ) → reads_the_log (op_of q.act) ≡ true → verdict_of q h ≡ verdicts.Allowed → verdict_of (asked_at q n) h ≡ verdicts.Allowed → IsFree h q n
+free_at : OrderLaws → (h : History) (q : Query) (n : ℕ) → reads_the_log (op_of q.act) ≡ true → verdict_of q h ≡ verdicts.Allowed → verdict_of (request_at q n) h ≡ verdicts.Allowed → IsFree h q n
 free_at order h q n reads allowed now =
     let asked = asked_of q.head q.act h n order reads allowed in
     elim (cases_Bool (allowed_at h q n)) [
       | inl rows ↦ elim (cases_lt (hard_of h) n) [
-        | inl above ↦ absurd (not_both (verdict_of (asked_at q n) h) sections.C 1 (hard_of h) now (asked.above rows above))
+        | inl above ↦ absurd (not_both (verdict_of (request_at q n) h) sections.C 1 (hard_of h) now (asked.above rows above))
         | inr within ↦ record { within = within; rows = rows }
       ]
-      | inr ends ↦ absurd (let is = asked.ended ends in not_both (verdict_of (asked_at q n) h) sections.B is.0 0 now is.1)
+      | inr ends ↦ absurd (let is = asked.ended ends in not_both (verdict_of (request_at q n) h) sections.B is.0 0 now is.1)
     ]
 
 later : (o : Option ℕ) (m n : ℕ) → m ≤ n → IfSome o (λ own. own ≤ m) → IfSome o (λ own. own ≤ n)
@@ -101,11 +102,11 @@ reads_reach order h q reach reads allowed hard rows =
     }
 
 -- what it is asked at and allowed, it is allowed up to
-allowed_up : OrderLaws → (h : History) (q : Query) (k : ℕ) → reads_the_log (op_of q.act) ≡ true → verdict_of q h ≡ verdicts.Allowed → verdict_of (asked_at q k) h ≡ verdicts.Allowed → IsAllowedTo h q k
+allowed_up : OrderLaws → (h : History) (q : Query) (k : ℕ) → reads_the_log (op_of q.act) ≡ true → verdict_of q h ≡ verdicts.Allowed → verdict_of (request_at q k) h ≡ verdicts.Allowed → IsAllowedTo h q k
 allowed_up order h q k reads allowed now = λ n low high.
     let free = free_at order h q k reads allowed now in
     let within : n ≤ hard_of h = let le = free.within in omega (arith, high, le) in
-    (asked_of q.head q.act h n order reads allowed).within (order.lower (table_of h).rows q k n high free.rows) within
+    (asked_of q.head q.act h n order reads allowed).within (order.lower (table_of h).rows (asked_in q) k n high free.rows) within
 
 pub reads_above : OrderLaws → ReadsAboveAreDenied
 reads_above order h q reach reads allowed is k above now =

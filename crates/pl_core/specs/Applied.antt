@@ -1,7 +1,7 @@
 -- How far each partition is applied, and the LSN that a get is answered at.
 use Rattle.std.specs.Prelude.{ℕ, ◌+◌, ◌/◌, ◌==◌, Bool, not, ◌||◌, min, List, [], ◌∷◌, if◌then◌else◌}
 use Rattle.pl_pages.specs.State.{chosen}
-use Rattle.pl_table.specs.Acts.{asked_at}
+use Rattle.pl_table.specs.Asking.{asked_in, asked_at}
 use Rattle.pl_table.specs.FirstMatch.{rows_allow}
 use Rattle.pl_table.specs.Request.{Query}
 use Rattle.pl_core.specs.History.{Effect, wrote, offered, hardened, advanced, failed_over, set, nothing, Entry, Start, History}
@@ -36,4 +36,4 @@ applied_of h partition = applied_after h.start h.entries partition
 abbrev pub choice_of : History → Query → ℕ → ℕ → Bool → ℕ
 choice_of h q page lsn exact =
     let applied = applied_of h (page / 65536) in
-    chosen applied lsn (exact || not (rows_allow (table_of h).rows (asked_at q applied)))
+    chosen applied lsn (exact || not (rows_allow (table_of h).rows (asked_at (asked_in q) applied)))

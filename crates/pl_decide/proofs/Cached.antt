@@ -1,19 +1,16 @@
 -- Cached verdicts: what a look-up and a put leave of them.
-use Rattle.std.proofs.Common.{◌≡◌, ℕ, ◌+◌, ◌⊎◌, Bool, List, [], ◌∷◌, Option, Some, None, Contains, All, sym, ap, subst, ◌∙◌, inl, inr}
-use Rattle.std.specs.Prelude.{cond}
+use Rattle.std.proofs.Common.{◌≡◌, ◌⊎◌, List, [], ◌∷◌, Contains, All, sym, ap, subst, ◌∙◌, inl, inr}
 use Rattle.std.proofs.lemmas.List.Elements.{All-contains, All-contains_itself, All-nil, All-cons, Contains-append_right}
 use Rattle.lru.specs.LruCache.{LruCache}
 use Rattle.pl_table.specs.declared.row.Row.{Row}
-use Rattle.pl_table.specs.Request.{Query}
-use Rattle.pl_table.specs.Row.{row_matches}
+use Rattle.pl_table.specs.Asking.{Asked}
 use Rattle.pl_table.specs.Table.{WrittenTable}
 use Rattle.pl_table.specs.FirstMatch.{first_match_from}
-use Rattle.pl_table.specs.Acts.{number_of}
 use Rattle.pl_table.specs.Reach.{IsAtOne}
 use Rattle.pl_decide.specs.declared.key.VerdictKey.{VerdictKey}
 use Rattle.pl_decide.specs.declared.row_verdict.RowVerdict.{RowVerdict}
-use Rattle.pl_decide.specs.Keys.{CachedVerdict, IsCachedFor, IsKeyOf}
-use Rattle.pl_decide.specs.Agreement.{most_cached, IsOfRows, IsOfRequest, AgreesWith, IsCache}
+use Rattle.pl_decide.specs.Keys.{CachedVerdict, IsKeyOf}
+use Rattle.pl_decide.specs.Agreement.{most_cached, IsOfRows, IsSpan, AgreesWith, IsCache}
 
 abbrev pub Cache : Type 0
 Cache = LruCache VerdictKey RowVerdict
@@ -22,14 +19,6 @@ Cache = LruCache VerdictKey RowVerdict
 all_of : {X : Type 0} (P : X → Type 0) (xs : List X) → ((x : X) → Contains xs x → P x) → All P xs
 all_of P xs each k d lt = each _ (All-contains_itself xs k d lt)
 
--- ---- the first row, of rows that match alike
-
-pub first-alike : (q r : Query) → ((row : Row) → row_matches row q ≡ row_matches row r) → (k : ℕ) (rows : List Row) → first_match_from k rows q ≡ first_match_from k rows r
-first-alike q r alike k [] = λ i. None
-first-alike q r alike k (row ∷ rows) =
-    ap (λ (b : Bool). cond b (Some (k, row.allows)) (first_match_from (k + 1) rows q)) (alike row)
-    ∙ ap (λ (o : Option (ℕ × Bool)). cond (row_matches row r) (Some (k, row.allows)) o) (first-alike q r alike (k + 1) rows)
-
 -- ---- no verdict is cached
 
 pub agrees-none : (t : WrittenTable) → AgreesWith [] t
@@ -37,7 +26,7 @@ unfolding AgreesWith
 agrees-none t = All-nil (IsOfRows t.rows)
 
 pub cache-none : (c : Cache) → c.cap ≡ most_cached → c.entries ≡ [] → IsCache c
-cache-none c most none = record { most = most; each = subst (All IsOfRequest) (sym none) (All-nil IsOfRequest) }
+cache-none c most none = record { most = most; each = subst (All IsSpan) (sym none) (All-nil IsSpan) }
 
 -- ---- a look-up: each verdict was there
 
@@ -51,13 +40,13 @@ agrees-stays was now t stays agrees = all_of (IsOfRows t.rows) now (λ e there. 
 pub cache-stays : (was now : Cache) → Stays was.entries now.entries → now.cap ≡ was.cap → IsCache was → IsCache now
 cache-stays was now stays cap cache = record {
   most = cap ∙ cache.most;
-  each = all_of IsOfRequest now.entries (λ e there. All-contains IsOfRequest was.entries e cache.each (stays e there));
+  each = all_of IsSpan now.entries (λ e there. All-contains IsSpan was.entries e cache.each (stays e there));
 }
 
 -- what is found is the verdict of the rows
-pub found-is : (verdicts : List CachedVerdict) (t : WrittenTable) (q : Query) (key : VerdictKey) (verdict : RowVerdict) → AgreesWith verdicts t → IsKeyOf key q → IsAtOne verdict.lsns (number_of q.act) → Contains verdicts (key, verdict) → verdict.found ≡ first_match_from 1 t.rows q
+pub found-is : (verdicts : List CachedVerdict) (t : WrittenTable) (a : Asked) (key : VerdictKey) (verdict : RowVerdict) → AgreesWith verdicts t → IsKeyOf key a → IsAtOne verdict.lsns a.lsn → Contains verdicts (key, verdict) → verdict.found ≡ first_match_from 1 t.rows a
 unfolding AgreesWith IsOfRows
-found-is verdicts t q key verdict agrees is at there = sym (All-contains (IsOfRows t.rows) verdicts (key, verdict) agrees there q (record { key = is; at = at }))
+found-is verdicts t a key verdict agrees is at there = sym (All-contains (IsOfRows t.rows) verdicts (key, verdict) agrees there a.lsn at) ∙ ap (first_match_from 1 t.rows) is
 
 -- ---- a put: each verdict was there, or is the new one
 
@@ -72,11 +61,10 @@ pub agrees-keeps : (was now : List CachedVerdict) (new : CachedVerdict) (t : Wri
 unfolding AgreesWith
 agrees-keeps was now new t keeps agrees of = all_of (IsOfRows t.rows) now (λ e there. either (IsOfRows t.rows) was e new agrees of (keeps e there))
 
-pub cache-keeps : (was now : Cache) (new : CachedVerdict) (q : Query) → IsCachedFor new q → Keeps was.entries now.entries new → now.cap ≡ was.cap → IsCache was → IsCache now
-unfolding IsOfRequest
-cache-keeps was now new q is keeps cap cache = record {
+pub cache-keeps : (was now : Cache) (new : CachedVerdict) → IsSpan new → Keeps was.entries now.entries new → now.cap ≡ was.cap → IsCache was → IsCache now
+cache-keeps was now new span keeps cap cache = record {
   most = cap ∙ cache.most;
-  each = all_of IsOfRequest now.entries (λ e there. either IsOfRequest was.entries e new cache.each (q, is) (keeps e there));
+  each = all_of IsSpan now.entries (λ e there. either IsSpan was.entries e new cache.each span (keeps e there));
 }
 
 -- ---- a loop over the verdicts

@@ -11,6 +11,7 @@ use Rattle.pl_table.specs.declared.verdict.Section.TheVariants as sections
 use Rattle.pl_table.specs.declared.verdict.Verdict.{Verdict}
 use Rattle.pl_table.specs.declared.verdict.Verdict.TheVariants as verdicts
 use Rattle.pl_table.specs.Request.{Query}
+use Rattle.pl_table.specs.Asking.{asked_in}
 use Rattle.pl_table.specs.Table.{WrittenTable, token_of}
 use Rattle.pl_table.specs.TableText.{table_reading}
 use Rattle.pl_table.specs.FirstMatch.{first_match_from, found_allows, rows_allow}
@@ -41,13 +42,13 @@ past [] rest q t e v h = h
 past (rule ∷ order) rest q t e v h = past order rest q t e v (passes rule (order ++ rest) q t e v h).1
 
 -- so a row that matches first allows
-first_allows : (q : Query) (t : WrittenTable) (e : Epochs) (v : View) (found : Option (ℕ × Bool)) → first_match_from 1 t.rows q ≡ found → first_denial (section_b (length t.rows) ++ section_c) q t e v ≡ verdicts.Allowed → found_allows found ≡ true
+first_allows : (q : Query) (t : WrittenTable) (e : Epochs) (v : View) (found : Option (ℕ × Bool)) → first_match_from 1 t.rows (asked_in q) ≡ found → first_denial (section_b (length t.rows) ++ section_c) q t e v ≡ verdicts.Allowed → found_allows found ≡ true
 first_allows q t e v None is h = absurd (let clash : verdicts.Denied sections.B 0 0 ≡ verdicts.Allowed = sym (rows-none q t e v is) ∙ h in cc)
 first_allows q t e v (Some (number, true)) is h = refl
 first_allows q t e v (Some (number, false)) is h = absurd (let clash : verdicts.Denied sections.B number 0 ≡ verdicts.Allowed = sym (rows-deny q t e v number is) ∙ h in cc)
 
 pub rows_allow_own : RowsAllowTheAllowed
-rows_allow_own q t e v h = first_allows q t e v (first_match_from 1 t.rows q) refl (past section_a (section_b (length t.rows) ++ section_c) q t e v h)
+rows_allow_own q t e v h = first_allows q t e v (first_match_from 1 t.rows (asked_in q)) refl (past section_a (section_b (length t.rows) ++ section_c) q t e v h)
 
 allowing : (found : Option (ℕ × Bool)) → found_allows found ≡ true → (row : ℕ) → (denies_at row found ≡ false) × (is_unmatched found ≡ false)
 allowing None h row = absurd cc
@@ -55,10 +56,10 @@ allowing (Some (number, true)) h row = (and_right (eqb number row) false refl, r
 allowing (Some (number, false)) h row = absurd cc
 
 -- where the rows allow, none of them stands against the request, and one matches
-pub rows-pass : (q : Query) (t : WrittenTable) (e : Epochs) (v : View) → rows_allow t.rows q ≡ true → (row : ℕ) → (stands_against (rules.TableRow row) q t e v ≡ false) × (stands_against rules.NoRowMatches q t e v ≡ false)
+pub rows-pass : (q : Query) (t : WrittenTable) (e : Epochs) (v : View) → rows_allow t.rows (asked_in q) ≡ true → (row : ℕ) → (stands_against (rules.TableRow row) q t e v ≡ false) × (stands_against rules.NoRowMatches q t e v ≡ false)
 rows-pass q t e v allow row =
-    let passed = allowing (first_match_from 1 t.rows q) allow row in
-    (denies_first-is row t.rows q ∙ passed.0, none_matches-is 1 t.rows q ∙ passed.1)
+    let passed = allowing (first_match_from 1 t.rows (asked_in q)) allow row in
+    (denies_first-is row t.rows (asked_in q) ∙ passed.0, none_matches-is 1 t.rows (asked_in q) ∙ passed.1)
 
 -- no rule stands against what is allowed
 stands_not : (rule : Rule) (q : Query) (t : WrittenTable) (e : Epochs) (v : View) → decision q t e v ≡ verdicts.Allowed → stands_against rule q t e v ≡ false

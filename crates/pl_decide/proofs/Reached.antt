@@ -9,17 +9,18 @@ use Rattle.pl_table.specs.declared.request.Act.TheVariants as acts
 use Rattle.pl_table.specs.declared.verdict.Section.TheVariants as sections
 use Rattle.pl_table.specs.declared.verdict.Verdict.TheVariants as verdicts
 use Rattle.pl_table.specs.Request.{Query, op_of}
-use Rattle.pl_table.specs.Acts.{number_of, block_of, partitions_of, act_at}
+use Rattle.pl_table.specs.Acts.{number_of, block_of, partitions_of}
+use Rattle.pl_table.specs.Asking.{asked_in, asked_at}
 use Rattle.pl_table.specs.Table.{WrittenTable}
 use Rattle.pl_table.specs.FirstMatch.{first_match_from, found_allows, rows_allow}
 use Rattle.pl_decide.specs.declared.rule.Rule.{Rule}
 use Rattle.pl_decide.specs.declared.rule.Rule.TheVariants as rules
 use Rattle.pl_decide.specs.declared.view.Epochs.{Epochs}
 use Rattle.pl_decide.specs.declared.view.View.{View}
-use Rattle.pl_decide.specs.Asked.{reads_the_log, copy_of, primary_named, text_of}
+use Rattle.pl_decide.specs.Asked.{reads_the_log, copy_of, primary_named, text_of, act_at}
 use Rattle.pl_decide.specs.Rules.{stands_against, denial}
 use Rattle.pl_decide.specs.WrittenOrder.{section_a, section_b, section_c, order_of, first_denial, decision, NoneStands}
-use Rattle.pl_decide.specs.Laws.{ReadsReachTheEnd}
+use Rattle.pl_decide.specs.Laws.{ReadsReachTheEnd, RequestsAskAt}
 use Rattle.pl_decide.proofs.FirstDenial.{allowed_exactly, denied_by_the_first, passed_over}
 use Rattle.pl_decide.proofs.Rows.{rows-none, rows-deny}
 use Rattle.pl_decide.proofs.Each.{meets_no_rule, rows-pass}
@@ -39,7 +40,7 @@ record IsSameActAs (a b : Act) : Type 0 where
 
 -- A rule stands against both of two such acts, or against neither; or it is a rule on the rows, and does not
 -- stand where they allow; or it is the one on the hardened end.
-number_only : (rule : Rule) (head : Head) (a b : Act) (t : WrittenTable) (e : Epochs) (v : View) → IsSameActAs a b → (stands_against rule (asks head a) t e v ≡ stands_against rule (asks head b) t e v) ⊎ ((rows_allow t.rows (asks head b) ≡ true → stands_against rule (asks head b) t e v ≡ false) ⊎ (rule ≡ rules.AboveTheEnd))
+number_only : (rule : Rule) (head : Head) (a b : Act) (t : WrittenTable) (e : Epochs) (v : View) → IsSameActAs a b → (stands_against rule (asks head a) t e v ≡ stands_against rule (asks head b) t e v) ⊎ ((rows_allow t.rows (asked_in (asks head b)) ≡ true → stands_against rule (asks head b) t e v ≡ false) ⊎ (rule ≡ rules.AboveTheEnd))
 number_only rules.UnknownPrincipal head a b t e v alike = inl refl
 number_only rules.OlderEpoch head a b t e v alike = inl refl
 number_only rules.NewerEpoch head a b t e v alike = inl refl
@@ -81,7 +82,7 @@ above_the_end : (head : Head) (act : Act) (lsn : ℕ) (t : WrittenTable) (e : Ep
 above_the_end head act lsn t e v above reads at is = rw (← at.alike.op, reads, at.number, is) refl
 
 -- where the rows allow it, no rule but that one stands against it
-or_the_end : (rule : Rule) (head : Head) (act : Act) (lsn : ℕ) (t : WrittenTable) (e : Epochs) (v : View) → IsAt act lsn → decision (asks head act) t e v ≡ verdicts.Allowed → rows_allow t.rows (asks head (act_at act lsn)) ≡ true → (stands_against rule (asks head (act_at act lsn)) t e v ≡ false) ⊎ (rule ≡ rules.AboveTheEnd)
+or_the_end : (rule : Rule) (head : Head) (act : Act) (lsn : ℕ) (t : WrittenTable) (e : Epochs) (v : View) → IsAt act lsn → decision (asks head act) t e v ≡ verdicts.Allowed → rows_allow t.rows (asked_in (asks head (act_at act lsn))) ≡ true → (stands_against rule (asks head (act_at act lsn)) t e v ≡ false) ⊎ (rule ≡ rules.AboveTheEnd)
 or_the_end rule head act lsn t e v at allowed rows =
     elim (number_only rule head act (act_at act lsn) t e v at.alike) [
       | inl same ↦ inl (sym same ∙ meets_no_rule (asks head act) t e v allowed rule)
@@ -92,20 +93,20 @@ or_the_end rule head act lsn t e v at allowed rows =
     ]
 
 -- up to the hardened end none does
-none_at : (rule : Rule) (head : Head) (act : Act) (lsn : ℕ) (t : WrittenTable) (e : Epochs) (v : View) → reads_the_log (op_of act) ≡ true → IsAt act lsn → decision (asks head act) t e v ≡ verdicts.Allowed → rows_allow t.rows (asks head (act_at act lsn)) ≡ true → lsn ≤ v.hard → stands_against rule (asks head (act_at act lsn)) t e v ≡ false
+none_at : (rule : Rule) (head : Head) (act : Act) (lsn : ℕ) (t : WrittenTable) (e : Epochs) (v : View) → reads_the_log (op_of act) ≡ true → IsAt act lsn → decision (asks head act) t e v ≡ verdicts.Allowed → rows_allow t.rows (asked_in (asks head (act_at act lsn))) ≡ true → lsn ≤ v.hard → stands_against rule (asks head (act_at act lsn)) t e v ≡ false
 none_at rule head act lsn t e v reads at allowed rows le =
     elim (or_the_end rule head act lsn t e v at allowed rows) [
       | inl passes ↦ passes
       | inr is ↦ ap (λ (r : Rule). stands_against r (asks head (act_at act lsn)) t e v) is ∙ above_the_end head act lsn t e v false reads at (le-ltb v.hard lsn le)
     ]
 
-allowed_at : (head : Head) (act : Act) (lsn : ℕ) (t : WrittenTable) (e : Epochs) (v : View) → reads_the_log (op_of act) ≡ true → IsAt act lsn → decision (asks head act) t e v ≡ verdicts.Allowed → rows_allow t.rows (asks head (act_at act lsn)) ≡ true → lsn ≤ v.hard → decision (asks head (act_at act lsn)) t e v ≡ verdicts.Allowed
+allowed_at : (head : Head) (act : Act) (lsn : ℕ) (t : WrittenTable) (e : Epochs) (v : View) → reads_the_log (op_of act) ≡ true → IsAt act lsn → decision (asks head act) t e v ≡ verdicts.Allowed → rows_allow t.rows (asked_in (asks head (act_at act lsn))) ≡ true → lsn ≤ v.hard → decision (asks head (act_at act lsn)) t e v ≡ verdicts.Allowed
 allowed_at head act lsn t e v reads at allowed rows le =
     (allowed_exactly (order_of t) (asks head (act_at act lsn)) t e v).1
     (λ k d lt. none_at (slice_index_or (order_of t) k d) head act lsn t e v reads at allowed rows le)
 
 -- above it that one rule stands, and no other
-denied_at : (head : Head) (act : Act) (lsn : ℕ) (t : WrittenTable) (e : Epochs) (v : View) → reads_the_log (op_of act) ≡ true → IsAt act lsn → decision (asks head act) t e v ≡ verdicts.Allowed → rows_allow t.rows (asks head (act_at act lsn)) ≡ true → v.hard < lsn → decision (asks head (act_at act lsn)) t e v ≡ verdicts.Denied sections.C 1 v.hard
+denied_at : (head : Head) (act : Act) (lsn : ℕ) (t : WrittenTable) (e : Epochs) (v : View) → reads_the_log (op_of act) ≡ true → IsAt act lsn → decision (asks head act) t e v ≡ verdicts.Allowed → rows_allow t.rows (asked_in (asks head (act_at act lsn))) ≡ true → v.hard < lsn → decision (asks head (act_at act lsn)) t e v ≡ verdicts.Denied sections.C 1 v.hard
 denied_at head act lsn t e v reads at allowed rows lt =
     let q = asks head (act_at act lsn) in
     let found = denied_by_the_first (order_of t) q t e v
@@ -131,22 +132,41 @@ none_of_a head act lsn t e v at allowed =
     (All-cons passes rules.RoleLacksOperation [] role (All-nil passes)))))
 
 -- so the rows deny it, or none of them matches
-by_rows : (q : Query) (t : WrittenTable) (e : Epochs) (v : View) (found : Option (ℕ × Bool)) → first_match_from 1 t.rows q ≡ found → found_allows found ≡ false → (row : ℕ) × (first_denial (section_b (length t.rows) ++ section_c) q t e v ≡ verdicts.Denied sections.B row 0)
+by_rows : (q : Query) (t : WrittenTable) (e : Epochs) (v : View) (found : Option (ℕ × Bool)) → first_match_from 1 t.rows (asked_in q) ≡ found → found_allows found ≡ false → (row : ℕ) × (first_denial (section_b (length t.rows) ++ section_c) q t e v ≡ verdicts.Denied sections.B row 0)
 by_rows q t e v None is fails = (0, rows-none q t e v is)
 by_rows q t e v (Some (number, true)) is fails = absurd cc
 by_rows q t e v (Some (number, false)) is fails = (number, rows-deny q t e v number is)
 
-ended_at : (head : Head) (act : Act) (lsn : ℕ) (t : WrittenTable) (e : Epochs) (v : View) → IsAt act lsn → decision (asks head act) t e v ≡ verdicts.Allowed → rows_allow t.rows (asks head (act_at act lsn)) ≡ false → (row : ℕ) × (decision (asks head (act_at act lsn)) t e v ≡ verdicts.Denied sections.B row 0)
+ended_at : (head : Head) (act : Act) (lsn : ℕ) (t : WrittenTable) (e : Epochs) (v : View) → IsAt act lsn → decision (asks head act) t e v ≡ verdicts.Allowed → rows_allow t.rows (asked_in (asks head (act_at act lsn))) ≡ false → (row : ℕ) × (decision (asks head (act_at act lsn)) t e v ≡ verdicts.Denied sections.B row 0)
 ended_at head act lsn t e v at allowed rows =
     let q = asks head (act_at act lsn) in
-    let denied = by_rows q t e v (first_match_from 1 t.rows q) refl rows in
+    let denied = by_rows q t e v (first_match_from 1 t.rows (asked_in q)) refl rows in
     (denied.0, passed_over section_a (section_b (length t.rows) ++ section_c) q t e v (none_of_a head act lsn t e v at allowed) ∙ denied.1)
+
+-- ---- what is asked at another LSN
+
+asks_at : (head : Head) (act : Act) (lsn : ℕ) → asked_in (asks head (act_at act lsn)) ≡ asked_at (asked_in (asks head act)) lsn
+asks_at head (acts.Write copy block) lsn = refl
+asks_at head (acts.Offer block) lsn = refl
+asks_at head (acts.Report n) lsn = refl
+asks_at head (acts.Get page n exact) lsn = refl
+asks_at head (acts.Pull lo hi n max) lsn = refl
+asks_at head (acts.Advance partition steps) lsn = refl
+asks_at head acts.Status lsn = refl
+asks_at head (acts.Failover primary) lsn = refl
+asks_at head (acts.SetTable text) lsn = refl
+asks_at head (acts.Audit first max) lsn = refl
+asks_at head acts.Tidy lsn = refl
+
+pub requests_ask_at : RequestsAskAt
+requests_ask_at q lsn = asks_at q.head q.act lsn
 
 pub reach_the_end : ReadsReachTheEnd
 reach_the_end q t e v reads allowed lsn =
     let at = read_at q.act lsn reads in
+    let same = ap (rows_allow t.rows) (requests_ask_at q lsn) in
     record {
-      within = allowed_at q.head q.act lsn t e v reads at allowed;
-      above = denied_at q.head q.act lsn t e v reads at allowed;
-      ended = ended_at q.head q.act lsn t e v at allowed;
+      within = λ rows. allowed_at q.head q.act lsn t e v reads at allowed (same ∙ rows);
+      above = λ rows. denied_at q.head q.act lsn t e v reads at allowed (same ∙ rows);
+      ended = λ rows. ended_at q.head q.act lsn t e v at allowed (same ∙ rows);
     }

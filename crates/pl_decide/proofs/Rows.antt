@@ -10,6 +10,7 @@ use Rattle.pl_table.specs.declared.row.Row.{Row}
 use Rattle.pl_table.specs.declared.verdict.Verdict.TheVariants as verdicts
 use Rattle.pl_table.specs.declared.verdict.Section.TheVariants as sections
 use Rattle.pl_table.specs.Request.{Query}
+use Rattle.pl_table.specs.Asking.{Asked, asked_in}
 use Rattle.pl_table.specs.Row.{row_matches}
 use Rattle.pl_table.specs.Table.{WrittenTable}
 use Rattle.pl_table.specs.FirstMatch.{first_match_from}
@@ -33,24 +34,24 @@ is_unmatched None = true
 is_unmatched (Some found) = false
 
 -- a row that is found is one of the list
-pub first_match-within : (k : ℕ) (rows : List Row) (q : Query) (row : ℕ) (allows : Bool) → first_match_from k rows q ≡ Some (row, allows) → (k ≤ row) × (row < k + length rows)
-first_match-within k [] q row allows e = absurd cc
-first_match-within k (first ∷ rows) q row allows e =
-    elim (cases_Bool (row_matches first q)) [
+pub first_match-within : (k : ℕ) (rows : List Row) (a : Asked) (row : ℕ) (allows : Bool) → first_match_from k rows a ≡ Some (row, allows) → (k ≤ row) × (row < k + length rows)
+first_match-within k [] a row allows e = absurd cc
+first_match-within k (first ∷ rows) a row allows e =
+    elim (cases_Bool (row_matches first a)) [
       | inl holds ↦
           let found = rw holds at e in
           let here : k ≡ row = ap (λ (o : Option (ℕ × Bool)). option_map_or (λ (p : ℕ × Bool). p.0) o 0) found in
           (omega arith, omega arith)
-      | inr fails ↦ let later = first_match-within (k + 1) rows q row allows (rw fails at e) in (omega (arith, later.0), omega (arith, later.1))
+      | inr fails ↦ let later = first_match-within (k + 1) rows a row allows (rw fails at e) in (omega (arith, later.0), omega (arith, later.1))
     ]
 
 -- no row above the first is found
-none_above : (k number : ℕ) (rows : List Row) (q : Query) → number < k → denies_at number (first_match_from k rows q) ≡ false
-none_above k number [] q lt = refl
-none_above k number (row ∷ rows) q lt =
-    elim (cases_Bool (row_matches row q)) [
+none_above : (k number : ℕ) (rows : List Row) (a : Asked) → number < k → denies_at number (first_match_from k rows a) ≡ false
+none_above k number [] a lt = refl
+none_above k number (row ∷ rows) a lt =
+    elim (cases_Bool (row_matches row a)) [
       | inl holds ↦ rw (holds, ne_eqb k number (λ same. omega arith)) refl
-      | inr fails ↦ rw fails (none_above (k + 1) number rows q (omega arith))
+      | inr fails ↦ rw fails (none_above (k + 1) number rows a (omega arith))
     ]
 
 and_true : (x : Bool) → (x && true) ≡ x
@@ -58,44 +59,44 @@ and_true true = refl
 and_true false = refl
 
 -- the row at an index is the one that is found, where none before it matches
-found_at : (k i number : ℕ) (rows : List Row) (q : Query) → number ≡ k + i → denies_at number (first_match_from k rows q) ≡ (is_some_and (slice_get rows i) (λ row. row_matches row q && not row.allows) && none_matches (take i rows) q)
-found_at k i number [] q is = refl
-found_at k zero number (row ∷ rows) q is =
-    elim (cases_Bool (row_matches row q)) [
+found_at : (k i number : ℕ) (rows : List Row) (a : Asked) → number ≡ k + i → denies_at number (first_match_from k rows a) ≡ (is_some_and (slice_get rows i) (λ row. row_matches row a && not row.allows) && none_matches (take i rows) a)
+found_at k i number [] a is = refl
+found_at k zero number (row ∷ rows) a is =
+    elim (cases_Bool (row_matches row a)) [
       | inl holds ↦ rw (holds, eq-eqb k number (omega arith)) (sym (and_true (not row.allows)))
-      | inr fails ↦ rw fails (none_above (k + 1) number rows q (omega arith))
+      | inr fails ↦ rw fails (none_above (k + 1) number rows a (omega arith))
     ]
-found_at k (suc i) number (row ∷ rows) q is =
-    elim (cases_Bool (row_matches row q)) [
-      | inl holds ↦ rw (holds, ne_eqb k number (λ same. omega arith)) (sym (and_right (is_some_and (slice_get rows i) (λ r. row_matches r q && not r.allows)) false refl))
-      | inr fails ↦ rw fails (found_at (k + 1) i number rows q (omega arith))
+found_at k (suc i) number (row ∷ rows) a is =
+    elim (cases_Bool (row_matches row a)) [
+      | inl holds ↦ rw (holds, ne_eqb k number (λ same. omega arith)) (sym (and_right (is_some_and (slice_get rows i) (λ r. row_matches r a && not r.allows)) false refl))
+      | inr fails ↦ rw fails (found_at (k + 1) i number rows a (omega arith))
     ]
 
 -- a row of the written order stands where it is the first match, and denies
-pub denies_first-is : (number : ℕ) (rows : List Row) (q : Query) → denies_first number rows q ≡ denies_at number (first_match_from 1 rows q)
-denies_first-is zero rows q = sym (none_above 1 0 rows q (omega arith))
-denies_first-is (suc n) rows q =
+pub denies_first-is : (number : ℕ) (rows : List Row) (a : Asked) → denies_first number rows a ≡ denies_at number (first_match_from 1 rows a)
+denies_first-is zero rows a = sym (none_above 1 0 rows a (omega arith))
+denies_first-is (suc n) rows a =
     let one : suc n - 1 ≡ n = omega arith in
-    rw (lt-ltb 0 (suc n) (omega arith), one) (sym (found_at 1 n (suc n) rows q (omega arith)))
+    rw (lt-ltb 0 (suc n) (omega arith), one) (sym (found_at 1 n (suc n) rows a (omega arith)))
 
 -- and the rule behind them where there is none
-pub none_matches-is : (k : ℕ) (rows : List Row) (q : Query) → none_matches rows q ≡ is_unmatched (first_match_from k rows q)
-none_matches-is k [] q = refl
-none_matches-is k (row ∷ rows) q =
-    elim (cases_Bool (row_matches row q)) [
+pub none_matches-is : (k : ℕ) (rows : List Row) (a : Asked) → none_matches rows a ≡ is_unmatched (first_match_from k rows a)
+none_matches-is k [] a = refl
+none_matches-is k (row ∷ rows) a =
+    elim (cases_Bool (row_matches row a)) [
       | inl holds ↦ rw holds refl
-      | inr fails ↦ rw fails (none_matches-is (k + 1) rows q)
+      | inr fails ↦ rw fails (none_matches-is (k + 1) rows a)
     ]
 
 -- ---- section B
 
 -- rows that do not deny are passed over
-passed : (k n : ℕ) (rest : List Rule) (q : Query) (t : WrittenTable) (e : Epochs) (v : View) → ((row : ℕ) → denies_first row t.rows q ≡ false) → first_denial (map TableRow (range_with_len k n) ++ rest) q t e v ≡ first_denial rest q t e v
+passed : (k n : ℕ) (rest : List Rule) (q : Query) (t : WrittenTable) (e : Epochs) (v : View) → ((row : ℕ) → denies_first row t.rows (asked_in q) ≡ false) → first_denial (map TableRow (range_with_len k n) ++ rest) q t e v ≡ first_denial rest q t e v
 passed k zero rest q t e v none = refl
 passed k (suc n) rest q t e v none = rw (none k) (passed (k + 1) n rest q t e v none)
 
 -- the row that denies is come to
-reached : (k n row : ℕ) (rest : List Rule) (q : Query) (t : WrittenTable) (e : Epochs) (v : View) → k ≤ row → row < k + n → ((other : ℕ) → denies_first other t.rows q ≡ eqb row other) → first_denial (map TableRow (range_with_len k n) ++ rest) q t e v ≡ verdicts.Denied sections.B row 0
+reached : (k n row : ℕ) (rest : List Rule) (q : Query) (t : WrittenTable) (e : Epochs) (v : View) → k ≤ row → row < k + n → ((other : ℕ) → denies_first other t.rows (asked_in q) ≡ eqb row other) → first_denial (map TableRow (range_with_len k n) ++ rest) q t e v ≡ verdicts.Denied sections.B row 0
 reached k zero row rest q t e v low high each = absurd (omega arith)
 reached k (suc n) row rest q t e v low high each =
     elim (cases_eq row k) [
@@ -110,22 +111,22 @@ in_front : (q : Query) (t : WrittenTable) (e : Epochs) (v : View) → first_deni
 in_front q t e v = ap (λ (order : List Rule). first_denial order q t e v) (append_assoc (map TableRow (range_with_len 1 (length t.rows))) (NoRowMatches ∷ []) section_c)
 
 -- where no row matches
-pub rows-none : (q : Query) (t : WrittenTable) (e : Epochs) (v : View) → first_match_from 1 t.rows q ≡ None → first_denial (section_b (length t.rows) ++ section_c) q t e v ≡ verdicts.Denied sections.B 0 0
+pub rows-none : (q : Query) (t : WrittenTable) (e : Epochs) (v : View) → first_match_from 1 t.rows (asked_in q) ≡ None → first_denial (section_b (length t.rows) ++ section_c) q t e v ≡ verdicts.Denied sections.B 0 0
 rows-none q t e v none =
     in_front q t e v
-    ∙ passed 1 (length t.rows) (NoRowMatches ∷ section_c) q t e v (λ row. denies_first-is row t.rows q ∙ ap (denies_at row) none)
-    ∙ rw (none_matches-is 1 t.rows q ∙ ap is_unmatched none) refl
+    ∙ passed 1 (length t.rows) (NoRowMatches ∷ section_c) q t e v (λ row. denies_first-is row t.rows (asked_in q) ∙ ap (denies_at row) none)
+    ∙ rw (none_matches-is 1 t.rows (asked_in q) ∙ ap is_unmatched none) refl
 
 -- where the first row that matches allows
-pub rows-allow : (q : Query) (t : WrittenTable) (e : Epochs) (v : View) (row : ℕ) → first_match_from 1 t.rows q ≡ Some (row, true) → first_denial (section_b (length t.rows) ++ section_c) q t e v ≡ first_denial section_c q t e v
+pub rows-allow : (q : Query) (t : WrittenTable) (e : Epochs) (v : View) (row : ℕ) → first_match_from 1 t.rows (asked_in q) ≡ Some (row, true) → first_denial (section_b (length t.rows) ++ section_c) q t e v ≡ first_denial section_c q t e v
 rows-allow q t e v row found =
     in_front q t e v
-    ∙ passed 1 (length t.rows) (NoRowMatches ∷ section_c) q t e v (λ other. denies_first-is other t.rows q ∙ ap (denies_at other) found ∙ and_right (eqb row other) false refl)
-    ∙ rw (none_matches-is 1 t.rows q ∙ ap is_unmatched found) refl
+    ∙ passed 1 (length t.rows) (NoRowMatches ∷ section_c) q t e v (λ other. denies_first-is other t.rows (asked_in q) ∙ ap (denies_at other) found ∙ and_right (eqb row other) false refl)
+    ∙ rw (none_matches-is 1 t.rows (asked_in q) ∙ ap is_unmatched found) refl
 
 -- where it denies
-pub rows-deny : (q : Query) (t : WrittenTable) (e : Epochs) (v : View) (row : ℕ) → first_match_from 1 t.rows q ≡ Some (row, false) → first_denial (section_b (length t.rows) ++ section_c) q t e v ≡ verdicts.Denied sections.B row 0
+pub rows-deny : (q : Query) (t : WrittenTable) (e : Epochs) (v : View) (row : ℕ) → first_match_from 1 t.rows (asked_in q) ≡ Some (row, false) → first_denial (section_b (length t.rows) ++ section_c) q t e v ≡ verdicts.Denied sections.B row 0
 rows-deny q t e v row found =
-    let within = first_match-within 1 t.rows q row false found in
+    let within = first_match-within 1 t.rows (asked_in q) row false found in
     in_front q t e v
-    ∙ reached 1 (length t.rows) row (NoRowMatches ∷ section_c) q t e v within.0 within.1 (λ other. denies_first-is other t.rows q ∙ ap (denies_at other) found ∙ and_true (eqb row other))
+    ∙ reached 1 (length t.rows) row (NoRowMatches ∷ section_c) q t e v within.0 within.1 (λ other. denies_first-is other t.rows (asked_in q) ∙ ap (denies_at other) found ∙ and_true (eqb row other))

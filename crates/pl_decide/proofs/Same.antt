@@ -1,10 +1,15 @@
 -- Keys that compare as equal are one.
-use Rattle.std.proofs.Common.{◌≡◌, ℕ, Bool, true, false, ◌&&◌, ◌==◌, List, Option, Some, None, Contains, refl, sym, ap, subst, ◌∙◌, inl, inr}
-use Rattle.std.specs.Prelude.{IfSome, IfNone, ◌⊎◌, Result, Ok, Err, OnOk, OnErr, ◌↔◌, IsTrue}
+use Rattle.std.proofs.Common.{◌≡◌, ℕ, ◌+◌, Bool, true, false, ◌&&◌, ◌==◌, List, [], ◌∷◌, map, get_or, Option, Some, None, Contains, refl, sym, ap, subst, ◌∙◌, inl, inr}
+use Rattle.std.specs.Prelude.{IfSome, ◌⊎◌, Result, Ok, Err, OnOk, OnErr, ◌↔◌, IsTrue}
 use Rattle.std.specs.Bool.{beq}
-use Rattle.pl_table.specs.declared.reach.LsnRange.{LsnRange}
-use Rattle.pl_table.specs.declared.row.Row.{Row}
-use Rattle.pl_decide.specs.Agreement.{IsOfRows, IsOfRequest}
+use Rattle.std.specs.List.{range_with_len}
+use Rattle.pl_table.specs.contracts.op.OpPartialEq.TheImpl as op_eq
+use Rattle.pl_table.specs.contracts.op.RolePartialEq.TheImpl as role_eq
+use Rattle.pl_table.specs.declared.op.Op.{Op}
+use Rattle.pl_table.specs.declared.op.Op.TheVariants as ops
+use Rattle.pl_table.specs.declared.op.Role.{Role}
+use Rattle.pl_table.specs.declared.op.Role.TheVariants as roles
+use Rattle.pl_table.specs.Ops.{role_of_number, op_of_number, all_ops}
 use Rattle.lru.specs.LruCache.{LruCache, lru_cache, put_entries}
 use Rattle.std.specs.Option.{option_eq}
 use Rattle.std.specs.Map.{lookup}
@@ -14,9 +19,47 @@ use Rattle.pl_decide.specs.declared.key.VerdictKey.{VerdictKey}
 use Rattle.pl_decide.specs.declared.row_verdict.RowVerdict.{RowVerdict}
 use Rattle.pl_decide.specs.Keys.{CachedVerdict}
 
+got : {A : Type 0} (x y : A) → Some x ≡ Some y → x ≡ y
+got x y e = cc
+
+-- values whose numbers are equal are one, where each is found by its number
+by_number : {A : Type 0} (number : A → ℕ) (back : ℕ → Option A) → ((x : A) → back (number x) ≡ Some x) → (a b : A) → (number a == number b) ≡ true → a ≡ b
+by_number number back found a b h = got a b (sym (found a) ∙ ap back ((unsigned_Decides (number a) (number b)).0 h) ∙ found b)
+
+role_placed : (place : Role → ℕ) → map place (roles.Primary ∷ roles.Secondary ∷ roles.PageServer ∷ roles.Operator ∷ []) ≡ range_with_len 0 4 → (x : Role) → role_of_number (place x + 1) ≡ Some x
+role_placed place are roles.Primary = ap (λ (l : List ℕ). role_of_number (get_or l 0 0 + 1)) are
+role_placed place are roles.Secondary = ap (λ (l : List ℕ). role_of_number (get_or l 1 0 + 1)) are
+role_placed place are roles.PageServer = ap (λ (l : List ℕ). role_of_number (get_or l 2 0 + 1)) are
+role_placed place are roles.Operator = ap (λ (l : List ℕ). role_of_number (get_or l 3 0 + 1)) are
+
+role_by : (place : Role → ℕ) → map place (roles.Primary ∷ roles.Secondary ∷ roles.PageServer ∷ roles.Operator ∷ []) ≡ range_with_len 0 4 → (a b : Role) → (place a == place b) ≡ true → a ≡ b
+role_by place are = by_number place (λ n. role_of_number (n + 1)) (role_placed place are)
+
+role_same : (a b : Role) → (role_eq.eq-value).it a b ≡ true → a ≡ b
+role_same = role_by _ refl
+
+op_placed : (place : Op → ℕ) → map place all_ops ≡ range_with_len 0 11 → (x : Op) → op_of_number (place x + 1) ≡ Some x
+op_placed place are ops.Write = ap (λ (l : List ℕ). op_of_number (get_or l 0 0 + 1)) are
+op_placed place are ops.Offer = ap (λ (l : List ℕ). op_of_number (get_or l 1 0 + 1)) are
+op_placed place are ops.Report = ap (λ (l : List ℕ). op_of_number (get_or l 2 0 + 1)) are
+op_placed place are ops.Get = ap (λ (l : List ℕ). op_of_number (get_or l 3 0 + 1)) are
+op_placed place are ops.Pull = ap (λ (l : List ℕ). op_of_number (get_or l 4 0 + 1)) are
+op_placed place are ops.Advance = ap (λ (l : List ℕ). op_of_number (get_or l 5 0 + 1)) are
+op_placed place are ops.Status = ap (λ (l : List ℕ). op_of_number (get_or l 6 0 + 1)) are
+op_placed place are ops.Failover = ap (λ (l : List ℕ). op_of_number (get_or l 7 0 + 1)) are
+op_placed place are ops.SetTable = ap (λ (l : List ℕ). op_of_number (get_or l 8 0 + 1)) are
+op_placed place are ops.Audit = ap (λ (l : List ℕ). op_of_number (get_or l 9 0 + 1)) are
+op_placed place are ops.Tidy = ap (λ (l : List ℕ). op_of_number (get_or l 10 0 + 1)) are
+
+op_by : (place : Op → ℕ) → map place all_ops ≡ range_with_len 0 11 → (a b : Op) → (place a == place b) ≡ true → a ≡ b
+op_by place are = by_number place (λ n. op_of_number (n + 1)) (op_placed place are)
+
+op_same : (a b : Op) → (op_eq.eq-value).it a b ≡ true → a ≡ b
+op_same = op_by _ refl
+
 -- the test of keys
 abbrev pub same_key : VerdictKey → VerdictKey → Bool
-same_key a b = (a.principal == b.principal) && ((a.role == b.role) && ((a.op == b.op) && option_eq (λ x y. x == y) a.partition b.partition))
+same_key a b = (a.principal == b.principal) && ((role_eq.eq-value).it a.role b.role && ((op_eq.eq-value).it a.op b.op && option_eq (λ x y. x == y) a.partition b.partition))
 
 both : (a b : Bool) → (a && b) ≡ true → (a ≡ true) × (b ≡ true)
 both true b h = (refl, h)
@@ -31,16 +74,16 @@ same_option (Some x) (Some y) h = ap Some ((unsigned_Decides x y).0 h)
 key-of : (a b : VerdictKey) → a.principal ≡ b.principal → a.role ≡ b.role → a.op ≡ b.op → a.partition ≡ b.partition → a ≡ b
 key-of a b p r o t =
     ap (λ (n : ℕ). record { principal = n; role = a.role; op = a.op; partition = a.partition }) p
-    ∙ ap (λ (n : ℕ). record { principal = b.principal; role = n; op = a.op; partition = a.partition }) r
-    ∙ ap (λ (n : ℕ). record { principal = b.principal; role = b.role; op = n; partition = a.partition }) o
+    ∙ ap (λ (n : Role). record { principal = b.principal; role = n; op = a.op; partition = a.partition }) r
+    ∙ ap (λ (n : Op). record { principal = b.principal; role = b.role; op = n; partition = a.partition }) o
     ∙ ap (λ (n : Option ℕ). record { principal = b.principal; role = b.role; op = b.op; partition = n }) t
 
 pub key-same : (a b : VerdictKey) → same_key a b ≡ true → a ≡ b
 key-same a b h =
     let first = both (a.principal == b.principal) _ h in
-    let second = both (a.role == b.role) _ first.1 in
-    let third = both (a.op == b.op) _ second.1 in
-    key-of a b ((unsigned_Decides a.principal b.principal).0 first.0) ((unsigned_Decides a.role b.role).0 second.0) ((unsigned_Decides a.op b.op).0 third.0) (same_option a.partition b.partition third.1)
+    let second = both ((role_eq.eq-value).it a.role b.role) _ first.1 in
+    let third = both ((op_eq.eq-value).it a.op b.op) _ second.1 in
+    key-of a b ((unsigned_Decides a.principal b.principal).0 first.0) (role_same a.role b.role second.0) (op_same a.op b.op third.0) (same_option a.partition b.partition third.1)
 
 -- what is found under a key is cached under that key
 pub found-under : (verdicts : List CachedVerdict) (key : VerdictKey) (found : Option RowVerdict) → found ≡ lookup (same_key key) verdicts → IfSome found (λ v. Contains verdicts (key, v))
@@ -81,19 +124,9 @@ same-itself : (a : Option (ℕ × Bool)) → same_found a a ≡ true
 same-itself None = refl
 same-itself (Some x) = rw ((unsigned_Decides x.0 x.0).1 refl, (booleans_Decides x.1 x.1).1 refl) refl
 
--- what is found, under the key at the LSNs
-abbrev under : VerdictKey → Option LsnRange → Option (ℕ × Bool) → CachedVerdict
-under key lsns found = (key, record { found = found; lsns = lsns })
-
--- the comparison tells whether the verdict is that of the rows
-pub tells-of-rows : (rows : List Row) (key : VerdictKey) (lsns : Option LsnRange) (found : Option (ℕ × Bool)) (first : Option (Option (ℕ × Bool))) (r : Bool) → r ≡ option_eq same_found first (Some found) → IfSome first (λ one. IsOfRows rows (under key lsns one)) → IfNone first ((one : Option (ℕ × Bool)) → IsOfRows rows (under key lsns one) → ⊥) → IsOfRequest (under key lsns found) → IsTrue r ↔ IsOfRows rows (under key lsns found)
-unfolding IsOfRows IsOfRequest
-tells-of-rows rows key lsns found None r is one several request = (
-  λ yes. absurd (let clash : true ≡ false = sym yes ∙ is in cc),
-  λ of. absurd (several found of),
+-- the comparison tells whether this is found
+pub tells-found : (x first found : Option (ℕ × Bool)) (r : Bool) → r ≡ same_found x found → x ≡ first → IsTrue r ↔ (first ≡ found)
+tells-found x first found r is same = (
+  λ yes. sym same ∙ found-same x found (sym is ∙ yes),
+  λ e. is ∙ ap (λ (v : Option (ℕ × Bool)). same_found v found) (same ∙ e) ∙ same-itself found,
 )
-tells-of-rows rows key lsns found (Some first) r is one several request =
-    let for = request.1 in (
-      λ yes q of_q. one q (record { key = of_q.key; at = of_q.at }) ∙ found-same first found (sym is ∙ yes),
-      λ of. is ∙ ap (λ (v : Option (ℕ × Bool)). same_found first v) (sym (of request.0 for) ∙ one request.0 (record { key = for.key; at = for.at })) ∙ same-itself first,
-    )

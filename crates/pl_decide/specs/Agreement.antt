@@ -1,38 +1,31 @@
 -- When cached verdicts are those of a table.
-use Rattle.std.specs.Prelude.{◌≡◌, ℕ, ◌<◌, ◌≤◌, List, All, Option, Some, None}
+use Rattle.std.specs.Prelude.{◌≡◌, ℕ, ◌≤◌, List, All, Option, IfSome}
 use Rattle.lru.specs.LruCache.{LruCache}
-use Rattle.pl_table.specs.declared.reach.LsnRange.{LsnRange}
 use Rattle.pl_table.specs.declared.row.Row.{Row}
-use Rattle.pl_table.specs.Request.{Query}
 use Rattle.pl_table.specs.Table.{WrittenTable}
 use Rattle.pl_table.specs.FirstMatch.{first_match_from}
+use Rattle.pl_table.specs.Reach.{IsAtOne}
 use Rattle.pl_decide.specs.declared.key.VerdictKey.{VerdictKey}
 use Rattle.pl_decide.specs.declared.row_verdict.RowVerdict.{RowVerdict}
-use Rattle.pl_decide.specs.Keys.{CachedVerdict, IsCachedFor}
+use Rattle.pl_decide.specs.Keys.{CachedVerdict, asked_with}
 
 -- the most verdicts that a decider keeps
 abbrev pub most_cached : ℕ
 most_cached = 1024
 
--- for each request that the verdict is cached for, it is the rows'
+-- whatever is asked with the key at the LSNs, the verdict is the rows'
 unfoldable pub IsOfRows : List Row → CachedVerdict → Type 0
-IsOfRows rows e = (q : Query) → IsCachedFor e q → first_match_from 1 rows q ≡ e.1.found
+IsOfRows rows e = (lsn : Option ℕ) → IsAtOne e.1.lsns lsn → first_match_from 1 rows (asked_with e.0 lsn) ≡ e.1.found
 
 -- each cached verdict is that of the table's rows
 unfoldable pub AgreesWith : List CachedVerdict → WrittenTable → Type 0
 AgreesWith verdicts t = All (IsOfRows t.rows) verdicts
 
--- the verdict is cached for some request
-unfoldable pub IsOfRequest : CachedVerdict → Type 0
-IsOfRequest e = (q : Query) × IsCachedFor e q
+-- the LSNs of a verdict, where it has some, are those from one on, up to another
+unfoldable pub IsSpan : CachedVerdict → Type 0
+IsSpan e = IfSome e.1.lsns (λ lsns. lsns.from ≤ lsns.to)
 
--- what a decider keeps: verdicts of requests, and not too many
+-- what a decider keeps: verdicts, and not too many
 pub record IsCache (cache : LruCache VerdictKey RowVerdict) : Type 0 where
   pub most : cache.cap ≡ most_cached
-  pub each : All IsOfRequest cache.entries
-
--- a row that ends at this LSN matches at some of these LSNs, and not at others
-abbrev pub EndsAmong : Option ℕ → Option LsnRange → Type 0
-EndsAmong None lsns = ⊥
-EndsAmong (Some end) None = ⊥
-EndsAmong (Some end) (Some lsns) = (lsns.from ≤ end) × (end < lsns.to)
+  pub each : All IsSpan cache.entries

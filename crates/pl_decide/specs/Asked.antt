@@ -9,6 +9,7 @@ use Rattle.pl_table.specs.declared.request.Act.{Act}
 use Rattle.pl_table.specs.declared.request.Act.TheVariants as acts
 use Rattle.pl_table.specs.declared.row.Row.{Row}
 use Rattle.pl_table.specs.Request.{Query}
+use Rattle.pl_table.specs.Asking.{Asked}
 use Rattle.pl_table.specs.Row.{row_matches}
 use Rattle.pl_table.specs.Table.{WrittenTable, token_of}
 use Rattle.pl_table.specs.declared.fault.TableFault.{TableFault}
@@ -29,14 +30,14 @@ is_known t head =
     is_some_and (token_of head.principal t.principals) (λ listed. bytes_eq listed head.token)
 
 -- no row of the list matches
-abbrev pub none_matches : List Row → Query → Bool
-none_matches rows q = list_all (λ row. not (row_matches row q)) rows
+abbrev pub none_matches : List Row → Asked → Bool
+none_matches rows a = list_all (λ row. not (row_matches row a)) rows
 
 -- the row of this number matches and denies, and no row above it matches
-abbrev pub denies_first : ℕ → List Row → Query → Bool
-denies_first number rows q = nat_lt 0 number
-    && is_some_and (slice_get rows (number - 1)) (λ row. row_matches row q && not row.allows)
-    && none_matches (take (number - 1) rows) q
+abbrev pub denies_first : ℕ → List Row → Asked → Bool
+denies_first number rows a = nat_lt 0 number
+    && is_some_and (slice_get rows (number - 1)) (λ row. row_matches row a && not row.allows)
+    && none_matches (take (number - 1) rows) a
 
 -- the operation reads the hardened log: a page of it, or its blocks
 abbrev pub reads_the_log : Op → Bool
@@ -98,3 +99,21 @@ text_of acts.Tidy = None
 abbrev pub fault_code : Result WrittenTable TableFault → ℕ
 fault_code (Ok table) = 0
 fault_code (Err fault) = fault_number fault
+
+-- the act at another LSN, where it names one
+abbrev pub act_at : Act → ℕ → Act
+act_at (acts.Write copy block) n = acts.Write copy (record { lsn = n; records = block.records })
+act_at (acts.Offer block) n = acts.Offer (record { lsn = n; records = block.records })
+act_at (acts.Report lsn) n = acts.Report n
+act_at (acts.Get page lsn exact) n = acts.Get page n exact
+act_at (acts.Pull lo hi lsn max) n = acts.Pull lo hi n max
+act_at (acts.Advance partition steps) n = acts.Advance partition steps
+act_at acts.Status n = acts.Status
+act_at (acts.Failover primary) n = acts.Failover primary
+act_at (acts.SetTable text) n = acts.SetTable text
+act_at (acts.Audit first max) n = acts.Audit first max
+act_at acts.Tidy n = acts.Tidy
+
+-- the request at another LSN
+abbrev pub request_at : Query → ℕ → Query
+request_at q n = record { head = q.head; act = act_at q.act n }

@@ -15,8 +15,9 @@ use Rattle.pl_table.specs.TableText.{table_reading}
 use Rattle.pl_decide.specs.declared.rule.Rule.{Rule}
 use Rattle.pl_decide.specs.declared.view.Epochs.{Epochs}
 use Rattle.pl_decide.specs.declared.view.View.{View}
-use Rattle.pl_table.specs.Acts.{number_of, block_of, asked_at}
-use Rattle.pl_decide.specs.Asked.{is_known, reads_the_log, last_epoch}
+use Rattle.pl_table.specs.Acts.{block_of}
+use Rattle.pl_table.specs.Asking.{Asked, asked_in, asked_at}
+use Rattle.pl_decide.specs.Asked.{is_known, reads_the_log, last_epoch, request_at}
 use Rattle.pl_table.specs.declared.row.Row.{Row}
 use Rattle.pl_table.specs.Row.{is_about}
 use Rattle.pl_table.specs.FirstMatch.{first_match_from, rows_allow}
@@ -25,16 +26,16 @@ use Rattle.pl_decide.specs.Keys.{IsKeyOf}
 use Rattle.pl_decide.specs.Rules.{stands_against}
 use Rattle.pl_decide.specs.WrittenOrder.{first_denial, decision, NoneStands, IsFirstDenial}
 
--- the same rows are about requests of one key
+-- the same rows are about all that is asked with one key
 abbrev pub OneKeyIsMatchedAlike : Type 0
-OneKeyIsMatchedAlike = (key : VerdictKey) (q r : Query) → IsKeyOf key q → IsKeyOf key r
-    → (row : Row) → is_about row q ≡ is_about row r
+OneKeyIsMatchedAlike = (key : VerdictKey) (a b : Asked) → IsKeyOf key a → IsKeyOf key b
+    → (row : Row) → is_about row a ≡ is_about row b
 
--- so, where they name one LSN or none, the first row that matches is the same
+-- so, where that names one LSN or none, the first row that matches is the same
 abbrev pub OneKeyOneVerdict : Type 0
-OneKeyOneVerdict = (key : VerdictKey) (q r : Query) → IsKeyOf key q → IsKeyOf key r
-    → number_of q.act ≡ number_of r.act
-    → (rows : List Row) → first_match_from 1 rows q ≡ first_match_from 1 rows r
+OneKeyOneVerdict = (key : VerdictKey) (a b : Asked) → IsKeyOf key a → IsKeyOf key b
+    → a.lsn ≡ b.lsn
+    → (rows : List Row) → first_match_from 1 rows a ≡ first_match_from 1 rows b
 
 -- a request is allowed exactly where no rule of the order stands against it, whatever the order
 abbrev pub AllowedExactly : Type 0
@@ -132,20 +133,24 @@ abbrev pub ViewsDecideAlike : Type 0
 ViewsDecideAlike = (q : Query) (t : WrittenTable) (e : Epochs) (v w : View)
     → (q.head.epoch ≡ e.epoch → LooksAlike q.act v w) → decision q t e v ≡ decision q t e w
 
+-- a request at another LSN asks the same there
+abbrev pub RequestsAskAt : Type 0
+RequestsAskAt = (q : Query) (lsn : ℕ) → asked_in (request_at q lsn) ≡ asked_at (asked_in q) lsn
+
 -- the rows of the table allow each allowed request
 abbrev pub RowsAllowTheAllowed : Type 0
 RowsAllowTheAllowed = (q : Query) (t : WrittenTable) (e : Epochs) (v : View)
-    → decision q t e v ≡ verdicts.Allowed → rows_allow t.rows q ≡ true
+    → decision q t e v ≡ verdicts.Allowed → rows_allow t.rows (asked_in q) ≡ true
 
 -- a pull or a get at an LSN: where the rows allow it, it is allowed up to the hardened end and denied above
 -- it; where they do not, one of them denies it, or none matches
 pub record ReadsTo (q : Query) (t : WrittenTable) (e : Epochs) (v : View) (lsn : ℕ) : Type 0 where
-  pub within : rows_allow t.rows (asked_at q lsn) ≡ true → lsn ≤ v.hard
-      → decision (asked_at q lsn) t e v ≡ verdicts.Allowed
-  pub above : rows_allow t.rows (asked_at q lsn) ≡ true → v.hard < lsn
-      → decision (asked_at q lsn) t e v ≡ verdicts.Denied sections.C 1 v.hard
-  pub ended : rows_allow t.rows (asked_at q lsn) ≡ false
-      → (row : ℕ) × (decision (asked_at q lsn) t e v ≡ verdicts.Denied sections.B row 0)
+  pub within : rows_allow t.rows (asked_at (asked_in q) lsn) ≡ true → lsn ≤ v.hard
+      → decision (request_at q lsn) t e v ≡ verdicts.Allowed
+  pub above : rows_allow t.rows (asked_at (asked_in q) lsn) ≡ true → v.hard < lsn
+      → decision (request_at q lsn) t e v ≡ verdicts.Denied sections.C 1 v.hard
+  pub ended : rows_allow t.rows (asked_at (asked_in q) lsn) ≡ false
+      → (row : ℕ) × (decision (request_at q lsn) t e v ≡ verdicts.Denied sections.B row 0)
 
 -- so is each that is allowed at one LSN
 abbrev pub ReadsReachTheEnd : Type 0

@@ -9,6 +9,7 @@ pub use Rattle.pl_block.specs.Bounds
 pub use Rattle.pl_table.specs.Ops
 pub use Rattle.pl_table.specs.Request
 pub use Rattle.pl_table.specs.Acts
+pub use Rattle.pl_table.specs.Asking
 pub use Rattle.pl_table.specs.Row
 pub use Rattle.pl_table.specs.Table
 pub use Rattle.pl_table.specs.FirstMatch

@@ -19,6 +19,7 @@ use Rattle.pl_decide.specs.declared.rule.Rule.TheVariants as rules
 use Rattle.pl_decide.specs.declared.view.Epochs.{Epochs}
 use Rattle.pl_decide.specs.declared.view.View.{View}
 use Rattle.pl_table.specs.Acts.{number_of, block_of}
+use Rattle.pl_table.specs.Asking.{asked_in}
 use Rattle.pl_decide.specs.Asked.{is_some_and, is_known, none_matches, denies_first, reads_the_log, copy_of, primary_named, text_of, fault_code, last_epoch}
 
 -- a rule stands against a request
@@ -29,8 +30,8 @@ stands_against rules.NewerEpoch q t e v = nat_lt e.epoch q.head.epoch
 stands_against rules.OtherPrimary q t e v =
     same_role q.head.role roles.Primary && not (q.head.principal == e.primary)
 stands_against rules.RoleLacksOperation q t e v = not (has_op q.head.role (op_of q.act))
-stands_against (rules.TableRow row) q t e v = denies_first row t.rows q
-stands_against rules.NoRowMatches q t e v = none_matches t.rows q
+stands_against (rules.TableRow row) q t e v = denies_first row t.rows (asked_in q)
+stands_against rules.NoRowMatches q t e v = none_matches t.rows (asked_in q)
 stands_against rules.AboveTheEnd q t e v =
     reads_the_log (op_of q.act) && is_some_and (number_of q.act) (λ lsn. nat_lt v.hard lsn)
 stands_against rules.HardenedAlready q t e v =

@@ -1,14 +1,14 @@
 //! Verdicts of the rows of a table, by their keys.
 
-ghost use Rattle.std.specs.Prelude.{◌≡◌, ◌⊎◌, ◌↔◌, ◌≤◌, All, Contains, length, IfSome, IsTrue};
-ghost use Rattle.pl_table.specs.Bounds.{most_rows};
-ghost use Rattle.pl_decide.specs.Keys.{CachedVerdict};
-ghost use Rattle.pl_decide.specs.Agreement.{IsOfRows, IsOfRequest};
+ghost use Rattle.std.specs.Prelude.{◌≡◌, ◌⊎◌, ◌↔◌, All, Contains, IfSome, IsTrue, option_map};
+ghost use Rattle.pl_table.specs.FirstMatch.{first_match_from};
+ghost use Rattle.pl_decide.specs.Keys.{asked_with, CachedVerdict};
+ghost use Rattle.pl_decide.specs.Agreement.{IsOfRows, IsSpan};
 
 use crate::key::VerdictKey;
-use crate::row_verdict::RowVerdict;
+use crate::row_verdict::{Found, RowVerdict};
 use lru::LruCache;
-use pl_table::Row;
+use pl_table::{LsnRange, Table};
 
 // What is cached under the key, which becomes the one that was used last.
 pub(crate) fn find(
@@ -40,25 +40,43 @@ pub(crate) fn keep(
     let _ = verdicts.put(key, verdict);
 }
 
-// Whether each of these verdicts is that of the rows.
-pub(crate) fn are_of_rows(verdicts: &LruCache<VerdictKey, RowVerdict>, rows: &[Row]) -> bool
-    requires few { length rows.now ≤ most_rows }
-    requires each { All IsOfRequest verdicts.now.entries }
-    ensures exact { IsTrue result ↔ All (IsOfRows rows.now) verdicts.now.entries }
+// Whether each of these verdicts is that of the table's rows.
+pub(crate) fn are_of_rows(verdicts: &LruCache<VerdictKey, RowVerdict>, table: &Table) -> bool
+    requires each { All IsSpan verdicts.now.entries }
+    ensures exact { IsTrue result ↔ All (IsOfRows table.now.rows) verdicts.now.entries }
 {
     for (key, verdict) in verdicts {
-        if !is_of_rows(*key, *verdict, rows) {
+        if !is_of_rows(*key, *verdict, table) {
             return false;
         }
     }
     true
 }
 
-// Whether the rows give this verdict for each request of the key at its LSNs.
-fn is_of_rows(key: VerdictKey, verdict: RowVerdict, rows: &[Row]) -> bool
-    requires few { length rows.now ≤ most_rows }
-    requires request { IsOfRequest (key, verdict) }
-    ensures exact { IsTrue result ↔ IsOfRows rows.now (key, verdict) }
+// Whether the rows give this verdict at each of its LSNs, which is so where they do at the first and at
+// the last of them.
+fn is_of_rows(key: VerdictKey, verdict: RowVerdict, table: &Table) -> bool
+    requires span { IsSpan (key, verdict) }
+    ensures exact { IsTrue result ↔ IsOfRows table.now.rows (key, verdict) }
 {
-    key.first_in(rows, verdict.lsns) == Some(verdict.found)
+    let (first, last) = ends(verdict.lsns);
+    finds(table, key, first, verdict.found) && finds(table, key, last, verdict.found)
+}
+
+// The first and the last of the LSNs.
+fn ends(lsns: Option<LsnRange>) -> (Option<u64>, Option<u64>)
+    ensures first { result.0 ≡ option_map (λ range. range.from) lsns }
+    ensures last { result.1 ≡ option_map (λ range. range.to) lsns }
+{
+    match lsns {
+        Some(range) => (Some(range.from), Some(range.to)),
+        None => (None, None),
+    }
+}
+
+// Whether this is what the table finds for what is asked with the key at the LSN.
+fn finds(table: &Table, key: VerdictKey, lsn: Option<u64>, found: Found) -> bool
+    ensures exact { IsTrue result ↔ (first_match_from 1 table.now.rows (asked_with key lsn) ≡ found) }
+{
+    table.first_match_of(&key.asking(lsn)) == found
 }

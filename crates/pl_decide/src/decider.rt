@@ -4,7 +4,7 @@ ghost use Rattle.std.specs.Prelude.{◌≡◌, ◌≢◌, ◌==◌, ◌≤◌, �
 ghost use Rattle.pl_block.specs.Block.{Content};
 ghost use Rattle.pl_table.specs.Ops.{same_role};
 ghost use Rattle.pl_table.specs.Table.{WrittenTable};
-ghost use Rattle.pl_table.specs.Acts.{asked_at};
+ghost use Rattle.pl_table.specs.Asking.{asked_at, asked_in};
 ghost use Rattle.pl_table.specs.FirstMatch.{first_match_from, rows_allow};
 ghost use Rattle.pl_decide.specs.Asked.{is_known};
 ghost use Rattle.pl_decide.specs.WrittenOrder.{decision, section_b, section_c, order_of, first_denial, NoneStands, IsFirstDenial};
@@ -100,13 +100,14 @@ impl Decider {
     }
 
     /// Whether each cached verdict is that of the table's rows, for all requests of its key at its LSNs.
-    /// Each row is looked at for each of them, up to the first that matches. Nothing is allocated.
+    /// The rows that can match are looked at, for the first and for the last of these LSNs. Nothing is
+    /// allocated.
     pub fn agrees_with(&self, table: &Table) -> bool
-        // Whether each cached verdict is that of the table's rows, for every request of its key at
+        // Whether each cached verdict is that of the table's rows, whatever is asked with its key at
         // its LSNs (`AgreesWith`).
         ensures exact { IsTrue result ↔ AgreesWith self.now table.now }
     {
-        are_of_rows(&self.verdicts, table.rows())
+        are_of_rows(&self.verdicts, table)
     }
 
     /// The verdict on any request: the denial of the first rule of the written order that stands
@@ -179,13 +180,13 @@ impl Decider {
     /// [`decide`]: Decider::decide
     pub fn reach(&self, table: &Table, hard: u64, request: &Request) -> u64
         // The rows allow the request, as `Table::first_match` tells.
-        requires allowed { rows_allow table.now.rows request.now ≡ true }
+        requires allowed { rows_allow table.now.rows (asked_in request.now) ≡ true }
         // An LSN up to `hard`.
         ensures within { result ≤ hard }
         // Of the LSNs up to `hard`, the rows allow the request at those up to this one, and at no
         // other (`rows_allow`).
         ensures exact { (lsn : ℕ) → lsn ≤ hard →
-            rows_allow table.now.rows (asked_at request.now lsn) ≡ nat_le lsn result }
+            rows_allow table.now.rows (asked_at (asked_in request.now) lsn) ≡ nat_le lsn result }
     {
         table.reach(request, hard)
     }
@@ -195,9 +196,9 @@ impl Decider {
     /// The rows that can match are looked at once. Nothing is allocated.
     pub fn allows_at(&self, table: &Table, request: &Request, lsn: u64) -> bool
         // The rows allow the request, as `Table::first_match` tells.
-        requires allowed { rows_allow table.now.rows request.now ≡ true }
+        requires allowed { rows_allow table.now.rows (asked_in request.now) ≡ true }
         // Whether the rows allow the request at this LSN.
-        ensures value { result ≡ rows_allow table.now.rows (asked_at request.now lsn) }
+        ensures value { result ≡ rows_allow table.now.rows (asked_at (asked_in request.now) lsn) }
     {
         lsn <= table.reach(request, lsn)
     }
@@ -235,14 +236,15 @@ impl Decider {
     // The first row of the table that matches, as `Table::first_match` finds it.
     fn first_match(&mut self, table: &Table, request: &Request) -> Found
         requires agrees { AgreesWith self.old table.now }
-        ensures value { result ≡ first_match_from 1 table.now.rows request.now }
+        ensures value { result ≡ first_match_from 1 table.now.rows (asked_in request.now) }
         ensures agrees { AgreesWith self.new table.now }
     {
-        let Some(key) = VerdictKey::of(request) else {
+        let asking = request.asking();
+        let Some(key) = VerdictKey::of(&asking) else {
             return table.first_match(request);
         };
         match self.look_up(key) {
-            Some(verdict) if verdict.is_at(request.act().lsn()) => return verdict.found,
+            Some(verdict) if verdict.is_at(asking.lsn) => return verdict.found,
             _ => {}
         }
         let found = table.first_match(request);
@@ -263,8 +265,8 @@ impl Decider {
     // Caches what was found for the request, which has this key, with the LSNs at which it is the same.
     fn cache(&mut self, table: &Table, request: &Request, key: VerdictKey, found: Found)
         requires agrees { AgreesWith self.old table.now }
-        requires key { IsKeyOf key request.now }
-        requires found { found ≡ first_match_from 1 table.now.rows request.now }
+        requires key { IsKeyOf key (asked_in request.now) }
+        requires found { found ≡ first_match_from 1 table.now.rows (asked_in request.now) }
         ensures agrees { AgreesWith self.new table.now }
     {
         let lsns = table.lsns_alike(request);
@@ -297,7 +299,7 @@ fn decide_by_table(
     view: View,
     request: &Request,
 ) -> Verdict
-    requires found { found ≡ first_match_from 1 table.now.rows request.now }
+    requires found { found ≡ first_match_from 1 table.now.rows (asked_in request.now) }
     ensures value { result ≡ first_denial (section_b (length table.now.rows) ++ section_c)
         request.now table.now epochs view }
 {

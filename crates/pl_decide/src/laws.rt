@@ -1,7 +1,7 @@
 //! What follows from the written order. Each function is a law: its clauses hold of all requests,
 //! tables, epochs and views, and its body does nothing.
 
-ghost use Rattle.pl_decide.specs.Laws.{AllowedExactly, DeniedByTheFirst, AllowedMeetsNoRule, AllowedMayBeServed, UnknownIsDenied, KnownIsNotUnknown, OlderEpochIsDenied, ViewsDecideAlike, ReadsReachTheEnd, RowsAllowTheAllowed, OneKeyIsMatchedAlike, OneKeyOneVerdict};
+ghost use Rattle.pl_decide.specs.Laws.{AllowedExactly, DeniedByTheFirst, AllowedMeetsNoRule, AllowedMayBeServed, UnknownIsDenied, KnownIsNotUnknown, OlderEpochIsDenied, ViewsDecideAlike, ReadsReachTheEnd, RowsAllowTheAllowed, RequestsAskAt, OneKeyIsMatchedAlike, OneKeyOneVerdict};
 
 /// In any order of rules, a request is allowed exactly where no rule stands against it. Elsewhere
 /// the verdict is the denial of the first rule that does.
@@ -50,7 +50,8 @@ pub fn views_decide_alike()
 
 /// A pull or a get that is allowed at one LSN is allowed at each LSN up to the hardened end at which the
 /// rows allow it, as they do at its own. At an LSN above the hardened end it is denied as C1, and at one
-/// at which the rows do not allow it, by a row or since none matches.
+/// at which the rows do not allow it, by a row or since none matches. What rows look at in it is the same
+/// at each LSN, but for the LSN.
 pub fn reads_reach_the_end()
     // A pull or a get that is allowed at one LSN is, at each LSN at which the rows allow it,
     // allowed up to the hardened end and denied as C1 above it. At each other LSN it is denied in
@@ -58,6 +59,8 @@ pub fn reads_reach_the_end()
     ensures reach { ReadsReachTheEnd }
     // The rows allow each allowed request.
     ensures own { RowsAllowTheAllowed }
+    // What rows look at in a request is the same at another LSN, but for the LSN.
+    ensures same { RequestsAskAt }
 {}
 
 /// The same rows are about requests with one key, which have the principal, the role, the operation and

@@ -1,9 +1,7 @@
 //! What the rows of a table say of the requests with one key.
 
-ghost use Rattle.std.specs.Prelude.{◌≡◌, ◌↔◌, Bool, Option, IfSome, IfNone, IsTrue};
-ghost use Rattle.pl_table.specs.Absent.{part_matches};
+ghost use Rattle.std.specs.Prelude.{◌↔◌, IsTrue};
 ghost use Rattle.pl_table.specs.Reach.{IsAtOne};
-ghost use Rattle.pl_table.specs.Row.{through_matches};
 
 use pl_table::LsnRange;
 

@@ -20,9 +20,8 @@ use Rattle.pl_table.specs.declared.op.Op.TheVariants.{Write, Offer, Report, Get,
 use Rattle.pl_table.specs.declared.row.Row.{Row}
 use Rattle.pl_table.specs.Ops.{same_role, op_number, all_ops}
 use Rattle.pl_table.specs.Absent.{part_matches}
-use Rattle.pl_table.specs.Request.{Query, op_of}
+use Rattle.pl_table.specs.Asking.{Asked}
 use Rattle.pl_table.specs.Row.{range_matches, is_about, row_matches}
-use Rattle.pl_table.specs.Acts.{partitions_of}
 use Rattle.pl_table.specs.FirstMatch.{first_match_from}
 use Rattle.pl_table.specs.Index.{askers, asker_of, is_asker, can_be, can_be_for, can_match, places_from, places_by_op, lists_of}
 
@@ -37,7 +36,7 @@ lists-more names rows lists mine i lt is =
 -- ---- a list is read
 
 -- from the place k on, the list has all rows that can match, and the first match is still to come
-abbrev pub IsLeft : List Row → Query → List ℕ → Type 0
+abbrev pub IsLeft : List Row → Asked → List ℕ → Type 0
 IsLeft rows q list = (k : ℕ) × (list ≡ places_from k (can_match q) (drop k rows)) × (first_match_from (k + 1) (drop k rows) q ≡ first_match_from 1 rows q)
 
 and_unlisted : (a b c d : Bool) → (a && c) ≡ false → (a && (b && (c && d))) ≡ false
@@ -47,16 +46,16 @@ and_unlisted true true false d h = refl
 and_unlisted true true true d h = absurd cc
 
 -- a row that cannot match is not about the request
-pub not_about : (row : Row) (q : Query) → can_match q row ≡ false → is_about row q ≡ false
+pub not_about : (row : Row) (q : Asked) → can_match q row ≡ false → is_about row q ≡ false
 not_about row q fails =
-    and_unlisted (part_matches (λ who. eqb who q.head.principal) row.who) (part_matches (same_role q.head.role) row.role) (can_be_for (op_of q.act) row) (part_matches (range_matches row.allows (partitions_of q.act)) row.range) fails
+    and_unlisted (part_matches (λ who. eqb who q.principal) row.who) (part_matches (same_role q.role) row.role) (can_be_for q.op row) (part_matches (range_matches row.allows q.partitions) row.range) fails
 
 and_left : (a b : Bool) → a ≡ false → (a && b) ≡ false
 and_left false b h = refl
 and_left true b h = absurd cc
 
 -- a row that cannot match does not
-unlisted : (row : Row) (q : Query) → can_match q row ≡ false → row_matches row q ≡ false
+unlisted : (row : Row) (q : Asked) → can_match q row ≡ false → row_matches row q ≡ false
 unlisted row q fails =
     and_left _ _ (not_about row q fails)
 
@@ -70,14 +69,14 @@ dropped (y ∷ xs) rest (suc k) x e =
     (here.0, rw more here.1)
 
 -- the next place of a list: the row there can match, and either does or leaves the others
-pub record IsNext (all : List Row) (q : Query) (p : ℕ) (ps : List ℕ) : Type 0 where
+pub record IsNext (all : List Row) (q : Asked) (p : ℕ) (ps : List ℕ) : Type 0 where
   pub row : Row
   pub here : slice_get all p ≡ Some row
   pub listed : can_match q row ≡ true
   pub behind : ps ≡ places_from (p + 1) (can_match q) (drop (p + 1) all)
   pub first : (if row_matches row q then Some (p + 1, row.allows) else first_match_from (p + 1 + 1) (drop (p + 1) all) q) ≡ first_match_from 1 all q
 
-next : (all : List Row) (q : Query) (k : ℕ) (rest : List Row) (p : ℕ) (ps : List ℕ) → drop k all ≡ rest → p ∷ ps ≡ places_from k (can_match q) rest → first_match_from (k + 1) rest q ≡ first_match_from 1 all q → IsNext all q p ps
+next : (all : List Row) (q : Asked) (k : ℕ) (rest : List Row) (p : ℕ) (ps : List ℕ) → drop k all ≡ rest → p ∷ ps ≡ places_from k (can_match q) rest → first_match_from (k + 1) rest q ≡ first_match_from 1 all q → IsNext all q p ps
 next all q k [] p ps here are first = absurd cc
 next all q k (row ∷ rest) p ps here are first =
     let at = dropped all rest k row here in
@@ -95,29 +94,29 @@ next all q k (row ∷ rest) p ps here are first =
       | inr fails ↦ next all q (k + 1) rest p ps at.1 (rw fails at are) (rw (unlisted row q fails) at first)
     ]
 
-pub IsLeft-next : (all : List Row) (q : Query) (list : List ℕ) (p : ℕ) (ps : List ℕ) → list ≡ p ∷ ps → IsLeft all q list → IsNext all q p ps
+pub IsLeft-next : (all : List Row) (q : Asked) (list : List ℕ) (p : ℕ) (ps : List ℕ) → list ≡ p ∷ ps → IsLeft all q list → IsNext all q p ps
 IsLeft-next all q list p ps is left = next all q left.0 (drop left.0 all) p ps refl (sym is ∙ left.1) left.2
 
 -- what is read at the next place
-row_next : (all : List Row) (q : Query) (p : ℕ) (ps : List ℕ) (row : Row) (next : IsNext all q p ps) → row ≡ get_or all p row → row ≡ next.row
+row_next : (all : List Row) (q : Asked) (p : ℕ) (ps : List ℕ) (row : Row) (next : IsNext all q p ps) → row ≡ get_or all p row → row ≡ next.row
 row_next all q p ps row next is = is ∙ get_or_from_slice_get all p next.row row next.here
 
-pub listed-next : (all : List Row) (q : Query) (p : ℕ) (ps : List ℕ) (row : Row) → IsNext all q p ps → row ≡ get_or all p row → can_match q row ≡ true
+pub listed-next : (all : List Row) (q : Asked) (p : ℕ) (ps : List ℕ) (row : Row) → IsNext all q p ps → row ≡ get_or all p row → can_match q row ≡ true
 listed-next all q p ps row next is = ap (can_match q) (row_next all q p ps row next is) ∙ next.listed
 
-pub found-next : (all : List Row) (q : Query) (p : ℕ) (ps : List ℕ) (row : Row) → IsNext all q p ps → row ≡ get_or all p row → row_matches row q ≡ true → Some (p + 1, row.allows) ≡ first_match_from 1 all q
+pub found-next : (all : List Row) (q : Asked) (p : ℕ) (ps : List ℕ) (row : Row) → IsNext all q p ps → row ≡ get_or all p row → row_matches row q ≡ true → Some (p + 1, row.allows) ≡ first_match_from 1 all q
 found-next all q p ps row next is matches =
     let same = row_next all q p ps row next is in
     let holds : row_matches next.row q ≡ true = ap (λ (r : Row). row_matches r q) (sym same) ∙ matches in
     ap (λ (r : Row). Some (p + 1, r.allows)) same ∙ (rw holds at next.first)
 
-pub missed-next : (all : List Row) (q : Query) (p : ℕ) (ps : List ℕ) (row : Row) → IsNext all q p ps → row ≡ get_or all p row → row_matches row q ≡ false → IsLeft all q ps
+pub missed-next : (all : List Row) (q : Asked) (p : ℕ) (ps : List ℕ) (row : Row) → IsNext all q p ps → row ≡ get_or all p row → row_matches row q ≡ false → IsLeft all q ps
 missed-next all q p ps row next is misses =
     let same = row_next all q p ps row next is in
     let fails : row_matches next.row q ≡ false = ap (λ (r : Row). row_matches r q) (sym same) ∙ misses in
     (p + 1, next.behind, rw fails at next.first)
 
-nothing : (k : ℕ) (rest : List Row) (q : Query) → [] ≡ places_from k (can_match q) rest → first_match_from (k + 1) rest q ≡ None
+nothing : (k : ℕ) (rest : List Row) (q : Asked) → [] ≡ places_from k (can_match q) rest → first_match_from (k + 1) rest q ≡ None
 nothing k [] q are = refl
 nothing k (row ∷ rest) q are =
     elim (cases_Bool (can_match q row)) [
@@ -126,7 +125,7 @@ nothing k (row ∷ rest) q are =
     ]
 
 -- where no place is left no row matches
-pub IsLeft-none : (all : List Row) (q : Query) (list : List ℕ) → length list ≡ 0 → IsLeft all q list → first_match_from 1 all q ≡ None
+pub IsLeft-none : (all : List Row) (q : Asked) (list : List ℕ) → length list ≡ 0 → IsLeft all q list → first_match_from 1 all q ≡ None
 IsLeft-none all q [] none left = sym left.2 ∙ nothing left.0 (drop left.0 all) q left.1
 IsLeft-none all q (p ∷ ps) none left = absurd cc
 
@@ -159,10 +158,10 @@ same_who names (Some w) id listed =
 abbrev Named : List ℕ → Row → Type 0
 Named names row = IfSome row.who (Contains names)
 
-same_places : (names : List ℕ) (rows : List Row) (q : Query) (k : ℕ) → AllByRecursion (Named names) rows → places_from k (can_be (asker_of q.head.principal names) (op_of q.act)) rows ≡ places_from k (can_match q) rows
+same_places : (names : List ℕ) (rows : List Row) (q : Asked) (k : ℕ) → AllByRecursion (Named names) rows → places_from k (can_be (asker_of q.principal names) q.op) rows ≡ places_from k (can_match q) rows
 same_places names [] q k each = refl
 same_places names (row ∷ rows) q k each =
-    let same : can_be (asker_of q.head.principal names) (op_of q.act) row ≡ can_match q row = ap (λ (b : Bool). b && can_be_for (op_of q.act) row) (same_who names row.who q.head.principal each.0) in
+    let same : can_be (asker_of q.principal names) q.op row ≡ can_match q row = ap (λ (b : Bool). b && can_be_for q.op row) (same_who names row.who q.principal each.0) in
     rw (same, same_places names rows q (k + 1) each.1) refl
 
 pub op_at : (op : Op) → slice_get all_ops (op_number op - 1) ≡ Some op
@@ -190,7 +189,7 @@ mapped_read f g xs ys i x y are here is =
     ap f is ∙ sym (get_or-map f xs i x) ∙ ap (λ l. get_or l i (f x)) are ∙ read
 
 -- so the list that is read for a request has the rows that can match it
-pub places-of_request : (names : List ℕ) (rows : List Row) (q : Query) (list : List ℕ) → All (Named names) rows → list ≡ places_from 0 (can_be (asker_of q.head.principal names) (op_of q.act)) rows → list ≡ places_from 0 (can_match q) rows
+pub places-of_request : (names : List ℕ) (rows : List Row) (q : Asked) (list : List ℕ) → All (Named names) rows → list ≡ places_from 0 (can_be (asker_of q.principal names) q.op) rows → list ≡ places_from 0 (can_match q) rows
 places-of_request names rows q list each is = is ∙ same_places names rows q 0 (recursion_from_All (Named names) rows each)
 
 -- ---- the place of an asker

@@ -1,10 +1,9 @@
--- What an act has: its number, its block, the partitions that it names; and the act at another number.
+-- What an act names: its LSN, its block and its partitions.
 use Rattle.std.specs.Prelude.{ℕ, ◌+◌, ◌-◌, ◌/◌, List, [], ◌∷◌, Option, Some, None}
 use Rattle.std.specs.List.{range_with_len}
 use Rattle.pl_block.specs.Block.{Content, touched}
 use Rattle.pl_table.specs.declared.request.Act.{Act}
 use Rattle.pl_table.specs.declared.request.Act.TheVariants.{Write, Offer, Report, Get, Pull, Advance, Status, Failover, SetTable, Audit, Tidy}
-use Rattle.pl_table.specs.Request.{Query}
 
 -- the LSN that an act names: that of its block, the one hardened up to, the one read at, or the first one pulled
 abbrev pub number_of : Act → Option ℕ
@@ -34,34 +33,20 @@ block_of (SetTable text) = None
 block_of (Audit first max) = None
 block_of Tidy = None
 
+-- all partitions from lo to hi
+abbrev pub all_between : ℕ → ℕ → List ℕ
+all_between lo hi = range_with_len lo (hi + 1 - lo)
+
 -- the partitions that an act names: those that its block touches, that of its page, all from lo to hi, or the one that advances
 abbrev pub partitions_of : Act → List ℕ
 partitions_of (Write copy block) = touched block.records
 partitions_of (Offer block) = touched block.records
 partitions_of (Report lsn) = []
 partitions_of (Get page lsn exact) = page / 65536 ∷ []
-partitions_of (Pull lo hi lsn max) = range_with_len lo (hi + 1 - lo)
+partitions_of (Pull lo hi lsn max) = all_between lo hi
 partitions_of (Advance partition steps) = partition ∷ []
 partitions_of Status = []
 partitions_of (Failover primary) = []
 partitions_of (SetTable text) = []
 partitions_of (Audit first max) = []
 partitions_of Tidy = []
-
--- the act at another LSN, where it names one
-abbrev pub act_at : Act → ℕ → Act
-act_at (Write copy block) n = Write copy (record { lsn = n; records = block.records })
-act_at (Offer block) n = Offer (record { lsn = n; records = block.records })
-act_at (Report lsn) n = Report n
-act_at (Get page lsn exact) n = Get page n exact
-act_at (Pull lo hi lsn max) n = Pull lo hi n max
-act_at (Advance partition steps) n = Advance partition steps
-act_at Status n = Status
-act_at (Failover primary) n = Failover primary
-act_at (SetTable text) n = SetTable text
-act_at (Audit first max) n = Audit first max
-act_at Tidy n = Tidy
-
--- the request asked at another LSN
-abbrev pub asked_at : Query → ℕ → Query
-asked_at q n = record { head = q.head; act = act_at q.act n }

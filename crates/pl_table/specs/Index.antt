@@ -8,7 +8,7 @@ use Rattle.pl_table.specs.declared.op.Op.{Op}
 use Rattle.pl_table.specs.declared.row.Row.{Row}
 use Rattle.pl_table.specs.Ops.{lists_op, all_ops}
 use Rattle.pl_table.specs.Absent.{part_matches}
-use Rattle.pl_table.specs.Request.{Query, op_of}
+use Rattle.pl_table.specs.Asking.{Asked}
 
 -- the askers that the index tells apart: each id that rows name, and one that none names
 abbrev pub askers : List ℕ → List (Option ℕ)
@@ -36,9 +36,9 @@ can_be_for op row = part_matches (lists_op op) row.op
 abbrev pub can_be : Option ℕ → Op → Row → Bool
 can_be asker op row = can_be_of asker row && can_be_for op row
 
--- the row can match the request: it names nobody or its principal, and lists no operation or its own
-abbrev pub can_match : Query → Row → Bool
-can_match q row = part_matches (λ who. who == q.head.principal) row.who && can_be_for (op_of q.act) row
+-- the row can match what is asked: it names nobody or its principal, and lists no operation or its own
+abbrev pub can_match : Asked → Row → Bool
+can_match a row = part_matches (λ who. who == a.principal) row.who && can_be_for a.op row
 
 -- the places of the rows that pass a test, rising, where the first of the list has the place k
 abbrev pub places_from : ℕ → (Row → Bool) → List Row → List ℕ

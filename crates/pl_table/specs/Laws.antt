@@ -6,8 +6,8 @@ use Rattle.pl_table.specs.declared.op.Op.TheVariants.{SetTable}
 use Rattle.pl_table.specs.declared.row.Row.{Row}
 use Rattle.pl_table.specs.declared.table.Principal.{Principal}
 use Rattle.pl_table.specs.Request.{Query, op_of}
+use Rattle.pl_table.specs.Asking.{Asked, asked_in, asked_at}
 use Rattle.pl_table.specs.Row.{row_matches}
-use Rattle.pl_table.specs.Acts.{asked_at}
 use Rattle.pl_table.specs.FirstMatch.{first_match_from, rows_allow}
 use Rattle.pl_table.specs.Table.{WrittenTable, IsTable}
 use Rattle.pl_table.specs.TableText.{table_reading}
@@ -26,14 +26,14 @@ pub record AsksToSet (id : ℕ) (q : Query) : Type 0 where
 -- a row speaks of a principal's set_table exactly where it matches that request
 abbrev pub RowsSpeakOfSetting : Type 0
 RowsSpeakOfSetting = (id : ℕ) (q : Query) (row : Row) → AsksToSet id q
-    → speaks_of_setting id row ≡ row_matches row q
+    → speaks_of_setting id row ≡ row_matches row (asked_in q)
 
 -- somebody sets the table exactly where a principal is listed whose request is allowed by the first row that matches it
 abbrev pub SomebodyIsAllowed : Type 0
 SomebodyIsAllowed = (ps : List Principal) (rows : List Row) → IsTrue (somebody_sets ps rows)
-    ↔ Any (λ p. (q : Query) → AsksToSet p.id q → IsSomeAnd (first_match_from 1 rows q) (λ found. IsTrue found.1)) ps
+    ↔ Any (λ p. (q : Query) → AsksToSet p.id q → IsSomeAnd (first_match_from 1 rows (asked_in q)) (λ found. IsTrue found.1)) ps
 
--- rows that allow a request at an LSN allow it at each lower one
+-- rows that allow what is asked at an LSN allow it at each lower one
 abbrev pub LowerLsnsAreAllowed : Type 0
-LowerLsnsAreAllowed = (rows : List Row) (q : Query) (lsn lower : ℕ) → lower ≤ lsn
-    → rows_allow rows (asked_at q lsn) ≡ true → rows_allow rows (asked_at q lower) ≡ true
+LowerLsnsAreAllowed = (rows : List Row) (a : Asked) (lsn lower : ℕ) → lower ≤ lsn
+    → rows_allow rows (asked_at a lsn) ≡ true → rows_allow rows (asked_at a lower) ≡ true

@@ -1,11 +1,10 @@
--- How far rows allow a request, and at which LSNs they find the same row for it.
+-- How far rows allow what is asked, and at which LSNs they find the same row for it.
 use Rattle.std.specs.Prelude.{ℕ, ◌≡◌, ◌≤◌, ◌<◌, Bool, true, false, nat_le, List, Option, Some, None, IfSome, is_some}
 use Rattle.std.specs.List.{list_any}
 use Rattle.pl_table.specs.declared.reach.LsnRange.{LsnRange}
 use Rattle.pl_table.specs.declared.row.Row.{Row}
 use Rattle.pl_table.specs.Absent.{part_matches}
-use Rattle.pl_table.specs.Request.{Query}
-use Rattle.pl_table.specs.Acts.{asked_at}
+use Rattle.pl_table.specs.Asking.{Asked, asked_at}
 use Rattle.pl_table.specs.Row.{through_matches}
 use Rattle.pl_table.specs.FirstMatch.{first_match_from}
 
@@ -13,7 +12,7 @@ use Rattle.pl_table.specs.FirstMatch.{first_match_from}
 abbrev pub any_ends : List Row → Bool
 any_ends rows = list_any (λ row. is_some row.through) rows
 
--- a row that is about a request matches it at this LSN
+-- a row that is about what is asked matches it at this LSN
 abbrev pub matches_at : Row → ℕ → Bool
 matches_at row lsn = part_matches (through_matches row.allows (Some lsn)) row.through
 
@@ -36,7 +35,7 @@ IsAtOne None (Some lsn) = ⊥
 IsAtOne (Some range) None = ⊥
 IsAtOne (Some range) (Some lsn) = (range.from ≤ lsn) × (lsn ≤ range.to)
 
--- asked at any LSN of the range, the request finds the same first row
-abbrev pub AreAlike : List Row → Query → LsnRange → Type 0
-AreAlike rows q range = (lsn : ℕ) → range.from ≤ lsn → lsn ≤ range.to
-    → first_match_from 1 rows (asked_at q lsn) ≡ first_match_from 1 rows q
+-- asked at any LSN of the range, it finds the same first row
+abbrev pub AreAlike : List Row → Asked → LsnRange → Type 0
+AreAlike rows a range = (lsn : ℕ) → range.from ≤ lsn → lsn ≤ range.to
+    → first_match_from 1 rows (asked_at a lsn) ≡ first_match_from 1 rows a

@@ -1,12 +1,11 @@
--- Which requests a row matches.
+-- What a row matches.
 use Rattle.std.specs.Prelude.{ℕ, Bool, true, ◌&&◌, ◌||◌, ◌==◌, nat_le, nat_lt, List, length, Option, Some, None, if◌then◌else◌}
 use Rattle.std.specs.List.{list_all, list_any}
 use Rattle.pl_table.specs.declared.range.PartitionRange.{PartitionRange}
 use Rattle.pl_table.specs.declared.row.Row.{Row}
 use Rattle.pl_table.specs.Ops.{same_role, lists_op}
 use Rattle.pl_table.specs.Absent.{part_matches}
-use Rattle.pl_table.specs.Request.{Query, op_of}
-use Rattle.pl_table.specs.Acts.{number_of, partitions_of}
+use Rattle.pl_table.specs.Asking.{Asked}
 
 -- the range has the partition
 abbrev pub is_within : PartitionRange → ℕ → Bool
@@ -23,13 +22,13 @@ abbrev pub through_matches : Bool → Option ℕ → ℕ → Bool
 through_matches allows None through = true
 through_matches allows (Some lsn) through = if allows then nat_le lsn through else nat_lt through lsn
 
--- the row is about the request, whatever LSN that names: its principal, role, operation and range match
-abbrev pub is_about : Row → Query → Bool
-is_about row q = part_matches (λ who. who == q.head.principal) row.who
-    && (part_matches (same_role q.head.role) row.role
-    && (part_matches (lists_op (op_of q.act)) row.op
-    && part_matches (range_matches row.allows (partitions_of q.act)) row.range))
+-- the row is about what is asked, whatever LSN that names: its principal, role, operation and range match
+abbrev pub is_about : Row → Asked → Bool
+is_about row a = part_matches (λ who. who == a.principal) row.who
+    && (part_matches (same_role a.role) row.role
+    && (part_matches (lists_op a.op) row.op
+    && part_matches (range_matches row.allows a.partitions) row.range))
 
--- the row matches the request: it is about it, and matches its LSN
-abbrev pub row_matches : Row → Query → Bool
-row_matches row q = is_about row q && part_matches (through_matches row.allows (number_of q.act)) row.through
+-- the row matches what is asked: it is about it, and matches its LSN
+abbrev pub row_matches : Row → Asked → Bool
+row_matches row a = is_about row a && part_matches (through_matches row.allows a.lsn) row.through

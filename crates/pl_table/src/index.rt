@@ -5,12 +5,12 @@ ghost use Rattle.pl_table.specs.Index.{askers, asker_of, can_be, can_match, list
 ghost use Rattle.std.specs.List.{Contains, filter_map};
 ghost use Rattle.std.specs.List.Sorted.{IsStrictlyIncreasing};
 ghost use Rattle.pl_table.specs.Bounds.{most_rows};
-ghost use Rattle.pl_table.specs.Acts.{asked_at, number_of};
+ghost use Rattle.pl_table.specs.Asking.{asked_at, asked_by};
 ghost use Rattle.pl_table.specs.FirstMatch.{first_match_from, rows_allow};
 
+use crate::asking::Asking;
 use crate::op::Op;
 use crate::reach::listed_reach;
-use crate::request::Request;
 use crate::row::Row;
 use std::alloc::{AllocError, Global};
 
@@ -45,43 +45,43 @@ impl RowIndex {
 
     // The first row that matches: its number, from 1, and whether it allows. Only the rows that can
     // match are looked at.
-    pub(crate) fn first_in(&self, rows: &[Row], request: &Request) -> Option<(u16, bool)>
+    pub(crate) fn first_in(&self, rows: &[Row], asking: &Asking<'_>) -> Option<(u16, bool)>
         requires index { IsIndexOf rows.now self.now }
-        ensures value { result ≡ first_match_from 1 rows.now request.now }
+        ensures value { result ≡ first_match_from 1 rows.now (asked_by asking.now) }
     {
-        first_listed(self.listed(request), rows, request)
+        first_listed(self.listed(asking), rows, asking)
     }
 
     // How far the rows allow a request that they allow: the greatest LSN up to `most` at which they do.
-    pub(crate) fn reach_in(&self, rows: &[Row], request: &Request, most: u64) -> u64
+    pub(crate) fn reach_in(&self, rows: &[Row], asking: &Asking<'_>, most: u64) -> u64
         requires index { IsIndexOf rows.now self.now }
-        requires allowed { rows_allow rows.now request.now ≡ true }
-        requires number { IsSome (number_of request.now.act) }
+        requires allowed { rows_allow rows.now (asked_by asking.now) ≡ true }
+        requires number { IsSome asking.now.lsn }
         ensures within { result ≤ most }
         ensures exact { (lsn : ℕ) → lsn ≤ most →
-            rows_allow rows.now (asked_at request.now lsn) ≡ nat_le lsn result }
+            rows_allow rows.now (asked_at (asked_by asking.now) lsn) ≡ nat_le lsn result }
     {
-        listed_reach(self.listed(request), rows, request, most)
+        listed_reach(self.listed(asking), rows, asking, most)
     }
 
     // How many rows can match.
-    pub(crate) fn count(&self, request: &Request) -> usize
+    pub(crate) fn count(&self, asking: &Asking<'_>) -> usize
         requires index { (rows : List Row) × IsIndexOf rows self.now }
         ensures value { (rows : List Row) → IsIndexOf rows self.now →
-            result ≡ length (filter (can_match request.now) rows) }
+            result ≡ length (filter (can_match (asked_by asking.now)) rows) }
     {
-        self.listed(request).len()
+        self.listed(asking).len()
     }
 
     // The places of the rows that can match, rising.
-    fn listed(&self, request: &Request) -> &[u8]
+    fn listed(&self, asking: &Asking<'_>) -> &[u8]
         requires index { (rows : List Row) × IsIndexOf rows self.now }
         ensures list { (rows : List Row) → IsIndexOf rows self.now →
-            result.now ≡ places_from 0 (can_match request.now) rows }
+            result.now ≡ places_from 0 (can_match (asked_by asking.now)) rows }
     {
-        let place = place_of(&self.names, request.head().principal);
+        let place = place_of(&self.names, asking.principal);
         let lists = &self.by_asker[place].by_op;
-        &lists[usize::from(request.act().op().number()) - 1]
+        &lists[usize::from(asking.op.number()) - 1]
     }
 }
 
@@ -173,14 +173,14 @@ fn place_of(names: &[u32], id: u32) -> usize
 
 // The first row that matches, where these are the places of all that can match: its number, from 1,
 // and whether it allows.
-fn first_listed(list: &[u8], rows: &[Row], request: &Request) -> Option<(u16, bool)>
-    requires listed { list.now ≡ places_from 0 (can_match request.now) rows.now }
-    ensures value { result ≡ first_match_from 1 rows.now request.now }
+fn first_listed(list: &[u8], rows: &[Row], asking: &Asking<'_>) -> Option<(u16, bool)>
+    requires listed { list.now ≡ places_from 0 (can_match (asked_by asking.now)) rows.now }
+    ensures value { result ≡ first_match_from 1 rows.now (asked_by asking.now) }
 {
     let mut left = list;
     while let Some((place, others)) = left.split_first() {
         let row = &rows[usize::from(*place)];
-        if row.matches_listed(request) {
+        if row.matches_listed(asking) {
             return Some((u16::from(*place) + 1, row.allows));
         }
         left = others;

@@ -1,11 +1,12 @@
 //! Requests, and the written table that says who may append, pull, read and administer.
 //!
 //! A contract sees a [`Request`] as its head and its act, and a [`Table`] as its principals and its
-//! rows. [`Table::first_match`] finds the first row that speaks of a request. [`read_table`] reads a
+//! rows. What rows look at in a request is its [`Asking`]. [`Table::first_match`] finds the first row that speaks of a request. [`read_table`] reads a
 //! table from its text, or reports the first fault of the text. What a denial by the table means for
 //! a database is decided in the crates above.
 #![tactic(auto)]
 
+mod asking;
 mod fault;
 mod head;
 mod index;
@@ -21,6 +22,7 @@ mod text;
 mod verdict;
 mod zone;
 
+pub use asking::{Asking, Partitions};
 pub use fault::{ReadFault, TableFault};
 pub use head::Head;
 pub use op::{Op, Role};

@@ -7,7 +7,7 @@ ghost use Rattle.pl_table.specs.Part.{role_of_name, op_of_name};
 use std::fmt;
 
 /// The role in which a principal asks. The discriminant is the number of the role in a request.
-#[derive(Clone, Copy, Debug, PartialEq, Eq)]
+#[derive(Clone, Copy, Debug, PartialEq, Eq, Hash)]
 pub enum Role {
     /// Writes the log of its database, and reports which LSN is hardened.
     Primary = 1,
@@ -21,7 +21,7 @@ pub enum Role {
 
 /// What a request asks for. The discriminant is the number of the operation in a request. An
 /// [`Act`](crate::Act) is an operation with its arguments.
-#[derive(Clone, Copy, Debug, PartialEq, Eq)]
+#[derive(Clone, Copy, Debug, PartialEq, Eq, Hash)]
 pub enum Op {
     /// Writes a block to one copy of the landing zone.
     Write = 1,

@@ -1,12 +1,12 @@
-//! How far rows allow a request, and at which LSNs they find the same row for it.
+//! How far rows allow a asking, and at which LSNs they find the same row for it.
 
 ghost use Rattle.std.specs.Prelude.{◌≡◌, ◌≤◌, ℕ, All, IsSome, true, nat_le};
-ghost use Rattle.pl_table.specs.Acts.{asked_at, number_of};
+ghost use Rattle.pl_table.specs.Asking.{asked_at, asked_by};
 ghost use Rattle.pl_table.specs.FirstMatch.{rows_allow};
 ghost use Rattle.pl_table.specs.Index.{can_match, places_from};
 ghost use Rattle.pl_table.specs.Reach.{IsBehind, NoEndBetween};
 
-use crate::request::Request;
+use crate::asking::Asking;
 use crate::row::Row;
 
 /// The LSNs from `from` to `to`, both included.
@@ -88,13 +88,13 @@ impl Reach {
 
 // How far the rows allow a request that they allow, where these are the places of all that can match:
 // the greatest LSN up to `most` at which they do.
-pub(crate) fn listed_reach(list: &[u8], rows: &[Row], request: &Request, most: u64) -> u64
-    requires listed { list.now ≡ places_from 0 (can_match request.now) rows.now }
-    requires allowed { rows_allow rows.now request.now ≡ true }
-    requires number { IsSome (number_of request.now.act) }
+pub(crate) fn listed_reach(list: &[u8], rows: &[Row], asking: &Asking<'_>, most: u64) -> u64
+    requires listed { list.now ≡ places_from 0 (can_match (asked_by asking.now)) rows.now }
+    requires allowed { rows_allow rows.now (asked_by asking.now) ≡ true }
+    requires number { IsSome asking.now.lsn }
     ensures within { result ≤ most }
     ensures exact { (lsn : ℕ) → lsn ≤ most →
-        rows_allow rows.now (asked_at request.now lsn) ≡ nat_le lsn result }
+        rows_allow rows.now (asked_at (asked_by asking.now) lsn) ≡ nat_le lsn result }
 {
     let mut reach = Reach { low: 0, high: most };
     let mut rest = list;
@@ -103,7 +103,7 @@ pub(crate) fn listed_reach(list: &[u8], rows: &[Row], request: &Request, most: u
             return reach.low;
         }
         let row = &rows[usize::from(*place)];
-        if row.is_about(request) {
+        if row.is_about(asking) {
             reach = reach.behind(row);
         }
         rest = others;

@@ -2,13 +2,15 @@
 
 ghost use Rattle.std.specs.Prelude.{◌≡◌, ◌↔◌, IsSome, IfSome};
 ghost use Rattle.pl_table.specs.Request.{InRange, IsHead, IsRequest, is_in_range, op_of};
-ghost use Rattle.pl_table.specs.Acts.{number_of};
+ghost use Rattle.pl_table.specs.Acts.{number_of, partitions_of};
+ghost use Rattle.pl_table.specs.Asking.{asked_by, asked_in, named_by};
 
+use crate::asking::{Asking, Partitions};
 use crate::head::Head;
 use crate::known::{act_fits, head_fits};
 use crate::op::Op;
 use crate::text::TableText;
-use pl_block::{Block, LAST_LSN};
+use pl_block::{Block, LAST_LSN, PAGES_PER_PARTITION};
 use std::marker::Model;
 
 /// The most blocks that one pull asks for.
@@ -118,6 +120,27 @@ impl Act {
         }
     }
 
+    // The partitions that the act names: those that its block touches, that of its page, all from lo to hi,
+    // or the one that advances.
+    fn partitions(&self) -> Partitions<'_>
+        ensures value { named_by result ≡ partitions_of self.now }
+    {
+        match self {
+            Act::Write { block, .. } | Act::Offer { block } => Partitions::Listed(
+                block.partitions(),
+            ),
+            Act::Get { page, .. } => Partitions::One((*page / PAGES_PER_PARTITION) as u16),
+            Act::Pull { lo, hi, .. } => Partitions::Between(*lo, *hi),
+            Act::Advance { partition, .. } => Partitions::One(*partition),
+            Act::Report { .. }
+            | Act::Status
+            | Act::Failover { .. }
+            | Act::SetTable { .. }
+            | Act::Audit { .. }
+            | Act::Tidy => Partitions::Nowhere,
+        }
+    }
+
     /// Whether the numbers of the act are in their ranges, and the length of its text: the LSN of a
     /// report and that of a get are at most 2^48; a pull names a partition, an LSN from 1 to 2^48 and
     /// 1 to 16 blocks; an advance has 1 to 1,024 steps; a text has at most 65,506 bytes; an audit is
@@ -195,6 +218,20 @@ impl Request {
         ensures valid { IsRequest self.now }
     {
         &self.act
+    }
+
+    /// What the rows of a table look at in it. Nothing is copied.
+    pub fn asking(&self) -> Asking<'_>
+        // What rows look at in the request (`asked_in`).
+        ensures value { asked_by result ≡ asked_in self.now }
+    {
+        Asking {
+            principal: self.head.principal,
+            role: self.head.role,
+            op: self.act.op(),
+            partitions: self.act.partitions(),
+            lsn: self.act.lsn(),
+        }
     }
 
     /// Who asks, and what.

@@ -1,18 +1,15 @@
 //! A row of the table.
 
 ghost use Rattle.std.specs.Prelude.{◌≡◌, ◌==◌, ◌&&◌, IfOk, IsTrue};
-ghost use Rattle.pl_block.specs.Block.{touched};
-ghost use Rattle.pl_table.specs.Request.{InRange};
-ghost use Rattle.pl_table.specs.Acts.{number_of, partitions_of};
+ghost use Rattle.pl_table.specs.Asking.{asked_by, named_by};
 ghost use Rattle.pl_table.specs.Absent.{part_matches};
 ghost use Rattle.pl_table.specs.Index.{is_asker, can_be, can_match};
 ghost use Rattle.pl_table.specs.Row.{is_about, range_matches, row_matches, through_matches};
 ghost use Rattle.pl_table.specs.Ops.{same_role, lists_op};
 
+use crate::asking::{Asking, Partitions};
 use crate::op::{Op, Role};
 use crate::range::PartitionRange;
-use crate::request::{Act, Request};
-use pl_block::{Block, PAGES_PER_PARTITION};
 use std::alloc::{AllocError, Global};
 use std::marker::Model;
 
@@ -95,17 +92,14 @@ pub struct Row {
 }
 
 impl Row {
-    /// Whether the row matches the request. Nothing is allocated.
-    pub fn matches(&self, request: &Request) -> bool
-        // Whether the row matches the request (`row_matches`).
-        ensures value { result ≡ row_matches self.now request.now }
+    /// Whether the row matches what is asked. Nothing is allocated.
+    pub fn matches(&self, asking: &Asking<'_>) -> bool
+        // Whether the row matches what is asked (`row_matches`).
+        ensures value { result ≡ row_matches self.now (asked_by asking.now) }
     {
-        let head = request.head();
-        matches_who(self.who, head.principal)
-            && matches_role(self.role, head.role)
-            && matches_op(&self.op, request.act().op())
-            && matches_range(self.allows, self.range, request.act())
-            && matches_through(self.allows, self.through, request.act())
+        self.speaks_of(asking.principal, asking.role, asking.op)
+            && matches_range(self.allows, self.range, &asking.partitions)
+            && matches_through(self.allows, self.through, asking.lsn)
     }
 
     // An equal row, in memory of its own.
@@ -126,22 +120,22 @@ impl Row {
         })
     }
 
-    // Whether the row matches the request, where it can match by its principal and its operations.
-    pub(crate) fn matches_listed(&self, request: &Request) -> bool
-        requires listed { IsTrue (can_match request.now self.now) }
-        ensures value { result ≡ row_matches self.now request.now }
+    // Whether the row matches what is asked, where it can match by its principal and its operations.
+    pub(crate) fn matches_listed(&self, asking: &Asking<'_>) -> bool
+        requires listed { IsTrue (can_match (asked_by asking.now) self.now) }
+        ensures value { result ≡ row_matches self.now (asked_by asking.now) }
     {
-        self.is_about(request) && matches_through(self.allows, self.through, request.act())
+        self.is_about(asking) && matches_through(self.allows, self.through, asking.lsn)
     }
 
-    // Whether the row is about the request, whatever LSN that names, where it can match by its
+    // Whether the row is about what is asked, whatever LSN that names, where it can match by its
     // principal and its operations.
-    pub(crate) fn is_about(&self, request: &Request) -> bool
-        requires listed { IsTrue (can_match request.now self.now) }
-        ensures value { result ≡ is_about self.now request.now }
+    pub(crate) fn is_about(&self, asking: &Asking<'_>) -> bool
+        requires listed { IsTrue (can_match (asked_by asking.now) self.now) }
+        ensures value { result ≡ is_about self.now (asked_by asking.now) }
     {
-        matches_role(self.role, request.head().role)
-            && matches_range(self.allows, self.range, request.act())
+        matches_role(self.role, asking.role)
+            && matches_range(self.allows, self.range, &asking.partitions)
     }
 
     // Whether the row can match a request for the operation by this principal; by one that no row
@@ -207,64 +201,20 @@ fn has_op_of(ops: &[Op], op: Op) -> bool
     ops.iter().any(|listed| listed.number() == op.number())
 }
 
-fn matches_through(allows: bool, part: Option<u64>, act: &Act) -> bool
-    ensures value { result ≡ part_matches (through_matches allows (number_of act.now)) part }
+fn matches_through(allows: bool, part: Option<u64>, lsn: Option<u64>) -> bool
+    ensures value { result ≡ part_matches (through_matches allows lsn) part }
+{
+    match (part, lsn) {
+        (Some(through), Some(lsn)) => (lsn <= through) == allows,
+        _ => true,
+    }
+}
+
+fn matches_range(allows: bool, part: Option<PartitionRange>, partitions: &Partitions<'_>) -> bool
+    ensures value { result ≡ part_matches (range_matches allows (named_by partitions.now)) part }
 {
     match part {
-        Some(through) => is_through(allows, through, act.lsn()),
+        Some(range) => partitions.are_in(range, allows),
         None => true,
-    }
-}
-
-fn is_through(allows: bool, through: u64, lsn: Option<u64>) -> bool
-    ensures value { result ≡ through_matches allows lsn through }
-{
-    match lsn {
-        Some(lsn) => (lsn <= through) == allows,
-        None => true,
-    }
-}
-
-fn matches_range(allows: bool, part: Option<PartitionRange>, act: &Act) -> bool
-    requires { InRange act.now }
-    ensures value { result ≡ part_matches (range_matches allows (partitions_of act.now)) part }
-{
-    match part {
-        Some(range) => range_covers(allows, range, act),
-        None => true,
-    }
-}
-
-fn range_covers(allows: bool, range: PartitionRange, act: &Act) -> bool
-    requires { InRange act.now }
-    ensures value { result ≡ range_matches allows (partitions_of act.now) range }
-{
-    match act {
-        Act::Write { block, .. } | Act::Offer { block } => covers_block(allows, range, block),
-        Act::Get { page, .. } => range.has((*page / PAGES_PER_PARTITION) as u16),
-        Act::Pull { lo, hi, .. } => {
-            if allows {
-                range.has_all_between(*lo, *hi)
-            } else {
-                range.has_any_between(*lo, *hi)
-            }
-        }
-        Act::Advance { partition, .. } => range.has(*partition),
-        Act::Report { .. }
-        | Act::Status
-        | Act::Failover { .. }
-        | Act::SetTable { .. }
-        | Act::Audit { .. }
-        | Act::Tidy => true,
-    }
-}
-
-fn covers_block(allows: bool, range: PartitionRange, block: &Block) -> bool
-    ensures value { result ≡ range_matches allows (touched block.now.records) range }
-{
-    if allows {
-        range.has_all(block.partitions())
-    } else {
-        block.partitions().is_empty() || range.has_any(block.partitions())
     }
 }

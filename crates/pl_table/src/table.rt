@@ -1,7 +1,8 @@
 //! The written table.
 
 ghost use Rattle.std.specs.Prelude.{◌≡◌, ◌↔◌, ◌≤◌, ℕ, All, Contains, IfNone, IfOk, IfSome, IsSome, false, filter, length, map, nat_le, true};
-ghost use Rattle.pl_table.specs.Acts.{asked_at, number_of};
+ghost use Rattle.pl_table.specs.Acts.{number_of};
+ghost use Rattle.pl_table.specs.Asking.{asked_at, asked_by, asked_in};
 ghost use Rattle.pl_table.specs.FirstMatch.{IsFirstMatch, first_match_from, rows_allow};
 ghost use Rattle.pl_table.specs.Index.{can_match};
 ghost use Rattle.pl_table.specs.Reach.{any_ends, AreAlike, IsAtOne};
@@ -9,6 +10,7 @@ ghost use Rattle.pl_table.specs.Row.{row_matches};
 ghost use Rattle.pl_table.specs.Table.{IsTable, token_of};
 ghost use Rattle.pl_table.specs.Zone.{copies_in, quorum_in};
 
+use crate::asking::Asking;
 use crate::index::RowIndex;
 use crate::reach::{LsnRange, lsns_between_ends};
 use crate::request::Request;
@@ -160,16 +162,25 @@ impl Table {
     /// the operation, each once, up to that one. Nothing is allocated.
     pub fn first_match(&self, request: &Request) -> Option<(u16, bool)>
         // The number of the first row that matches, and whether it allows (`first_match_from`).
-        ensures value { result ≡ first_match_from 1 self.now.rows request.now }
+        ensures value { result ≡ first_match_from 1 self.now.rows (asked_in request.now) }
         // That row matches, and no row above it does.
-        ensures some { IfSome result (IsFirstMatch self.now.rows request.now) }
+        ensures some { IfSome result (IsFirstMatch self.now.rows (asked_in request.now)) }
         // Where it is `None`, no row matches.
         ensures none { IfNone result
-            (All (λ row. row_matches row request.now ≡ false) self.now.rows) }
+            (All (λ row. row_matches row (asked_in request.now) ≡ false) self.now.rows) }
         // The table keeps its rules (`IsTable`).
         ensures valid { IsTable self.now }
     {
-        self.index.first_in(&self.rows, request)
+        self.index.first_in(&self.rows, &request.asking())
+    }
+
+    /// The first row that matches what is asked, as [`Table::first_match`] finds it for a request.
+    pub fn first_match_of(&self, asking: &Asking<'_>) -> Option<(u16, bool)>
+        // The number of the first row that matches what is asked, and whether it allows
+        // (`first_match_from`).
+        ensures value { result ≡ first_match_from 1 self.now.rows (asked_by asking.now) }
+    {
+        self.index.first_in(&self.rows, asking)
     }
 
     /// How far the rows allow a request that they allow: the greatest LSN up to `most` at which they
@@ -177,19 +188,20 @@ impl Table {
     /// that is `most`. [`Table::first_match`] tells whether they allow it. Nothing is allocated.
     pub fn reach(&self, request: &Request, most: u64) -> u64
         // The rows allow the request.
-        requires allowed { rows_allow self.now.rows request.now ≡ true }
+        requires allowed { rows_allow self.now.rows (asked_in request.now) ≡ true }
         // A number up to `most`.
         ensures within { result ≤ most }
         // Of the LSNs up to `most`, the rows allow the request at those up to this number, and at
         // no other (`rows_allow`, `asked_at`).
         ensures exact { (lsn : ℕ) → lsn ≤ most →
-            rows_allow self.now.rows (asked_at request.now lsn) ≡ nat_le lsn result }
+            rows_allow self.now.rows (asked_at (asked_in request.now) lsn) ≡ nat_le lsn result }
     {
         if !self.has_ends {
             return most;
         }
-        match request.act().lsn() {
-            Some(_) => self.index.reach_in(&self.rows, request, most),
+        let asking = request.asking();
+        match asking.lsn {
+            Some(_) => self.index.reach_in(&self.rows, &asking, most),
             None => most,
         }
     }
@@ -201,7 +213,7 @@ impl Table {
         // A range with the request's LSN, or `None` where the request names none (`IsAtOne`).
         ensures own { IsAtOne result (number_of request.now.act) }
         // At each LSN of the range `first_match` finds the same (`AreAlike`).
-        ensures alike { IfSome result (AreAlike self.now.rows request.now) }
+        ensures alike { IfSome result (AreAlike self.now.rows (asked_in request.now)) }
     {
         let lsn = request.act().lsn()?;
         if !self.has_ends {
@@ -217,9 +229,9 @@ impl Table {
     /// or its own. [`Table::first_match`] tests no others. It costs as much as finding their list does.
     pub fn candidates(&self, request: &Request) -> usize
         // How many rows can match the request (`can_match`): the most that `first_match` tests.
-        ensures value { result ≡ length (filter (can_match request.now) self.now.rows) }
+        ensures value { result ≡ length (filter (can_match (asked_in request.now)) self.now.rows) }
     {
-        self.index.count(request)
+        self.index.count(&request.asking())
     }
 
     /// The token listed for the id, or `None` where the id is not listed.
@@ -229,7 +241,7 @@ impl Table {
         // It is `None` exactly where the id is not listed.
         ensures found { IsSome result ↔ Contains (map (λ p. p.id) self.now.principals) id }
 
-        // Each principal of that id has this token.
+        // An id has one token, since no two principals have the same id.
         ensures only { All (λ p. p.id ≡ id → result ≡ Some p.token) self.now.principals }
     {
         token_in(&self.principals, id)
