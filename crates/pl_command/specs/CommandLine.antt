@@ -36,7 +36,7 @@ abbrev pub number_or_zero : Text → ℕ → Rule
 number_or_zero name most =
     record (number_option name 0 most) { required = false; defaults = codes "0" ∷ [] }
 
--- words behind the options, at least one
+-- words after the options, at least one
 abbrev pub words_rule : Rule
 words_rule = record (new_rule (codes "words")) {
   range = Some (record { start_inclusive = 1; end_inclusive = usize_max });
@@ -84,7 +84,7 @@ own_app = with_subcommand (with_subcommand (with_subcommand top_app play_app.top
 abbrev pub HasText : List Row → Text → Text → Type 0
 HasText rows name text = first_of name rows ≡ Some text
 
--- the number that the value of the option of this name spells, or its default; it lies in the range
+-- the number that the value of the option of this name spells, or its default; it is in the range
 pub record HasNumber (rows : List Row) (name : Text) (least most n : ℕ) : Type 0 where
   pub digits : Text
   pub value : one_of name rows ≡ Some digits
@@ -92,7 +92,7 @@ pub record HasNumber (rows : List Row) (name : Text) (least most n : ℕ) : Type
   pub at_least : least ≤ n
   pub at_most : n ≤ most
 
--- the words behind the options
+-- the words after the options
 abbrev pub HasWords : List Row → List Text → Type 0
 HasWords rows words = all_of (codes "words") rows ≡ Some words
 
@@ -166,7 +166,7 @@ AsksFor words (lines.Serve listen table primary dbs workers connections audit pa
 AsksFor words (lines.Ask to id token db epoch words_are) =
     Names (subcommand_of own_app words) (lines.Ask to id token db epoch words_are)
 
--- ---- the options of a subcommand were found, and each number lies in its range
+-- ---- the options of a subcommand were found, and each number is in its range
 
 abbrev pub GivesText : List Row → Text → Type 0
 GivesText rows name = (text : Text) × (first_of name rows ≡ Some text)

@@ -13,7 +13,7 @@ use thiserror::Error;
 /// What the arguments ask for.
 #[derive(Debug, Drop, PartialEq, Eq)]
 pub enum CommandLine {
-    /// `help`, or `--help` or `-h` where an option may stand: show this text.
+    /// `help`, or `--help` or `-h` where an option may be given: show this text.
     Help {
         text: String,
     },
@@ -117,7 +117,7 @@ fn number_from_zero<'a>(alloc: Global, name: &'a str, most: u32, help: &'a str) 
         .default_value("0")
 }
 
-// The words behind the options of `ask`.
+// The words after the options of `ask`.
 fn words<'a>(alloc: Global) -> Arg<'a>
     ensures rule { rule_of result ≡ words_rule }
     ensures local { result.global ≡ false }
@@ -229,7 +229,7 @@ fn program<'a>(alloc: Global) -> Result<Command<'a>, AllocError>
         .subcommand(ask_command(alloc)?)
 }
 
-// The number that was found of this option, where it lies in the range.
+// The number that was found for this option, where it is in the range.
 fn number_of(found: &ArgMatches<'_>, name: &str, least: u32, most: u32) -> Option<u32>
     ensures some { IfSome result (HasNumber (rows_of (found_of found.now)) name.now least most) }
     ensures none { IsNone result → GivesNumber (rows_of (found_of found.now)) name.now least most → ⊥ }
@@ -400,7 +400,7 @@ fn match_arguments<'a>(
     Ok(line_of(alloc, &matches)?)
 }
 
-// What comes of arguments that were not matched: `clap` reports a request for help as an error.
+// What arguments that were not matched ask for: `clap` reports a request for help as an error.
 fn outcome_of(alloc: Global, error: &clap::Error) -> Result<CommandLine, CommandFault>
     ensures help { IfOk result (λ line. IsHelp line × (kind_of error.now ≡ ErrorKind.DisplayHelp)) }
     ensures usage { IfErr result (λ fault. IsUsage fault → (kind_of error.now ≢ ErrorKind.DisplayHelp)

@@ -59,7 +59,7 @@ abbrev pub scene : {P : Type 0} → Option (List ℕ) → Option (List ℕ) → 
 scene input output pass = record { input = input; output = output; pass = pass }
 
 -- A conversation: the bodies of the frames that were read, the replies that were written whole, those that
--- were not, and the bytes that were read and written behind the last whole one.
+-- were not, and the bytes that were read and written after the last whole one.
 pub record Talk : Type 0 where
   pub bodies : List (List ℕ)
   pub whole : List Reply
@@ -87,7 +87,7 @@ IsTooLong bytes = (len : ℕ) × (longest_request < len) × (len < 2 ^ 32) × (b
 abbrev pub MayWait : List Reply → Type 0
 MayWait replies = length (text_of (take (length replies - 1) replies)) < 262144
 
--- some reply is not written whole, though a beginning of it may be; it and those behind it waited together
+-- some reply is not written whole, though a beginning of it may be; it and those after it waited together
 abbrev pub IsToldInPart : Talk → Type 0
 IsToldInPart talk = (next : Reply) × (more : List Reply) × (k : ℕ) × (talk.others ≡ next ∷ more)
     × (k < length (reply_frame next)) × (talk.cut ≡ take k (reply_frame next)) × MayWait talk.others

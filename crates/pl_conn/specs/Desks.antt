@@ -43,11 +43,11 @@ terms_of_each seats turns dbs =
 abbrev pub fresh_at : List Place → ℕ → List Knowledge
 fresh_at desks number = map (λ desk. fresh desk number) desks
 
--- so many of them, in the order of their numbers from 1 on
+-- this many of them, in the order of their numbers from 1 on
 abbrev pub all_fresh : List Place → ℕ → List (List Knowledge)
 all_fresh desks seats = map (fresh_at desks) (range_with_len 1 seats)
 
--- each list has the item at its place behind its own, as far as there are items
+-- each list has the item at its place after its own, as far as there are items
 abbrev pub dealt : List Knowledge → List (List Knowledge) → List (List Knowledge)
 dealt [] lists = lists
 dealt (item ∷ items) [] = []

@@ -35,7 +35,7 @@ MayGather box = (length box.text < 262144) × (length box.lens < 4096)
 abbrev pub gathered : Box → Reply → Box
 gathered box reply = record { text = box.text ++ reply_frame reply; lens = box.lens ++ length (reply_frame reply) ∷ [] }
 
--- how many frames of these lengths are whole within so many bytes
+-- how many frames of these lengths are whole within this many bytes
 abbrev pub whole_in : List ℕ → ℕ → ℕ
 whole_in [] bytes = 0
 whole_in (len ∷ lens) bytes = if nat_lt bytes len then 0 else suc (whole_in lens (bytes - len))
@@ -52,7 +52,7 @@ AnswersRead calls (Ok request) before reply after = calls before request reply a
 AnswersRead calls (Err (Malformed fault)) before reply after = (reply ≡ replies.Malformed (code_of fault)) × (after ≡ before)
 AnswersRead calls (Err NoMemory) before reply after = (reply ≡ replies.NoMemory) × (after ≡ before)
 
--- The bytes are frames, which are answered, in order, a chain of calls; their replies wait behind those that waited.
+-- The bytes are frames, which are answered, in order, a chain of calls; their replies wait after those that waited.
 pub record Gathers {P : Type 0} (calls : Calls P) (before : P) (bytes : List ℕ) (box : Box) (after : P) (left : Box) : Type 0 where
   pub bodies : List (List ℕ)
   pub replies : List Reply
@@ -73,7 +73,7 @@ Takes calls input before box rest after left (Err cause) = (after ≡ before)
 abbrev pub told_talk : List (List ℕ) → List Reply → Talk
 told_talk bodies replies = record { bodies = bodies; whole = replies; others = []; part = []; cut = [] }
 
--- so far each frame that was read has its reply, so many, and all of them are written
+-- so far each frame that was read has its reply, all replies are written, and this is their number
 pub record Told {P : Type 0} (calls : Calls P) (before now : Scene P) (count : ℕ) : Type 0 where
   pub bodies : List (List ℕ)
   pub replies : List Reply

@@ -36,7 +36,7 @@ told_epoch _ = None
 abbrev pub goes_on : Reply → Bool
 goes_on reply = is_done reply || is_some (told_epoch reply)
 
--- the epoch that was told last, where the newest reply stands first; 1 where none was told
+-- the epoch that was told last, where the newest reply is first; 1 where none was told
 abbrev pub epoch_after : List Reply → ℕ
 epoch_after [] = 1
 epoch_after (reply ∷ earlier) = unwrap_or (told_epoch reply) (epoch_after earlier)
@@ -48,7 +48,7 @@ Asks calls request before [] after = after ≡ before
 Asks calls request before (reply ∷ earlier) after =
     (now : _) × Asks calls request before earlier now × calls now (request (epoch_after earlier)) reply after
 
--- At most so many calls are made. Only the last reply may be one after which no round follows, and
+-- At most this many calls are made. Only the last reply may be one after which no round follows, and
 -- fewer calls are made only after such a reply. The replies of Done are counted, and the epoch is the
 -- one that was told last.
 pub record Works {P : Type 0} (calls : P → Query → Reply → P → Type 0) (request : ℕ → Query) (rounds : ℕ) (before : P) (worked : Worked) (after : P) : Type 0 where

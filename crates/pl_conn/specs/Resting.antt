@@ -21,7 +21,7 @@ abbrev pub middle : List ℕ → List ℕ → Middle
 middle unread waiting = record { unread = unread; waiting = waiting }
 
 -- Frames are answered, in order, a chain of calls: their bytes are taken from the front of what is unread, and their
--- replies are put behind those that wait.
+-- replies are put after those that wait.
 pub record Replies {P : Type 0} (calls : Calls P) (before : P) (old : Middle) (after : P) (new : Middle) : Type 0 where
   pub bodies : List (List ℕ)
   pub replies : List Reply
@@ -31,7 +31,7 @@ pub record Replies {P : Type 0} (calls : Calls P) (before : P) (old : Middle) (a
   pub chain : Answered calls before bodies replies after
   pub told : new.waiting ≡ old.waiting ++ text_of replies
 
--- THE THEOREM of a conversation that rests. Bytes are heard behind those that were unread, frames are answered, and
+-- THE THEOREM of a conversation that rests. Bytes are heard after those that were unread, frames are answered, and
 -- bytes are said, from the front of those that wait.
 pub record Resumes {P : Type 0} (calls : Calls P) (before : Scene P) (old : Middle) (after : Scene P) (new : Middle) : Type 0 where
   pub heard : List ℕ
@@ -40,7 +40,7 @@ pub record Resumes {P : Type 0} (calls : Calls P) (before : Scene P) (old : Midd
   pub output : Appends before.output after.output said
   pub replies : Replies calls before.pass (middle (old.unread ++ heard) old.waiting) after.pass (middle new.unread (said ++ new.waiting))
 
--- bytes are read behind those that are there
+-- bytes are read after those that are there
 abbrev pub Hears : Option (List ℕ) → List ℕ → Option (List ℕ) → List ℕ → Type 0
 Hears old before new after = (heard : List ℕ) × Consumes old new heard × (after ≡ before ++ heard)
 
@@ -67,7 +67,7 @@ Loses causes.Read lost left = lost.waiting ≡ []
 Loses causes.Write lost left = ⊤
 Loses causes.NoMemory lost left = lost.waiting ≡ []
 
--- What a turn comes to. Where another is due at once, it heard a byte at least, or answered a frame.
+-- How a turn ends. Where another is due at once, it heard a byte at least, or answered a frame.
 abbrev pub Rests : {P : Type 0} → Calls P → Scene P → Middle → Scene P → Middle → Result Rest Cause → Type 0
 Rests calls before old after new (Ok rests.Again) = (turn : Resumes calls before old after new) × (0 < length turn.heard + length turn.replies.bodies)
 Rests calls before old after new (Ok rests.Input) = Resumes calls before old after new × (new.waiting ≡ []) × IsCut longest_request new.unread

@@ -16,7 +16,7 @@ Chained calls before (made ∷ more) after = (now : _) × calls before made.0 ma
 abbrev pub Reaches : {P : Type 0} → Calls P → P → P → Type 0
 Reaches calls before after = (made : List (Query × Reply)) × Chained calls before made after
 
--- each pass came of the one at its place by a list of calls, and there are as many
+-- each pass is the one at its place after a list of calls, and there are as many
 abbrev pub Returned : {P : Type 0} → Calls P → List P → List P → Type 0
 Returned calls [] [] = ⊤
 Returned calls [] (pass ∷ passes) = ⊥

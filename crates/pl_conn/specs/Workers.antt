@@ -12,13 +12,13 @@ each_of hs f = map f hs
 abbrev pub AllOf : {H : Type 0} → List H → (H → Type 0) → Type 0
 AllOf hs P = All P hs
 
--- Workers that are begun, in order: each has the promise that begins with its pass. The passes that are left are behind theirs.
+-- Workers that are begun, in order: each has the promise that begins with its pass. The passes that are left come after theirs.
 pub record Begun {H G P : Type 0} (hs : List H) (start : H → P) (gate_of : H → G) (owns : G → P → Type 0) (gate : G) (all left : List P) : Type 0 where
   pub starts : map start hs ++ left ≡ all
   pub gates : All (λ h. gate_of h ≡ gate) hs
   pub own : All (owns gate) left
 
--- Workers that are ended, in order: each left a pass that came of its own by calls. Those that are not ended are behind them.
+-- Workers that are ended, in order: each left its own pass after calls. Those that are not ended come after them.
 pub record Ended {H G P : Type 0} (hs : List H) (start : H → P) (gate_of : H → G) (calls : G → Calls P) (owns : G → P → Type 0) (gate : G) (all ended : List P) : Type 0 where
   pub joined : List P
   pub returned : Returned (calls gate) joined ended

@@ -1,4 +1,4 @@
-//! What each conversation does: it answers the frames that lie whole in some bytes, and writes the replies.
+//! What each conversation does: it answers the whole frames of some bytes, and writes the replies.
 
 ghost use Rattle.std.specs.Prelude.{◌≡◌, ◌+◌, ◌<◌, ◌≤◌, IfNone, IfSome, IsTrue, length, take};
 ghost use Rattle.std.specs.Io.KnownBytes.{Appends};
@@ -68,7 +68,7 @@ pub(crate) fn answer<G: Gate>(
     }
 }
 
-// Answers the frame that the bytes begin with, where they hold all of it, and gives its length.
+// Answers the frame that the bytes begin with, where they hold all of it, and returns its length.
 pub(crate) fn answer_first<G: Gate>(
     alloc: Global,
     bytes: &[u8],
@@ -91,8 +91,8 @@ pub(crate) fn answer_first<G: Gate>(
     Some(LENGTH_BYTES + body.len())
 }
 
-// Answers the frames that lie whole in the bytes, in order, at most so many, and as many as may wait together. Gives how
-// many bytes they have.
+// Answers the whole frames of the bytes, in order, at most this many, and as many as may wait together. Returns the
+// number of their bytes.
 pub(crate) fn answer_whole<G: Gate>(
     alloc: Global,
     bytes: &[u8],
@@ -121,7 +121,7 @@ pub(crate) fn answer_whole<G: Gate>(
     taken
 }
 
-// Writes as many of the bytes as the writer takes now, and gives how many. An error is that of a write that
+// Writes as many of the bytes as the writer takes now, and returns how many. An error is that of a write that
 // failed, or took none.
 pub(crate) fn write_ready<W: Write>(writer: &mut W, bytes: &[u8]) -> (usize, io::Result<()>)
     ensures few { result.0 ≤ length bytes.now }

@@ -14,7 +14,7 @@ pub enum Cause {
     TooLong,
     /// A read failed, whatever made it fail: an interruption too.
     Read,
-    /// A write failed, whatever made it fail, or took no byte. Some frames behind the answered ones, at
+    /// A write failed, whatever made it fail, or took no byte. Some frames after the answered ones, at
     /// least one, were read, and their requests handed to the gate: those whose replies waited together,
     /// less than 256 KiB and one reply more. A beginning of the next reply may be written.
     Write,
@@ -28,7 +28,7 @@ pub enum Cause {
 pub struct ConnFault {
     /// Why it ended.
     pub cause: Cause,
-    /// How many frames were answered: so many replies are written whole.
+    /// How many frames were answered, which is the number of replies that are written whole.
     pub answered: u64,
 }
 

@@ -33,7 +33,7 @@ fn request_in(alloc: Global, body: Vec<u8>) -> Result<Request, BodyFault>
     }
 }
 
-// Takes the next frame and answers it: where it lies, if all of it is at hand, and else by reads. The reply has its
+// Takes the next frame and answers it: where it lies, if all of it is buffered, and else by reads. The reply has its
 // room before the request has its step. False at the end of input.
 #[tactic(auto, using(crate::proofs::Gathered::takes_at_hand, crate::proofs::Gathered::takes_fault))]
 fn take_next<R: Source, G: Gate>(
@@ -65,8 +65,8 @@ fn take_next<R: Source, G: Gate>(
     }
 }
 
-// One turn: answers the next frame, and those that are whole at hand behind it, as many as may wait together, and writes
-// the replies. Gives how many, at most this many, and none at the end of input.
+// One turn: answers the next frame, and the whole frames that are buffered after it, as many as may wait together, and
+// writes the replies. Returns their number, at most this many, and 0 at the end of input.
 fn turn<R: Source, W: Write, G: Gate>(
     alloc: Global,
     reader: &mut R,
@@ -110,13 +110,13 @@ fn turn<R: Source, W: Write, G: Gate>(
 ///
 /// A body that is no request is answered `Malformed` with its code, and one whose block or text finds
 /// no memory `NoMemory`, both without the gate; the conversation goes on. What is answered is written
-/// before the next wait for bytes, and before the conversation ends for whatever cause. Replies to frames
-/// that are at hand go out together, in one write where the writer takes it at once.
+/// before the next wait for bytes, and before the conversation ends, whatever ends it. Replies to frames
+/// that are buffered are written together, in one write where the writer takes it at once.
 ///
 /// The replies that wait have their room, less than 256 KiB and one reply more, and eight bytes for each of
 /// 4,096, before a byte is read: where that is refused, nothing was read. A frame is read where the reader
-/// has it at hand; where not all of it is, its body takes memory, and where that is
-/// refused, the conversation ends in front of it. So no request has its step whose reply finds no room.
+/// has all of it buffered; where it has not, its body takes memory, and where that is
+/// refused, the conversation ends before it. So no request has its step whose reply finds no room.
 #[tactic(auto, using(crate::proofs::Blocking::converses_none))]
 pub fn converse<R: Source, W: Write, G: Gate>(
     alloc: Global,

@@ -59,7 +59,7 @@ impl Passes {
     }
 }
 
-// So many that have no pass yet.
+// This many that have no pass yet.
 fn empty_passes(alloc: Global, seats: u32) -> Result<Vec<Passes>, AllocError>
     ensures { IfOk result (λ all. all.items ≡ replicate seats []) }
 {

@@ -40,7 +40,7 @@ fn put_front(room: &mut [u8], bytes: &[u8])
     room[..bytes.len()].copy_from_slice(bytes);
 }
 
-// Reads once, into the room behind so many bytes that wait.
+// Reads once, into the room after this many bytes that wait.
 #[tactic(auto, using(crate::proofs::Turning::heard_behind))]
 fn read_behind<R: Read>(from: &mut R, room: &mut [u8], count: usize) -> io::Result<usize>
     requires within { count ≤ length room.old }
@@ -83,12 +83,12 @@ impl Inbox {
         &self.room[..self.len]
     }
 
-    /// Whether there is no room behind what waits.
+    /// Whether there is no room after what waits.
     pub(crate) fn is_full(&self) -> bool {
         self.len == self.room.len()
     }
 
-    /// Reads once, as many bytes as there is room for behind those that wait, and gives how many came.
+    /// Reads once, as many bytes as there is room for after those that wait, and returns how many came.
     pub(crate) fn fill<R: Read>(&mut self, from: &mut R) -> io::Result<usize>
         ensures hears { Hears (R.remaining from.old) self.old (R.remaining from.new) self.new }
         ensures end { IfOk result (λ more. more ≡ 0 → length self.old < 65540 → IsAtEnd (R.remaining from.new)) }

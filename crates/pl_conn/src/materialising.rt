@@ -13,7 +13,7 @@ const STEPS: u16 = 16;
 /// The number of the row by which an older epoch is denied.
 const OLDER_EPOCH: u16 = 2;
 
-/// What came of materialising a partition.
+/// What materialising a partition did.
 #[derive(Clone, Copy, Debug, PartialEq, Eq)]
 pub struct Worked {
     /// How many rounds were answered `Done`.
@@ -94,7 +94,7 @@ fn round<G: Gate>(gate: &G, pass: &mut G::Pass, errand: &Errand, worked: &mut Wo
     worked.learn(&reply)
 }
 
-/// Advances a partition by 16 blocks in each of so many rounds, as page server, first at epoch 1. Where
+/// Advances a partition by 16 blocks in each of this many rounds, as page server, first at epoch 1. Where
 /// a round is denied for its older epoch, the next one asks at the epoch that the denial tells. Any
 /// other reply than `Done` and such a denial ends it.
 ///

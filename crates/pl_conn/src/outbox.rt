@@ -9,7 +9,7 @@ use pl_wire::{LARGEST_REPLY_FRAME, put_reply};
 use std::alloc::{AllocError, Global};
 use std::marker::Model;
 
-/// From how many bytes on replies are written, whatever is at hand.
+/// From how many bytes on replies are written, whatever is buffered.
 const MANY_BYTES: usize = 262_144;
 
 /// From how many replies on they are written.
@@ -37,7 +37,7 @@ impl Model for Outbox {
     ghost invariant = { λ o. (786511 ≤ vec_capacity o.text) × (4096 ≤ vec_capacity o.lens) };
 }
 
-// How many of the frames of these lengths are whole within so many bytes.
+// How many of the frames of these lengths are whole within this many bytes.
 #[tactic(auto, using(crate::proofs::Talking::whole_at, crate::proofs::Talking::whole_cut, crate::proofs::Talking::whole_past))]
 fn whole_in(lens: &[usize], bytes: usize) -> u64
     ensures value { result ≡ whole_in lens.now bytes }
@@ -66,7 +66,7 @@ impl Outbox {
         })
     }
 
-    /// Begins anew, with no replies.
+    /// Forgets the replies.
     pub(crate) fn restart(&mut self)
         ensures value { self.new ≡ emptied }
     {
@@ -81,7 +81,7 @@ impl Outbox {
         self.lens.len() as u64
     }
 
-    /// How many of them are whole within so many bytes of their frames.
+    /// How many of them are whole within this many bytes of their frames.
     pub(crate) fn whole_in(&self, bytes: usize) -> u64
         ensures value { result ≡ whole_in self.now.lens bytes }
         ensures few { result ≤ length self.now.lens }
@@ -103,7 +103,7 @@ impl Outbox {
         self.text.len() < MANY_BYTES && self.lens.len() < MANY_REPLIES
     }
 
-    /// Puts the frame of the reply behind the others. There is no allocation.
+    /// Puts the frame of the reply after the others. There is no allocation.
     pub(crate) fn put(&mut self, reply: &Reply)
         requires fits { FitsReply reply.now }
         requires room { MayGather self.old }

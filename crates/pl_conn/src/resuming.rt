@@ -32,11 +32,11 @@ const WRITES_A_TURN: u32 = 4;
 pub enum Rest {
     /// For nothing: more of the input may be there, and a turn is due. This one heard a byte of it, or answered a frame.
     Again,
-    /// For input. All replies are written, and what was read behind the last frame is no whole frame.
+    /// For input. All replies are written, and what was read after the last frame is no whole frame.
     Input,
     /// For its writer, which did not take all replies. Until it has, no more is read.
     Output,
-    /// It is over: the input is at its end behind a whole frame, and all replies are written.
+    /// It is over: the input is at its end after a whole frame, and all replies are written.
     Over,
 }
 
@@ -61,7 +61,7 @@ impl Room {
     }
 }
 
-/// A conversation that goes on where it rested, over a reader and a writer that need not wait: what was read
+/// A conversation that goes on where it rested, of a reader and a writer that need not wait: what was read
 /// of them and not yet taken, and the replies that are not yet written. While there are none of either it has no
 /// memory of its own.
 #[derive(Drop)]
@@ -94,7 +94,7 @@ enum Heard {
     End,
 }
 
-// Reads once, unless a whole frame is at hand, or the length of one that is too long.
+// Reads once, unless a whole frame was read, or the length of one that is too long.
 fn hear<R: Read>(reader: &mut R, inbox: &mut Inbox) -> io::Result<Heard>
     ensures hears { Hears (R.remaining reader.old) inbox.old (R.remaining reader.new) inbox.new }
     ensures end { IfOk result (λ heard. heard ≡ Heard.End → IsAtEnd (R.remaining reader.new)) }
@@ -111,8 +111,8 @@ fn hear<R: Read>(reader: &mut R, inbox: &mut Inbox) -> io::Result<Heard>
     }
 }
 
-// Answers the frames that lie whole in the bytes, in order, and writes their replies, as long as the writer takes all of
-// them. Gives how many bytes the frames have, and how many are written of the replies that are then in the outbox.
+// Answers the whole frames of the bytes, in order, and writes their replies, as long as the writer takes all of
+// them. Returns how many bytes the frames have, and how many are written of the replies that are then in the outbox.
 fn speak<W: Write, G: Gate>(
     alloc: Global,
     bytes: &[u8],
@@ -152,7 +152,7 @@ fn put_all(to: &mut Vec<u8>, bytes: &[u8]) -> Result<(), AllocError>
 }
 
 // What the conversation waits for after a turn that heard this, or why it ends. A turn that moved nothing, with more than
-// a part of a frame there, has a length that is too long in front of it.
+// a part of a frame there, comes next to a length that is too long.
 fn rest_after(heard: Heard, has_moved: bool, unread: &[u8], waiting: usize) -> Result<Rest, Cause>
     ensures again { result ≡ Ok Rest.Again → IsTrue has_moved }
     ensures input { result ≡ Ok Rest.Input → (waiting ≡ 0) × IsCut longest_request unread.now }
@@ -277,7 +277,7 @@ impl Conversation {
     /// It tells what it waits for. A turn answers what one read brought, at most 65,540 bytes of frames, and writes
     /// at most four times the replies that may wait together: less than 256 KiB and one reply more.
     ///
-    /// What was read behind the last frame that was answered, and the replies that the writer did not take, are
+    /// What was read after the last frame that was answered, and the replies that the writer did not take, are
     /// copied into memory of their own; where that is refused, the room has some for what is unread of one
     /// conversation. After an error the conversation is over, and what it kept is lost: the
     /// input ended inside a frame (`Short`), a length is above 65,536 (`TooLong`), a read or a write failed, or

@@ -56,7 +56,7 @@ struct Staff {
 }
 
 impl Staff {
-    // So many, or as many as there is memory for, and descriptors.
+    // This many, or as many as there is memory for, and descriptors.
     fn hire<R: Net>(rt: &R, alloc: Global, count: usize) -> Result<Staff, AllocError> {
         let mut staff = Staff {
             workers: Vec::with_capacity(alloc, count)?,
@@ -78,7 +78,7 @@ impl Staff {
     }
 }
 
-// That the pass which a worker leaves came of this one, by calls of this gate.
+// That the pass which a worker leaves is this one after calls of this gate.
 struct Kept<G: Gate> {
     gate: Snapshot<G>,
     start: Snapshot<G::Pass>,
@@ -182,7 +182,7 @@ fn hand_over<R: Wait>(rt: &R, posts: &[Post], channels: &[Sender<TcpStream>], so
     }
 }
 
-// Accepts so many connections, and hands their sockets to the workers.
+// Accepts this many connections, and hands their sockets to the workers.
 fn accept_all<R: Wait, W: Watch>(
     rt: &R,
     listener: &TcpListener,
@@ -206,7 +206,7 @@ fn accept_all<R: Wait, W: Watch>(
 }
 
 // Starts a worker with each pass, in their order, up to the first that cannot be started: that pass and
-// those behind it are dropped.
+// those after it are dropped.
 fn start_all<'s, E, R: Wait + Sync, G: Gate + Sync>(
     scope: &Scope<'s, E>,
     rt: &'s R,
@@ -275,7 +275,7 @@ where
     (ended, faults)
 }
 
-// Those of so many workers, the first.
+// Those of the first workers, this many.
 fn started_of(posts: &[Post], workers: usize) -> &[Post] {
     &posts[..workers.min(posts.len())]
 }
@@ -330,7 +330,7 @@ where
     }
     let posts = started_of(posts, workers.len());
     let (accepted, stop) = accept_all(rt, listener, posts, &channels, connections, watch);
-    // No socket comes any more: whoever looks, sees it.
+    // No more sockets come: each worker sees it when it looks.
     drop(channels);
     for post in posts {
         post.ring();
@@ -344,7 +344,7 @@ where
     }
 }
 
-/// Serves connections, with one worker thread for each pass, until so many were accepted; then it waits
+/// Serves connections, with one worker thread for each pass, until this many were accepted; then it waits
 /// for the workers to end. A worker serves all the connections that it was given, each as [`Conversation`] says: it
 /// reads what is there, answers the frames that are whole, and writes what the socket takes. A new connection goes
 /// to the worker that has the fewest. So one that is silent, or does not read its replies, holds up no other; a call
@@ -356,7 +356,7 @@ where
 ///
 /// The passes that come back are those of the workers, in the order in which they were handed in. Where
 /// a worker cannot be started, for lack of a thread, of descriptors (it takes two) or of memory, its pass and those
-/// behind it are dropped; with no worker at all the stop is `Start`.
+/// after it are dropped; with no worker at all the stop is `Start`.
 ///
 /// A worker has all that its connections need from its start, for 1,024 of them: room for the longest frame of a
 /// request, and for the replies that wait. A connection asks for memory of its own where a frame comes in pieces, or

@@ -1,4 +1,4 @@
-//! Readers that tell what they have at hand.
+//! Readers that tell what they have buffered.
 
 ghost use Rattle.std.specs.Prelude.{◌≡◌, ◌≤◌, ℕ, List, IfSome, length, take};
 ghost use Rattle.std.specs.Io.{StartsWith};
@@ -10,19 +10,19 @@ use std::io::{BufRead, BufReader, Read};
 
 /// A reader that tells which bytes can be read without waiting, and lends them.
 ///
-/// No promise rests on how many it tells, but that replies go out before a wait.
+/// No promise rests on how many it tells, but that replies are written before a wait.
 pub trait Source: Read {
-    // The bytes that are at hand.
+    // The bytes that are buffered.
     ghost hand: { Self → List ℕ };
 
-    /// The bytes that come next and are at hand. There may be more.
+    /// The bytes that come next and are buffered. There may be more.
     fn at_hand(&self) -> &[u8]
         // The buffered bytes.
         ensures value { result.now ≡ hand self.now }
         // Reads give these bytes next.
         ensures next { IfSome (Self.remaining self.now) (λ bytes. StartsWith bytes (hand self.now)) };
 
-    /// Takes so many of the bytes at hand, as reads of them would.
+    /// Takes this many of the buffered bytes, as reads of them would.
     fn consume(&mut self, count: usize)
         // This many bytes are buffered.
         requires few { count ≤ length (hand self.old) }

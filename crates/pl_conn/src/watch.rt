@@ -4,7 +4,7 @@ use std::io;
 
 /// Who is told what a service cannot do while it goes on. No promise rests on it.
 pub trait Watch {
-    /// So many workers were started, fewer than were asked for. It is told before a connection is accepted.
+    /// This many workers were started, fewer than were asked for. It is told before a connection is accepted.
     fn few_workers(&self, started: usize, asked: usize);
 
     /// A connection could not be accepted. The cause passes: it is waited out, and told the first time alone.

@@ -50,12 +50,12 @@ impl Post {
         self.open.fetch_sub(1, SeqCst);
     }
 
-    // Has the worker given no more connections, as long as others have fewer than 2^62.
+    // Lets the worker be given no more connections, as long as others have fewer than 2^62.
     fn leaves(&self) {
         self.open.store(1 << 62, SeqCst);
     }
 
-    /// Has the worker look for sockets. If the system refuses it, the worker looks at its next event.
+    /// Makes the worker look for sockets. If the system refuses it, the worker looks at its next event.
     pub(crate) fn ring(&self) {
         let _rung = self.bell.wake();
     }
@@ -66,7 +66,7 @@ impl Post {
 struct Line {
     socket: mio::net::TcpStream,
     talk: Conversation,
-    // Whether its place stands among those that are due.
+    // Whether its place is among those that are due.
     is_due: bool,
     // Whether the peer will send no more: a short read is then no sign that nothing is left.
     is_closing: bool,
@@ -118,7 +118,7 @@ fn turn<G: Gate>(
 }
 
 impl Lines {
-    // Takes a socket in, which does not wait from now on. Whether it could.
+    // Takes a socket in, which does not wait from now on. Returns whether it could.
     fn open(&mut self, alloc: Global, poll: &Poll, socket: TcpStream) -> bool {
         // Small replies are not held back where the system lets that be set.
         let _is_set = socket.set_nodelay(true);
@@ -147,7 +147,7 @@ impl Lines {
         is_heard.is_ok()
     }
 
-    // Notes what a connection came to in its turn: whether another is due, or it is closed.
+    // Notes how the turn of a connection ended: whether another is due, or it is closed.
     fn settle(&mut self, post: &Post, place: usize, end: Result<Rest, Cause>) {
         let Some(line) = self.items.get_mut(place) else {
             return;
@@ -250,7 +250,7 @@ fn turn_ready<G: Gate>(
     }
 }
 
-// Takes in the sockets that were accepted for the worker. Whether more may come.
+// Takes in the sockets that were accepted for the worker. Returns whether more may come.
 fn take_new<R: Wait>(rt: &R, alloc: Global, post: &Post, poll: &Poll, lines: &mut Lines) -> bool {
     for _ in rt.forever() {
         match post.sockets.try_recv(rt) {
@@ -295,7 +295,7 @@ impl Worker {
         Some((worker, post))
     }
 
-    // One round: the connections that have something for it, then those that are due, then new ones. Whether one is
+    // One round: the connections that have something for it, then those that are due, then new ones. Returns whether one is
     // left, or may come. A wait that fails ends the worker: its connections are closed.
     fn round<R: Wait, G: Gate>(
         &mut self,

@@ -8,7 +8,7 @@ use Rattle.pl_core.specs.History.{Effect, wrote, offered, hardened, advanced, fa
 use Rattle.pl_core.specs.Epoch.{table_of}
 use Rattle.pl_core.specs.Log.{hard_of}
 
--- The applied LSN of a partition after an effect, where so many blocks are hardened. An advance of the
+-- The applied LSN of a partition after an effect, where this many blocks are hardened. An advance of the
 -- partition makes it the smaller of the hardened end and what it was plus the steps.
 abbrev pub applied_by : Effect → ℕ → ℕ → ℕ → ℕ
 applied_by (wrote copy block) hard partition before = before

@@ -27,7 +27,7 @@ agrees (acts.SetTable text) h = true
 agrees (acts.Audit first max) h = true
 agrees acts.Tidy h = true
 
--- each LSN above the hardened ones up to a report's stands in a quorum of copies in this epoch
+-- each LSN above the hardened ones up to a report's is in a quorum of copies in this epoch
 abbrev pub can_harden : Act → History → Bool
 can_harden (acts.Write copy block) h = true
 can_harden (acts.Offer block) h = true

@@ -12,7 +12,7 @@ ghost use Rattle.pl_core.specs.Laws.{FullListsAreTold, UnknownPrincipalsAreTold,
 use crate::lower::{order_laws, page_laws};
 
 /// After a denial the hardened log, its marks and their counts, each LSN's content, the copies it
-/// stands in and whether it was offered, the LSN that each partition is applied to, the epoch, its
+/// is in and whether it was offered, the LSN that each partition is applied to, the epoch, its
 /// primary and the table in force are what they were.
 pub fn denials_change_nothing()
     // The entry of a denial leaves the log, its marks and their counts, contents, copies, offers,
@@ -122,7 +122,7 @@ pub fn histories_stay_legal()
     ensures legal { HistoriesStayLegal }
 {}
 
-/// In a legal history no LSN more than 64 above the hardened ones stands in a copy, so that the run
+/// In a legal history no LSN more than 64 above the hardened ones is in a copy, so that the run
 /// that a failover hardens is the same however far one looks.
 pub fn runs_end_in_the_window()
     // No LSN more than 64 above the hardened ones is in a copy.

@@ -2,8 +2,8 @@
 //! entered in an audit list.
 //!
 //! A contract sees a [`Db`] as its history alone: what it began from, and each entry with what it did.
-//! Which blocks are hardened, what stands above them and what the next request is answered all follow
-//! from the history; the code keeps them at hand.
+//! Which blocks are hardened, what is above them and what the next request is answered all follow
+//! from the history; the code keeps them.
 #![tactic(auto)]
 
 mod db;

@@ -171,7 +171,7 @@ pub enum Reply {
         pending: u64,
         landing: u64,
     },
-    /// The first row of the written order that stands against the request, by section and number, and
+    /// The first row of the written order that denies the request, by section and number, and
     /// the value that it reports. But for the entry of the denial nothing has changed.
     Denied {
         section: Section,

@@ -1,4 +1,4 @@
-//! The verdict on a request: what is kept is looked at, and the history is what it stands for.
+//! The verdict on a request: it is decided by what is kept, which represents the history.
 
 ghost use Rattle.std.specs.Prelude.{◌≡◌, ◌+◌, ◌<◌, ◌≤◌, true, unwrap_or, IfSome};
 ghost use Rattle.pl_block.specs.Bounds.{window};

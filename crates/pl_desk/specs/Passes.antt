@@ -105,6 +105,6 @@ fresh desk number = record {
   drawn = 0;
 }
 
--- so many passes, in the order of their numbers from 1 on
+-- this many passes, in the order of their numbers from 1 on
 abbrev pub fresh_passes : Place → ℕ → List Knowledge
 fresh_passes desk count = map (fresh desk) (range_with_len 1 count)

@@ -44,7 +44,7 @@ HasTicket (InTurn t found) ticket = t ≡ ticket
 HasTicket (Met first second other) ticket = ⊥
 HasTicket Gone ticket = ⊥
 
--- 1 of a pass that stands between reading the ticket word and taking a ticket, else 0
+-- 1 of a pass that has read the ticket word and takes a ticket next, else 0
 abbrev pub asks_at : Stage → ℕ
 asks_at Idle = 0
 asks_at Asking = 1
@@ -62,7 +62,7 @@ holds_at (InTurn t found) = 1
 holds_at (Met first second other) = 0
 holds_at Gone = 0
 
--- a count of stages, over all views
+-- a count of stages, of all views
 abbrev pub total : (Stage → ℕ) → List View → ℕ
 total count [] = 0
 total count (v ∷ vs) = count v.stage + total count vs
@@ -78,7 +78,7 @@ Stands next serving now v (Met first second other) =
     HasBoth v.terms v.number other first second v.seen
 Stands next serving now v Gone = Unit {0}
 
--- what is so of the view of a pass, where there are so many views
+-- what is so of the view of a pass, where there are this many views
 pub record IsView (terms : Terms) (views next serving : ℕ) (now : History) (v : View) : Type 0 where
   pub of : v.terms ≡ terms
   pub sound : IsSound v.terms v.seen

@@ -23,8 +23,8 @@ fn mark_of(ticket: u64) -> u32 {
 /// A word to sleep on.
 ///
 /// A thread first announces its mark, then looks once more whether it has to sleep, and then sleeps
-/// as long as the word is its mark. Who rings changes the words of the table first, and who announces
-/// another mark keeps the first one awake. So no ring is missed.
+/// as long as the word is its mark. A thread that rings changes the words of the table first, and one that
+/// announces another mark keeps the first one awake. So no ring is missed.
 #[derive(Drop)]
 pub(crate) struct Bell {
     word: AtomicU64,
@@ -98,7 +98,7 @@ impl Bells {
         self.of(ticket).sleep(rt, mark_of(ticket));
     }
 
-    /// Wakes who has the ticket.
+    /// Wakes the thread that has the ticket.
     pub(crate) fn ring(&self, ticket: u64) {
         self.of(ticket).ring_for_all();
     }

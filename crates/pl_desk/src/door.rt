@@ -20,7 +20,7 @@ const PATIENT_LOOKS: u32 = 30;
 /// How many times the processor pauses between two looks, where it does not let others run.
 const PAUSES: u32 = 4;
 
-/// How many microseconds the first in line sleeps, where somebody is inside when it comes to be the first.
+/// How many microseconds the first in line sleeps, where somebody is inside when it becomes the first.
 const PATIENCE: u64 = 50;
 
 /// That nobody is inside, or the first in line.
@@ -48,12 +48,12 @@ fn pause() {
 
 /// The door, and the line before it.
 ///
-/// One thread is inside at a time. Who finds somebody there looks for a moment and goes in as soon as
-/// nobody is, whoever came first: a thread that runs does not wait for one that has lost its processor.
+/// One thread is inside at a time. One that finds another there looks for a moment and goes in as soon as
+/// nobody is inside, whoever came first: a thread that runs does not wait for one that has lost its processor.
 /// Then it lines up. The first in line sleeps for a while and goes in, even if somebody is inside, and
 /// then waits for its ticket alone. All others sleep until the first has gone in, which wakes one of
 /// them. So whoever leaves wakes nobody here: a thread that keeps calling keeps the database in its
-/// cache meanwhile.
+/// cache.
 #[derive(Drop)]
 pub(crate) struct Door {
     inside: AtomicU64,

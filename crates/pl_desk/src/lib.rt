@@ -2,8 +2,8 @@
 //! turn, makes one step of the database, and gives the turn on.
 //!
 //! A contract sees a [`Desk`] as a name and what it was made with, and a [`Pass`] as its number and
-//! the history that it has seen. That history is legal, only grows, and has of the pass's own entries
-//! those that it made. Two passes that meet then know what both had seen.
+//! the history that it has seen. That history is legal, only grows, and has, of the entries under the pass's
+//! number, those that the pass made. Two passes that meet then know what both had seen.
 #![tactic(auto)]
 
 mod bells;

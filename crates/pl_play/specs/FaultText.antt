@@ -1,4 +1,4 @@
--- The texts of faults on standard error, behind their first word.
+-- The texts of faults on standard error, after their first word.
 use Rattle.std.specs.Prelude.{ℕ, List, ◌++◌, codes, decimal}
 use Rattle.pl_table.specs.Fault.{fault_number}
 use Rattle.pl_play.specs.declared.start.StartFault.{StartFault}

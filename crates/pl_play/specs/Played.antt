@@ -49,7 +49,7 @@ pub record Moment (S : Type 0) : Type 0 where
 abbrev pub moment : {S : Type 0} → Option (List ℕ) → S → Moment S
 moment output state = record { output = output; state = state }
 
--- so many lines of the input are answered, in order, and these are not;
+-- this many lines of the input are answered, in order, and these are not;
 -- all answers are written, and nothing else
 pub record AnswersFirst {S : Type 0} (step : Steps S) (input : Option (List ℕ)) (count : ℕ)
     (unanswered : List (List ℕ)) (before after : Moment S) : Type 0 where

@@ -27,7 +27,7 @@ abbrev pub IsTooLong : Option (List ℕ) → Type 0
 IsTooLong None = ⊤
 IsTooLong (Some bytes) = longest_text < length bytes
 
--- a table and its first primary, and an audit list of at most so many entries
+-- a table and its first primary, and an audit list of at most this many entries
 abbrev pub start_with : WrittenTable → ℕ → ℕ → Start
 start_with table primary audit =
     record { table = table; primary = primary; limits = record { audit = audit; chunks = 16 } }

@@ -11,7 +11,7 @@ use Rattle.pl_program.specs.declared.ending.Failure.TheVariants as failures
 use Rattle.pl_program.specs.declared.ending.Ending.{Ending}
 use Rattle.pl_program.specs.declared.ending.Ending.TheVariants as endings
 
--- the text of a fault of `serve` or `ask`, behind its first word
+-- the text of a fault of `serve` or `ask`, after its first word
 abbrev pub run_fault_text : RunFault → List ℕ
 run_fault_text runs.Words = codes "words"
 run_fault_text runs.Address = codes "address"

@@ -68,8 +68,8 @@ abbrev pub tally_unless : Result (Unit {0}) RunFault → ℕ → ℕ → Result 
 tally_unless (Ok _) accepted ended = Ok (record { connections = accepted; faults = ended })
 tally_unless (Err fault) accepted ended = Err fault
 
--- what the end of a service comes to: so many were accepted, so many of them ended in a fault, and it
--- stopped for this
+-- how a service ends: this many connections were accepted, this many of them ended in a fault, and it
+-- stopped for this cause
 abbrev pub tally_at : Stop → ℕ → ℕ → Result Tally RunFault
 tally_at stop accepted ended = tally_unless (result_of_stop stop) accepted ended
 

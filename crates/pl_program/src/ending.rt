@@ -88,7 +88,7 @@ pub enum Ending {
 }
 
 impl Ending {
-    /// The ending of a run that came to this.
+    /// The ending of a run with this result.
     pub fn of(ended: Result<Ending, Failure>) -> Ending
         // How the program ends (`ending_of`).
         ensures value { result ≡ ending_of ended }

@@ -22,7 +22,7 @@ pub struct Pager {
     pub rounds: u32,
 }
 
-/// That the passes which a page server leaves came of these, by its rounds at this many databases.
+/// That the passes which a page server leaves are these after its rounds at this many databases.
 #[derive(Drop)]
 pub(crate) struct Rounds {
     start: Snapshot<Passes>,

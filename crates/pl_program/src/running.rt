@@ -106,7 +106,7 @@ fn text_of_file(rt: &(impl Files + AllocGlobal), file: &str) -> Result<Vec<u8>, 
     }
 }
 
-/// Answers the lines of the standard input, over a database with the table of this file.
+/// Answers the lines of the standard input, by a database with the table of this file.
 fn play_with<R>(rt: &R, table: &str, primary: u32) -> Result<Ending, Failure>
 where
     R: Files + Input + Print + AllocGlobal,

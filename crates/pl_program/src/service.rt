@@ -45,7 +45,7 @@ fn serve_in<'s, E, R: Threads + Wait + Net + Sync + Drop, W: Watch>(
     requires pager { IfSome paging (λ p. AreOf desks.now p.passes) }
     ensures serves { IfSome result (λ s. Serves DesksCall (AreOf desks.now) passes.items connections
         s.accepted s.stop s.passes.items) }
-    // A page server that did not start, or was not waited for, is not passed over.
+    // Where there is a page server, it was started and waited for.
     ensures paged { IfSome result (λ _. IfSome paging (λ p. HasPaged p.pager p.databases p.passes)) }
     ensures none { IsNone result → IsSome paging }
 {
@@ -77,7 +77,7 @@ fn take_last<R>(desks: &Desks<R>, passes: &mut Vec<Passes>) -> Passes
     last
 }
 
-// Serves over the desks, with a worker for each of the passes.
+// Serves the databases of the desks, with a worker for each of the passes.
 fn serve_over<R: Threads + Wait + Net + Sync + Drop, W: Watch>(
     rt: &R,
     alloc: Global,
@@ -121,9 +121,9 @@ fn serve_over<R: Threads + Wait + Net + Sync + Drop, W: Watch>(
     )
 }
 
-/// Serves connections over the databases, with this many workers, until this many were accepted. Where
+/// Serves the databases to connections, with this many workers, until this many were accepted. Where
 /// there is a pager, it works at the same time, in a thread of its own, and is waited for. What the service
-/// cannot do meanwhile is told to the watch.
+/// cannot do while it goes on is told to the watch.
 ///
 /// `NoMemory` where the desks found none, and `Threads` where the page server's thread could not be
 /// started.

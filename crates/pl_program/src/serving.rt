@@ -125,7 +125,7 @@ pub fn opening_of(alloc: Global, text: &[u8], numbers: ServeNumbers) -> Result<O
     Ok(Opening { dbs, pager })
 }
 
-/// What a stop of the service comes to: all is done where all connections were accepted.
+/// Whether a stop of the service is a fault: all is done where all connections were accepted.
 pub fn result_of(stop: Stop) -> Result<(), RunFault>
     // The stop of the service as a fault: none where all connections were accepted.
     ensures value { result ≡ result_of_stop stop }
@@ -147,7 +147,7 @@ pub struct Tally {
     pub faults: u64,
 }
 
-/// The last line of a service that came to this, or the fault of its stop.
+/// The last line of a service that ended so, or the fault of its stop.
 pub fn tally_of(served: &Served<Passes>) -> Result<Tally, RunFault>
     // The numbers of the last line where all connections were accepted, else the fault of the stop.
     ensures value { result ≡ tally_at served.now.stop served.now.accepted served.now.faults }

@@ -7,7 +7,7 @@ use Rattle.pl_block.specs.declared.fault.Fault.{Fault}
 use Rattle.pl_wire.specs.declared.fault.WireFault.{WireFault}
 use Rattle.pl_wire.specs.declared.fault.WireFault.TheVariants.{TooShort, UnknownRole, UnknownKind, EndsInField, BytesAfterEnd, OutOfRange, Block}
 
--- the code of a fault: a block's is behind the body's own
+-- the code of a fault: a block's comes after the body's own
 abbrev pub code_of : WireFault → ℕ
 code_of TooShort = 1
 code_of UnknownRole = 2

@@ -16,7 +16,7 @@ use Rattle.pl_wire.specs.ReplyReading.{reply_reading, ReplyMayLackMemory}
 abbrev pub IsCut : ℕ → List ℕ → Type 0
 IsCut limit bytes = (length bytes < 4) ⊎ ((len : ℕ) × (part : List ℕ) × (len ≤ limit) × (length part < len) × (bytes ≡ to_be_bytes w32 len ++ part))
 
--- a length above the limit was read, and nothing behind it
+-- a length above the limit was read, and nothing after it
 abbrev pub ReadsTooLong : ℕ → Option (List ℕ) → Option (List ℕ) → Type 0
 ReadsTooLong limit old new = (len : ℕ) × (limit < len) × (len < 2 ^ 32) × Consumes old new (to_be_bytes w32 len)
 
@@ -34,7 +34,7 @@ CutsBody len old new faults.TooLong = ⊥
 CutsBody len old new faults.Io = (part : List ℕ) × (length part < len) × Consumes old new part
 CutsBody len old new faults.NoMemory = (0 < len) × Consumes old new []
 
--- why no frame was read, and what was read of it: out of memory, a length and nothing behind it
+-- why no frame was read, and what was read of it: out of memory, a length and nothing after it
 abbrev pub StopsFrame : ℕ → Option (List ℕ) → Option (List ℕ) → FrameFault → Type 0
 StopsFrame limit old new faults.Short = (bytes : List ℕ) × (0 < length bytes) × IsCut limit bytes × Consumes old new bytes × IsAtEnd new
 StopsFrame limit old new faults.TooLong = ReadsTooLong limit old new

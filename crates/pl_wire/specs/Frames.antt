@@ -1,4 +1,4 @@
--- Frames: a length, and so many bytes.
+-- Frames: a length, and a body of this many bytes.
 use Rattle.std.specs.Prelude.{ℕ, ◌^◌, ◌<◌, List, ◌++◌, length}
 use Rattle.std.specs.List.{flat_map}
 use Rattle.std.specs.Int.{w32, to_be_bytes}
@@ -11,7 +11,7 @@ longest_request = 65536
 abbrev pub longest_reply : ℕ
 longest_reply = 1048576
 
--- a length in four bytes, the high one first, and so many bytes
+-- a length in four bytes, the high one first, and this many bytes
 abbrev pub frame : List ℕ → List ℕ
 frame body = to_be_bytes w32 (length body) ++ body
 

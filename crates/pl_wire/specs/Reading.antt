@@ -25,7 +25,7 @@ number_in w at bytes = from_be_bytes w (take (byte_len w) (drop at bytes))
 abbrev pub head_in : Role → List ℕ → Head
 head_in role body = record { principal = number_in w32 0 body; token = take 16 (drop 4 body); role = role; database = number_in w32 21 body; epoch = number_in w32 25 body }
 
--- the value, where there are so many bytes, no fewer and no more
+-- the value, where there are this many bytes, no fewer and no more
 abbrev pub sized : {X : Type 0} → ℕ → List ℕ → X → Result X WireFault
 sized size bytes x = if nat_lt (length bytes) size then Err EndsInField else if nat_lt size (length bytes) then Err BytesAfterEnd else Ok x
 
@@ -110,7 +110,7 @@ request_reading body = do
 abbrev pub AsksMemory : Op → List ℕ → Type 0
 AsksMemory op arguments = ((op ≡ ops.Write) × (1 ≤ length arguments)) ⊎ ((op ≡ ops.Offer) ⊎ (op ≡ ops.SetTable))
 
--- a body for which memory may run out: behind a head whose role is known, an operation that asks for it
+-- a body for which memory may run out: after a head whose role is known, an operation that asks for it
 pub record MayLackMemory (body : List ℕ) : Type 0 where
   pub op : Op
   pub long : 30 ≤ length body

@@ -1,4 +1,4 @@
-//! What is looked at is known. A number behind a reference has the range of its type only once it is
+//! A number that is reached by a reference is known to have the range of its type only once it is
 //! read; these functions read those of a reply and do nothing else.
 
 ghost use Rattle.std.specs.List.{AllByRecursion};
