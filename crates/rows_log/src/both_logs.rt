@@ -1,109 +1,15 @@
 //! The log beside a plain one: steps that are drawn from a seed are taken in both, and each answer is
 //! the same.
 
-ghost use Rattle.std.specs.Prelude.{◌<◌, ◌≤◌};
 ghost use Rattle.pl_log.specs.Change.{ArePast};
 
+use crate::draws::{Asked, Draws, FIRST_ZONE};
 use crate::plain::{PlainLog, Zone};
 use crate::stores::{Row, Size, Stop, block, meets_refusal, plays, wants};
 use pl_block::Block;
 use pl_log::DbLog;
 use pl_log::laws::failovers_harden_the_longest_run;
-use rand_core::utils::NextWord;
-use rand_pcg::Pcg32;
 use std::alloc::Global;
-
-/// The zones that failovers make.
-const ZONES: [Zone; 4] = [
-    Zone {
-        copies: 3,
-        quorum: 2,
-    },
-    Zone {
-        copies: 6,
-        quorum: 4,
-    },
-    Zone {
-        copies: 5,
-        quorum: 3,
-    },
-    Zone {
-        copies: 1,
-        quorum: 1,
-    },
-];
-
-/// The numbers that steps are drawn from.
-#[derive(Drop)]
-struct Draws {
-    words: Pcg32,
-}
-
-impl Draws {
-    fn new(seed: u64) -> Draws {
-        Draws {
-            words: Pcg32::new(seed, 1),
-        }
-    }
-
-    // A number from 0 on, below this one.
-    fn below(&mut self, bound: u16) -> u16
-        ensures below { 1 ≤ bound → result < bound }
-    {
-        (self.words.next_word() % u32::from(bound.max(1))) as u16
-    }
-
-    // An LSN of the window above these hardened ones, or close to it.
-    fn lsn_near(&mut self, hard: u64) -> u64 {
-        let first = hard.saturating_sub(1).max(1);
-        first.saturating_add(u64::from(self.below(70)))
-    }
-
-    fn zone(&mut self) -> Zone {
-        ZONES[usize::from(self.below(4))]
-    }
-
-    // A hardened LSN, or the next one.
-    fn lsn_to(&mut self, hard: u64) -> u64 {
-        let bound = u16::try_from(hard).unwrap_or(u16::MAX);
-        u64::from(self.below(bound)).saturating_add(1)
-    }
-
-    // One block in eight is long, and so not the same as a short one.
-    fn size(&mut self) -> Size {
-        if self.below(8) == 0 {
-            Size::Long
-        } else {
-            Size::Short
-        }
-    }
-}
-
-/// What is asked of a pull.
-#[derive(Clone, Copy, Debug)]
-struct Asked {
-    lo: u16,
-    hi: u16,
-    from: u64,
-    max: u16,
-    reach: u64,
-}
-
-impl Asked {
-    // The blocks touch the partitions 0 to 6 and 100 to 102.
-    fn drawn(draws: &mut Draws, hard: u64) -> Asked {
-        let lo = if draws.below(2) == 0 { 0 } else { 97 };
-        let lo = draws.below(9).saturating_add(lo);
-        let reach = draws.lsn_to(hard);
-        Asked {
-            lo,
-            hi: lo.saturating_add(draws.below(4)),
-            from: reach.saturating_sub(u64::from(draws.below(40))),
-            max: draws.below(20).saturating_add(1),
-            reach,
-        }
-    }
-}
 
 /// A log and a plain one, in the same epoch.
 #[derive(Drop)]
@@ -116,7 +22,7 @@ struct Both {
 }
 
 fn new_log(alloc: Global, refused: &mut bool) -> Result<Both, Stop> {
-    let plain = PlainLog::new(alloc, ZONES[0]);
+    let plain = PlainLog::new(alloc, FIRST_ZONE);
     let epoch = 1;
     if let Ok(log) = DbLog::new(alloc, 3, 2) {
         return Ok(Both {

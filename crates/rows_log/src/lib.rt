@@ -13,9 +13,13 @@ mod both_logs;
 #[cfg(test)]
 mod destaged_blocks;
 #[cfg(test)]
+mod draws;
+#[cfg(test)]
 mod landing_zone;
 #[cfg(test)]
 mod log;
+#[cfg(test)]
+mod log_reads;
 #[cfg(test)]
 mod logs;
 #[cfg(test)]
