@@ -17,7 +17,7 @@ use Rattle.clap.specs.declared.builder.command.Command.TheViews.{out-Command}
 use Rattle.clap.specs.declared.error.kind.ErrorKind.{ErrorKind}
 use Rattle.clap.specs.declared.error.kind.ErrorKind.TheVariants.{DisplayHelp, OutOfMemory}
 use Rattle.clap.proofs.WalkLemmas.{both, first_value-rows, one_text-rows, raw_values-rows}
-use Rattle.pl_command.specs.CommandLine.{GivesAsk, GivesNumber, GivesPlay, GivesServe, GivesText, GivesWords, HasNumber, HasText, HasWords, IsGiven}
+use Rattle.pl_command.specs.CommandLine.{GivesAsk, GivesNumber, GivesPlay, GivesServe, GivesText, GivesWords, HasNumber, HasText, HasWords, IsWholeCommand}
 
 -- both parts of what is there
 pub both_parts : {S : Type 0} (s : Option S) (f : S → Text) (g : S → List Row) (name : Text) (rows : List Row) → option_map f s ≡ Some name
@@ -118,7 +118,7 @@ name_of o = unwrap_or (option_map (λ p. p.0) o) []
 abbrev rows_in : Option (Text × List Row) → List Row
 rows_in o = unwrap_or (option_map (λ p. p.1) o) []
 
-pub play_only : (found : Option (Text × List Row)) (rows : List Row) → found ≡ Some (codes "play", rows) → IsGiven found → GivesPlay rows
+pub play_only : (found : Option (Text × List Row)) (rows : List Row) → found ≡ Some (codes "play", rows) → IsWholeCommand found → GivesPlay rows
 play_only found rows is given = elim given.1 [
   | inl p ↦ subst GivesPlay (ap rows_in (sym p.0 ∙ is)) p.1
   | inr q ↦ elim q [
@@ -127,7 +127,7 @@ play_only found rows is given = elim given.1 [
   ]
 ]
 
-pub serve_only : (found : Option (Text × List Row)) (rows : List Row) → found ≡ Some (codes "serve", rows) → IsGiven found → GivesServe rows
+pub serve_only : (found : Option (Text × List Row)) (rows : List Row) → found ≡ Some (codes "serve", rows) → IsWholeCommand found → GivesServe rows
 serve_only found rows is given = elim given.1 [
   | inl p ↦ absurd (true≢false (ap (λ o. bytes_eq (name_of o) (codes "serve")) (sym is ∙ p.0)))
   | inr q ↦ elim q [
@@ -136,7 +136,7 @@ serve_only found rows is given = elim given.1 [
   ]
 ]
 
-pub ask_only : (found : Option (Text × List Row)) (rows : List Row) → found ≡ Some (codes "ask", rows) → IsGiven found → GivesAsk rows
+pub ask_only : (found : Option (Text × List Row)) (rows : List Row) → found ≡ Some (codes "ask", rows) → IsWholeCommand found → GivesAsk rows
 ask_only found rows is given = elim given.1 [
   | inl p ↦ absurd (true≢false (ap (λ o. bytes_eq (name_of o) (codes "ask")) (sym is ∙ p.0)))
   | inr q ↦ elim q [

@@ -13,7 +13,7 @@ use Rattle.clap.specs.declared.builder.value_parser.ValueParser.TheVariants.{Sig
 use Rattle.clap.proofs.OnLiterals.{clap_on_literals}
 use Rattle.clap.proofs.ValueTestLemmas.{accepts-Accepts}
 use Rattle.clap.proofs.WalkLemmas.{both}
-use Rattle.pl_command.specs.CommandLine.{GivesAsk, GivesPlay, GivesServe, IsGiven, most_u32, own_app, play_app}
+use Rattle.pl_command.specs.CommandLine.{GivesAsk, GivesPlay, GivesServe, IsWholeCommand, most_u32, own_app, play_app}
 use Rattle.pl_command.proofs.Passes.{Each, NoHelpStop, settled_keeps, walk_keeps, walk_stop}
 use Rattle.pl_command.proofs.Rows.{AllGood, Defaulted, Found, Limits, Use, defaults_good, gives_number, gives_text, gives_words, given_row, help_use, kept_row, limits_in, no_default, number_use, text_use, there, with_zero, words_use}
 
@@ -277,7 +277,7 @@ pick p s a h = cond p (Some play) (cond s (Some serve) (cond a (Some ask) (cond 
 entered_by : (p s a h : Bool) (rest : List Text) → (h ≡ true → ⊥)
     → option_map_or (λ x. level_passes x [] nothing_held rest false) (pick p s a h) true ≡ true
     → is_some (option_map (λ x. rows_at x rest) (pick p s a h)) ≡ true
-    → IsGiven (option_map (λ x. rows_at x rest) (pick p s a h))
+    → IsWholeCommand (option_map (λ x. rows_at x rest) (pick p s a h))
 entered_by true s a h rest off e has = (rows_after play.rules [] rest, inl (refl, play_passes rest e))
 entered_by false true a h rest off e has = (rows_after serve.rules [] rest, inr (inl (refl, serve_passes rest e)))
 entered_by false false true h rest off e has = (rows_after ask.rules [] rest, inr (inr (refl, ask_passes rest e)))
@@ -292,14 +292,14 @@ no_help name off is = true≢false (sym ((bytes_eq-Decides name (codes "help")).
     plain false e = e
 
 entered_is : (stop : Option (Text × List Text)) → NoHelpStop stop → entered_passes whole stop ≡ true → is_some (entered whole stop) ≡ true
-    → IsGiven (entered whole stop)
+    → IsWholeCommand (entered whole stop)
 entered_is None off e has = absurd (true≢false (sym has))
 entered_is (Some p) off e has =
     entered_by (answers_to p.0 (label_of play)) (answers_to p.0 (label_of serve)) (answers_to p.0 (label_of ask)) (bytes_eq (codes "help") p.0 || false) p.1
     (no_help p.0 off) e has
 
 -- words that `clap` takes name a subcommand with all its options
-pub takes_given : (words : List Text) → takes own_app words ≡ true → IsGiven (subcommand_of own_app words)
+pub takes_given : (words : List Text) → takes own_app words ≡ true → IsWholeCommand (subcommand_of own_app words)
 takes_given words e =
     let rest = argument_words own_app words in
     let names = names_of whole in

@@ -204,8 +204,8 @@ pub record GivesAsk (rows : List Row) : Type 0 where
   pub words : GivesWords rows
 
 -- a subcommand was named with all its options
-abbrev pub IsGiven : Option (Text × List Row) → Type 0
-IsGiven found = (rows : List Row)
+abbrev pub IsWholeCommand : Option (Text × List Row) → Type 0
+IsWholeCommand found = (rows : List Row)
     × (((found ≡ Some (codes "play", rows)) × GivesPlay rows)
     ⊎ (((found ≡ Some (codes "serve", rows)) × GivesServe rows)
     ⊎ ((found ≡ Some (codes "ask", rows)) × GivesAsk rows)))

@@ -2,7 +2,7 @@
 
 ghost use Rattle.std.specs.Prelude.{◌≡◌, ◌≢◌, ◌≤◌, false, true, Some, None, codes, pos, IfErr, IfOk, IfSome, IsNone, map, string_bytes};
 ghost use Rattle.clap.specs.Words.{IsAmong, all_of, app_of, fault_of, found_of, kind_of, rows_of, rule_of, subcommand_of, subcommand_rows_of, takes};
-ghost use Rattle.pl_command.specs.CommandLine.{AsksFor, GivesAsk, GivesNumber, GivesPlay, GivesServe, GivesWords, Has, HasNumber, HasNumbers, HasWords, IsGiven, IsHelp, IsUsage, Names, ask_app, number_option, number_or_zero, own_app, play_app, serve_app, text_option, words_rule};
+ghost use Rattle.pl_command.specs.CommandLine.{AsksFor, GivesAsk, GivesNumber, GivesPlay, GivesServe, GivesWords, Has, HasNumber, HasNumbers, HasWords, IsWholeCommand, IsHelp, IsUsage, Names, ask_app, number_option, number_or_zero, own_app, play_app, serve_app, text_option, words_rule};
 
 use clap::builder::ValueParser;
 use clap::error::ErrorKind;
@@ -366,7 +366,7 @@ fn ask_of(alloc: Global, found: &ArgMatches<'_>) -> Result<Option<CommandLine>, 
 // The subcommand that was matched, with its options.
 fn line_of(alloc: Global, matches: &ArgMatches<'_>) -> Result<Option<CommandLine>, AllocError>
     ensures ok { IfOk result (λ line. IfSome line (Names (subcommand_rows_of matches.now))) }
-    ensures none { IfOk result (λ line. IsNone line → IsGiven (subcommand_rows_of matches.now) → ⊥) }
+    ensures none { IfOk result (λ line. IsNone line → IsWholeCommand (subcommand_rows_of matches.now) → ⊥) }
 {
     if let Some(play) = matches.subcommand_matches("play") {
         return play_of(alloc, play);

@@ -13,8 +13,8 @@ use Rattle.pl_wire.specs.Frames.{frame, frames_of, longest_request}
 use Rattle.pl_wire.specs.FrameWriting.{reply_frame}
 use Rattle.pl_wire.specs.declared.frame_reading.FrameFault.{FrameFault}
 use Rattle.pl_wire.specs.declared.frame_reading.FrameFault.TheVariants as frame_faults
-use Rattle.pl_conn.specs.Conversation.{Answered, Calls, Converses, Ends, MayWait, Scene, Talk, Talks, cause_of, scene, text_of}
-use Rattle.pl_conn.specs.Gathering.{Box, Gathers, Takes, Told, Turns, emptied, told_talk, whole_in}
+use Rattle.pl_conn.specs.Conversation.{Answered, Calls, Converses, Ends, MayWait, Scene, Talk, Talks, cause_of, scene, replies_text}
+use Rattle.pl_conn.specs.Gathering.{Box, Gathers, TakesFrame, Told, Turns, emptied, told_talk, whole_in}
 use Rattle.pl_conn.specs.declared.cause.Cause.{Cause}
 use Rattle.pl_conn.specs.declared.cause.Cause.TheVariants as causes
 use Rattle.pl_conn.specs.declared.cause.ConnFault.{ConnFault}
@@ -58,7 +58,7 @@ module _ {P : Type 0} (calls : Calls P) where
       let read = rw (append-nil (frames_of bodies)) at s.read in
       let chain = rw (append-nil replies) at s.chain in
       let fits = rw (append-nil replies) at s.fits in
-      let written = rw (append-nil (text_of replies)) at s.written in
+      let written = rw (append-nil (replies_text replies)) at s.written in
       record {
         short = all_then _ bodies talk.bodies s.short t.short;
         read = subst (λ (l : List ℕ). Consumes before.input after.input l)
@@ -68,8 +68,8 @@ module _ {P : Type 0} (calls : Calls P) where
             (answered_then calls before.pass now.pass after.pass bodies talk.bodies replies (talk.whole ++ talk.others) chain t.chain);
         fits = subst (AllByRecursion FitsReply) (sym (append_assoc replies talk.whole talk.others)) (all_then _ replies (talk.whole ++ talk.others) fits t.fits);
         written = subst (λ (l : List ℕ). Appends before.output after.output l)
-            (sym (append_assoc (text_of replies) (text_of talk.whole) talk.cut) ∙ ap (λ (l : List ℕ). l ++ talk.cut) (sym (flat_map-append reply_frame replies talk.whole)))
-            (Appends-trans before.output now.output after.output (text_of replies) (text_of talk.whole ++ talk.cut) written t.written);
+            (sym (append_assoc (replies_text replies) (replies_text talk.whole) talk.cut) ∙ ap (λ (l : List ℕ). l ++ talk.cut) (sym (flat_map-append reply_frame replies talk.whole)))
+            (Appends-trans before.output now.output after.output (replies_text replies) (replies_text talk.whole ++ talk.cut) written t.written);
       }
 
   counted : (xs ys : List Reply) (n m : ℕ) → length xs ≡ n → length ys ≡ m → length (xs ++ ys) ≡ n + m
@@ -130,7 +130,7 @@ module _ {P : Type 0} (calls : Calls P) where
         read = subst (λ (l : List ℕ). Consumes input left l) (g.read ∙ sym (append-nil (frames_of g.bodies))) reads;
         chain = subst (λ (rs : List Reply). Answered calls p g.bodies rs q) (sym (append-nil g.replies)) g.chain;
         fits = subst (AllByRecursion FitsReply) (sym (append-nil g.replies)) g.fits;
-        written = subst (λ (l : List ℕ). Appends output out l) (h.text ∙ sym (append-nil (text_of g.replies))) writes;
+        written = subst (λ (l : List ℕ). Appends output out l) (h.text ∙ sym (append-nil (replies_text g.replies))) writes;
       };
       number = sym (length-map g.replies (λ r. length (reply_frame r))) ∙ ap length (sym h.lens);
     }
@@ -167,7 +167,7 @@ module _ {P : Type 0} (calls : Calls P) where
       (subst (λ (x : P). Told calls (scene a output p) (scene b output x) 0) (sym same) (told_none a b output p reads), λ none. end)
 
   module _ (a b c output out : Option (List ℕ)) (p q r : P) (box left last : Box) (ys : List ℕ) (n : ℕ) (is : box ≡ emptied)
-      (takes : Takes calls a p box b q left (Ok true)) (g : Gathers calls q ys left r last) (reads : Consumes b c ys) (writes : Appends output out (take n last.text)) where
+      (takes : TakesFrame calls a p box b q left (Ok true)) (g : Gathers calls q ys left r last) (reads : Consumes b c ys) (writes : Appends output out (take n last.text)) where
     all : (bytes : List ℕ) × Consumes a c bytes × Gathers calls p bytes emptied r last
     all = (
       takes.0 ++ ys,

@@ -6,8 +6,8 @@ use Rattle.std.proofs.lemmas.List.{map-append, length-map, length-append, length
 use Rattle.std.proofs.lemmas.List.Elements.{All-from_recursion}
 use Rattle.pl_core.specs.History.{History}
 use Rattle.pl_desk.specs.declared.rule.Terms.{Terms}
-use Rattle.pl_desk.specs.Passes.{Knowledge, Place, IsOf, fresh, fresh_passes}
-use Rattle.pl_conn.specs.Desks.{AreOf, dealt, terms_of_each, fresh_at, all_fresh}
+use Rattle.pl_desk.specs.Passes.{Knowledge, DeskOrigin, IsOf, fresh, fresh_passes}
+use Rattle.pl_conn.specs.Desks.{ArePassesOf, dealt, terms_of_each, fresh_at, all_fresh}
 
 -- the last item is dealt to the list at its place
 pub dealt-last : (items : List Knowledge) (lists : List (List Knowledge)) (item : Knowledge) (d : List Knowledge) → length items < length lists
@@ -29,7 +29,7 @@ deal_last items left lists item k list new are place room was pushed =
       omega (arith, size, total, room, same),
     )
 
-fresh_more : (desks : List Place) (desk : Place) (a n : ℕ)
+fresh_more : (desks : List DeskOrigin) (desk : DeskOrigin) (a n : ℕ)
     → dealt (map (fresh desk) (range_with_len a n)) (map (fresh_at desks) (range_with_len a n)) ≡ map (fresh_at (desks ++ desk ∷ [])) (range_with_len a n)
 fresh_more desks desk a zero = refl
 fresh_more desks desk a (suc n) =
@@ -37,7 +37,7 @@ fresh_more desks desk a (suc n) =
     λ i. one i ∷ fresh_more desks desk (a + 1) n i
 
 -- the passes of one desk more are dealt to those who have the passes of the others
-pub all_fresh-more : (desks : List Place) (desk : Place) (seats : ℕ) → dealt (map (fresh desk) (range_with_len 1 seats)) (all_fresh desks seats) ≡ all_fresh (desks ++ desk ∷ []) seats
+pub all_fresh-more : (desks : List DeskOrigin) (desk : DeskOrigin) (seats : ℕ) → dealt (map (fresh desk) (range_with_len 1 seats)) (all_fresh desks seats) ≡ all_fresh (desks ++ desk ∷ []) seats
 all_fresh-more desks desk seats = fresh_more desks desk 1 seats
 
 none_fresh : (a n : ℕ) → replicate n [] ≡ map (fresh_at []) (range_with_len a n)
@@ -45,32 +45,32 @@ none_fresh a zero = refl
 none_fresh a (suc n) = ap (λ (ls : List (List Knowledge)). [] ∷ ls) (none_fresh (a + 1) n)
 
 -- the same, where a desk and the passes of all desks were added
-pub all_fresh-pushed : (desks new : List Place) (desk : Place) (seats : ℕ) (passes : List Knowledge) (all dealt_out : List (List Knowledge)) → new ≡ desks ++ desk ∷ [] → passes ≡ fresh_passes desk seats → all ≡ all_fresh desks seats → dealt_out ≡ dealt passes all → dealt_out ≡ all_fresh new seats
+pub all_fresh-pushed : (desks new : List DeskOrigin) (desk : DeskOrigin) (seats : ℕ) (passes : List Knowledge) (all dealt_out : List (List Knowledge)) → new ≡ desks ++ desk ∷ [] → passes ≡ fresh_passes desk seats → all ≡ all_fresh desks seats → dealt_out ≡ dealt passes all → dealt_out ≡ all_fresh new seats
 all_fresh-pushed desks new desk seats passes all dealt_out pushed are so_far done =
-    done ∙ (λ i. dealt (are i) (so_far i)) ∙ all_fresh-more desks desk seats ∙ ap (λ (ds : List Place). all_fresh ds seats) (sym pushed)
+    done ∙ (λ i. dealt (are i) (so_far i)) ∙ all_fresh-more desks desk seats ∙ ap (λ (ds : List DeskOrigin). all_fresh ds seats) (sym pushed)
 
 -- with no desk, nobody has a pass
 pub all_fresh-none : (seats : ℕ) → replicate seats [] ≡ all_fresh [] seats
 all_fresh-none seats = none_fresh 1 seats
 
-fresh_is_of : (desks : List Place) (n i : ℕ) (desk : Place) (pass : Knowledge) → slice_get desks i ≡ Some desk → slice_get (fresh_at desks n) i ≡ Some pass → IsOf desk pass
+fresh_is_of : (desks : List DeskOrigin) (n i : ℕ) (desk : DeskOrigin) (pass : Knowledge) → slice_get desks i ≡ Some desk → slice_get (fresh_at desks n) i ≡ Some pass → IsOf desk pass
 fresh_is_of [] n i desk pass at there = absurd (cc)
 fresh_is_of (d ∷ ds) n zero desk pass at there =
     let same : d ≡ desk = cc in
     let is : fresh d n ≡ pass = cc in
-    subst (IsOf desk) is (subst (λ (e : Place). IsOf e (fresh d n)) same (refl, refl))
+    subst (IsOf desk) is (subst (λ (e : DeskOrigin). IsOf e (fresh d n)) same (refl, refl))
 fresh_is_of (d ∷ ds) n (suc i) desk pass at there = fresh_is_of ds n i desk pass at there
 
-are_of : (desks : List Place) (a n : ℕ) → AllByRecursion (AreOf desks) (map (fresh_at desks) (range_with_len a n))
+are_of : (desks : List DeskOrigin) (a n : ℕ) → AllByRecursion (ArePassesOf desks) (map (fresh_at desks) (range_with_len a n))
 are_of desks a zero = tt
 are_of desks a (suc n) = (record { count = length-map desks (λ d. fresh d a); each = fresh_is_of desks a }, are_of desks (a + 1) n)
 
 -- the passes that were dealt are of the desks
-pub all_fresh-of : (desks : List Place) (seats : ℕ) (all : List (List Knowledge)) → all ≡ all_fresh desks seats → All (AreOf desks) all
-all_fresh-of desks seats all are = subst (All (AreOf desks)) (sym are) (All-from_recursion (AreOf desks) (all_fresh desks seats) (are_of desks 1 seats))
+pub all_fresh-of : (desks : List DeskOrigin) (seats : ℕ) (all : List (List Knowledge)) → all ≡ all_fresh desks seats → All (ArePassesOf desks) all
+all_fresh-of desks seats all are = subst (All (ArePassesOf desks)) (sym are) (All-from_recursion (ArePassesOf desks) (all_fresh desks seats) (are_of desks 1 seats))
 
 -- there are as many passes to deal as there are lists
-pub deals_all : (desks : List Place) (desk : Place) (seats : ℕ) (items : List Knowledge) (lists : List (List Knowledge)) → items ≡ map (fresh desk) (range_with_len 1 seats) → lists ≡ all_fresh desks seats → length items ≤ length lists
+pub deals_all : (desks : List DeskOrigin) (desk : DeskOrigin) (seats : ℕ) (items : List Knowledge) (lists : List (List Knowledge)) → items ≡ map (fresh desk) (range_with_len 1 seats) → lists ≡ all_fresh desks seats → length items ≤ length lists
 deals_all desks desk seats items lists are all =
     let first : length items ≡ length (range_with_len 1 seats) = ap length are ∙ length-map (range_with_len 1 seats) (fresh desk) in
     let second : length lists ≡ length (range_with_len 1 seats) = ap length all ∙ length-map (range_with_len 1 seats) (fresh_at desks) in
@@ -86,7 +86,7 @@ taken [] rest db some first is = absurd (omega (arith, some))
 taken (d ∷ ds) rest db some first is = λ i. sym first i ∷ sym is i
 
 -- with a desk more, and a database less
-pub terms_more : (seats turns : ℕ) (desks new : List Place) (desk : Place) (left rest : List History) (db : History) (all : List Terms)
+pub terms_more : (seats turns : ℕ) (desks new : List DeskOrigin) (desk : DeskOrigin) (left rest : List History) (db : History) (all : List Terms)
     → new ≡ desks ++ desk ∷ [] → left ≡ db ∷ rest → desk.terms ≡ record { seats = seats; turns = turns; opening = db }
     → map (λ d. d.terms) desks ++ terms_of_each seats turns left ≡ all
     → map (λ d. d.terms) new ++ terms_of_each seats turns rest ≡ all

@@ -15,22 +15,22 @@ use Rattle.pl_wire.specs.FrameWriting.{reply_frame}
 use Rattle.pl_wire.specs.Reading.{MayLackMemory, request_reading}
 use Rattle.pl_wire.specs.declared.fault.WireFault.{WireFault}
 use Rattle.pl_wire.specs.declared.frame_reading.FrameFault.{FrameFault}
-use Rattle.pl_conn.specs.Conversation.{Calls, cause_of, text_of}
-use Rattle.pl_conn.specs.Gathering.{AnswersRead, Box, Gathers, Holds, MayGather, Takes, emptied, gathered}
+use Rattle.pl_conn.specs.Conversation.{Calls, cause_of, replies_text}
+use Rattle.pl_conn.specs.Gathering.{AnswersRead, Box, Gathers, HoldsReplies, MayGather, TakesFrame, emptied, gathered}
 use Rattle.pl_conn.specs.Resting.{Replies, middle}
 use Rattle.pl_conn.proofs.Reading.{answers_body}
 use Rattle.pl_conn.proofs.Talking.{all_but_last, all_then, answered_then, joined, map_more}
 
 -- no replies wait in an empty box
-pub holds_none : Holds emptied []
+pub holds_none : HoldsReplies emptied []
 holds_none = record { text = refl; lens = refl; few = omega arith }
 
 -- one more waits
-holds_more : (box : Box) (front : List Reply) (reply : Reply) → length box.text < 262144 → Holds box front → Holds (gathered box reply) (front ++ reply ∷ [])
+holds_more : (box : Box) (front : List Reply) (reply : Reply) → length box.text < 262144 → HoldsReplies box front → HoldsReplies (gathered box reply) (front ++ reply ∷ [])
 holds_more box front reply less h = record {
   text = ap (λ (l : List ℕ). l ++ reply_frame reply) h.text ∙ sym (joined reply_frame front reply);
   lens = ap (λ (l : List ℕ). l ++ length (reply_frame reply) ∷ []) h.lens ∙ sym (map_more (λ r. length (reply_frame r)) front reply);
-  few = subst (λ (l : List ℕ). length l < 262144) (h.text ∙ ap text_of (sym (all_but_last front reply))) less;
+  few = subst (λ (l : List ℕ). length l < 262144) (h.text ∙ ap replies_text (sym (all_but_last front reply))) less;
 }
 
 module _ {P : Type 0} (calls : Calls P) where
@@ -43,7 +43,7 @@ module _ {P : Type 0} (calls : Calls P) where
     fits = tt;
     read = refl;
     chain = refl;
-    waits = λ front h. subst (Holds box) (sym (append-nil front)) h;
+    waits = λ front h. subst (HoldsReplies box) (sym (append-nil front)) h;
   }
 
   -- some frames are answered, and then some more
@@ -55,7 +55,7 @@ module _ {P : Type 0} (calls : Calls P) where
     fits = all_then _ first.replies then.replies first.fits then.fits;
     read = ap₂ (λ (k l : List ℕ). k ++ l) first.read then.read ∙ sym (flat_map-append frame first.bodies then.bodies);
     chain = answered_then calls p q r first.bodies then.bodies first.replies then.replies first.chain then.chain;
-    waits = λ front h. subst (Holds c) (append_assoc front first.replies then.replies) (then.waits (front ++ first.replies) (first.waits front h));
+    waits = λ front h. subst (HoldsReplies c) (append_assoc front first.replies then.replies) (then.waits (front ++ first.replies) (first.waits front h));
   }
 
   -- a frame is answered
@@ -69,7 +69,7 @@ module _ {P : Type 0} (calls : Calls P) where
     fits = (fits, tt);
     read = whole ∙ sym (append-nil (frame body));
     chain = (q, answers_body calls body read p q reply exact lacks answers, refl);
-    waits = λ front h. subst (λ (b : Box). Holds b (front ++ reply ∷ [])) (sym waits) (holds_more box front reply room.0 h);
+    waits = λ front h. subst (λ (b : Box). HoldsReplies b (front ++ reply ∷ [])) (sym waits) (holds_more box front reply room.0 h);
   }
 
   -- frames behind those that are answered
@@ -90,19 +90,19 @@ module _ {P : Type 0} (calls : Calls P) where
     fits = g.fits;
     read = sym (take-append-drop n bytes) ∙ ap (λ (l : List ℕ). l ++ drop n bytes) g.read;
     chain = g.chain;
-    told = let h = g.waits [] (subst (λ (b : Box). Holds b []) (sym is) holds_none) in h.text;
+    told = let h = g.waits [] (subst (λ (b : Box). HoldsReplies b []) (sym is) holds_none) in h.text;
   }
 
   -- the next frame is taken where it lies
   pub takes_at_hand : (a b : Option (List ℕ)) (p q : P) (bytes : List ℕ) (box left : Box) → Consumes a b bytes → Gathers calls p bytes box q left
-      → Takes calls a p box b q left (Ok true)
+      → TakesFrame calls a p box b q left (Ok true)
   takes_at_hand a b p q bytes box left reads g = (bytes, reads, g)
 
   -- the next frame is read by itself
   pub takes_read : (a b : Option (List ℕ)) (p same q : P) (body : List ℕ) (box kept left : Box) (reply : Reply) (read : Result Query (Failed WireFault))
       → same ≡ p → kept ≡ box → length body ≤ longest_request → Consumes a b (frame body) → Returns read (request_reading body)
       → (read ≡ Err NoMemory → MayLackMemory body) → AnswersRead calls read same reply q → FitsReply reply → MayGather kept → left ≡ gathered kept reply
-      → Takes calls a p box b q left (Ok true)
+      → TakesFrame calls a p box b q left (Ok true)
   takes_read a b p same q body box kept left reply read is there short reads exact lacks answers fits room waits = (
     frame body,
     reads,
@@ -112,5 +112,5 @@ module _ {P : Type 0} (calls : Calls P) where
 
   -- there is no frame
   pub takes_fault : (a b : Option (List ℕ)) (p q : P) (box left : Box) (fault : FrameFault) → q ≡ p → StopsFrame longest_request a b fault
-      → Takes calls a p box b q left (Err (cause_of fault))
+      → TakesFrame calls a p box b q left (Err (cause_of fault))
   takes_fault a b p q box left fault same stops = (same, (fault, refl, stops))

@@ -4,15 +4,15 @@ use Rattle.std.proofs.lemmas.List.{length-set, length-append}
 use Rattle.std.proofs.lemmas.Bool.Decides.{eqb_tells}
 use Rattle.std.proofs.lemmas.Option.{slice_get_within, slice_get_read}
 use Rattle.std.specs.Prelude.{slice_get}
-use Rattle.pl_desk.specs.Passes.{Knowledge, Place, IsOf, IsSamePass, HasMet}
-use Rattle.pl_conn.specs.Desks.{AreOf, HaveMet}
+use Rattle.pl_desk.specs.Passes.{Knowledge, DeskOrigin, IsOf, IsSamePass, HasMet}
+use Rattle.pl_conn.specs.Desks.{ArePassesOf, HaveMet}
 use Rattle.pl_conn.proofs.Places.{get-set_same, get-set_other, get-seam}
 
-same_is_of : (desk : Place) (p q : Knowledge) → IsOf desk p → IsSamePass p q → IsOf desk q
+same_is_of : (desk : DeskOrigin) (p q : Knowledge) → IsOf desk p → IsSamePass p q → IsOf desk q
 same_is_of desk p q of same = (same.desk ∙ of.0, same.terms ∙ of.1)
 
 -- where one pass has become another state of the same pass, the passes are of their desks
-pub of-set : (desks : List Place) (passes : List Knowledge) (k : ℕ) (p q : Knowledge) → AreOf desks passes → slice_get passes k ≡ Some p → IsSamePass p q → AreOf desks (set passes k q)
+pub of-set : (desks : List DeskOrigin) (passes : List Knowledge) (k : ℕ) (p q : Knowledge) → ArePassesOf desks passes → slice_get passes k ≡ Some p → IsSamePass p q → ArePassesOf desks (set passes k q)
 of-set desks passes k p q of is same = record {
   count = length-set passes k q ∙ of.count;
   each = λ i desk pass at there. elim (eqb_tells i k) [
@@ -28,8 +28,8 @@ of-set desks passes k p q of is same = record {
 }
 
 -- the passes behind those that are left have met; the others are as they were
-pub record Meeting (desks : List Place) (before others now left : List Knowledge) : Type 0 where
-  pub of : AreOf desks now
+pub record Meeting (desks : List DeskOrigin) (before others now left : List Knowledge) : Type 0 where
+  pub of : ArePassesOf desks now
   pub count : length now ≡ length before
   pub rest : List Knowledge
   pub all : left ++ rest ≡ others
@@ -37,7 +37,7 @@ pub record Meeting (desks : List Place) (before others now left : List Knowledge
   pub met : (i : ℕ) (p o : Knowledge) → length left ≤ i → slice_get before i ≡ Some p → slice_get others i ≡ Some o
       → (q : Knowledge) × (slice_get now i ≡ Some q) × IsSamePass p q × HasMet p o q
 
-pub meeting_start : (desks : List Place) (before others : List Knowledge) → AreOf desks before → AreOf desks others → Meeting desks before others before others
+pub meeting_start : (desks : List DeskOrigin) (before others : List Knowledge) → ArePassesOf desks before → ArePassesOf desks others → Meeting desks before others before others
 meeting_start desks before others of of_others = record {
   of = of;
   count = refl;
@@ -48,7 +48,7 @@ meeting_start desks before others of of_others = record {
 }
 
 -- one more has met, with the last of the others that are left
-pub meeting_more : (desks : List Place) (before others now left : List Knowledge) (p o q : Knowledge)
+pub meeting_more : (desks : List DeskOrigin) (before others now left : List Knowledge) (p o q : Knowledge)
     → Meeting desks before others now (left ++ o ∷ []) → slice_get now (length left) ≡ Some p → IsSamePass p q → HasMet p o q
     → Meeting desks before others (set now (length left) q) left
 meeting_more desks before others now left p o q m is same has = record {
@@ -91,14 +91,14 @@ meeting_more desks before others now left p o q m is same has = record {
           subst (λ (x : Knowledge). HasMet x o' q) first (subst (λ (x : Knowledge). HasMet p x q) second has),
         )
 
-pub meeting_end : (desks : List Place) (before others now left : List Knowledge) → length left ≡ 0 → Meeting desks before others now left → HaveMet before others now
+pub meeting_end : (desks : List DeskOrigin) (before others now left : List Knowledge) → length left ≡ 0 → Meeting desks before others now left → HaveMet before others now
 meeting_end desks before others now left none m = record {
   count = m.count;
   each = λ i p o at there. m.met i p o (omega (arith, none)) at there;
 }
 
 -- the same, for the last of others that are left
-pub meeting_last : (desks : List Place) (before others now items left : List Knowledge) (k : ℕ) (p o q : Knowledge)
+pub meeting_last : (desks : List DeskOrigin) (before others now items left : List Knowledge) (k : ℕ) (p o q : Knowledge)
     → Meeting desks before others now items → items ≡ left ++ o ∷ [] → k ≡ length left → slice_get now k ≡ Some p → IsSamePass p q → HasMet p o q
     → Meeting desks before others (set now k q) left
 meeting_last desks before others now items left k p o q m are place is same has =
@@ -106,8 +106,8 @@ meeting_last desks before others now items left k p o q m are place is same has 
     (meeting_more desks before others now left p o q (subst (Meeting desks before others now) are m) (subst (λ (j : ℕ). slice_get now j ≡ Some p) place is) same has)
 
 -- the last of the others that are left is of the desk at its place, and so is the pass there
-pub meeting_of : (desks : List Place) (before others now items left : List Knowledge) (k : ℕ) (desk : Place) (o : Knowledge)
-    → AreOf desks others → Meeting desks before others now items → items ≡ left ++ o ∷ [] → k ≡ length left → desk ≡ get_or desks k desk
+pub meeting_of : (desks : List DeskOrigin) (before others now items left : List Knowledge) (k : ℕ) (desk : DeskOrigin) (o : Knowledge)
+    → ArePassesOf desks others → Meeting desks before others now items → items ≡ left ++ o ∷ [] → k ≡ length left → desk ≡ get_or desks k desk
     → (k < length now) × IsOf desk o × ((p : Knowledge) → slice_get now k ≡ Some p → IsOf desk p)
 meeting_of desks before others now items left k desk o of m are place is =
     let size : length (left ++ o ∷ []) ≡ length left + 1 = length-append left (o ∷ []) in

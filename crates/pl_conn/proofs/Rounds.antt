@@ -6,7 +6,7 @@ use Rattle.std.proofs.lemmas.List.Sums.{sum_by-cons}
 use Rattle.pl_table.specs.Request.{Query}
 use Rattle.pl_core.specs.declared.reply.Reply.{Reply}
 use Rattle.pl_conn.specs.declared.materialising.Worked.{Worked}
-use Rattle.pl_conn.specs.Materialising.{is_done, told_epoch, goes_on, epoch_after, Asks, Round, Works}
+use Rattle.pl_conn.specs.Materialising.{is_done, told_epoch, goes_on, last_told_epoch, Asks, Round, Works}
 
 -- so many rounds, after each of which another may follow
 pub record Going {P : Type 0} (calls : P → Query → Reply → P → Type 0) (request : ℕ → Query) (before : P) (worked : Worked) (round : ℕ) (now : P) : Type 0 where
@@ -16,7 +16,7 @@ pub record Going {P : Type 0} (calls : P → Query → Reply → P → Type 0) (
   pub count : length replies ≡ round
   pub few : worked.done ≤ round
   pub done : worked.done ≡ count_by is_done replies
-  pub epoch : worked.epoch ≡ epoch_after replies
+  pub epoch : worked.epoch ≡ last_told_epoch replies
 
 pub going_start : {P : Type 0} (calls : P → Query → Reply → P → Type 0) (request : ℕ → Query) (before : P) → Going calls request before (record { done = 0; epoch = 1 }) 0 before
 going_start calls request before = record { replies = []; asks = refl; onward = tt; count = refl; few = omega arith; done = refl; epoch = refl }

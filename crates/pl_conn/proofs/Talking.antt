@@ -8,7 +8,7 @@ use Rattle.std.proofs.lemmas.List.{length-append, drop_all}
 use Rattle.std.proofs.lemmas.Grind.{flat_map-append}
 use Rattle.pl_core.specs.declared.reply.Reply.{Reply}
 use Rattle.pl_wire.specs.FrameWriting.{reply_frame}
-use Rattle.pl_conn.specs.Conversation.{Answered, Calls, MayWait, text_of}
+use Rattle.pl_conn.specs.Conversation.{Answered, Calls, MayWait, replies_text}
 use Rattle.pl_conn.specs.Gathering.{whole_in}
 
 -- a chain, and one behind it
@@ -43,11 +43,11 @@ pub fewer_behind : (front back : List Reply) → MayWait (front ++ back) → May
 fewer_behind front [] few = omega arith
 fewer_behind front (r ∷ rs) few =
     let count : length (front ++ (r ∷ rs)) - 1 ≡ length front + length rs = omega (arith, length-append front (r ∷ rs)) in
-    let all : text_of (take (length (front ++ (r ∷ rs)) - 1) (front ++ (r ∷ rs))) ≡ text_of front ++ text_of (take (length rs) (r ∷ rs)) =
-    ap (λ (n : ℕ). text_of (take n (front ++ (r ∷ rs)))) count ∙ (ap text_of (take-append-add front (r ∷ rs) (length rs))
+    let all : replies_text (take (length (front ++ (r ∷ rs)) - 1) (front ++ (r ∷ rs))) ≡ replies_text front ++ replies_text (take (length rs) (r ∷ rs)) =
+    ap (λ (n : ℕ). replies_text (take n (front ++ (r ∷ rs)))) count ∙ (ap replies_text (take-append-add front (r ∷ rs) (length rs))
     ∙ flat_map-append reply_frame front (take (length rs) (r ∷ rs))) in
     let one : length (r ∷ rs) - 1 ≡ length rs = omega arith in
-    rw one (omega (arith, few, ap length all, length-append (text_of front) (text_of (take (length rs) (r ∷ rs)))))
+    rw one (omega (arith, few, ap length all, length-append (replies_text front) (replies_text (take (length rs) (r ∷ rs)))))
 
 -- a text of replies that is cut: some are whole, and the next one is not
 pub record Cut (waiting : List Reply) (count : ℕ) (bytes : List ℕ) : Type 0 where
@@ -58,16 +58,16 @@ pub record Cut (waiting : List Reply) (count : ℕ) (bytes : List ℕ) : Type 0 
   pub parts : waiting ≡ whole ++ next ∷ more
   pub number : length whole ≡ count
   pub less : k < length (reply_frame next)
-  pub text : bytes ≡ text_of whole ++ take k (reply_frame next)
+  pub text : bytes ≡ replies_text whole ++ take k (reply_frame next)
 
 abbrev pub lens_of : List Reply → List ℕ
 lens_of rs = map (λ r. length (reply_frame r)) rs
 
-pub cut_text : (rs : List Reply) (n : ℕ) → n < length (text_of rs) → Cut rs (whole_in (lens_of rs) n) (take n (text_of rs))
+pub cut_text : (rs : List Reply) (n : ℕ) → n < length (replies_text rs) → Cut rs (whole_in (lens_of rs) n) (take n (replies_text rs))
 cut_text [] n less = absurd (omega (arith, less))
 cut_text (r ∷ rs) n less = by (ltb n (length (reply_frame r))) refl (λ m l. cut_text rs m l)
   where
-    by : (b : Bool) → ltb n (length (reply_frame r)) ≡ b → ((m : ℕ) → m < length (text_of rs) → Cut rs (whole_in (lens_of rs) m) (take m (text_of rs))) → Cut (r ∷ rs) (if b then 0 else suc (whole_in (lens_of rs) (n - length (reply_frame r)))) (take n (reply_frame r ++ text_of rs))
+    by : (b : Bool) → ltb n (length (reply_frame r)) ≡ b → ((m : ℕ) → m < length (replies_text rs) → Cut rs (whole_in (lens_of rs) m) (take m (replies_text rs))) → Cut (r ∷ rs) (if b then 0 else suc (whole_in (lens_of rs) (n - length (reply_frame r)))) (take n (reply_frame r ++ replies_text rs))
     by true e again = let within : n < length (reply_frame r) = ltb-true _ _ e in record {
       whole = [];
       next = r;
@@ -76,11 +76,11 @@ cut_text (r ∷ rs) n less = by (ltb n (length (reply_frame r))) refl (λ m l. c
       parts = refl;
       number = refl;
       less = within;
-      text = take-append-le n (reply_frame r) (text_of rs) (omega (arith, within));
+      text = take-append-le n (reply_frame r) (replies_text rs) (omega (arith, within));
     }
     by false e again =
         let long : length (reply_frame r) ≤ n = ltb-false _ _ e in
-        let rest : n - length (reply_frame r) < length (text_of rs) = omega (arith, long, less, length-append (reply_frame r) (text_of rs)) in
+        let rest : n - length (reply_frame r) < length (replies_text rs) = omega (arith, long, less, length-append (reply_frame r) (replies_text rs)) in
         let c = again (n - length (reply_frame r)) rest in
         let whole : n ≡ length (reply_frame r) + (n - length (reply_frame r)) = omega (arith, long) in
         record {
@@ -91,10 +91,10 @@ cut_text (r ∷ rs) n less = by (ltb n (length (reply_frame r))) refl (λ m l. c
           parts = ap (λ (l : List Reply). r ∷ l) c.parts;
           number = ap suc c.number;
           less = c.less;
-          text = ap (λ (j : ℕ). take j (reply_frame r ++ text_of rs)) whole
-              ∙ take-append-add (reply_frame r) (text_of rs) (n - length (reply_frame r))
+          text = ap (λ (j : ℕ). take j (reply_frame r ++ replies_text rs)) whole
+              ∙ take-append-add (reply_frame r) (replies_text rs) (n - length (reply_frame r))
               ∙ ap (λ (l : List ℕ). reply_frame r ++ l) c.text
-              ∙ sym (append_assoc (reply_frame r) (text_of c.whole) (take c.k (reply_frame c.next)));
+              ∙ sym (append_assoc (reply_frame r) (replies_text c.whole) (take c.k (reply_frame c.next)));
         }
 
 -- the lengths behind a place: the frame there is whole, or cut; there are none

@@ -9,7 +9,7 @@ use Rattle.std.proofs.KnownBytes.{Appends-nil, Appends-trans, Consumes-nil, Cons
 use borrow.Rule.Slice.PartMut.{put_mid}
 use Rattle.pl_wire.specs.Frames.{frame, frames_of, longest_request}
 use Rattle.pl_wire.specs.FrameWriting.{reply_frame}
-use Rattle.pl_conn.specs.Conversation.{Calls, Scene, scene, text_of}
+use Rattle.pl_conn.specs.Conversation.{Calls, Scene, scene, replies_text}
 use Rattle.pl_conn.specs.Resting.{Hears, Middle, Replies, Rests, Resumes, Speaks, Tells, middle}
 use Rattle.pl_conn.specs.Serving.{Reaches}
 use Rattle.pl_conn.specs.declared.cause.Cause.{Cause}
@@ -66,7 +66,7 @@ module _ {P : Type 0} (calls : Calls P) where
     read = first.read ∙ ap (λ l. frames_of first.bodies ++ l) then.read ∙ sym (append_assoc (frames_of first.bodies) (frames_of then.bodies) c.unread)
         ∙ ap (λ l. l ++ c.unread) (sym (flat_map-append frame first.bodies then.bodies));
     chain = answered_then calls p q r first.bodies then.bodies first.replies then.replies first.chain then.chain;
-    told = then.told ∙ ap (λ l. l ++ text_of then.replies) first.told ∙ append_assoc a.waiting (text_of first.replies) (text_of then.replies)
+    told = then.told ∙ ap (λ l. l ++ replies_text then.replies) first.told ∙ append_assoc a.waiting (replies_text first.replies) (replies_text then.replies)
         ∙ ap (λ l. a.waiting ++ l) (sym (flat_map-append reply_frame first.replies then.replies));
   }
 
@@ -164,7 +164,7 @@ module _ {P : Type 0} (calls : Calls P) where
             fits = s.replies.fits;
             read = ap (λ l. l ++ h.0) (sym t.3) ∙ sym h.2 ∙ s.replies.read;
             chain = s.replies.chain;
-            told = append_assoc t.0 s.said left.waiting ∙ ap (λ l. t.0 ++ l) s.replies.told ∙ ap (λ l. l ++ text_of s.replies.replies) (sym waited);
+            told = append_assoc t.0 s.said left.waiting ∙ ap (λ l. t.0 ++ l) s.replies.told ∙ ap (λ l. l ++ replies_text s.replies.replies) (sym waited);
           };
         }
 
@@ -234,7 +234,7 @@ module _ {P : Type 0} (calls : Calls P) where
     fits = r.fits;
     read = r.read;
     chain = r.chain;
-    told = ap (λ l. said ++ l) r.told ∙ sym (append_assoc said waits (text_of r.replies));
+    told = ap (λ l. said ++ l) r.told ∙ sym (append_assoc said waits (replies_text r.replies));
   }
 
   -- two turns are as one

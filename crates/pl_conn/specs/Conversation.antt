@@ -7,7 +7,7 @@ use Rattle.pl_table.specs.Request.{Query}
 use Rattle.pl_core.specs.declared.reply.Reply.{Reply}
 use Rattle.pl_core.specs.declared.reply.Reply.TheVariants as replies
 use Rattle.pl_core.specs.Reply.{FitsReply}
-use Rattle.pl_wire.specs.Codes.{code_of}
+use Rattle.pl_wire.specs.Codes.{body_fault_code}
 use Rattle.pl_wire.specs.FrameReading.{IsCut}
 use Rattle.pl_wire.specs.Frames.{frames_of, longest_request}
 use Rattle.pl_wire.specs.FrameWriting.{reply_frame}
@@ -20,8 +20,8 @@ use Rattle.pl_conn.specs.declared.cause.Cause.TheVariants as causes
 use Rattle.pl_conn.specs.declared.cause.ConnFault.{ConnFault}
 
 -- the frames of replies, one after the other
-abbrev pub text_of : List Reply → List ℕ
-text_of replies = flat_map reply_frame replies
+abbrev pub replies_text : List Reply → List ℕ
+replies_text replies = flat_map reply_frame replies
 
 -- which calls there may be: the pass before, the request, the reply, and the pass after
 abbrev pub Calls : Type 0 → Type 1
@@ -30,7 +30,7 @@ Calls P = P → Query → Reply → P → Type 0
 -- what was read as a request is called; for any other body the code of its fault is replied, without a call
 abbrev pub AnswersReading : {P : Type 0} → Calls P → Result Query WireFault → P → Reply → P → Type 0
 AnswersReading calls (Ok request) before reply after = calls before request reply after
-AnswersReading calls (Err fault) before reply after = (reply ≡ replies.Malformed (code_of fault)) × (after ≡ before)
+AnswersReading calls (Err fault) before reply after = (reply ≡ replies.Malformed (body_fault_code fault)) × (after ≡ before)
 
 -- a body that asks for memory finds none: there is no call
 abbrev pub LacksMemory : {P : Type 0} → List ℕ → P → Reply → P → Type 0
@@ -73,19 +73,19 @@ pub record Talks {P : Type 0} (calls : Calls P) (before after : Scene P) (talk :
   pub read : Consumes before.input after.input (frames_of talk.bodies ++ talk.part)
   pub chain : Answered calls before.pass talk.bodies (talk.whole ++ talk.others) after.pass
   pub fits : AllByRecursion FitsReply (talk.whole ++ talk.others)
-  pub written : Appends before.output after.output (text_of talk.whole ++ talk.cut)
+  pub written : Appends before.output after.output (replies_text talk.whole ++ talk.cut)
 
 -- all replies are written
 abbrev pub IsTold : Talk → Type 0
 IsTold talk = (talk.others ≡ []) × (talk.cut ≡ [])
 
 -- the length of a frame that is too long
-abbrev pub IsTooLong : List ℕ → Type 0
-IsTooLong bytes = (len : ℕ) × (longest_request < len) × (len < 2 ^ 32) × (bytes ≡ to_be_bytes w32 len)
+abbrev pub IsTooLongFrame : List ℕ → Type 0
+IsTooLongFrame bytes = (len : ℕ) × (longest_request < len) × (len < 2 ^ 32) × (bytes ≡ to_be_bytes w32 len)
 
 -- these replies may wait together: the frames of all but the last take less than 256 KiB
 abbrev pub MayWait : List Reply → Type 0
-MayWait replies = length (text_of (take (length replies - 1) replies)) < 262144
+MayWait replies = length (replies_text (take (length replies - 1) replies)) < 262144
 
 -- some reply is not written whole, though a beginning of it may be; it and those after it waited together
 abbrev pub IsToldInPart : Talk → Type 0
@@ -95,9 +95,9 @@ IsToldInPart talk = (next : Reply) × (more : List Reply) × (k : ℕ) × (talk.
 -- why it ended, and what was read and written then; left is what the reader has left
 abbrev pub Ends : Cause → Talk → Option (List ℕ) → Type 0
 Ends causes.Short talk left = IsTold talk × (0 < length talk.part) × IsCut longest_request talk.part × IsAtEnd left
-Ends causes.TooLong talk left = IsTold talk × IsTooLong talk.part
+Ends causes.TooLong talk left = IsTold talk × IsTooLongFrame talk.part
 Ends causes.Read talk left = IsTold talk × IsCut longest_request talk.part
-Ends causes.Write talk left = IsToldInPart talk × (IsCut longest_request talk.part ⊎ IsTooLong talk.part)
+Ends causes.Write talk left = IsToldInPart talk × (IsCut longest_request talk.part ⊎ IsTooLongFrame talk.part)
 Ends causes.NoMemory talk left = IsTold talk × IsCut longest_request talk.part
 
 -- all frames of the input are answered, or 2^32 of them; or some, and then a fault

@@ -7,12 +7,12 @@ use Rattle.pl_core.specs.History.{History}
 use Rattle.pl_core.specs.declared.reply.Reply.{Reply}
 use Rattle.pl_core.specs.declared.reply.Reply.TheVariants as replies
 use Rattle.pl_desk.specs.declared.rule.Terms.{Terms}
-use Rattle.pl_desk.specs.Passes.{Knowledge, Place, IsOf, IsSamePass, WasCalled, HasMet, fresh}
+use Rattle.pl_desk.specs.Passes.{Knowledge, DeskOrigin, IsOf, IsSamePass, WasCalled, HasMet, fresh}
 
 -- as many passes as desks, each of the desk at its place
-pub record AreOf (desks : List Place) (passes : List Knowledge) : Type 0 where
+pub record ArePassesOf (desks : List DeskOrigin) (passes : List Knowledge) : Type 0 where
   pub count : length passes ≡ length desks
-  pub each : (i : ℕ) (desk : Place) (pass : Knowledge)
+  pub each : (i : ℕ) (desk : DeskOrigin) (pass : Knowledge)
       → slice_get desks i ≡ Some desk → slice_get passes i ≡ Some pass → IsOf desk pass
 
 -- a call with the pass of its database: that pass was called, and the others are the same; where
@@ -40,11 +40,11 @@ terms_of_each seats turns dbs =
     map (λ db. record { seats = seats; turns = turns; opening = db }) dbs
 
 -- the fresh pass with a number of each desk
-abbrev pub fresh_at : List Place → ℕ → List Knowledge
+abbrev pub fresh_at : List DeskOrigin → ℕ → List Knowledge
 fresh_at desks number = map (λ desk. fresh desk number) desks
 
 -- this many of them, in the order of their numbers from 1 on
-abbrev pub all_fresh : List Place → ℕ → List (List Knowledge)
+abbrev pub all_fresh : List DeskOrigin → ℕ → List (List Knowledge)
 all_fresh desks seats = map (fresh_at desks) (range_with_len 1 seats)
 
 -- each list has the item at its place after its own, as far as there are items

@@ -8,13 +8,13 @@ use Rattle.pl_table.specs.Request.{Query}
 use Rattle.pl_core.specs.declared.reply.Reply.{Reply}
 use Rattle.pl_core.specs.declared.reply.Reply.TheVariants as replies
 use Rattle.pl_core.specs.Reply.{FitsReply}
-use Rattle.pl_wire.specs.Codes.{code_of}
+use Rattle.pl_wire.specs.Codes.{body_fault_code}
 use Rattle.pl_wire.specs.FrameReading.{StopsFrame}
 use Rattle.pl_wire.specs.Frames.{frames_of, longest_request}
 use Rattle.pl_wire.specs.FrameWriting.{reply_frame}
 use Rattle.pl_wire.specs.declared.fault.WireFault.{WireFault}
 use Rattle.pl_wire.specs.declared.frame_reading.FrameFault.{FrameFault}
-use Rattle.pl_conn.specs.Conversation.{Answered, Calls, Converses, MayWait, Scene, Talk, Talks, cause_of, text_of}
+use Rattle.pl_conn.specs.Conversation.{Answered, Calls, Converses, MayWait, Scene, Talk, Talks, cause_of, replies_text}
 use Rattle.pl_conn.specs.declared.cause.Cause.{Cause}
 use Rattle.pl_conn.specs.declared.cause.ConnFault.{ConnFault}
 
@@ -41,15 +41,15 @@ whole_in [] bytes = 0
 whole_in (len ∷ lens) bytes = if nat_lt bytes len then 0 else suc (whole_in lens (bytes - len))
 
 -- these replies wait
-pub record Holds (box : Box) (replies : List Reply) : Type 0 where
-  pub text : box.text ≡ text_of replies
+pub record HoldsReplies (box : Box) (replies : List Reply) : Type 0 where
+  pub text : box.text ≡ replies_text replies
   pub lens : box.lens ≡ map (λ reply. length (reply_frame reply)) replies
   pub few : MayWait replies
 
 -- a request is called; a fault, or that there was no memory, is replied without a call
 abbrev pub AnswersRead : {P : Type 0} → Calls P → Result Query (Failed WireFault) → P → Reply → P → Type 0
 AnswersRead calls (Ok request) before reply after = calls before request reply after
-AnswersRead calls (Err (Malformed fault)) before reply after = (reply ≡ replies.Malformed (code_of fault)) × (after ≡ before)
+AnswersRead calls (Err (Malformed fault)) before reply after = (reply ≡ replies.Malformed (body_fault_code fault)) × (after ≡ before)
 AnswersRead calls (Err NoMemory) before reply after = (reply ≡ replies.NoMemory) × (after ≡ before)
 
 -- The bytes are frames, which are answered, in order, a chain of calls; their replies wait after those that waited.
@@ -60,13 +60,13 @@ pub record Gathers {P : Type 0} (calls : Calls P) (before : P) (bytes : List ℕ
   pub fits : AllByRecursion FitsReply replies
   pub read : bytes ≡ frames_of bodies
   pub chain : Answered calls before bodies replies after
-  pub waits : (front : List Reply) → Holds box front → Holds left (front ++ replies)
+  pub waits : (front : List Reply) → HoldsReplies box front → HoldsReplies left (front ++ replies)
 
 -- the next frame is answered, and its reply waits; or the input is at its end; or there is no frame
-abbrev pub Takes : {P : Type 0} → Calls P → Option (List ℕ) → P → Box → Option (List ℕ) → P → Box → Result Bool Cause → Type 0
-Takes calls input before box rest after left (Ok true) = (bytes : List ℕ) × Consumes input rest bytes × Gathers calls before bytes box after left
-Takes calls input before box rest after left (Ok false) = (after ≡ before) × Consumes input rest [] × IsAtEnd rest
-Takes calls input before box rest after left (Err cause) = (after ≡ before)
+abbrev pub TakesFrame : {P : Type 0} → Calls P → Option (List ℕ) → P → Box → Option (List ℕ) → P → Box → Result Bool Cause → Type 0
+TakesFrame calls input before box rest after left (Ok true) = (bytes : List ℕ) × Consumes input rest bytes × Gathers calls before bytes box after left
+TakesFrame calls input before box rest after left (Ok false) = (after ≡ before) × Consumes input rest [] × IsAtEnd rest
+TakesFrame calls input before box rest after left (Err cause) = (after ≡ before)
     × ((fault : FrameFault) × (cause ≡ cause_of fault) × StopsFrame longest_request input rest fault)
 
 -- a conversation of which nothing waits

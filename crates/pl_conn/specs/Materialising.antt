@@ -37,16 +37,16 @@ abbrev pub goes_on : Reply → Bool
 goes_on reply = is_done reply || is_some (told_epoch reply)
 
 -- the epoch that was told last, where the newest reply is first; 1 where none was told
-abbrev pub epoch_after : List Reply → ℕ
-epoch_after [] = 1
-epoch_after (reply ∷ earlier) = unwrap_or (told_epoch reply) (epoch_after earlier)
+abbrev pub last_told_epoch : List Reply → ℕ
+last_told_epoch [] = 1
+last_told_epoch (reply ∷ earlier) = unwrap_or (told_epoch reply) (last_told_epoch earlier)
 
 -- calls with these replies, the newest first, lead from one pass to the other; each call makes the
 -- request at the epoch that had been told before it
 abbrev pub Asks : {P : Type 0} → (P → Query → Reply → P → Type 0) → (ℕ → Query) → P → List Reply → P → Type 0
 Asks calls request before [] after = after ≡ before
 Asks calls request before (reply ∷ earlier) after =
-    (now : _) × Asks calls request before earlier now × calls now (request (epoch_after earlier)) reply after
+    (now : _) × Asks calls request before earlier now × calls now (request (last_told_epoch earlier)) reply after
 
 -- At most this many calls are made. Only the last reply may be one after which no round follows, and
 -- fewer calls are made only after such a reply. The replies of Done are counted, and the epoch is the
@@ -58,7 +58,7 @@ pub record Works {P : Type 0} (calls : P → Query → Reply → P → Type 0) (
   pub onward : AllByRecursion (λ reply. IsTrue (goes_on reply)) (drop 1 replies)
   pub ended : AllByRecursion (λ reply. IsTrue (goes_on reply)) replies → length replies ≡ rounds
   pub done : worked.done ≡ count_by is_done replies
-  pub epoch : worked.epoch ≡ epoch_after replies
+  pub epoch : worked.epoch ≡ last_told_epoch replies
 
 -- one round: its call, what is known after it, and whether another may follow
 pub record Round {P : Type 0} (calls : P → Query → Reply → P → Type 0) (request : ℕ → Query) (before : P) (old new : Worked) (more : Bool) (after : P) : Type 0 where

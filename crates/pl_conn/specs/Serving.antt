@@ -24,7 +24,7 @@ Returned calls (given ∷ others) [] = ⊥
 Returned calls (given ∷ others) (pass ∷ passes) = Reaches calls given pass × Returned calls others passes
 
 -- what is so once all connections are served: the passes that come back are those of the first workers, in order
-pub record Serves {P : Type 0} (calls : Calls P) (owns : P → Type 0) (given : List P) (connections accepted : ℕ) (stop : Stop) (passes : List P) : Type 0 where
+pub record ServesConnections {P : Type 0} (calls : Calls P) (owns : P → Type 0) (given : List P) (connections accepted : ℕ) (stop : Stop) (passes : List P) : Type 0 where
   pub most : accepted ≤ connections
   pub limit : stop ≡ stops.Limit → accepted ≡ connections
   pub none : stop ≡ stops.Start → (accepted ≡ 0) × (passes ≡ [])

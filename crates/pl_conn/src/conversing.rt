@@ -5,7 +5,7 @@ ghost use Rattle.pl_block.specs.declared.fault.Failed.TheVariants.{NoMemory};
 ghost use Rattle.pl_block.specs.Faults.{Returns};
 ghost use Rattle.pl_wire.specs.Reading.{MayLackMemory, request_reading};
 ghost use Rattle.pl_conn.specs.Conversation.{Converses, scene};
-ghost use Rattle.pl_conn.specs.Gathering.{MayGather, Takes, Turns};
+ghost use Rattle.pl_conn.specs.Gathering.{MayGather, TakesFrame, Turns};
 
 use crate::answering::{answer, answer_first, answer_whole, write_ready};
 use crate::cause::{Cause, ConnFault, cause_of};
@@ -33,7 +33,7 @@ fn request_in(alloc: Global, body: Vec<u8>) -> Result<Request, BodyFault>
     }
 }
 
-// Takes the next frame and answers it: where it lies, if all of it is buffered, and else by reads. The reply has its
+// TakesFrame the next frame and answers it: where it lies, if all of it is buffered, and else by reads. The reply has its
 // room before the request has its step. False at the end of input.
 #[tactic(auto, using(crate::proofs::Gathered::takes_at_hand, crate::proofs::Gathered::takes_fault))]
 fn take_next<R: Source, G: Gate>(
@@ -46,7 +46,7 @@ fn take_next<R: Source, G: Gate>(
     requires own { G.owns gate.now pass.old }
     requires room { MayGather outbox.old }
     ensures own { G.owns gate.now pass.new }
-    ensures takes { Takes (G.calls gate.now) (R.remaining reader.old) pass.old outbox.old
+    ensures takes { TakesFrame (G.calls gate.now) (R.remaining reader.old) pass.old outbox.old
         (R.remaining reader.new) pass.new outbox.new result }
     ensures one { result ≡ Ok true → length outbox.new.lens ≡ length outbox.old.lens + 1 }
 {

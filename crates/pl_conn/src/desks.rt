@@ -2,7 +2,7 @@
 
 ghost use Rattle.std.specs.Prelude.{◌≡◌, ◌≤◌, ◌^◌, ◌++◌, ◌∷◌, [], map, length, vec_len, replicate, IfOk, OnOk};
 ghost use Rattle.std.specs.List.{All};
-ghost use Rattle.pl_conn.specs.Desks.{AreOf, DesksCall, HaveMet, dealt, terms_of_each, all_fresh};
+ghost use Rattle.pl_conn.specs.Desks.{ArePassesOf, DesksCall, HaveMet, dealt, terms_of_each, all_fresh};
 
 use crate::gate::Gate;
 use pl_core::{Db, Reply};
@@ -26,9 +26,9 @@ pub struct Desks<R> {
 
 impl<R> Model for Desks<R> {
     ghost use Rattle.std.specs.Prelude.{List};
-    ghost use Rattle.pl_desk.specs.Passes.{Place};
+    ghost use Rattle.pl_desk.specs.Passes.{DeskOrigin};
 
-    ghost Value = { List Place };
+    ghost Value = { List DeskOrigin };
 
     ghost view = { λ d. d.desks.items };
 }
@@ -86,9 +86,9 @@ fn deal(all: &mut Vec<Passes>, mut passes: Vec<Pass>) -> Result<(), AllocError>
 
 // At each desk the pass meets the other.
 fn meet_each(desks: &[Desk], passes: &mut [Pass], mut others: Vec<Pass>)
-    requires of { AreOf desks.now passes.old }
-    requires others { AreOf desks.now others.items }
-    ensures of { AreOf desks.now passes.new }
+    requires of { ArePassesOf desks.now passes.old }
+    requires others { ArePassesOf desks.now others.items }
+    ensures of { ArePassesOf desks.now passes.new }
     ensures met { HaveMet passes.old others.items passes.new }
 {
     while let Some(other) = others.pop() {
@@ -125,8 +125,8 @@ impl<R> Desks<R> {
         // As many `Passes` as seats, in the order of their numbers from 1, each with the fresh pass
         // of that number of each desk.
         ensures passes { IfOk result (λ r. r.1.items ≡ all_fresh r.0 seats) }
-        // All of them are of these desks (`AreOf`).
-        ensures of { IfOk result (λ r. All (AreOf r.0) r.1.items) }
+        // All of them are of these desks (`ArePassesOf`).
+        ensures of { IfOk result (λ r. All (ArePassesOf r.0) r.1.items) }
     {
         let mut all = empty_passes(alloc, seats)?;
         let mut desks = Vec::with_capacity(alloc, dbs.len())?;
@@ -141,14 +141,14 @@ impl<R> Desks<R> {
         Ok((Desks { rt, desks }, all))
     }
 
-    /// Takes in other passes: at each desk the first pass has then seen what both had. It neither
+    /// TakesFrame in other passes: at each desk the first pass has then seen what both had. It neither
     /// waits nor takes a turn.
     pub fn meet(&self, passes: &mut Passes, other: Passes)
         // Both passes are of these desks.
-        requires of { AreOf self.now passes.old }
-        requires other { AreOf self.now other }
+        requires of { ArePassesOf self.now passes.old }
+        requires other { ArePassesOf self.now other }
         // The passes are of these desks.
-        ensures of { AreOf self.now passes.new }
+        ensures of { ArePassesOf self.now passes.new }
         // At each desk the pass has met the other one, as `Desk::meet` says, and is the same pass
         // (`HaveMet`).
         ensures met { HaveMet passes.old other passes.new }
@@ -162,7 +162,7 @@ impl<R: Wait> Gate for Desks<R> {
     type Pass = Passes;
 
     // The passes of these desks.
-    ghost owns = { AreOf };
+    ghost owns = { ArePassesOf };
 
     // The pass of the database that the head names was called, as `Desk::call` says, and the other
     // passes stay. `NoDatabase` comes exactly where there is none of that number, and then all

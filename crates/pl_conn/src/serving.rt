@@ -2,7 +2,7 @@
 
 ghost use Rattle.std.specs.Prelude.{◌≡◌, ◌≢◌, ◌≤◌, [], IfSome, take, vec_len, vec_capacity};
 ghost use Rattle.std.specs.List.{All};
-ghost use Rattle.pl_conn.specs.Serving.{Reaches, Returned, Serves};
+ghost use Rattle.pl_conn.specs.Serving.{Reaches, Returned, ServesConnections};
 ghost use Rattle.pl_conn.specs.Workers.{AllOf, each_of};
 
 use crate::accepting::accept;
@@ -311,7 +311,7 @@ fn serve_in<'s, E, R: Threads + Wait + Sync, G: Gate + Sync, W: Watch>(
 where
     G::Pass: Send + Drop + 's,
     requires own { All (G.owns gate.now) passes.items }
-    ensures serves { Serves (G.calls gate.now) (G.owns gate.now) passes.items connections
+    ensures serves { ServesConnections (G.calls gate.now) (G.owns gate.now) passes.items connections
         result.accepted result.stop result.passes.items }
 {
     let (Ok(workers), Ok(ended)) = (
@@ -344,7 +344,7 @@ where
     }
 }
 
-/// Serves connections, with one worker thread for each pass, until this many were accepted; then it waits
+/// ServesConnections connections, with one worker thread for each pass, until this many were accepted; then it waits
 /// for the workers to end. A worker serves all the connections that it was given, each as [`Conversation`] says: it
 /// reads what is there, answers the frames that are whole, and writes what the socket takes. A new connection goes
 /// to the worker that has the fewest. So one that is silent, or does not read its replies, holds up no other; a call
@@ -380,14 +380,14 @@ where
     requires own { All (G.owns gate.now) passes.items }
     // At most `connections` are accepted, and exactly that many if the stop is `Limit`; at `Start`
     // none, and no pass is returned. The returned passes are a prefix of those given, in order,
-    // each after a list of the gate's calls, and are the gate's (`Serves`).
-    ensures serves { Serves (G.calls gate.now) (G.owns gate.now) passes.items connections
+    // each after a list of the gate's calls, and are the gate's (`ServesConnections`).
+    ensures serves { ServesConnections (G.calls gate.now) (G.owns gate.now) passes.items connections
         result.accepted result.stop result.passes.items }
 {
     serve_watched(rt, alloc, listener, gate, passes, connections, &Unwatched)
 }
 
-/// Serves as [`serve`] does, and tells the watch what it cannot do meanwhile.
+/// ServesConnections as [`serve`] does, and tells the watch what it cannot do meanwhile.
 pub fn serve_watched<R: Threads + Wait + Net + Sync, G: Gate + Sync, W: Watch>(
     rt: &R,
     alloc: Global,
@@ -403,8 +403,8 @@ where
     requires own { All (G.owns gate.now) passes.items }
     // At most `connections` are accepted, and exactly that many if the stop is `Limit`; at `Start`
     // none, and no pass is returned. The returned passes are a prefix of those given, in order,
-    // each after a list of the gate's calls, and are the gate's (`Serves`).
-    ensures serves { Serves (G.calls gate.now) (G.owns gate.now) passes.items connections
+    // each after a list of the gate's calls, and are the gate's (`ServesConnections`).
+    ensures serves { ServesConnections (G.calls gate.now) (G.owns gate.now) passes.items connections
         result.accepted result.stop result.passes.items }
 {
     let Ok(staff) = Staff::hire(rt, alloc, passes.len()) else {
@@ -421,7 +421,7 @@ where
         rt,
         move |scope| -> Served<G::Pass>
             requires own { All (G.owns gate.now) passes.items }
-            ensures serves { Serves (G.calls gate.entry.now) (G.owns gate.entry.now) passes.items
+            ensures serves { ServesConnections (G.calls gate.entry.now) (G.owns gate.entry.now) passes.items
                 connections result.accepted result.stop result.passes.items }
         {
             serve_in(

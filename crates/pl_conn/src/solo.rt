@@ -20,9 +20,9 @@ pub struct SoloPass {
 }
 
 impl Model for SoloPass {
-    ghost use Rattle.pl_conn.specs.Solo.{Holding};
+    ghost use Rattle.pl_conn.specs.Solo.{HeldDatabases};
 
-    ghost Value = { Holding };
+    ghost Value = { HeldDatabases };
 
     ghost view = { λ p. record { dbs = p.dbs.items; number = p.number } };
 }

@@ -9,7 +9,7 @@ use Rattle.pl_audit.specs.declared.audit.Entry.{Entry as KeptEntry}
 use Rattle.pl_core.specs.History.{Effect, advanced, Entry, Start, History, grown}
 use Rattle.pl_core.specs.Log.{hardened_log, hard_of}
 use Rattle.pl_core.specs.Applied.{applied_by, applied_after, applied_of}
-use Rattle.pl_core.specs.Keeping.{history_kept, Holds, HoldsPages, IsKept, IsSound}
+use Rattle.pl_core.specs.Keeping.{history_kept, HoldsLog, HoldsPages, DbInvariant, PartsAgree}
 use Rattle.pl_core.specs.Laws.{AppliedLsnsOnlyRise}
 use Rattle.pl_core.specs.Performing.{PagesFollow, with_unseen, applied_then}
 use Rattle.pl_decide.specs.Agreement.{AgreesWith}
@@ -59,7 +59,7 @@ applied-then f h kept partition hard applied =
     ap (λ (n : ℕ). applied_by f n partition (applied_at kept.pages partition)) hard ∙ ap (applied_by f (hard_of h) partition) applied
 
 -- so it does after a request
-pub holds_pages : FitsLongerLogs → (h : History) (e : Entry) (kept : Kept) (pages : PagesState) → Holds h kept.log → HoldsPages h kept.pages → PagesFollow kept (λ p. applied_then e.effect kept p) pages → HoldsPages (grown h e) pages
+pub holds_pages : FitsLongerLogs → (h : History) (e : Entry) (kept : Kept) (pages : PagesState) → HoldsLog h kept.log → HoldsPages h kept.pages → PagesFollow kept (λ p. applied_then e.effect kept p) pages → HoldsPages (grown h e) pages
 holds_pages law h e kept pages log held follow =
     let more = (only_grow h e).log in
     let here : FitsLog pages (hardened_log h) = subst (λ (l : List Content). FitsLog pages l) log.hardened follow.fits in
@@ -74,12 +74,12 @@ history-moved : (start : Start) (kept : Kept) (entries : List KeptEntry) (pages 
 history-moved start kept entries pages in_broker = ap (λ (xs : List Entry). record { start = start; entries = xs }) (sym (entries-moved kept.log in_broker entries))
 
 -- and after one that had no memory
-pub still_kept : (start : Start) (kept : Kept) (entries : List KeptEntry) (pages : PagesState) (in_broker : ℕ) → IsKept start kept entries → PagesFollow kept (λ p. applied_at kept.pages p) pages → IsKept start (with_unseen kept pages in_broker) entries
+pub still_kept : (start : Start) (kept : Kept) (entries : List KeptEntry) (pages : PagesState) (in_broker : ℕ) → DbInvariant start kept entries → PagesFollow kept (λ p. applied_at kept.pages p) pages → DbInvariant start (with_unseen kept pages in_broker) entries
 still_kept start kept entries pages in_broker sound follow =
     let same = history-moved start kept entries pages in_broker in
     record {
       legal = subst IsLegal same sound.legal;
-      log = holds_moved _ kept.log in_broker (subst (λ (h : History). Holds h kept.log) same sound.log);
+      log = holds_moved _ kept.log in_broker (subst (λ (h : History). HoldsLog h kept.log) same sound.log);
       pages = subst (λ (h : History). HoldsPages h pages) same (record {
         fits = subst (λ (l : List Content). FitsLog pages l) sound.log.hardened follow.fits;
         applied = λ p. follow.applied_are p ∙ sound.pages.applied p;
@@ -90,13 +90,13 @@ still_kept start kept entries pages in_broker sound follow =
     }
 
 -- with a place reserved in the audit list
-pub still_sound : (start : Start) (kept after : Kept) (before audit : AuditList) (verdicts : List CachedVerdict) → IsSound start kept before verdicts → after ≡ with_unseen kept after.pages after.log.in_broker → PagesFollow kept (λ p. applied_at kept.pages p) after.pages
-    → audit ≡ record before { reserved = true } → IsSound start after audit verdicts
+pub still_sound : (start : Start) (kept after : Kept) (before audit : AuditList) (verdicts : List CachedVerdict) → PartsAgree start kept before verdicts → after ≡ with_unseen kept after.pages after.log.in_broker → PagesFollow kept (λ p. applied_at kept.pages p) after.pages
+    → audit ≡ record before { reserved = true } → PartsAgree start after audit verdicts
 still_sound start kept after before audit verdicts sound after-is follow audit-is =
     let same = history-moved start kept before.entries after.pages after.log.in_broker in
-    let here : IsSound start (with_unseen kept after.pages after.log.in_broker) (record before { reserved = true }) verdicts = record {
+    let here : PartsAgree start (with_unseen kept after.pages after.log.in_broker) (record before { reserved = true }) verdicts = record {
       history = still_kept start kept before.entries after.pages after.log.in_broker sound.history follow;
       limit = sound.limit;
       agrees = subst (λ (h : History). AgreesWith verdicts (table_of h)) same sound.agrees;
     } in
-    subst (λ (a : AuditList). IsSound start after a verdicts) (sym audit-is) (subst (λ (k : Kept). IsSound start k (record before { reserved = true }) verdicts) (sym after-is) here)
+    subst (λ (a : AuditList). PartsAgree start after a verdicts) (sym audit-is) (subst (λ (k : Kept). PartsAgree start k (record before { reserved = true }) verdicts) (sym after-is) here)

@@ -4,7 +4,7 @@
 ghost use Rattle.pl_core.specs.Laws.{DenialsChangeNothing, DeniedChangesNothing, LogsOnlyGrow};
 ghost use Rattle.pl_core.specs.Laws.{ReadsReachAsRowsAllow, ReachesAreHardened, ReadsAboveAreDenied};
 ghost use Rattle.pl_core.specs.Laws.{AppliedLsnsOnlyRise, PagesAreReplays, GetsAreRepeatable};
-ghost use Rattle.pl_core.specs.Laws.{ServedBlocksAreHardened, HardenedBlocksAreNumbered, HardenedBlocksAreBlocks, PullsMissNothing, PullsJoin};
+ghost use Rattle.pl_core.specs.Laws.{ServedBlocksAreHardened, HardenedBlocksAreNumbered, HardenedBlocksAreBlocks, PullsMissNothing, HistoryPullsJoin};
 ghost use Rattle.pl_core.specs.Laws.{OlderEpochsAreFenced, HistoriesStayLegal};
 ghost use Rattle.pl_core.specs.Laws.{NothingStandsAboveTheWindow, RunsEndInTheWindow};
 ghost use Rattle.pl_core.specs.Laws.{FullListsAreTold, UnknownPrincipalsAreTold, NoMemoryChangesNothing, StepsReplyTheirOwn};
@@ -110,7 +110,7 @@ pub fn pulls_miss_nothing()
 pub fn pulls_join()
     // Two pulls in a row serve what one would up to the reach of the second, also of a log that has
     // grown in between, and by another table.
-    ensures same { PullsJoin }
+    ensures same { HistoryPullsJoin }
 {
     order_laws();
     pl_log::laws::pulls_join();

@@ -20,7 +20,7 @@ use Rattle.pl_decide.specs.declared.rule.Rule.TheVariants as rules
 use Rattle.pl_decide.specs.declared.view.Epochs.{Epochs}
 use Rattle.pl_decide.specs.declared.view.View.{View}
 use Rattle.pl_decide.specs.Asked.{is_known}
-use Rattle.pl_decide.specs.Rules.{stands_against, place_of}
+use Rattle.pl_decide.specs.Rules.{stands_against, rule_place}
 use Rattle.pl_decide.specs.WrittenOrder.{section_a, section_b, section_c, order_of, first_denial, decision, NoneStands}
 use Rattle.pl_decide.specs.Laws.{RowsAllowTheAllowed, AllowedMeetsNoRule, AllowedMayBeServed, MayBeServed, is_unknown, KnownIsNotUnknown}
 use Rattle.pl_decide.proofs.FirstDenial.{passes, allowed_exactly, denied_by_the_first}
@@ -140,7 +140,7 @@ abbrev tells_unknown : Verdict → Bool
 tells_unknown verdicts.Allowed = false
 tells_unknown (verdicts.Denied section row value) = is_unknown section row
 
-named : (rule : Rule) (q : Query) (t : WrittenTable) (e : Epochs) (v : View) → is_known t q.head ≡ true → stands_against rule q t e v ≡ true → is_unknown (place_of rule).0 (place_of rule).1 ≡ false
+named : (rule : Rule) (q : Query) (t : WrittenTable) (e : Epochs) (v : View) → is_known t q.head ≡ true → stands_against rule q t e v ≡ true → is_unknown (rule_place rule).0 (rule_place rule).1 ≡ false
 named rules.UnknownPrincipal q t e v known stands = absurd (let clash : false ≡ true = sym (ap not known) ∙ stands in cc)
 named rules.OlderEpoch q t e v known stands = refl
 named rules.NewerEpoch q t e v known stands = refl

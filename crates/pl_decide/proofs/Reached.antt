@@ -17,7 +17,7 @@ use Rattle.pl_decide.specs.declared.rule.Rule.{Rule}
 use Rattle.pl_decide.specs.declared.rule.Rule.TheVariants as rules
 use Rattle.pl_decide.specs.declared.view.Epochs.{Epochs}
 use Rattle.pl_decide.specs.declared.view.View.{View}
-use Rattle.pl_decide.specs.Asked.{reads_the_log, copy_of, primary_named, text_of, act_at}
+use Rattle.pl_decide.specs.Asked.{reads_the_log, copy_of, primary_named, text_in_act, act_at}
 use Rattle.pl_decide.specs.Rules.{stands_against, denial}
 use Rattle.pl_decide.specs.WrittenOrder.{section_a, section_b, section_c, order_of, first_denial, decision, NoneStands}
 use Rattle.pl_decide.specs.Laws.{ReadsReachTheEnd, RequestsAskAt}
@@ -36,7 +36,7 @@ record IsSameActAs (a b : Act) : Type 0 where
   block : block_of a ≡ block_of b
   copy : copy_of a ≡ copy_of b
   primary : primary_named a ≡ primary_named b
-  text : text_of a ≡ text_of b
+  text : text_in_act a ≡ text_in_act b
 
 -- A rule stands against both of two such acts, or against neither; or it is a rule on the rows, and does not
 -- stand where they allow; or it is the one on the hardened end.

@@ -82,18 +82,18 @@ primary_named (acts.Audit first max) = None
 primary_named acts.Tidy = None
 
 -- the text that an act has
-abbrev pub text_of : Act → Option (List ℕ)
-text_of (acts.Write copy block) = None
-text_of (acts.Offer block) = None
-text_of (acts.Report lsn) = None
-text_of (acts.Get page lsn exact) = None
-text_of (acts.Pull lo hi lsn max) = None
-text_of (acts.Advance partition steps) = None
-text_of acts.Status = None
-text_of (acts.Failover primary) = None
-text_of (acts.SetTable text) = Some text
-text_of (acts.Audit first max) = None
-text_of acts.Tidy = None
+abbrev pub text_in_act : Act → Option (List ℕ)
+text_in_act (acts.Write copy block) = None
+text_in_act (acts.Offer block) = None
+text_in_act (acts.Report lsn) = None
+text_in_act (acts.Get page lsn exact) = None
+text_in_act (acts.Pull lo hi lsn max) = None
+text_in_act (acts.Advance partition steps) = None
+text_in_act acts.Status = None
+text_in_act (acts.Failover primary) = None
+text_in_act (acts.SetTable text) = Some text
+text_in_act (acts.Audit first max) = None
+text_in_act acts.Tidy = None
 
 -- the number of the fault for which a text is no table, or 0
 abbrev pub fault_code : Result WrittenTable TableFault → ℕ

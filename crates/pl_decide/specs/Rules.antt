@@ -20,7 +20,7 @@ use Rattle.pl_decide.specs.declared.view.Epochs.{Epochs}
 use Rattle.pl_decide.specs.declared.view.View.{View}
 use Rattle.pl_table.specs.Acts.{number_of, block_of}
 use Rattle.pl_table.specs.Asking.{asked_in}
-use Rattle.pl_decide.specs.Asked.{is_some_and, is_known, none_matches, denies_first, reads_the_log, copy_of, primary_named, text_of, fault_code, last_epoch}
+use Rattle.pl_decide.specs.Asked.{is_some_and, is_known, none_matches, denies_first, reads_the_log, copy_of, primary_named, text_in_act, fault_code, last_epoch}
 
 -- a rule stands against a request
 abbrev pub stands_against : Rule → Query → WrittenTable → Epochs → View → Bool
@@ -42,29 +42,29 @@ stands_against rules.OtherContent q t e v = is_some (block_of q.act) && not v.ag
 stands_against rules.NoSuchCopy q t e v = is_some_and (copy_of q.act) (λ copy. nat_le v.copies copy)
 stands_against rules.BelowQuorum q t e v = same_op (op_of q.act) ops.Report && not v.can_harden
 stands_against rules.NoTable q t e v =
-    is_some_and (text_of q.act) (λ text. not (is_ok (table_reading text)))
+    is_some_and (text_in_act q.act) (λ text. not (is_ok (table_reading text)))
 stands_against rules.UnlistedPrimary q t e v =
     is_some_and (primary_named q.act) (λ id. is_none (token_of id t.principals))
 stands_against rules.LastEpoch q t e v = same_op (op_of q.act) ops.Failover && e.epoch == last_epoch
 
 -- the section of a rule, and its number there
-abbrev pub place_of : Rule → Section × ℕ
-place_of rules.UnknownPrincipal = (sections.A, 1)
-place_of rules.OlderEpoch = (sections.A, 2)
-place_of rules.NewerEpoch = (sections.A, 3)
-place_of rules.OtherPrimary = (sections.A, 4)
-place_of rules.RoleLacksOperation = (sections.A, 5)
-place_of (rules.TableRow row) = (sections.B, row)
-place_of rules.NoRowMatches = (sections.B, 0)
-place_of rules.AboveTheEnd = (sections.C, 1)
-place_of rules.HardenedAlready = (sections.C, 2)
-place_of rules.AboveTheWindow = (sections.C, 3)
-place_of rules.OtherContent = (sections.C, 4)
-place_of rules.NoSuchCopy = (sections.C, 5)
-place_of rules.BelowQuorum = (sections.C, 6)
-place_of rules.NoTable = (sections.C, 7)
-place_of rules.UnlistedPrimary = (sections.C, 8)
-place_of rules.LastEpoch = (sections.C, 9)
+abbrev pub rule_place : Rule → Section × ℕ
+rule_place rules.UnknownPrincipal = (sections.A, 1)
+rule_place rules.OlderEpoch = (sections.A, 2)
+rule_place rules.NewerEpoch = (sections.A, 3)
+rule_place rules.OtherPrimary = (sections.A, 4)
+rule_place rules.RoleLacksOperation = (sections.A, 5)
+rule_place (rules.TableRow row) = (sections.B, row)
+rule_place rules.NoRowMatches = (sections.B, 0)
+rule_place rules.AboveTheEnd = (sections.C, 1)
+rule_place rules.HardenedAlready = (sections.C, 2)
+rule_place rules.AboveTheWindow = (sections.C, 3)
+rule_place rules.OtherContent = (sections.C, 4)
+rule_place rules.NoSuchCopy = (sections.C, 5)
+rule_place rules.BelowQuorum = (sections.C, 6)
+rule_place rules.NoTable = (sections.C, 7)
+rule_place rules.UnlistedPrimary = (sections.C, 8)
+rule_place rules.LastEpoch = (sections.C, 9)
 
 -- the value that the denial of a rule reports: the epoch, the hardened end, a fault, or nothing
 abbrev pub value_of : Rule → Act → Epochs → View → ℕ
@@ -82,10 +82,10 @@ value_of rules.OtherContent act e v = 0
 value_of rules.NoSuchCopy act e v = 0
 value_of rules.BelowQuorum act e v = v.hard
 value_of rules.NoTable act e v =
-    option_map_or (λ text. fault_code (table_reading text)) (text_of act) 0
+    option_map_or (λ text. fault_code (table_reading text)) (text_in_act act) 0
 value_of rules.UnlistedPrimary act e v = 0
 value_of rules.LastEpoch act e v = 0
 
 -- the denial of a rule
 abbrev pub denial : Rule → Act → Epochs → View → Verdict
-denial rule act e v = verdicts.Denied (place_of rule).0 (place_of rule).1 (value_of rule act e v)
+denial rule act e v = verdicts.Denied (rule_place rule).0 (rule_place rule).1 (value_of rule act e v)

@@ -1,7 +1,7 @@
 //! The rules of the written order, by name.
 
 ghost use Rattle.std.specs.Prelude.{◌≡◌};
-ghost use Rattle.pl_decide.specs.Rules.{place_of};
+ghost use Rattle.pl_decide.specs.Rules.{rule_place};
 
 use pl_table::{Section, Verdict};
 
@@ -45,23 +45,23 @@ pub enum Rule {
 impl Rule {
     /// The section in which the rule stands.
     pub fn section(self) -> Section
-        // The section of the rule (`place_of`).
-        ensures value { result ≡ (place_of self).0 }
+        // The section of the rule (`rule_place`).
+        ensures value { result ≡ (rule_place self).0 }
     {
         self.place().0
     }
 
     /// The number of the rule in its section, from 1; [`NoRowMatches`](Rule::NoRowMatches) has 0.
     pub fn number(self) -> u16
-        // The number of the rule in its section (`place_of`).
-        ensures value { result ≡ (place_of self).1 }
+        // The number of the rule in its section (`rule_place`).
+        ensures value { result ≡ (rule_place self).1 }
     {
         self.place().1
     }
 
     // The denial, with the value that it reports.
     pub(crate) fn denial(self, value: u64) -> Verdict
-        ensures value { result ≡ Verdict.Denied (place_of self).0 (place_of self).1 value }
+        ensures value { result ≡ Verdict.Denied (rule_place self).0 (rule_place self).1 value }
     {
         let (section, row) = self.place();
         Verdict::Denied {
@@ -72,7 +72,7 @@ impl Rule {
     }
 
     fn place(self) -> (Section, u16)
-        ensures value { result ≡ place_of self }
+        ensures value { result ≡ rule_place self }
     {
         match self {
             Rule::UnknownPrincipal => (Section::A, 1),

@@ -12,7 +12,7 @@ use Rattle.pl_desk.specs.Growth.{GoesOn, own_entries}
 use Rattle.atomic_table.specs.Seated.{TableId}
 use Rattle.pl_desk.specs.declared.rule.Stage.TheVariants.{Idle}
 use Rattle.pl_desk.specs.declared.rule.View.{View}
-use Rattle.pl_desk.specs.Rule.{IsSound, IsAhead, HasBoth}
+use Rattle.pl_desk.specs.Rule.{GoesOnFrom, IsAhead, HasBoth}
 use Rattle.pl_core.specs.Step.{IsStep}
 use Rattle.pl_desk.specs.Steps.{at_stage, longer, meeting}
 use Rattle.pl_desk.specs.Passes.{Knowledge, knowledge_of, entries_made, HadTurn, WasCalled, HasMet}
@@ -53,7 +53,7 @@ had_turn p request reply found now drawn some few ahead step legal less =
     }
 
 pub called : (p : Knowledge) (request : Query) (reply : Reply) (found now : History) (drawn : ℕ) → 1 ≤ p.number → p.number ≤ p.terms.seats
-    → p.drawn ≤ drawn → IsSound p.terms p.seen → IsAhead p.terms p.number p.seen found → IsStep p.number request found reply now → IsLegal now
+    → p.drawn ≤ drawn → GoesOnFrom p.terms p.seen → IsAhead p.terms p.number p.seen found → IsStep p.number request found reply now → IsLegal now
     → reply ≢ replies.Spent → drawn < p.terms.turns
     → WasCalled p request reply record { desk = p.desk; terms = p.terms; number = p.number; seen = now; drawn = drawn }
 called p request reply found now drawn some few more sound ahead step legal decided less = record {
@@ -65,7 +65,7 @@ called p request reply found now drawn some few more sound ahead step legal deci
 
 -- ---- a meeting
 
-pub met : (desk desk' : TableId) (v w : View) → IsSound v.terms (longer v.seen w.seen) → HasBoth v.terms v.number w.number v.seen w.seen (longer v.seen w.seen)
+pub met : (desk desk' : TableId) (v w : View) → GoesOnFrom v.terms (longer v.seen w.seen) → HasBoth v.terms v.number w.number v.seen w.seen (longer v.seen w.seen)
     → HasMet (knowledge_of desk v) (knowledge_of desk' w) (knowledge_of desk (at_stage Idle (meeting v w)))
 met desk desk' v w sound both =
     record { sound = sound; left = both.left; right = both.right; left_own = both.left_own; right_own = both.right_own; drawn = refl }

@@ -14,9 +14,9 @@ use Rattle.pl_desk.specs.declared.rule.Stage.{Stage}
 use Rattle.pl_desk.specs.declared.rule.Stage.TheVariants.{Idle, Gone}
 use Rattle.pl_desk.specs.declared.rule.View.{View}
 use Rattle.pl_desk.specs.Growth.{GoesOn}
-use Rattle.pl_desk.specs.Rule.{total, asks_at, holds_at, HasTicket, Stands, IsSound, IsAhead, IsView, AreApart, IsKept, first_view}
+use Rattle.pl_desk.specs.Rule.{total, asks_at, holds_at, HasTicket, Stands, GoesOnFrom, IsAhead, IsView, AreApart, DeskInvariant, first_view}
 use Rattle.pl_desk.specs.Steps.{dealing, dealt}
-use Rattle.pl_desk.specs.Passes.{Knowledge, Place, IsOf, fresh, fresh_passes}
+use Rattle.pl_desk.specs.Passes.{Knowledge, DeskOrigin, IsOf, fresh, fresh_passes}
 use Rattle.pl_desk.proofs.Histories.{goes_on-refl, goes_on-more, own-new, own-between}
 use Rattle.pl_desk.proofs.Views.{total-set, total-end, total-part, Each, Pairs, each-set, each-end, pairs-set, pairs-end, apart-turned}
 use Rattle.pl_desk.proofs.Updates.{NobodyInTurn, IsViewBy, nobody-before}
@@ -26,14 +26,14 @@ idle-none : (st : Stage) (t : ℕ) → st ≡ Idle → HasTicket st t → ⊥
 idle-none st t idle has = subst (λ (x : Stage). HasTicket x t) idle has
 
 -- the new pass has no entries, in the history or in what it has seen
-dealt-ahead : (terms : Terms) (n : ℕ) (now : History) (v : View) → v.terms ≡ terms → GoesOn n terms.opening now → IsSound v.terms v.seen → IsAhead v.terms v.number v.seen now → IsAhead v.terms (n + 1) v.seen now
+dealt-ahead : (terms : Terms) (n : ℕ) (now : History) (v : View) → v.terms ≡ terms → GoesOn n terms.opening now → GoesOnFrom v.terms v.seen → IsAhead v.terms v.number v.seen now → IsAhead v.terms (n + 1) v.seen now
 dealt-ahead terms n now v of onward sound ahead =
     let from : GoesOn n v.terms.opening now = subst (λ (t : Terms). GoesOn n t.opening now) (sym of) onward in
     let now-own = own-new n (n + 1) v.terms.opening now from (omega arith) in
     let seen-own = own-between v.terms.seats v.terms.seats (n + 1) v.terms.opening v.seen now sound.onward ahead.onward now-own in
     record { sound = ahead.sound; onward = ahead.onward; own = now-own ∙ sym seen-own }
 
-pub deals : (terms : Terms) (id : ℕ) (v : View) → v.stage ≡ Idle → 0 < v.dealt → v.dealt < v.terms.seats → Splits (IsKept terms) id v (dealing v) (dealt v)
+pub deals : (terms : Terms) (id : ℕ) (v : View) → v.stage ≡ Idle → 0 < v.dealt → v.dealt < v.terms.seats → Splits (DeskInvariant terms) id v (dealing v) (dealt v)
 deals terms id v idle some few s r at =
     let n = length s.views in
     let live = idle-live v.stage idle in
@@ -117,7 +117,7 @@ range-end a zero j e = let same : a ≡ j = omega arith in ap (λ (k : ℕ). k �
 range-end a (suc n) j e = ap (λ (ks : List ℕ). a ∷ ks) (range-end (a + 1) n j (omega arith))
 
 -- the passes that the first one has dealt, with one more
-pub dealt-end : (desk : Place) (number : ℕ) → 1 ≤ number
+pub dealt-end : (desk : DeskOrigin) (number : ℕ) → 1 ≤ number
     → map (fresh desk) (range_with_len 2 (number + 1 - 1)) ≡ map (fresh desk) (range_with_len 2 (number - 1)) ++ fresh desk (number + 1) ∷ []
 dealt-end desk zero le = absurd (omega arith)
 dealt-end desk (suc n) le =
@@ -127,18 +127,18 @@ dealt-end desk (suc n) le =
     ∙ map-append (fresh desk) (range_with_len 2 n) ((suc n + 1) ∷ []) ∙ ap (λ (k : ℕ). map (fresh desk) (range_with_len 2 k) ++ fresh desk (suc n + 1) ∷ []) (sym before)
 
 -- passes that are made by a desk are of it
-of_desk : (desk : Place) (a n : ℕ) → AllByRecursion (IsOf desk) (map (fresh desk) (range_with_len a n))
+of_desk : (desk : DeskOrigin) (a n : ℕ) → AllByRecursion (IsOf desk) (map (fresh desk) (range_with_len a n))
 of_desk desk a zero = tt
 of_desk desk a (suc n) = ((refl, refl), of_desk desk (a + 1) n)
 
-pub fresh_of : (desk : Place) (n : ℕ) (ps : List Knowledge) → ps ≡ fresh_passes desk n → All (IsOf desk) ps
+pub fresh_of : (desk : DeskOrigin) (n : ℕ) (ps : List Knowledge) → ps ≡ fresh_passes desk n → All (IsOf desk) ps
 fresh_of desk n ps are = subst (All (IsOf desk)) (sym are) (All-from_recursion (IsOf desk) (fresh_passes desk n) (of_desk desk 1 n))
 
 -- ---- opening
 
 -- the rule at the start, of a legal history with as many entries as word 0 counts
 pub opens : (terms : Terms) (count : ℕ) → 1 ≤ terms.seats → 1 ≤ terms.turns → terms.turns + terms.seats < 18446744073709551616 → IsLegal terms.opening → count ≡ length terms.opening.entries
-    → IsKept terms (opening (count ∷ 0 ∷ 0 ∷ []) (Some terms.opening ∷ []) (first_view terms))
+    → DeskInvariant terms (opening (count ∷ 0 ∷ 0 ∷ []) (Some terms.opening ∷ []) (first_view terms))
 opens terms count seats turns bound legal counted = record {
   now = terms.opening;
   words = refl;
@@ -155,7 +155,7 @@ opens terms count seats turns bound legal counted = record {
   home = λ none. refl;
 }
   where
-    sound : IsSound terms terms.opening
+    sound : GoesOnFrom terms terms.opening
     sound = record { legal = legal; onward = goes_on-refl terms.seats terms.opening }
 
     first : IsView terms 1 0 0 terms.opening (first_view terms)
@@ -182,7 +182,7 @@ opens terms count seats turns bound legal counted = record {
 
 -- where no ticket is held, the slot has a history that goes on from what the pass has seen
 pub closes : (terms : Terms) (id : ℕ) (v : View) (ws : List ℕ) (xs : List (Option History)) (ticket : ℕ) → v.stage ≡ Idle
-    → get_elem? ws 1 ≡ maybe.some ticket → get_elem? ws 2 ≡ maybe.some ticket → Final (Seen (IsKept terms) id v) ws xs
+    → get_elem? ws 1 ≡ maybe.some ticket → get_elem? ws 2 ≡ maybe.some ticket → Final (Seen (DeskInvariant terms) id v) ws xs
     → (h : History) × (get_elem? xs 0 ≡ maybe.some (Some h)) × IsAhead v.terms v.number v.seen h
 closes terms id v ws xs ticket idle next serving final =
     let s = final.0 in

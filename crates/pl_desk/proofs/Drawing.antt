@@ -10,8 +10,8 @@ use Rattle.pl_desk.specs.declared.rule.Terms.{Terms}
 use Rattle.pl_desk.specs.declared.rule.Stage.{Stage}
 use Rattle.pl_desk.specs.declared.rule.Stage.TheVariants.{Idle, Asking, Waiting, Gone}
 use Rattle.pl_desk.specs.declared.rule.View.{View}
-use Rattle.pl_desk.specs.Rule.{asks_at, holds_at, HasTicket, IsKept}
-use Rattle.pl_desk.specs.Steps.{Held, asked, asks_then, draws_then, at_stage}
+use Rattle.pl_desk.specs.Rule.{asks_at, holds_at, HasTicket, DeskInvariant}
+use Rattle.pl_desk.specs.Steps.{HeldSlot, asked, asks_then, draws_then, at_stage}
 use Rattle.pl_desk.proofs.Views.{asks-few, total-spare}
 use Rattle.pl_desk.proofs.Updates.{Table, Homes, update, nobody-before, view-on, ticket-held}
 
@@ -22,10 +22,10 @@ asking-live : (st : Stage) → st ≡ Asking → st ≢ Gone
 asking-live st is gone = let clash = sym is ∙ gone in cc
 
 -- the view that has read the word, at a stage that it may be at then
-asks-at : (terms : Terms) (s : Table) (r : IsKept terms s) (id : ℕ) (v : View) (st : Stage)
+asks-at : (terms : Terms) (s : Table) (r : DeskInvariant terms s) (id : ℕ) (v : View) (st : Stage)
     → get_elem? s.views id ≡ maybe.some v → v.stage ≡ Idle
     → (st ≡ Idle) ⊎ ((st ≡ Asking) × (get_or s.words 1 0 < terms.turns))
-    → IsKept terms record { words = s.words; homes = s.homes; views = set s.views id (record v { drawn = get_or s.words 1 0; stage = st }) }
+    → DeskInvariant terms record { words = s.words; homes = s.homes; views = set s.views id (record v { drawn = get_or s.words 1 0; stage = st }) }
 asks-at terms s r id v st at idle may =
     let mine = r.views id v at (idle-live v.stage idle) in
     let spare = total-spare asks_at asks-few s.views id v at (ap asks_at idle) in
@@ -75,9 +75,9 @@ abbrev pub no_step : Step (Option History)
 no_step = record { slots = 0; word = 0; first = 0; second = 0; said = maybe.none }
 
 -- a load leaves the words as they are
-pub loaded : (terms : Terms) (s : Table) (i : ℕ) (hs : Homes) (vs : List View) → IsKept terms record { words = s.words; homes = hs; views = vs }
-    → IsKept terms record { words = set s.words i (get_or s.words i 0); homes = hs; views = vs }
-loaded terms s i hs vs r = subst (λ (ws : List ℕ). IsKept terms record { words = ws; homes = hs; views = vs }) (sym (set-get_or s.words i 0)) r
+pub loaded : (terms : Terms) (s : Table) (i : ℕ) (hs : Homes) (vs : List View) → DeskInvariant terms record { words = s.words; homes = hs; views = vs }
+    → DeskInvariant terms record { words = set s.words i (get_or s.words i 0); homes = hs; views = vs }
+loaded terms s i hs vs r = subst (λ (ws : List ℕ). DeskInvariant terms record { words = ws; homes = hs; views = vs }) (sym (set-get_or s.words i 0)) r
 
 -- the stage after reading the word
 asked-stage : (found turns : ℕ) → (cond (ltb found turns) Asking Idle ≡ Idle) ⊎ ((cond (ltb found turns) Asking Idle ≡ Asking) × (found < turns))
@@ -87,7 +87,7 @@ asked-stage found turns =
       | inr more ↦ inl (rw (le-ltb found turns more) refl)
     ]
 
-pub asks : (terms : Terms) (slots id : ℕ) (me : Held) → me.0.stage ≡ Idle → Allows (IsKept terms) slots id me 1 (λ n. n) (asks_then no_step me)
+pub asks : (terms : Terms) (slots id : ℕ) (me : HeldSlot) → me.0.stage ≡ Idle → Allows (DeskInvariant terms) slots id me 1 (λ n. n) (asks_then no_step me)
 asks terms slots id me idle s r size at small =
     let found = get_or s.words 1 0 in
     let mine = r.views id me.0 at (idle-live me.0.stage idle) in
@@ -105,10 +105,10 @@ asks terms slots id me idle s r size at small =
     )
 
 -- the view that has taken the ticket
-draws-at : (terms : Terms) (s : Table) (r : IsKept terms s) (id : ℕ) (v : View) (ws : List ℕ)
+draws-at : (terms : Terms) (s : Table) (r : DeskInvariant terms s) (id : ℕ) (v : View) (ws : List ℕ)
     → get_elem? s.views id ≡ maybe.some v → v.stage ≡ Asking
     → length ws ≡ 3 → get_or ws 0 0 ≡ get_or s.words 0 0 → get_or ws 1 0 ≡ get_or s.words 1 0 + 1 → get_or ws 2 0 ≡ get_or s.words 2 0
-    → IsKept terms record { words = ws; homes = s.homes; views = set s.views id (at_stage (Waiting (get_or s.words 1 0)) v) }
+    → DeskInvariant terms record { words = ws; homes = s.homes; views = set s.views id (at_stage (Waiting (get_or s.words 1 0)) v) }
 draws-at terms s r id v ws at asking size zeroth first second =
     let live = asking-live v.stage asking in
     let mine = r.views id v at live in
@@ -142,8 +142,8 @@ draws-at terms s r id v ws at asking size zeroth first second =
       home = λ none. r.home (nobody-before s.views id v (at_stage (Waiting (get_or s.words 1 0)) v) at (λ t h turn. let clash = sym asking ∙ turn in cc) none);
     })
 
-pub draws : (terms : Terms) (slots id : ℕ) (me : Held) → me.0.stage ≡ Asking
-    → Allows (IsKept terms) slots id me 1 (λ n. (n + 1) % 18446744073709551616) (draws_then no_step me)
+pub draws : (terms : Terms) (slots id : ℕ) (me : HeldSlot) → me.0.stage ≡ Asking
+    → Allows (DeskInvariant terms) slots id me 1 (λ n. (n + 1) % 18446744073709551616) (draws_then no_step me)
 draws terms slots id me asking s r size at small =
     let next = get_or s.words 1 0 in
     let new = (next + 1) % 18446744073709551616 in

@@ -11,8 +11,8 @@ use Rattle.pl_desk.specs.declared.rule.Stage.{Stage}
 use Rattle.pl_desk.specs.declared.rule.Stage.TheVariants.{Idle, Met, Gone}
 use Rattle.pl_desk.specs.declared.rule.View.{View}
 use Rattle.pl_desk.specs.Growth.{GoesOn}
-use Rattle.pl_desk.specs.Rule.{asks_at, holds_at, Stands, HasBoth, IsSound, IsAhead, IsKept}
-use Rattle.pl_desk.specs.Steps.{Held, at_stage, longer, meeting, gone, meets_then}
+use Rattle.pl_desk.specs.Rule.{asks_at, holds_at, Stands, HasBoth, GoesOnFrom, IsAhead, DeskInvariant}
+use Rattle.pl_desk.specs.Steps.{HeldSlot, at_stage, longer, meeting, gone, meets_then}
 use Rattle.pl_desk.proofs.Histories.{goes_on-refl, goes_on-shorter, own-between}
 use Rattle.pl_desk.proofs.Updates.{Table, update, nobody-before}
 use Rattle.pl_desk.proofs.Drawing.{no_step, loaded, idle-live}
@@ -20,7 +20,7 @@ use Rattle.pl_desk.proofs.Drawing.{no_step, loaded, idle-live}
 -- ---- what both had seen
 
 -- of two histories that go on to one, which is ahead of both passes, the longer has both
-both-in-longer : (terms : Terms) (k l : ℕ) (a b now : History) → IsAhead terms k a now → IsAhead terms l b now → GoesOn terms.seats terms.opening a → HasBoth terms k l a b (longer a b) × (IsSound terms (longer a b) → IsAhead terms k (longer a b) now)
+both-in-longer : (terms : Terms) (k l : ℕ) (a b now : History) → IsAhead terms k a now → IsAhead terms l b now → GoesOn terms.seats terms.opening a → HasBoth terms k l a b (longer a b) × (GoesOnFrom terms (longer a b) → IsAhead terms k (longer a b) now)
 both-in-longer terms k l a b now first second from =
     elim (cases_lt (length a.entries) (length b.entries)) [
       | inl less ↦ rw (lt-ltb (length a.entries) (length b.entries) less) (
@@ -58,8 +58,8 @@ longer-is a b =
 
 -- ---- the pass that takes in another
 
-meets-first : (terms : Terms) (s : Table) (r : IsKept terms s) (id : ℕ) (v : View) (other : ℕ) (w : View) → get_elem? s.views id ≡ maybe.some v → get_elem? s.views other ≡ maybe.some w
-    → v.stage ≡ Idle → w.stage ≡ Idle → IsKept terms record { words = s.words; homes = s.homes; views = set s.views id (meeting v w) }
+meets-first : (terms : Terms) (s : Table) (r : DeskInvariant terms s) (id : ℕ) (v : View) (other : ℕ) (w : View) → get_elem? s.views id ≡ maybe.some v → get_elem? s.views other ≡ maybe.some w
+    → v.stage ≡ Idle → w.stage ≡ Idle → DeskInvariant terms record { words = s.words; homes = s.homes; views = set s.views id (meeting v w) }
 meets-first terms s r id v other w at there idle idle' =
     let live = idle-live v.stage idle in
     let mine = r.views id v at live in
@@ -67,11 +67,11 @@ meets-first terms s r id v other w at there idle idle' =
     let asked = ap asks_at idle in
     let held = ap holds_at idle in
     let ahead : IsAhead v.terms w.number w.seen r.now = subst (λ (t : Terms). IsAhead t w.number w.seen r.now) (theirs.of ∙ sym mine.of) theirs.ahead in
-    let sound' : IsSound v.terms w.seen = subst (λ (t : Terms). IsSound t w.seen) (theirs.of ∙ sym mine.of) theirs.sound in
+    let sound' : GoesOnFrom v.terms w.seen = subst (λ (t : Terms). GoesOnFrom t w.seen) (theirs.of ∙ sym mine.of) theirs.sound in
     let both = both-in-longer v.terms v.number w.number v.seen w.seen r.now mine.ahead ahead mine.sound.onward in
-    let sound : IsSound v.terms (longer v.seen w.seen) = elim (longer-is v.seen w.seen) [
-      | inl first ↦ subst (IsSound v.terms) (sym first) mine.sound
-      | inr second ↦ subst (IsSound v.terms) (sym second) sound'
+    let sound : GoesOnFrom v.terms (longer v.seen w.seen) = elim (longer-is v.seen w.seen) [
+      | inl first ↦ subst (GoesOnFrom v.terms) (sym first) mine.sound
+      | inr second ↦ subst (GoesOnFrom v.terms) (sym second) sound'
     ] in
     update terms s r id v (meeting v w) s.words s.homes r.now at live (record {
       words = r.words;
@@ -97,8 +97,8 @@ meets-first terms s r id v other w at there idle idle' =
     })
 
 -- the pass that was taken in is gone
-meets-second : (terms : Terms) (s : Table) (r : IsKept terms s) (other : ℕ) (w : View) → get_elem? s.views other ≡ maybe.some w → w.stage ≡ Idle
-    → IsKept terms record { words = s.words; homes = s.homes; views = set s.views other gone }
+meets-second : (terms : Terms) (s : Table) (r : DeskInvariant terms s) (other : ℕ) (w : View) → get_elem? s.views other ≡ maybe.some w → w.stage ≡ Idle
+    → DeskInvariant terms record { words = s.words; homes = s.homes; views = set s.views other gone }
 meets-second terms s r other w there idle =
     let asked = ap asks_at idle in
     let held = ap holds_at idle in
@@ -116,7 +116,7 @@ meets-second terms s r other w there idle =
       home = λ none. r.home (nobody-before s.views other w gone there (λ t h turn. let clash = sym idle ∙ turn in cc) none);
     })
 
-pub joins : (terms : Terms) (id : ℕ) (v : View) (other : ℕ) (w : View) → v.stage ≡ Idle → w.stage ≡ Idle → Joins (IsKept terms) id v other w (meeting v w) gone
+pub joins : (terms : Terms) (id : ℕ) (v : View) (other : ℕ) (w : View) → v.stage ≡ Idle → w.stage ≡ Idle → Joins (DeskInvariant terms) id v other w (meeting v w) gone
 joins terms id v other w idle idle' s r at away there =
     let before : get_elem? s.views other ≡ maybe.some w = sym (set_else s.views id other (meeting v w) away) ∙ there in
     meets-second terms (record { words = s.words; homes = s.homes; views = set s.views id (meeting v w) }) (meets-first terms s r id v other w at before idle idle') other w there idle'
@@ -126,7 +126,7 @@ joins terms id v other w idle idle' s r at away there =
 met-live : (st : Stage) (a b : History) (l : ℕ) → st ≡ Met a b l → st ≢ Gone
 met-live st a b l is none = let clash = sym is ∙ none in cc
 
-pub meets : (terms : Terms) (slots id : ℕ) (me : Held) (a b : History) (l : ℕ) → me.0.stage ≡ Met a b l → Allows (IsKept terms) slots id me 0 (λ n. n) (meets_then no_step me)
+pub meets : (terms : Terms) (slots id : ℕ) (me : HeldSlot) (a b : History) (l : ℕ) → me.0.stage ≡ Met a b l → Allows (DeskInvariant terms) slots id me 0 (λ n. n) (meets_then no_step me)
 meets terms slots id me a b l met s r size at small =
     let v = me.0 in
     let live = met-live v.stage a b l met in

@@ -13,8 +13,8 @@ use Rattle.pl_desk.specs.declared.rule.Stage.{Stage}
 use Rattle.pl_desk.specs.declared.rule.Stage.TheVariants.{Waiting, InTurn, Gone}
 use Rattle.pl_desk.specs.declared.rule.View.{View}
 use Rattle.pl_desk.specs.Growth.{GoesOn, own_entries}
-use Rattle.pl_desk.specs.Rule.{asks_at, holds_at, HasTicket, Stands, IsSound, IsAhead, AreApart, IsKept}
-use Rattle.pl_desk.specs.Steps.{Held, at_stage, ticket_of, looks_then, counted, counts_then, found_or, served, serves_then}
+use Rattle.pl_desk.specs.Rule.{asks_at, holds_at, HasTicket, Stands, GoesOnFrom, IsAhead, AreApart, DeskInvariant}
+use Rattle.pl_desk.specs.Steps.{HeldSlot, at_stage, ticket_of, looks_then, counted, counts_then, found_or, served, serves_then}
 use Rattle.pl_desk.proofs.Histories.{goes_on-refl, goes_on-trans, goes_on-more, goes_on-grown, own-without}
 use Rattle.pl_desk.proofs.Views.{total-part}
 use Rattle.pl_desk.proofs.Updates.{Table, NobodyInTurn, update, view-on}
@@ -35,7 +35,7 @@ inside (x ∷ xs) (suc i) v at = let rest = inside xs i v at in omega (arith, re
 -- ---- the turn has come
 
 -- where a waiting pass has the ticket that is served, nobody has the turn
-nobody-in-turn : (terms : Terms) (s : Table) (r : IsKept terms s) (id : ℕ) (v : View) → get_elem? s.views id ≡ maybe.some v → v.stage ≡ Waiting (get_or s.words 2 0) → NobodyInTurn s.views
+nobody-in-turn : (terms : Terms) (s : Table) (r : DeskInvariant terms s) (id : ℕ) (v : View) → get_elem? s.views id ≡ maybe.some v → v.stage ≡ Waiting (get_or s.words 2 0) → NobodyInTurn s.views
 nobody-in-turn terms s r id v at waits j u t h there turn =
     let t' = get_or s.words 2 0 in
     let theirs : HasTicket u.stage t' = subst (λ (st : Stage). HasTicket st t') (sym turn)
@@ -50,8 +50,8 @@ nobody-in-turn terms s r id v at waits j u t h there turn =
     ]
 
 -- the view that has the turn, and the slot that it has taken
-looks-at : (terms : Terms) (s : Table) (r : IsKept terms s) (id : ℕ) (v : View) → get_elem? s.views id ≡ maybe.some v → v.stage ≡ Waiting (get_or s.words 2 0)
-    → IsKept terms record { words = s.words; homes = set s.homes 0 maybe.none; views = set s.views id (at_stage (InTurn (get_or s.words 2 0) r.now) v) }
+looks-at : (terms : Terms) (s : Table) (r : DeskInvariant terms s) (id : ℕ) (v : View) → get_elem? s.views id ≡ maybe.some v → v.stage ≡ Waiting (get_or s.words 2 0)
+    → DeskInvariant terms record { words = s.words; homes = set s.homes 0 maybe.none; views = set s.views id (at_stage (InTurn (get_or s.words 2 0) r.now) v) }
 looks-at terms s r id v at waits =
     let t = get_or s.words 2 0 in
     let w = at_stage (InTurn t r.now) v in
@@ -86,7 +86,7 @@ looks-at terms s r id v at waits =
       home = λ none. absurd (none id w t r.now (set_here s.views id w (inside s.views id v at)) refl);
     })
 
-pub looks : (terms : Terms) (slots id : ℕ) (me : Held) (t : ℕ) → me.0.stage ≡ Waiting t → Allows (IsKept terms) slots id me 2 (λ n. n) (looks_then no_step me)
+pub looks : (terms : Terms) (slots id : ℕ) (me : HeldSlot) (t : ℕ) → me.0.stage ≡ Waiting t → Allows (DeskInvariant terms) slots id me 2 (λ n. n) (looks_then no_step me)
 looks terms slots id me t waits s r size at small =
     let serving = get_or s.words 2 0 in
     let ticket : ticket_of me.0.stage ≡ t = ap ticket_of waits in
@@ -108,7 +108,7 @@ looks terms slots id me t waits s r size at small =
         me.0,
         keeps,
         tt,
-        loaded terms s 2 s.homes (set s.views id me.0) (subst (λ (vs : List View). IsKept terms record { words = s.words; homes = s.homes; views = vs }) (sym (set_again s.views id me.0 at)) r),
+        loaded terms s 2 s.homes (set s.views id me.0) (subst (λ (vs : List View). DeskInvariant terms record { words = s.words; homes = s.homes; views = vs }) (sym (set_again s.views id me.0 at)) r),
         ((λ _. refl), (λ same. absurd (other (same ∙ ticket)))),
       )
     ]
@@ -135,10 +135,10 @@ other-turn next serving now v u t h x y turn mine theirs apart is =
     let two = subst (Stands next serving now u) is theirs in
     apart.tickets serving (subst (λ (st : Stage). HasTicket st serving) (sym turn) one.0) (subst (λ (st : Stage). HasTicket st serving) (sym is) two.0)
 
-counts-at : (terms : Terms) (s : Table) (r : IsKept terms s) (id : ℕ) (v : View) (ws : List ℕ) (t : ℕ) (h g : History) (e : Entry)
+counts-at : (terms : Terms) (s : Table) (r : DeskInvariant terms s) (id : ℕ) (v : View) (ws : List ℕ) (t : ℕ) (h g : History) (e : Entry)
     → get_elem? s.views id ≡ maybe.some v → v.stage ≡ InTurn t h → e.line.pass ≡ v.number → g ≡ grown h e → IsLegal g
     → length ws ≡ 3 → get_or ws 0 0 ≡ get_or s.words 0 0 + 1 → get_or ws 1 0 ≡ get_or s.words 1 0 → get_or ws 2 0 ≡ get_or s.words 2 0
-    → IsKept terms record { words = ws; homes = s.homes; views = set s.views id (counted g v) }
+    → DeskInvariant terms record { words = ws; homes = s.homes; views = set s.views id (counted g v) }
 counts-at terms s r id v ws t h g e at turn own is legal size zeroth first second =
     let live = in_turn-live v.stage t h turn in
     let mine = r.views id v at live in
@@ -153,7 +153,7 @@ counts-at terms s r id v ws t h g e at turn own is legal size zeroth first secon
     let few = r.seats in
     let step : GoesOn n r.now g = subst (GoesOn n r.now) (sym is') (goes_on-grown n r.now e (omega (arith, own, mine.some)) (omega (arith, own, number))) in
     let step' : GoesOn v.terms.seats r.now g = goes_on-more n v.terms.seats r.now g (omega (arith, few, seats)) step in
-    let sound : IsSound v.terms g = record { legal = legal; onward = goes_on-trans v.terms.seats v.terms.opening r.now g mine.ahead.sound.onward step' } in
+    let sound : GoesOnFrom v.terms g = record { legal = legal; onward = goes_on-trans v.terms.seats v.terms.opening r.now g mine.ahead.sound.onward step' } in
     update terms s r id v w ws s.homes g at live (record {
       words = size;
       slots = r.slots;
@@ -183,8 +183,8 @@ counts-at terms s r id v ws t h g e at turn own is legal size zeroth first secon
       home = λ none. absurd (none id w (ticket_of v.stage) g (set_here s.views id w (inside s.views id v at)) refl);
     })
 
-pub counts : (terms : Terms) (slots id : ℕ) (me : Held) (t : ℕ) (h g : History) (e : Entry) → me.0.stage ≡ InTurn t h → e.line.pass ≡ me.0.number → g ≡ grown h e
-    → IsLegal g → length g.entries < 18446744073709551616 → Allows (IsKept terms) slots id me 0 (λ n. (n + 1) % 18446744073709551616) (counts_then g no_step me)
+pub counts : (terms : Terms) (slots id : ℕ) (me : HeldSlot) (t : ℕ) (h g : History) (e : Entry) → me.0.stage ≡ InTurn t h → e.line.pass ≡ me.0.number → g ≡ grown h e
+    → IsLegal g → length g.entries < 18446744073709551616 → Allows (DeskInvariant terms) slots id me 0 (λ n. (n + 1) % 18446744073709551616) (counts_then g no_step me)
 counts terms slots id me t h g e turn own is legal fits s r size at small =
     let found = get_or s.words 0 0 in
     let new = (found + 1) % 18446744073709551616 in
@@ -208,10 +208,10 @@ counts terms slots id me t h g e turn own is legal fits s r size at small =
 
 -- ---- the turn is given on
 
-serves-at : (terms : Terms) (s : Table) (r : IsKept terms s) (id : ℕ) (v : View) (ws : List ℕ) (t : ℕ) (h : History)
+serves-at : (terms : Terms) (s : Table) (r : DeskInvariant terms s) (id : ℕ) (v : View) (ws : List ℕ) (t : ℕ) (h : History)
     → get_elem? s.views id ≡ maybe.some v → v.stage ≡ InTurn t h
     → length ws ≡ 3 → get_or ws 0 0 ≡ get_or s.words 0 0 → get_or ws 1 0 ≡ get_or s.words 1 0 → get_or ws 2 0 ≡ get_or s.words 2 0 + 1
-    → IsKept terms record { words = ws; homes = set s.homes 0 (maybe.some (Some h)); views = set s.views id (served v) }
+    → DeskInvariant terms record { words = ws; homes = set s.homes 0 (maybe.some (Some h)); views = set s.views id (served v) }
 serves-at terms s r id v ws t h at turn size zeroth first second =
     let live = in_turn-live v.stage t h turn in
     let mine = r.views id v at live in
@@ -233,7 +233,7 @@ serves-at terms s r id v ws t h at turn size zeroth first second =
       tickets = λ k sum. let tickets = r.tickets in omega (arith, sum, held, first, second, tickets);
       mine = λ _. record {
         of = mine.of;
-        sound = subst (IsSound v.terms) (sym seen) mine.ahead.sound;
+        sound = subst (GoesOnFrom v.terms) (sym seen) mine.ahead.sound;
         ahead = ahead;
         some = mine.some;
         number = mine.number;
@@ -253,8 +253,8 @@ serves-at terms s r id v ws t h at turn size zeroth first second =
       home = λ none. set_here s.homes 0 (maybe.some (Some h)) (omega (arith, r.slots)) ∙ ap (λ (x : History). maybe.some (maybe.some (Some x))) stands.2;
     })
 
-pub serves : (terms : Terms) (slots id : ℕ) (me : Held) (t : ℕ) (h : History) → me.0.stage ≡ InTurn t h → me.1 ≡ (0, Some h) ∷ []
-    → Allows (IsKept terms) slots id me 2 (λ n. (n + 1) % 18446744073709551616) (serves_then no_step me)
+pub serves : (terms : Terms) (slots id : ℕ) (me : HeldSlot) (t : ℕ) (h : History) → me.0.stage ≡ InTurn t h → me.1 ≡ (0, Some h) ∷ []
+    → Allows (DeskInvariant terms) slots id me 2 (λ n. (n + 1) % 18446744073709551616) (serves_then no_step me)
 serves terms slots id me t h turn has s r size at small =
     let serving = get_or s.words 2 0 in
     let new = (serving + 1) % 18446744073709551616 in
@@ -270,7 +270,7 @@ serves terms slots id me t h turn has s r size at small =
       after,
       gives,
       tt,
-      subst (λ (c : List (ℕ × Option History)). IsKept terms record { words = ws; homes = put_back s.homes c; views = set s.views id after }) (sym has)
+      subst (λ (c : List (ℕ × Option History)). DeskInvariant terms record { words = ws; homes = put_back s.homes c; views = set s.views id after }) (sym has)
           (serves-at terms s r id me.0 ws t h at turn
           (length-set s.words 2 new ∙ r.words)
           (get_or-set_other s.words 2 0 new 0 (λ c. omega arith))

@@ -13,7 +13,7 @@ use Rattle.pl_desk.specs.declared.rule.Stage.{Stage}
 use Rattle.pl_desk.specs.declared.rule.Stage.TheVariants.{Idle, Asking, Waiting, InTurn, Met, Gone}
 use Rattle.pl_desk.specs.declared.rule.View.{View}
 use Rattle.pl_desk.specs.Growth.{GoesOn}
-use Rattle.pl_desk.specs.Rule.{total, asks_at, holds_at, HasTicket, Stands, IsAhead, IsView, AreApart, IsKept}
+use Rattle.pl_desk.specs.Rule.{total, asks_at, holds_at, HasTicket, Stands, IsAhead, IsView, AreApart, DeskInvariant}
 use Rattle.pl_desk.proofs.Views.{total-set, Each, each-set, pairs-set, apart-turned}
 
 abbrev pub Table : Type 0
@@ -31,7 +31,7 @@ abbrev pub IsViewBy : Terms → List ℕ → ℕ → History → View → Type 0
 IsViewBy terms ws n now v = IsView terms n (get_or ws 1 0) (get_or ws 2 0) now v
 
 -- what a change of one view owes
-pub record Keeps (terms : Terms) (s : Table) (r : IsKept terms s) (id : ℕ) (v w : View) (ws : List ℕ) (hs : Homes) (now : History) : Type 0 where
+pub record Keeps (terms : Terms) (s : Table) (r : DeskInvariant terms s) (id : ℕ) (v w : View) (ws : List ℕ) (hs : Homes) (now : History) : Type 0 where
   pub words : length ws ≡ 3
   pub slots : length hs ≡ 1
   pub legal : IsLegal now
@@ -45,9 +45,9 @@ pub record Keeps (terms : Terms) (s : Table) (r : IsKept terms s) (id : ℕ) (v 
   pub home : NobodyInTurn (set s.views id w) → get_elem? hs 0 ≡ maybe.some (maybe.some (Some now))
 
 -- the rule after the view v, at the place id, has become w
-pub update : (terms : Terms) (s : Table) (r : IsKept terms s) (id : ℕ) (v w : View) (ws : List ℕ) (hs : Homes) (now : History)
+pub update : (terms : Terms) (s : Table) (r : DeskInvariant terms s) (id : ℕ) (v w : View) (ws : List ℕ) (hs : Homes) (now : History)
     → get_elem? s.views id ≡ maybe.some v → v.stage ≢ Gone → Keeps terms s r id v w ws hs now
-    → IsKept terms record { words = ws; homes = hs; views = set s.views id w }
+    → DeskInvariant terms record { words = ws; homes = hs; views = set s.views id w }
 update terms s r id v w ws hs now at live k =
     let vs = set s.views id w in
     let size : length s.views ≡ length vs = sym (length-set s.views id w) in

@@ -13,7 +13,7 @@ use Rattle.pl_desk.specs.declared.rule.Opening.{Opening}
 use Rattle.pl_desk.specs.declared.rule.Terms.{Terms}
 use Rattle.pl_desk.specs.declared.rule.View.{View}
 use Rattle.pl_desk.specs.Growth.{GoesOn, own_entries}
-use Rattle.pl_desk.specs.Rule.{terms_of, IsSound, IsAhead}
+use Rattle.pl_desk.specs.Rule.{terms_of, GoesOnFrom, IsAhead}
 
 -- what a pass knows: its desk, what that was made with, its number, the history that it has seen,
 -- and the greatest ticket word that it has read
@@ -25,13 +25,13 @@ pub record Knowledge : Type 0 where
   pub drawn : ℕ
 
 -- a desk, and what it was made with
-pub record Place : Type 0 where
+pub record DeskOrigin : Type 0 where
   pub desk : TableId
   pub terms : Terms
 
 -- what a desk with this key is to a caller
-abbrev pub place_of : TableId → Opening → Place
-place_of desk key = record { desk = desk; terms = terms_of key }
+abbrev pub origin_of : TableId → Opening → DeskOrigin
+origin_of desk key = record { desk = desk; terms = terms_of key }
 
 -- what the view of a pass says to a caller
 abbrev pub knowledge_of : TableId → View → Knowledge
@@ -44,7 +44,7 @@ knowledge_of desk v = record {
 }
 
 -- the pass is of the desk
-abbrev pub IsOf : Place → Knowledge → Type 0
+abbrev pub IsOf : DeskOrigin → Knowledge → Type 0
 IsOf desk p = (p.desk ≡ desk.desk) × (p.terms ≡ desk.terms)
 
 -- it is the same pass, though it may know more
@@ -67,7 +67,7 @@ pub record HadTurn (before : Knowledge) (request : Query) (reply : Reply) (after
   pub found : History
   pub ahead : IsAhead before.terms before.number before.seen found
   pub step : IsStep before.number request found reply after.seen
-  pub sound : IsSound before.terms after.seen
+  pub sound : GoesOnFrom before.terms after.seen
   pub onward : GoesOn before.terms.seats before.seen after.seen
   pub own : own_entries after.seen before.number
       ≡ entries_made request before.number found reply ++ own_entries before.seen before.number
@@ -81,14 +81,14 @@ pub record WasSpent (before after : Knowledge) : Type 0 where
 -- what a call says: Spent where all turns had been given, else the reply of a turn
 pub record WasCalled (before : Knowledge) (request : Query) (reply : Reply) (after : Knowledge) : Type 0 where
   pub drawn : before.drawn ≤ after.drawn
-  pub sound : IsSound before.terms before.seen
+  pub sound : GoesOnFrom before.terms before.seen
   pub spent : reply ≡ replies.Spent → WasSpent before after
   pub turn : reply ≢ replies.Spent → HadTurn before request reply after
 
 -- What both passes had seen is the beginning of what the first has seen now, which is legal and has
 -- no more entries of either.
 pub record HasMet (before other after : Knowledge) : Type 0 where
-  pub sound : IsSound before.terms after.seen
+  pub sound : GoesOnFrom before.terms after.seen
   pub left : GoesOn before.terms.seats before.seen after.seen
   pub right : GoesOn before.terms.seats other.seen after.seen
   pub left_own : own_entries after.seen before.number ≡ own_entries before.seen before.number
@@ -96,7 +96,7 @@ pub record HasMet (before other after : Knowledge) : Type 0 where
   pub drawn : after.drawn ≡ before.drawn
 
 -- a pass that has seen nothing but the opening
-abbrev pub fresh : Place → ℕ → Knowledge
+abbrev pub fresh : DeskOrigin → ℕ → Knowledge
 fresh desk number = record {
   desk = desk.desk;
   terms = desk.terms;
@@ -106,5 +106,5 @@ fresh desk number = record {
 }
 
 -- this many passes, in the order of their numbers from 1 on
-abbrev pub fresh_passes : Place → ℕ → List Knowledge
+abbrev pub fresh_passes : DeskOrigin → ℕ → List Knowledge
 fresh_passes desk count = map (fresh desk) (range_with_len 1 count)

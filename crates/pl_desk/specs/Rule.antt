@@ -18,13 +18,13 @@ terms_of opening =
     record { seats = opening.seats; turns = opening.turns; opening = opening.db.value }
 
 -- a legal history that goes on from the one with which the desk was made
-pub record IsSound (terms : Terms) (h : History) : Type 0 where
+pub record GoesOnFrom (terms : Terms) (h : History) : Type 0 where
   pub legal : IsLegal h
   pub onward : GoesOn terms.seats terms.opening h
 
 -- such a history that goes on from what a pass has seen, with no more entries of that pass
 pub record IsAhead (terms : Terms) (number : ℕ) (seen h : History) : Type 0 where
-  pub sound : IsSound terms h
+  pub sound : GoesOnFrom terms h
   pub onward : GoesOn terms.seats seen h
   pub own : own_entries h number ≡ own_entries seen number
 
@@ -81,7 +81,7 @@ Stands next serving now v Gone = Unit {0}
 -- what is so of the view of a pass, where there are this many views
 pub record IsView (terms : Terms) (views next serving : ℕ) (now : History) (v : View) : Type 0 where
   pub of : v.terms ≡ terms
-  pub sound : IsSound v.terms v.seen
+  pub sound : GoesOnFrom v.terms v.seen
   pub ahead : IsAhead v.terms v.number v.seen now
   pub some : 1 ≤ v.number
   pub number : v.number ≤ views
@@ -97,7 +97,7 @@ pub record AreApart (v w : View) : Type 0 where
 -- The rule: there is one legal history, with as many entries as word 0 counts. Word 1 is the next
 -- ticket and word 2 the one that is served. The slot has that history unless a pass has the turn.
 -- The view of a pass that was joined away is gone, and nothing is said of it.
-pub record IsKept (terms : Terms) (s : State (Option History) View) : Type 0 where
+pub record DeskInvariant (terms : Terms) (s : State (Option History) View) : Type 0 where
   pub now : History
   pub words : length s.words ≡ 3
   pub slots : length s.homes ≡ 1

@@ -7,11 +7,11 @@ use Rattle.pl_core.specs.Legal.{IsLegal}
 use Rattle.pl_desk.specs.declared.rule.Stage.{Stage}
 use Rattle.pl_desk.specs.declared.rule.Stage.TheVariants.{Idle, Asking, Waiting, InTurn, Met, Gone}
 use Rattle.pl_desk.specs.declared.rule.View.{View}
-use Rattle.pl_desk.specs.Rule.{IsSound, IsAhead, HasBoth}
+use Rattle.pl_desk.specs.Rule.{GoesOnFrom, IsAhead, HasBoth}
 
 -- a pass of the table: its view, and the slot that it holds, if any
-abbrev pub Held : Type 0
-Held = Me (Option History) View
+abbrev pub HeldSlot : Type 0
+HeldSlot = Me (Option History) View
 
 -- the view at another stage
 abbrev pub at_stage : Stage → View → View
@@ -24,13 +24,13 @@ abbrev pub asked : ℕ → View → View
 asked found v =
     record v { drawn = found; stage = if nat_lt found v.terms.turns then Asking else Idle }
 
-abbrev pub asks_then : Step (Option History) → Held → ℕ → Held → Type 0
+abbrev pub asks_then : Step (Option History) → HeldSlot → ℕ → HeldSlot → Type 0
 asks_then st me found after = (after ≡ (asked found me.0, me.1))
-    × (me.0.drawn ≤ found) × IsSound me.0.terms me.0.seen
+    × (me.0.drawn ≤ found) × GoesOnFrom me.0.terms me.0.seen
 
 -- ---- 3: add 1 to the ticket word
 
-abbrev pub draws_then : Step (Option History) → Held → ℕ → Held → Type 0
+abbrev pub draws_then : Step (Option History) → HeldSlot → ℕ → HeldSlot → Type 0
 draws_then st me ticket after = after ≡ (at_stage (Waiting ticket) me.0, me.1)
 
 -- ---- 4: load the serving word
@@ -46,7 +46,7 @@ ticket_of Gone = 0
 
 -- where the pass's own ticket is served it has the turn, and the slot with a history that goes on
 -- from what it has seen; else nothing has changed
-abbrev pub looks_then : Step (Option History) → Held → ℕ → Held → Type 0
+abbrev pub looks_then : Step (Option History) → HeldSlot → ℕ → HeldSlot → Type 0
 looks_then st me served after =
     (served ≢ ticket_of me.0.stage → after ≡ me)
     × (served ≡ ticket_of me.0.stage → (found : History)
@@ -67,7 +67,7 @@ pub record AddsOne (number : ℕ) (earlier later : History) : Type 0 where
 abbrev pub counted : History → View → View
 counted now v = record v { seen = now; stage = InTurn (ticket_of v.stage) now }
 
-abbrev pub counts_then : History → Step (Option History) → Held → ℕ → Held → Type 0
+abbrev pub counts_then : History → Step (Option History) → HeldSlot → ℕ → HeldSlot → Type 0
 counts_then now st me found after = after ≡ (counted now me.0, me.1)
 
 -- ---- 8: add 1 to the serving word
@@ -86,7 +86,7 @@ abbrev pub served : View → View
 served v = record v { seen = found_or v.seen v.stage; stage = Idle }
 
 -- the slot is home again
-abbrev pub serves_then : Step (Option History) → Held → ℕ → Held → Type 0
+abbrev pub serves_then : Step (Option History) → HeldSlot → ℕ → HeldSlot → Type 0
 serves_then st me found after = after ≡ (served me.0, rest me.1)
 
 -- ---- 9: deal out one more pass
@@ -134,9 +134,9 @@ gone = record {
 
 -- ---- 11: load the count of entries for the meeting
 
-abbrev pub meets_then : Step (Option History) → Held → ℕ → Held → Type 0
+abbrev pub meets_then : Step (Option History) → HeldSlot → ℕ → HeldSlot → Type 0
 meets_then st me found after = (after ≡ (at_stage Idle me.0, me.1))
-    × IsSound me.0.terms me.0.seen
+    × GoesOnFrom me.0.terms me.0.seen
     × ((first second : History) (other : ℕ) → me.0.stage ≡ Met first second other
     → HasBoth me.0.terms me.0.number other first second me.0.seen)
 

@@ -33,13 +33,13 @@ pub struct Desk {
 
 impl Model for Desk {
     ghost use Rattle.std.specs.Prelude.{◌≡◌};
-    ghost use Rattle.pl_desk.specs.Passes.{Place};
+    ghost use Rattle.pl_desk.specs.Passes.{DeskOrigin};
 
-    ghost Value = { Place };
+    ghost Value = { DeskOrigin };
 
-    ghost use Rattle.pl_desk.specs.Passes.{place_of};
+    ghost use Rattle.pl_desk.specs.Passes.{origin_of};
 
-    ghost view = { λ d. place_of d.table.shared.table_id d.table.shared.key };
+    ghost view = { λ d. origin_of d.table.shared.table_id d.table.shared.key };
 
     ghost invariant = { λ d. (d.table.shared.table_id.words ≡ 3) ×
         (d.table.shared.table_id.slots ≡ 1) × (d.turns ≡ d.table.shared.key.turns) };

@@ -4,7 +4,7 @@ ghost use Rattle.std.specs.Prelude.{◌≡◌, ◌≤◌, ◌+◌, ◌-◌, ◌<
 ghost use Rattle.std.specs.List.{range_with_len};
 ghost use Rattle.pl_desk.specs.declared.rule.Stage.TheVariants.{Idle};
 ghost use Rattle.pl_desk.specs.Rule.{first_view, terms_of};
-ghost use Rattle.pl_desk.specs.Passes.{fresh, fresh_passes, place_of};
+ghost use Rattle.pl_desk.specs.Passes.{fresh, fresh_passes, origin_of};
 
 use crate::boxed::BoxedDb;
 use crate::pass::Pass;
@@ -74,7 +74,7 @@ pub(crate) fn deal_all(
     requires empty { vec_len passes ≡ 0 }
     requires room { seats ≤ vec_capacity passes }
     ensures passes { result.items ≡
-        fresh_passes (place_of board.now.table_id board.now.key) seats }
+        fresh_passes (origin_of board.now.table_id board.now.key) seats }
 {
     let mut number: u64 = 1;
     while number < u64::from(seats) {

@@ -55,9 +55,9 @@ pub struct View {
 pub struct Turns;
 
 impl TableRule<Option<BoxedDb>, View, Opening> for Turns {
-    ghost use Rattle.pl_desk.specs.Rule.{IsKept, first_view, terms_of};
+    ghost use Rattle.pl_desk.specs.Rule.{DeskInvariant, first_view, terms_of};
 
-    ghost holds = { λ opening. IsKept (terms_of opening) };
+    ghost holds = { λ opening. DeskInvariant (terms_of opening) };
 
     ghost first = { λ opening. first_view (terms_of opening) };
 }

@@ -3,7 +3,7 @@
 ghost use Rattle.std.specs.Prelude.{◌≡◌, ◌≢◌, ◌<◌, ◌≤◌, ℕ, [], ◌∷◌, Some};
 ghost use Rattle.pl_core.specs.History.{History};
 ghost use Rattle.pl_desk.specs.declared.rule.Stage.TheVariants.{Idle, Asking, Waiting, InTurn, Met};
-ghost use Rattle.pl_desk.specs.Rule.{IsSound, IsAhead, HasBoth};
+ghost use Rattle.pl_desk.specs.Rule.{GoesOnFrom, IsAhead, HasBoth};
 ghost use Rattle.pl_desk.specs.Steps.{at_stage, asked, AddsOne, counted, served, dealing, dealt, meeting};
 
 use crate::boxed::BoxedDb;
@@ -37,7 +37,7 @@ pub(crate) fn ask(board: &Board, chair: &mut Chair) -> u64
     ensures same { (chair.new.table_id ≡ chair.old.table_id) × (chair.new.id ≡ chair.old.id) }
     ensures asked { chair.new.me ≡ (asked result chair.old.me.0, []) }
     ensures sound { (chair.old.me.0.drawn ≤ result) ×
-        IsSound chair.old.me.0.terms chair.old.me.0.seen }
+        GoesOnFrom chair.old.me.0.terms chair.old.me.0.seen }
 {
     board.load::<Asks>(chair, NEXT)
 }
@@ -133,7 +133,7 @@ pub(crate) fn compare(board: &Board, chair: &mut Chair)
         (chair.old.me.0.stage ≡ Met first second other)) }
     ensures same { (chair.new.table_id ≡ chair.old.table_id) × (chair.new.id ≡ chair.old.id) }
     ensures idle { chair.new.me ≡ (at_stage Idle chair.old.me.0, []) }
-    ensures sound { IsSound chair.old.me.0.terms chair.old.me.0.seen }
+    ensures sound { GoesOnFrom chair.old.me.0.terms chair.old.me.0.seen }
     ensures both { (first second : History) (other : ℕ) →
         chair.old.me.0.stage ≡ Met first second other →
         HasBoth chair.old.me.0.terms chair.old.me.0.number other first second chair.old.me.0.seen }

@@ -7,7 +7,7 @@ use Rattle.std.specs.Prelude.{Option}
 use Rattle.std.specs.Io.{StartsWith}
 use Rattle.std.specs.Io.KnownBytes.{Keeps, Consumes, IsAtEnd}
 use Rattle.std.proofs.KnownBytes.{Consumes-trans, starts_with_rest}
-use Rattle.pl_play.specs.Lines.{lines_of, longest_line, HasNoFeed, HasNoLine, TakesLine, BeginsLong, WouldBeLong, MovesBytes}
+use Rattle.pl_play.specs.Lines.{text_lines, longest_line, HasNoFeed, HasNoLine, TakesLine, BeginsLong, WouldBeLong, MovesBytes}
 use Rattle.pl_play.proofs.Feeds.{lines_of-feed, lines_of-last, IsLong-front}
 
 -- what was shown up to a line feed, and the line feed, are taken
@@ -44,7 +44,7 @@ pub TakesLine-feed : (start new : Option (List ℕ)) (line : List ℕ) → Consu
 TakesLine-feed None new line taken no_feed = tt
 TakesLine-feed (Some text) None line taken no_feed = absurd taken
 TakesLine-feed (Some text) (Some rest) line taken no_feed =
-    ap lines_of (taken ∙ append_assoc line (10 ∷ []) rest) ∙ lines_of-feed line rest no_feed
+    ap text_lines (taken ∙ append_assoc line (10 ∷ []) rest) ∙ lines_of-feed line rest no_feed
 
 -- bytes with no line feed before the end of the input are the last line
 pub TakesLine-end : (start old new : Option (List ℕ)) (line : List ℕ) → Consumes start old line → IsAtEnd old → Keeps old new → HasNoFeed line → 0 < length line → TakesLine start new line
@@ -52,14 +52,14 @@ TakesLine-end None old new line taken end kept no_feed some = tt
 TakesLine-end (Some text) None new line taken end kept no_feed some = absurd taken
 TakesLine-end (Some text) (Some rest) None line taken end kept no_feed some = absurd kept
 TakesLine-end (Some text) (Some rest) (Some same) line taken end kept no_feed some =
-    ap lines_of (taken ∙ ap (λ l. line ++ l) end ∙ append-nil line) ∙ lines_of-last line no_feed some
-    ∙ ap (λ l. line ∷ lines_of l) (sym (kept ∙ end))
+    ap text_lines (taken ∙ ap (λ l. line ++ l) end ∙ append-nil line) ∙ lines_of-last line no_feed some
+    ∙ ap (λ l. line ∷ text_lines l) (sym (kept ∙ end))
 
 -- nothing before the end of the input is no line
 pub HasNoLine-end : (start old : Option (List ℕ)) (line : List ℕ) → Consumes start old line → IsAtEnd old → length line ≡ 0 → HasNoLine start
 HasNoLine-end None old line taken end none = tt
 HasNoLine-end (Some text) None line taken end none = absurd taken
-HasNoLine-end (Some text) (Some rest) [] taken end none = ap lines_of (taken ∙ end)
+HasNoLine-end (Some text) (Some rest) [] taken end none = ap text_lines (taken ∙ end)
 HasNoLine-end (Some text) (Some rest) (b ∷ line) taken end none = absurd (omega arith)
 
 -- a line that would be too long is too long

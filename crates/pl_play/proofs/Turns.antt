@@ -6,10 +6,10 @@ use Rattle.std.proofs.lemmas.List.Folds.{concat-append}
 use Rattle.std.specs.Prelude.{Option, ⊤, Result, Err, IfErr}
 use Rattle.std.specs.Io.KnownBytes.{Appends}
 use Rattle.std.proofs.KnownBytes.{Appends-nil, Appends-trans, Keeps-refl}
-use Rattle.pl_play.specs.Lines.{lines_of, longest_line, TakesLine, BeginsLong, IsLong, OnFirst, input_fault_at}
+use Rattle.pl_play.specs.Lines.{text_lines, longest_line, TakesLine, BeginsLong, IsLong, OnFirst, input_fault_at}
 use Rattle.pl_play.specs.declared.lines.InputFault.{InputFault}
 use Rattle.pl_play.specs.declared.lines.InputFault.TheVariants as inputs
-use Rattle.pl_play.specs.Played.{Steps, AnswersLine, Answered, HasLines, Moment, moment, AnswersFirst, LeavesBoth, WritesAnswer, StopsAt, Stops, PlaysLine, WritesReply, no_memory}
+use Rattle.pl_play.specs.Played.{Steps, AnswersLine, LinesAnswered, HasLines, Moment, moment, AnswersFirst, LeavesBoth, WritesAnswer, StopsAt, Stops, PlaysLine, WritesReply, no_memory}
 use Rattle.pl_play.specs.Text.{line_text}
 use Rattle.pl_core.specs.declared.reply.Reply.{Reply}
 use Rattle.pl_core.specs.declared.reply.Reply.TheVariants as replies
@@ -22,12 +22,12 @@ use Rattle.hex.specs.Hex.{decode_of, encode_with}
 abbrev pub LeavesLines : Option (List ℕ) → Option (List ℕ) → List (List ℕ) → Type 0
 LeavesLines None left lines = ⊤
 LeavesLines (Some text) None lines = ⊥
-LeavesLines (Some text) (Some rest) lines = lines_of text ≡ lines ++ lines_of rest
+LeavesLines (Some text) (Some rest) lines = text_lines text ≡ lines ++ text_lines rest
 
 -- the lines of what is left, where that is known
 abbrev pub known_lines : Option (List ℕ) → List (List ℕ)
 known_lines None = []
-known_lines (Some text) = lines_of text
+known_lines (Some text) = text_lines text
 
 -- so many lines are answered, and the reader has the others
 pub record Going {S : Type 0} (step : Steps S) (input left : Option (List ℕ)) (count : ℕ) (before now : Moment S) : Type 0 where
@@ -35,12 +35,12 @@ pub record Going {S : Type 0} (step : Steps S) (input left : Option (List ℕ)) 
   pub answers : List (List ℕ)
   pub lines : LeavesLines input left answered
   pub counted : length answered ≡ count
-  pub chain : Answered step before.state answered answers now.state
+  pub chain : LinesAnswered step before.state answered answers now.state
   pub written : Appends before.output now.output (concat answers)
 
 -- lines are answered, and then one line more
 pub Answered-more : {S : Type 0} (step : Steps S) (before now after : S) (lines answers : List (List ℕ)) (line answer : List ℕ)
-    → Answered step before lines answers now → AnswersLine step now line answer after → Answered step before (lines ++ line ∷ []) (answers ++ answer ∷ []) after
+    → LinesAnswered step before lines answers now → AnswersLine step now line answer after → LinesAnswered step before (lines ++ line ∷ []) (answers ++ answer ∷ []) after
 Answered-more step before now after [] [] line answer chain more = (after, subst (λ s. AnswersLine step s line answer after) chain more, refl)
 Answered-more step before now after [] (a ∷ as1) line answer chain more = absurd chain
 Answered-more step before now after (l ∷ ls) [] line answer chain more = absurd chain
@@ -62,7 +62,7 @@ LeavesLines-more None left new lines line rest takes = tt
 LeavesLines-more (Some text) None new lines line rest takes = absurd rest
 LeavesLines-more (Some text) (Some xs) None lines line rest takes = absurd takes
 LeavesLines-more (Some text) (Some xs) (Some ys) lines line rest takes =
-    rest ∙ ap (λ l. lines ++ l) takes ∙ sym (append_assoc lines (line ∷ []) (lines_of ys))
+    rest ∙ ap (λ l. lines ++ l) takes ∙ sym (append_assoc lines (line ∷ []) (text_lines ys))
 
 -- what is left has the other lines
 pub HasLines-left : (input left : Option (List ℕ)) (lines : List (List ℕ)) → LeavesLines input left lines → HasLines input (lines ++ known_lines left)
@@ -89,7 +89,7 @@ LeavesLong-left None left lines rest long =
     let over : IsLong (replicate 131073 0) = subst (λ n. longest_line < n) (sym (length-replicate {A = ℕ} 131073 0)) (lit< tt) in
     record { others = replicate 131073 0 ∷ []; has = tt; long = over }
 LeavesLong-left (Some text) None lines rest long = absurd rest
-LeavesLong-left (Some text) (Some xs) lines rest long = record { others = lines_of xs; has = rest; long = long }
+LeavesLong-left (Some text) (Some xs) lines rest long = record { others = text_lines xs; has = rest; long = long }
 
 module _ {S : Type 0} (step : Steps S) (input left : Option (List ℕ)) (count : ℕ) (before now : Moment S)
     (going : Going step input left count before now) where

@@ -18,7 +18,7 @@ bytes_of None = None
 bytes_of (Some v) = Some v.items
 
 -- a word writes the number in decimal digits, and k bits hold it
-pub record IsNumber (k : ℕ) (word : List ℕ) (n : ℕ) : Type 0 where
+pub record IsNumberWord (k : ℕ) (word : List ℕ) (n : ℕ) : Type 0 where
   pub digits : IsNumeral 10 (without_leading_plus word)
   pub value : n ≡ digits_value 10 (without_leading_plus word)
   pub fits : n < 2 ^ k
@@ -27,7 +27,7 @@ pub record IsNumber (k : ℕ) (word : List ℕ) (n : ℕ) : Type 0 where
 pub record NamesFailover (words : Words) (primary : ℕ) : Type 0 where
   pub id : List ℕ
   pub words_are : words ≡ codes "failover" ∷ id ∷ []
-  pub number : IsNumber 32 id primary
+  pub number : IsNumberWord 32 id primary
 
 -- `set_table FILE`, with the bytes of the file
 pub record NamesSetTable (words : Words) (text : Option (List ℕ)) (bytes : List ℕ) : Type 0 where
@@ -40,8 +40,8 @@ pub record NamesAudit (words : Words) (first max : ℕ) : Type 0 where
   pub from : List ℕ
   pub count : List ℕ
   pub words_are : words ≡ codes "audit" ∷ from ∷ count ∷ []
-  pub first_is : IsNumber 64 from first
-  pub max_is : IsNumber 16 count max
+  pub first_is : IsNumberWord 64 from first
+  pub max_is : IsNumberWord 16 count max
 
 -- the words ask for the act; of the others none is an operator's
 abbrev pub AskFor : Words → Option (List ℕ) → Act → Type 0

@@ -8,7 +8,7 @@ use Rattle.pl_core.specs.declared.reply.Reply.TheVariants.{Malformed}
 use Rattle.pl_core.specs.History.{History}
 use Rattle.pl_core.specs.Step.{IsStep}
 use Rattle.pl_wire.specs.declared.fault.WireFault.{WireFault}
-use Rattle.pl_wire.specs.Codes.{code_of}
+use Rattle.pl_wire.specs.Codes.{body_fault_code}
 use Rattle.pl_wire.specs.Reading.{request_reading}
 use Rattle.pl_wire.specs.Replies.{reply_spelling}
 
@@ -27,7 +27,7 @@ pub record TakesStep (pass : ℕ) (q : Query) (before : History) (bytes : List �
 pub record TellsFault (fault : WireFault) (before : History) (bytes : List ℕ) (after : History)
     : Type 0 where
   pub same : after ≡ before
-  pub spelled : bytes ≡ reply_spelling (Malformed (code_of fault))
+  pub spelled : bytes ≡ reply_spelling (Malformed (body_fault_code fault))
 
 -- a request takes its step, and a fault is reported by its code
 abbrev pub AnswersReading : ℕ → Result Query WireFault → History → List ℕ → History → Type 0

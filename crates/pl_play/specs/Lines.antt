@@ -18,20 +18,20 @@ push_front b [] = (b ∷ []) ∷ []
 push_front b (line ∷ lines) = (b ∷ line) ∷ lines
 
 -- the lines of a text: a line feed ends each, and the last needs none
-abbrev pub lines_of : List ℕ → List (List ℕ)
-lines_of [] = []
-lines_of (b ∷ bs) = if b == 10 then [] ∷ lines_of bs else push_front b (lines_of bs)
+abbrev pub text_lines : List ℕ → List (List ℕ)
+text_lines [] = []
+text_lines (b ∷ bs) = if b == 10 then [] ∷ text_lines bs else push_front b (text_lines bs)
 
 -- known bytes have this line first, and what is left has the others
 abbrev pub TakesLine : Option (List ℕ) → Option (List ℕ) → List ℕ → Type 0
 TakesLine None new line = ⊤
 TakesLine (Some text) None line = ⊥
-TakesLine (Some text) (Some rest) line = lines_of text ≡ line ∷ lines_of rest
+TakesLine (Some text) (Some rest) line = text_lines text ≡ line ∷ text_lines rest
 
 -- known bytes have no line
 abbrev pub HasNoLine : Option (List ℕ) → Type 0
 HasNoLine None = ⊤
-HasNoLine (Some text) = lines_of text ≡ []
+HasNoLine (Some text) = text_lines text ≡ []
 
 -- a line is longer than it may be
 abbrev pub IsLong : List ℕ → Type 0
@@ -45,7 +45,7 @@ OnFirst (line ∷ lines) P = P line
 -- known bytes have a first line, and it is longer than it may be
 abbrev pub BeginsLong : Option (List ℕ) → Type 0
 BeginsLong None = ⊤
-BeginsLong (Some text) = OnFirst (lines_of text) IsLong
+BeginsLong (Some text) = OnFirst (text_lines text) IsLong
 
 -- a line without its end: no byte of it is a line feed
 abbrev pub HasNoFeed : List ℕ → Type 0

@@ -5,7 +5,7 @@ use Rattle.std.specs.Io.KnownBytes.{Keeps, Appends}
 use Rattle.hex.specs.Hex.{decode_of}
 use Rattle.pl_core.specs.declared.reply.Reply.TheVariants as replies
 use Rattle.pl_wire.specs.Replies.{reply_spelling}
-use Rattle.pl_play.specs.Lines.{lines_of, longest_line, IsLong, OnFirst}
+use Rattle.pl_play.specs.Lines.{text_lines, longest_line, IsLong, OnFirst}
 use Rattle.pl_play.specs.Text.{line_text, IsNoText}
 use Rattle.pl_play.specs.declared.fault.PlayFault.{PlayFault}
 use Rattle.pl_play.specs.declared.fault.PlayFault.TheVariants as faults
@@ -29,17 +29,17 @@ pub record AnswersLine {S : Type 0} (step : Steps S) (before : S) (line answer :
   pub writes : answer ≡ line_text reply
 
 -- each line has its answer, and each step begins where the one before it ended
-abbrev pub Answered : {S : Type 0} → Steps S → S → List (List ℕ) → List (List ℕ) → S → Type 0
-Answered step before [] [] after = after ≡ before
-Answered step before [] (answer ∷ answers) after = ⊥
-Answered step before (line ∷ lines) [] after = ⊥
-Answered step before (line ∷ lines) (answer ∷ answers) after =
-    (now : _) × AnswersLine step before line answer now × Answered step now lines answers after
+abbrev pub LinesAnswered : {S : Type 0} → Steps S → S → List (List ℕ) → List (List ℕ) → S → Type 0
+LinesAnswered step before [] [] after = after ≡ before
+LinesAnswered step before [] (answer ∷ answers) after = ⊥
+LinesAnswered step before (line ∷ lines) [] after = ⊥
+LinesAnswered step before (line ∷ lines) (answer ∷ answers) after =
+    (now : _) × AnswersLine step before line answer now × LinesAnswered step now lines answers after
 
 -- these are the lines of the input, where its bytes are known
 abbrev pub HasLines : Option (List ℕ) → List (List ℕ) → Type 0
 HasLines None lines = ⊤
-HasLines (Some text) lines = lines_of text ≡ lines
+HasLines (Some text) lines = text_lines text ≡ lines
 
 -- what the writer holds, where that is known, and the state of what answers
 pub record Moment (S : Type 0) : Type 0 where
@@ -57,7 +57,7 @@ pub record AnswersFirst {S : Type 0} (step : Steps S) (input : Option (List ℕ)
   pub answers : List (List ℕ)
   pub lines : HasLines input (answered ++ unanswered)
   pub counted : length answered ≡ count
-  pub chain : Answered step before.state answered answers after.state
+  pub chain : LinesAnswered step before.state answered answers after.state
   pub written : Appends before.output after.output (concat answers)
 
 -- nothing is written, and the state is the same

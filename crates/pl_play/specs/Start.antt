@@ -14,8 +14,8 @@ use Rattle.pl_play.specs.declared.start.FileFault.{FileFault}
 use Rattle.pl_play.specs.declared.start.FileFault.TheVariants as files
 
 -- how many bytes the text of a table may have
-abbrev pub longest_text : ℕ
-longest_text = 65506
+abbrev pub longest_table_text : ℕ
+longest_table_text = 65506
 
 -- the text is all that the reader has, where its bytes are known
 abbrev pub IsWhole : Option (List ℕ) → List ℕ → Type 0
@@ -23,9 +23,9 @@ IsWhole None text = ⊤
 IsWhole (Some bytes) text = text ≡ bytes
 
 -- known bytes are more than a text may have
-abbrev pub IsTooLong : Option (List ℕ) → Type 0
-IsTooLong None = ⊤
-IsTooLong (Some bytes) = longest_text < length bytes
+abbrev pub IsTooLongText : Option (List ℕ) → Type 0
+IsTooLongText None = ⊤
+IsTooLongText (Some bytes) = longest_table_text < length bytes
 
 -- a table and its first primary, and an audit list of at most this many entries
 abbrev pub start_with : WrittenTable → ℕ → ℕ → Start

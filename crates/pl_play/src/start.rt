@@ -3,7 +3,7 @@
 ghost use Rattle.std.specs.Prelude.{◌≡◌, ◌≢◌, ◌↔◌, ◌≤◌, ◌<◌, ◌⊎◌, Err, IfErr, IfOk, IsErrAnd, IsOk, OnOk, Some, length};
 ghost use Rattle.std.specs.IoError.{error_kind};
 ghost use Rattle.pl_play.specs.FaultText.{start_fault_text};
-ghost use Rattle.pl_play.specs.Start.{IsTooLong, IsWhole, audit_of_play, longest_text, start_of};
+ghost use Rattle.pl_play.specs.Start.{IsTooLongText, IsWhole, audit_of_play, longest_table_text, start_of};
 
 use pl_core::{Db, DbFault, Limits};
 use pl_table::{ReadFault, TableFault, read_table};
@@ -112,9 +112,9 @@ pub fn file_fault_of(error: &io::Error) -> FileFault
 
 // What was read, or why it is no text.
 fn text_of(read: io::Result<usize>, text: Vec<u8>) -> Result<Vec<u8>, FileFault>
-    ensures ok { IfOk result (λ whole. (whole ≡ text) × (length text.items ≤ longest_text)) }
+    ensures ok { IfOk result (λ whole. (whole ≡ text) × (length text.items ≤ longest_table_text)) }
     ensures read { OnOk result (IsOk read) }
-    ensures long { result ≡ Err FileFault.Long → IsOk read × (longest_text < length text.items) }
+    ensures long { result ≡ Err FileFault.Long → IsOk read × (longest_table_text < length text.items) }
     ensures memory { IfErr read (λ error. error_kind error ≡ ErrorKind.OutOfMemory →
         result ≡ Err FileFault.NoMemory) }
     ensures no_memory { result ≡ Err FileFault.NoMemory →
@@ -133,9 +133,9 @@ pub fn read_text<R: Read + Drop>(alloc: Global, reader: R) -> Result<Vec<u8>, Fi
     // The whole of the file.
     ensures ok { IfOk result (λ text. IsWhole (R.remaining reader) text.items) }
     // It has at most 65,506 bytes.
-    ensures fits { IfOk result (λ text. length text.items ≤ longest_text) }
+    ensures fits { IfOk result (λ text. length text.items ≤ longest_table_text) }
     // `Long` comes only where the file has more.
-    ensures long { result ≡ Err FileFault.Long → IsTooLong (R.remaining reader) }
+    ensures long { result ≡ Err FileFault.Long → IsTooLongText (R.remaining reader) }
 {
     let mut text = Vec::new(alloc);
     let read = reader.take(LONGEST_TEXT as u64 + 1).read_to_end(&mut text);

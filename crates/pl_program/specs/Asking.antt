@@ -38,33 +38,33 @@ fault_of_reply (replies.Body (bodies.Malformed fault)) = faults.Reply
 fault_of_reply (replies.Body bodies.NoMemory) = faults.NoMemory
 
 -- what a connection has left to be read, and what was written to it
-pub record Ends : Type 0 where
+pub record ConnectionEnds : Type 0 where
   pub input : Option (List ℕ)
   pub output : Option (List ℕ)
 
-abbrev pub ends : Option (List ℕ) → Option (List ℕ) → Ends
+abbrev pub ends : Option (List ℕ) → Option (List ℕ) → ConnectionEnds
 ends input output = record { input = input; output = output }
 
 -- the request's frame was written, and then the reply's was read
-pub record Exchanged (request : Query) (before after : Ends) (reply : Reply) : Type 0 where
+pub record Exchanged (request : Query) (before after : ConnectionEnds) (reply : Reply) : Type 0 where
   pub wrote : Appends before.output after.output (request_frame request)
   pub read : Consumes before.input after.input (reply_frame reply)
   pub is_reply : IsReply reply
 
 -- the request was not written whole, and nothing was read
-pub record StopsWriting (request : Query) (before after : Ends) (fault : RunFault) : Type 0 where
+pub record StopsWriting (request : Query) (before after : ConnectionEnds) (fault : RunFault) : Type 0 where
   pub cause : WriteFault
   pub fault_is : fault ≡ fault_of_write cause
   pub wrote : WritesText {T = Unit {0}} before.output after.output (request_frame request) (Err cause)
   pub input : after.input ≡ before.input
 
 -- the request was written, and no reply was read
-pub record StopsReading (request : Query) (before after : Ends) (fault : RunFault) : Type 0 where
+pub record StopsReading (request : Query) (before after : ConnectionEnds) (fault : RunFault) : Type 0 where
   pub cause : ReplyFault
   pub fault_is : fault ≡ fault_of_reply cause
   pub wrote : Appends before.output after.output (request_frame request)
   pub read : StopsReply before.input after.input cause
 
-abbrev pub StopsExchange : Query → Ends → Ends → RunFault → Type 0
+abbrev pub StopsExchange : Query → ConnectionEnds → ConnectionEnds → RunFault → Type 0
 StopsExchange request before after fault =
     StopsWriting request before after fault ⊎ StopsReading request before after fault

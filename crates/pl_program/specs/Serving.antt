@@ -5,9 +5,9 @@ use Rattle.pl_table.specs.Table.{WrittenTable, token_of}
 use Rattle.pl_table.specs.TableText.{table_reading}
 use Rattle.pl_table.specs.declared.fault.TableFault.{TableFault}
 use Rattle.pl_core.specs.History.{History}
-use Rattle.pl_desk.specs.Passes.{Knowledge, Place}
-use Rattle.pl_conn.specs.Desks.{AreOf, DesksCall, all_fresh, fresh_at, terms_of_each}
-use Rattle.pl_conn.specs.Serving.{Serves}
+use Rattle.pl_desk.specs.Passes.{Knowledge, DeskOrigin}
+use Rattle.pl_conn.specs.Desks.{ArePassesOf, DesksCall, all_fresh, fresh_at, terms_of_each}
+use Rattle.pl_conn.specs.Serving.{ServesConnections}
 use Rattle.pl_conn.specs.declared.serving.Stop.{Stop}
 use Rattle.pl_conn.specs.declared.serving.Stop.TheVariants as stops
 use Rattle.pl_play.specs.declared.start.StartFault.{StartFault}
@@ -51,9 +51,9 @@ pager_in text numbers =
 -- back are those of workers, each after a list of calls; and the page server, where there is one, made its
 -- rounds with the last pass.
 pub record ServesDatabases (dbs : List History) (workers connections : ℕ) (pager : Option Pager) (accepted : ℕ) (stop : Stop) (passes : List (List Knowledge)) : Type 0 where
-  pub desks : List Place
+  pub desks : List DeskOrigin
   pub made : map (λ desk. desk.terms) desks ≡ terms_of_each (workers + 1) (2 ^ 62) dbs
-  pub serves : Serves DesksCall (AreOf desks) (all_fresh desks workers) connections accepted stop passes
+  pub serves : ServesConnections DesksCall (ArePassesOf desks) (all_fresh desks workers) connections accepted stop passes
   pub paged : IfSome pager (λ pager. HasPaged pager (length dbs) (fresh_at desks (workers + 1)))
 
 -- all is done where all connections were accepted

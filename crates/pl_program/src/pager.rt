@@ -1,7 +1,7 @@
 //! The page server of a service, and its rounds at the databases.
 
 ghost use Rattle.std.specs.Prelude.{◌≡◌, IfSome};
-ghost use Rattle.pl_conn.specs.Desks.{AreOf, DesksCall};
+ghost use Rattle.pl_conn.specs.Desks.{ArePassesOf, DesksCall};
 ghost use Rattle.pl_program.specs.Paging.{Pages};
 
 use pl_conn::{Desks, Passes, materialise};
@@ -37,7 +37,7 @@ impl Promise<Passes> for Rounds {
 // Applies the log of each of this many databases, one after the other, and returns the passes.
 #[tactic(auto, using(crate::proofs::Rounds::pages_start))]
 fn page<R: Wait + Drop>(desks: &Desks<R>, passes: Passes, pager: Pager, databases: u32) -> Passes
-    requires of { AreOf desks.now passes }
+    requires of { ArePassesOf desks.now passes }
     ensures pages { Pages DesksCall pager databases passes result }
 {
     let mut passes = passes;
@@ -65,7 +65,7 @@ pub(crate) fn start_pager<'s, E, R: Wait + Sync + Drop>(
     databases: u32,
 ) -> Option<PromisedHandle<Passes, Rounds>>
     // The passes are of the desks.
-    requires of { AreOf desks.now passes }
+    requires of { ArePassesOf desks.now passes }
     // The thread that was started makes these rounds.
     ensures of { IfSome result (λ handle. (handle.promise.start.value ≡ passes)
         × (handle.promise.pager ≡ pager) × (handle.promise.databases ≡ databases)) }

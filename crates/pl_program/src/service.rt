@@ -2,8 +2,8 @@
 
 ghost use Rattle.std.specs.Prelude.{◌≡◌, ◌++◌, ◌∷◌, ◌≤◌, ◌⊎◌, [], IfErr, IfOk, IfSome, IsNone, IsSome, length, vec_len};
 ghost use Rattle.std.specs.List.{All};
-ghost use Rattle.pl_conn.specs.Desks.{AreOf, DesksCall};
-ghost use Rattle.pl_conn.specs.Serving.{Serves};
+ghost use Rattle.pl_conn.specs.Desks.{ArePassesOf, DesksCall};
+ghost use Rattle.pl_conn.specs.Serving.{ServesConnections};
 ghost use Rattle.pl_program.specs.Paging.{HasPaged};
 ghost use Rattle.pl_program.specs.Serving.{ServesDatabases};
 
@@ -28,7 +28,7 @@ struct Paging {
     databases: u32,
 }
 
-// Serves, and at the same time lets the page server make its rounds, if there is one. `None` where the
+// ServesConnections, and at the same time lets the page server make its rounds, if there is one. `None` where the
 // page server's thread could not be started.
 fn serve_in<'s, E, R: Threads + Wait + Net + Sync + Drop, W: Watch>(
     scope: &Scope<'s, E>,
@@ -41,9 +41,9 @@ fn serve_in<'s, E, R: Threads + Wait + Net + Sync + Drop, W: Watch>(
     connections: u32,
     watch: &W,
 ) -> Option<Served<Passes>>
-    requires own { All (AreOf desks.now) passes.items }
-    requires pager { IfSome paging (λ p. AreOf desks.now p.passes) }
-    ensures serves { IfSome result (λ s. Serves DesksCall (AreOf desks.now) passes.items connections
+    requires own { All (ArePassesOf desks.now) passes.items }
+    requires pager { IfSome paging (λ p. ArePassesOf desks.now p.passes) }
+    ensures serves { IfSome result (λ s. ServesConnections DesksCall (ArePassesOf desks.now) passes.items connections
         s.accepted s.stop s.passes.items) }
     // Where there is a page server, it was started and waited for.
     ensures paged { IfSome result (λ _. IfSome paging (λ p. HasPaged p.pager p.databases p.passes)) }
@@ -66,10 +66,10 @@ fn serve_in<'s, E, R: Threads + Wait + Net + Sync + Drop, W: Watch>(
 // Takes out the last of the passes.
 fn take_last<R>(desks: &Desks<R>, passes: &mut Vec<Passes>) -> Passes
     requires some { 1 ≤ vec_len passes.old }
-    requires of { All (AreOf desks.now) passes.old.items }
+    requires of { All (ArePassesOf desks.now) passes.old.items }
     ensures parts { passes.old.items ≡ passes.new.items ++ result ∷ [] }
-    ensures rest { All (AreOf desks.now) passes.new.items }
-    ensures last { AreOf desks.now result }
+    ensures rest { All (ArePassesOf desks.now) passes.new.items }
+    ensures last { ArePassesOf desks.now result }
 {
     let Some(last) = passes.pop() else {
         unreachable!();
@@ -77,7 +77,7 @@ fn take_last<R>(desks: &Desks<R>, passes: &mut Vec<Passes>) -> Passes
     last
 }
 
-// Serves the databases of the desks, with a worker for each of the passes.
+// ServesConnections the databases of the desks, with a worker for each of the passes.
 fn serve_over<R: Threads + Wait + Net + Sync + Drop, W: Watch>(
     rt: &R,
     alloc: Global,
@@ -88,9 +88,9 @@ fn serve_over<R: Threads + Wait + Net + Sync + Drop, W: Watch>(
     connections: u32,
     watch: &W,
 ) -> Option<Served<Passes>>
-    requires own { All (AreOf desks.now) passes.items }
-    requires pager { IfSome paging (λ p. AreOf desks.now p.passes) }
-    ensures serves { IfSome result (λ s. Serves DesksCall (AreOf desks.now) passes.items connections
+    requires own { All (ArePassesOf desks.now) passes.items }
+    requires pager { IfSome paging (λ p. ArePassesOf desks.now p.passes) }
+    ensures serves { IfSome result (λ s. ServesConnections DesksCall (ArePassesOf desks.now) passes.items connections
         s.accepted s.stop s.passes.items) }
     ensures paged { IfSome result (λ _. IfSome paging (λ p. HasPaged p.pager p.databases p.passes)) }
     ensures none { IsNone result → IsSome paging }
@@ -99,9 +99,9 @@ fn serve_over<R: Threads + Wait + Net + Sync + Drop, W: Watch>(
         thread::scope_env(),
         rt,
         move |scope| -> Option<Served<Passes>>
-            requires own { All (AreOf desks.now) passes.items }
-            requires pager { IfSome paging (λ p. AreOf desks.now p.passes) }
-            ensures serves { IfSome result (λ s. Serves DesksCall (AreOf desks.entry.now) passes.items
+            requires own { All (ArePassesOf desks.now) passes.items }
+            requires pager { IfSome paging (λ p. ArePassesOf desks.now p.passes) }
+            ensures serves { IfSome result (λ s. ServesConnections DesksCall (ArePassesOf desks.entry.now) passes.items
                 connections s.accepted s.stop s.passes.items) }
             ensures paged { IfSome result (λ _. IfSome paging (λ p. HasPaged p.pager p.databases p.passes)) }
             ensures none { IsNone result → IsSome paging }
@@ -121,7 +121,7 @@ fn serve_over<R: Threads + Wait + Net + Sync + Drop, W: Watch>(
     )
 }
 
-/// Serves the databases to connections, with this many workers, until this many were accepted. Where
+/// ServesConnections the databases to connections, with this many workers, until this many were accepted. Where
 /// there is a pager, it works at the same time, in a thread of its own, and is waited for. What the service
 /// cannot do while it goes on is told to the watch.
 ///

@@ -18,7 +18,7 @@ use Rattle.pl_table.specs.declared.request.Act.TheVariants.{Write, Offer, Report
 use Rattle.pl_table.specs.Request.{op_of, FitsActFields}
 use Rattle.pl_wire.specs.declared.fault.WireFault.TheVariants.{EndsInField, BytesAfterEnd, OutOfRange}
 use Rattle.pl_wire.specs.Spelling.{flag_number, act_spelling}
-use Rattle.pl_wire.specs.Reading.{number_in, sized, block_in, write_reading, offer_reading, report_reading, flag_of_number, get_reading, pull_reading, advance_reading, failover_reading, audit_reading, act_reading}
+use Rattle.pl_wire.specs.Reading.{number_in, sized, block_or_fault, write_reading, offer_reading, report_reading, flag_of_number, get_reading, pull_reading, advance_reading, failover_reading, audit_reading, act_reading}
 use Rattle.pl_wire.proofs.Steps.{bound, done, ok_is, ok_or-some, guard_ok}
 use Rattle.pl_wire.proofs.Places.{IsWide, wide16, wide32, wide64, number_cut, number_below, byte_cut}
 
@@ -37,20 +37,20 @@ pub record IsRead (op : Op) (bytes : List ℕ) (act : Act) : Type 0 where
 
 -- ---- blocks and a text
 
-pub block_is : (r : Result Content Fault) (b : Content) → block_in r ≡ Ok b → r ≡ Ok b
+pub block_is : (r : Result Content Fault) (b : Content) → block_or_fault r ≡ Ok b → r ≡ Ok b
 block_is (Ok x) b e = cc
 block_is (Err f) b e = absurd cc
 
 write_takes : OneSpelling → (bytes : List ℕ) (act : Act) → AreBytes bytes → write_reading bytes ≡ Ok act → IsRead ops.Write bytes act
 write_takes law [] act fits e = absurd cc
 write_takes law (copy ∷ bytes) act fits e =
-    bound (block_in (block_reading bytes)) (λ block. Ok (Write copy block)) act e (λ block read made.
+    bound (block_or_fault (block_reading bytes)) (λ block. Ok (Write copy block)) act e (λ block read made.
     let b = law.spelled bytes block (λ i. fits (suc i)) (block_is (block_reading bytes) block read) in
     subst (IsRead ops.Write (copy ∷ bytes)) (ok_is (Write copy block) act made) (record { of_op = refl; fields = (fits 0, b.0); spelled = ap (λ (t : List ℕ). copy ∷ t) b.1 }))
 
 offer_takes : OneSpelling → (bytes : List ℕ) (act : Act) → AreBytes bytes → offer_reading bytes ≡ Ok act → IsRead ops.Offer bytes act
 offer_takes law bytes act fits e =
-    bound (block_in (block_reading bytes)) (λ block. Ok (Offer block)) act e (λ block read made.
+    bound (block_or_fault (block_reading bytes)) (λ block. Ok (Offer block)) act e (λ block read made.
     let b = law.spelled bytes block fits (block_is (block_reading bytes) block read) in
     subst (IsRead ops.Offer bytes) (ok_is (Offer block) act made) (record { of_op = refl; fields = b.0; spelled = b.1 }))
 
@@ -151,8 +151,8 @@ act_takes law ops.Audit bytes act fits e = audit_takes bytes act fits e
 act_takes law ops.Tidy bytes act fits e = bare_takes act Tidy bytes tt refl e
 
 pub act_again : OneSpelling → (act : Act) → FitsActFields act → act_reading (op_of act) (act_spelling act) ≡ Ok act
-act_again law (Write copy block) h = ap (λ (r : Result Content Fault). block_in r >>= λ b. done (Write copy b)) (law.again block h.1)
-act_again law (Offer block) h = ap (λ (r : Result Content Fault). block_in r >>= λ b. done (Offer b)) (law.again block h)
+act_again law (Write copy block) h = ap (λ (r : Result Content Fault). block_or_fault r >>= λ b. done (Write copy b)) (law.again block h.1)
+act_again law (Offer block) h = ap (λ (r : Result Content Fault). block_or_fault r >>= λ b. done (Offer b)) (law.again block h)
 act_again law (Report lsn) h = ap (λ (n : ℕ). done (Report n)) (from_be_bytes-to_be_bytes_8 lsn h)
 act_again law (Get page lsn false) h = rw (from_be_bytes-to_be_bytes_4 page h.0, from_be_bytes-to_be_bytes_8 lsn h.1) refl
 act_again law (Get page lsn true) h = rw (from_be_bytes-to_be_bytes_4 page h.0, from_be_bytes-to_be_bytes_8 lsn h.1) refl

@@ -10,7 +10,7 @@ use Rattle.pl_block.specs.Faults.{◌>>=◌}
 use Rattle.pl_block.specs.Laws.{AreBytes}
 use Rattle.pl_wire.specs.declared.fault.WireFault.{WireFault}
 use Rattle.pl_wire.specs.declared.fault.WireFault.TheVariants.{EndsInField, OutOfRange}
-use Rattle.pl_wire.specs.ReplyReading.{byte_at, bytes_at, count_at, each_at, number_at, one_at}
+use Rattle.pl_wire.specs.ReplyReading.{byte_at, bytes_taken, count_at, each_at, number_taken, one_at}
 use Rattle.pl_wire.proofs.Steps.{bind_ok, bound, done, guard_ok, ok_is, ok_or-some}
 use Rattle.pl_wire.proofs.Numbered.{IsNumbered}
 use Rattle.pl_wire.proofs.Places.{AreBytes-drop, AreBytes-take, IsWide, wide16, wide32, wide64}
@@ -43,22 +43,22 @@ again_then tells x rest k fits = ap (λ (r : Result _ WireFault). r >>= k) (tell
 
 -- ---- bytes and numbers
 
-pub bytes_take : (n : ℕ) (bytes : List ℕ) (x : List ℕ × List ℕ) → AreBytes bytes → bytes_at n bytes ≡ Ok x → IsFront bytes x.0 x.1 × (length x.0 ≡ n) × AreBytes x.0
+pub bytes_take : (n : ℕ) (bytes : List ℕ) (x : List ℕ × List ℕ) → AreBytes bytes → bytes_taken n bytes ≡ Ok x → IsFront bytes x.0 x.1 × (length x.0 ≡ n) × AreBytes x.0
 bytes_take n bytes x fits e =
     let g = guard_ok (ltb (length bytes) n) EndsInField (Ok (take n bytes, drop n bytes)) x e in
     let front : IsFront bytes (take n bytes) (drop n bytes) = record { parts = sym (take-append-drop n bytes); rest_fits = AreBytes-drop n bytes fits } in
     let long : n ≤ length bytes = ltb-false _ _ g.0 in
     subst (λ (y : List ℕ × List ℕ). IsFront bytes y.0 y.1 × (length y.0 ≡ n) × AreBytes y.0) (ok_is (take n bytes, drop n bytes) x g.1) (front, omega (arith, length-take n bytes), AreBytes-take n bytes fits)
 
-pub bytes_again : (n : ℕ) (text rest : List ℕ) → length text ≡ n → bytes_at n (text ++ rest) ≡ Ok (text, rest)
+pub bytes_again : (n : ℕ) (text rest : List ℕ) → length text ≡ n → bytes_taken n (text ++ rest) ≡ Ok (text, rest)
 bytes_again n text rest len =
     let long : ltb (length (text ++ rest)) n ≡ false = le-ltb _ _ (omega (arith, length-append text rest)) in
     rw (long, take_at text rest n len, drop_at text rest n len) refl
 
-pub number_tells : (w : Width) (limit : ℕ) → IsWide w limit → Tells (number_at w) (to_be_bytes w) (λ n. n < limit)
+pub number_tells : (w : Width) (limit : ℕ) → IsWide w limit → Tells (number_taken w) (to_be_bytes w) (λ n. n < limit)
 number_tells w limit wide = record {
   takes = λ bytes x fits e.
-      let b = bind_ok (bytes_at (byte_len w) bytes) (λ text. Ok (from_be_bytes w text.0, text.1)) x e in
+      let b = bind_ok (bytes_taken (byte_len w) bytes) (λ text. Ok (from_be_bytes w text.0, text.1)) x e in
       let t = bytes_take (byte_len w) bytes b.value fits b.first in
       let spelled : IsFront bytes (to_be_bytes w (from_be_bytes w b.value.0)) b.value.1 = subst (λ (text : List ℕ). IsFront bytes text b.value.1) (sym (wide.back b.value.0 t.1 t.2)) t.0 in
       subst (λ (y : ℕ × List ℕ). IsFront bytes (to_be_bytes w y.0) y.1 × (y.0 < limit)) (ok_is (from_be_bytes w b.value.0, b.value.1) x b.next) (spelled, wide.below b.value.0 t.2);
@@ -67,13 +67,13 @@ number_tells w limit wide = record {
       ∙ ap (λ (m : ℕ). done (m, rest)) (wide.again n fits);
 }
 
-pub number16 : Tells (number_at w16) (to_be_bytes w16) (λ n. n < 2 ^ 16)
+pub number16 : Tells (number_taken w16) (to_be_bytes w16) (λ n. n < 2 ^ 16)
 number16 = number_tells w16 (2 ^ 16) wide16
 
-pub number32 : Tells (number_at w32) (to_be_bytes w32) (λ n. n < 2 ^ 32)
+pub number32 : Tells (number_taken w32) (to_be_bytes w32) (λ n. n < 2 ^ 32)
 number32 = number_tells w32 (2 ^ 32) wide32
 
-pub number64 : Tells (number_at w64) (to_be_bytes w64) (λ n. n < 2 ^ 64)
+pub number64 : Tells (number_taken w64) (to_be_bytes w64) (λ n. n < 2 ^ 64)
 number64 = number_tells w64 (2 ^ 64) wide64
 
 byte_takes : (bytes : List ℕ) (x : ℕ × List ℕ) → AreBytes bytes → byte_at bytes ≡ Ok x → IsFront bytes (x.0 ∷ []) x.1 × (x.0 < 256)
@@ -88,7 +88,7 @@ byte = record { takes = byte_takes; again = λ b rest fits. refl }
 count_takes : (most : ℕ) (bytes : List ℕ) (x : ℕ × List ℕ) → AreBytes bytes → count_at most bytes ≡ Ok x → IsFront bytes (to_be_bytes w16 x.0) x.1 × ((x.0 < 2 ^ 16) × (x.0 ≤ most))
 unfolding count_at
 count_takes most bytes x fits e =
-    let b = bind_ok (number_at w16 bytes) (λ count. cond (ltb most count.0) (Err OutOfRange) (Ok count)) x e in
+    let b = bind_ok (number_taken w16 bytes) (λ count. cond (ltb most count.0) (Err OutOfRange) (Ok count)) x e in
     let g = guard_ok (ltb most b.value.0) OutOfRange (Ok b.value) x b.next in
     let t = number16.takes bytes b.value fits b.first in
     subst (λ (y : ℕ × List ℕ). IsFront bytes (to_be_bytes w16 y.0) y.1 × ((y.0 < 2 ^ 16) × (y.0 ≤ most))) (ok_is b.value x g.1) (t.0, (t.1, ltb-false _ _ g.0))

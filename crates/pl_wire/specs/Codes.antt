@@ -8,14 +8,14 @@ use Rattle.pl_wire.specs.declared.fault.WireFault.{WireFault}
 use Rattle.pl_wire.specs.declared.fault.WireFault.TheVariants.{TooShort, UnknownRole, UnknownKind, EndsInField, BytesAfterEnd, OutOfRange, Block}
 
 -- the code of a fault: a block's comes after the body's own
-abbrev pub code_of : WireFault → ℕ
-code_of TooShort = 1
-code_of UnknownRole = 2
-code_of UnknownKind = 3
-code_of EndsInField = 4
-code_of BytesAfterEnd = 5
-code_of OutOfRange = 6
-code_of (Block fault) = blocks.code_of fault + 6
+abbrev pub body_fault_code : WireFault → ℕ
+body_fault_code TooShort = 1
+body_fault_code UnknownRole = 2
+body_fault_code UnknownKind = 3
+body_fault_code EndsInField = 4
+body_fault_code BytesAfterEnd = 5
+body_fault_code OutOfRange = 6
+body_fault_code (Block fault) = blocks.code_of fault + 6
 
 -- why a write could not be read, where its block could not
 abbrev pub of_block : Failed Fault → Failed WireFault

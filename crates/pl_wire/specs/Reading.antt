@@ -30,18 +30,18 @@ abbrev pub sized : {X : Type 0} → ℕ → List ℕ → X → Result X WireFaul
 sized size bytes x = if nat_lt (length bytes) size then Err EndsInField else if nat_lt size (length bytes) then Err BytesAfterEnd else Ok x
 
 -- the block, or its fault as a body's
-abbrev pub block_in : Result Content Fault → Result Content WireFault
-block_in (Ok block) = Ok block
-block_in (Err fault) = Err (Block fault)
+abbrev pub block_or_fault : Result Content Fault → Result Content WireFault
+block_or_fault (Ok block) = Ok block
+block_or_fault (Err fault) = Err (Block fault)
 
 -- a copy, and then a block to the end
 abbrev pub write_reading : List ℕ → Result Act WireFault
 write_reading [] = Err EndsInField
-write_reading (copy ∷ bytes) = block_in (block_reading bytes) >>= λ block. Ok (Write copy block)
+write_reading (copy ∷ bytes) = block_or_fault (block_reading bytes) >>= λ block. Ok (Write copy block)
 
 -- a block to the end
 abbrev pub offer_reading : List ℕ → Result Act WireFault
-offer_reading bytes = block_in (block_reading bytes) >>= λ block. Ok (Offer block)
+offer_reading bytes = block_or_fault (block_reading bytes) >>= λ block. Ok (Offer block)
 
 -- an LSN, and no more
 abbrev pub report_reading : List ℕ → Result Act WireFault

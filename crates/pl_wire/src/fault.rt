@@ -3,7 +3,7 @@
 ghost use Rattle.std.specs.Prelude.{◌≡◌, ◌≤◌};
 ghost use Rattle.pl_block.specs.declared.fault.Failed.TheVariants.{Malformed};
 ghost use Rattle.pl_wire.specs.declared.fault.WireFault.TheVariants.{EndsInField};
-ghost use Rattle.pl_wire.specs.Codes.{code_of, of_block};
+ghost use Rattle.pl_wire.specs.Codes.{body_fault_code, of_block};
 
 use bytes::TryGetError;
 use pl_block::{BlockFault, Failed, Fault};
@@ -37,8 +37,8 @@ pub enum WireFault {
 impl WireFault {
     /// The fault's code in the format of bodies, 1 to 15.
     pub fn code(self) -> u8
-        // The code of the fault (`code_of`).
-        ensures value { result ≡ code_of self }
+        // The code of the fault (`body_fault_code`).
+        ensures value { result ≡ body_fault_code self }
         // It is 1 to 15.
         ensures fits { (1 ≤ result) × (result ≤ 15) }
     {

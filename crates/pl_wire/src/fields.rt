@@ -6,7 +6,7 @@ ghost use Rattle.pl_block.specs.Faults.{Reads};
 ghost use Rattle.pl_table.specs.Ops.{op_of_number, role_of_number};
 ghost use Rattle.pl_wire.specs.declared.fault.WireFault.TheVariants.{OutOfRange, UnknownKind, UnknownRole};
 ghost use Rattle.pl_wire.specs.Reading.{number_in};
-ghost use Rattle.pl_wire.specs.ReplyReading.{byte_at, bytes_at, count_at, number_at, one_at, section_of_number};
+ghost use Rattle.pl_wire.specs.ReplyReading.{byte_at, bytes_taken, count_at, number_taken, one_at, section_of_number};
 
 use crate::fault::WireFault;
 use bytes::Buf;
@@ -19,27 +19,27 @@ pub(crate) fn take_u8(rest: &mut &[u8]) -> Result<u8, WireFault>
 }
 
 pub(crate) fn take_u16(rest: &mut &[u8]) -> Result<u16, WireFault>
-    ensures exact { Reads result rest.new.now (number_at w16 rest.old.now) }
+    ensures exact { Reads result rest.new.now (number_taken w16 rest.old.now) }
 {
     Ok(rest.try_get_u16()?)
 }
 
 pub(crate) fn take_u32(rest: &mut &[u8]) -> Result<u32, WireFault>
-    ensures exact { Reads result rest.new.now (number_at w32 rest.old.now) }
+    ensures exact { Reads result rest.new.now (number_taken w32 rest.old.now) }
 {
     Ok(rest.try_get_u32()?)
 }
 
 pub(crate) fn take_u64(rest: &mut &[u8]) -> Result<u64, WireFault>
-    ensures exact { Reads result rest.new.now (number_at w64 rest.old.now) }
+    ensures exact { Reads result rest.new.now (number_taken w64 rest.old.now) }
 {
     Ok(rest.try_get_u64()?)
 }
 
 /// This many bytes.
 pub(crate) fn take_bytes<'a>(rest: &mut &'a [u8], len: usize) -> Result<&'a [u8], WireFault>
-    ensures ok { IfOk result (λ bytes. bytes_at len rest.old.now ≡ Ok (bytes.now, rest.new.now)) }
-    ensures err { IfErr result (λ fault. bytes_at len rest.old.now ≡ Err fault) }
+    ensures ok { IfOk result (λ bytes. bytes_taken len rest.old.now ≡ Ok (bytes.now, rest.new.now)) }
+    ensures err { IfErr result (λ fault. bytes_taken len rest.old.now ≡ Err fault) }
     ensures long { IfOk result (λ _. len ≤ length rest.old.now) }
 {
     if rest.len() < len {

@@ -1,7 +1,7 @@
 //! Clients that come one after the other, and one that asks again and again, over the desk of one database.
 
 ghost use Rattle.std.specs.List.{All};
-ghost use Rattle.pl_conn.specs.Desks.{AreOf};
+ghost use Rattle.pl_conn.specs.Desks.{ArePassesOf};
 
 use crate::connections::{Started, check_served, connect, listen, stop_of, unserved};
 use crate::conversations::{FRAMES, REPLIES, REPLY_ENDS};
@@ -215,7 +215,7 @@ fn serve_clients<R>(
 ) -> Result<(Served<Passes>, Told), Stop>
 where
     R: Net<Listener = TcpListener, Stream = TcpStream> + Threads + Wait + Sync + Drop,
-    requires own { All (AreOf desks.now) passes.items }
+    requires own { All (ArePassesOf desks.now) passes.items }
 {
     let (listener, addr) = listen(rt)?;
     let connections = asked.connections();
@@ -224,7 +224,7 @@ where
     Ok(thread::join(
         rt,
         move || -> Served<Passes>
-            requires own { All (AreOf desks.now) passes.items }
+            requires own { All (ArePassesOf desks.now) passes.items }
         {
             if !started.begins() {
                 return unserved(passes);

@@ -2,7 +2,7 @@
 
 ghost use Rattle.std.specs.Prelude.{◌≤◌, IfOk, vec_len};
 ghost use Rattle.std.specs.List.{All};
-ghost use Rattle.pl_conn.specs.Desks.{AreOf};
+ghost use Rattle.pl_conn.specs.Desks.{ArePassesOf};
 
 use crate::connections::{
     Holds, Started, check_served, connect, listen, report, stop_of, unserved,
@@ -90,7 +90,7 @@ const NO_ENTRY: (&str, &str) = ("1 11 operator 1 audit 1 9", "Entries");
 // The pass of the last seat, and that of the seat before it, each ask the last database. The first has
 // met the second then, and finds both statuses there, and none in the database before it.
 fn ask_last<R: Wait>(alloc: Global, desks: &Desks<R>, mut passes: Vec<Passes>) -> Result<(), Stop>
-    requires of { All (AreOf desks.now) passes.items }
+    requires of { All (ArePassesOf desks.now) passes.items }
 {
     check(passes.len() == 65)?;
     let mut last = last_of(desks, &mut passes)?;

@@ -2,7 +2,7 @@
 
 ghost use Rattle.std.specs.Prelude.{IfSome};
 ghost use Rattle.std.specs.List.{All};
-ghost use Rattle.pl_conn.specs.Desks.{AreOf};
+ghost use Rattle.pl_conn.specs.Desks.{ArePassesOf};
 ghost use Rattle.pl_conn.specs.Solo.{HasDatabases};
 
 use crate::memory::Telling;
@@ -203,8 +203,8 @@ fn materialise_follows_epochs(rt: HostRuntime) {
 
 // The last two of the passes, in the order of their numbers.
 fn two_of<R>(desks: &Desks<R>, mut passes: Vec<Passes>) -> Option<(Passes, Passes)>
-    requires of { All (AreOf desks.now) passes.items }
-    ensures of { IfSome result (λ two. AreOf desks.now two.0 × AreOf desks.now two.1) }
+    requires of { All (ArePassesOf desks.now) passes.items }
+    ensures of { IfSome result (λ two. ArePassesOf desks.now two.0 × ArePassesOf desks.now two.1) }
 {
     let second = passes.pop()?;
     let first = passes.pop()?;

@@ -3,7 +3,7 @@
 
 ghost use Rattle.std.specs.Prelude.{◌≡◌, IfOk, vec_len};
 ghost use Rattle.std.specs.List.{All};
-ghost use Rattle.pl_conn.specs.Desks.{AreOf};
+ghost use Rattle.pl_conn.specs.Desks.{ArePassesOf};
 
 use crate::conversations::{FRAMES, REPLIES, one_pass};
 use crate::memory::{Input, check};
@@ -225,7 +225,7 @@ fn goes_on_with_last<R: Wait>(
     desks: &Desks<R>,
     mut passes: Vec<Passes>,
 ) -> Result<bool, Stop>
-    requires of { All (AreOf desks.now) passes.items }
+    requires of { All (ArePassesOf desks.now) passes.items }
 {
     let mut pass = last_of(desks, &mut passes)?;
     Ok(goes_on(alloc, run, desks, &mut pass)?.is_some())

@@ -2,7 +2,7 @@
 
 ghost use Rattle.std.specs.Prelude.{⊤};
 ghost use Rattle.std.specs.List.{All};
-ghost use Rattle.pl_conn.specs.Desks.{AreOf};
+ghost use Rattle.pl_conn.specs.Desks.{ArePassesOf};
 
 use crate::connections::{Started, check_served, connect, listen, report, stop_of, unserved};
 use crate::conversations::FRAMES;
@@ -228,7 +228,7 @@ fn serve_both_at<R>(
 ) -> Result<(), Stop>
 where
     R: Net<Listener = TcpListener, Stream = TcpStream> + Threads + Wait + Sync + Drop,
-    requires own { All (AreOf desks.now) passes.items }
+    requires own { All (ArePassesOf desks.now) passes.items }
 {
     let (gets, status) = (gets_of_page(alloc)?, status_frame(alloc)?);
     let frames = (gets.as_slice(), status.as_slice());
@@ -238,7 +238,7 @@ where
     let (served, are_told) = thread::join(
         rt,
         move || -> Served<Passes>
-            requires own { All (AreOf desks.now) passes.items }
+            requires own { All (ArePassesOf desks.now) passes.items }
         {
             if !started.begins() {
                 return unserved(passes);

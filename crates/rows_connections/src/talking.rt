@@ -3,7 +3,7 @@
 
 ghost use Rattle.std.specs.Prelude.{◌≡◌, IfOk, IfSome, vec_len};
 ghost use Rattle.std.specs.List.{All};
-ghost use Rattle.pl_conn.specs.Desks.{AreOf};
+ghost use Rattle.pl_conn.specs.Desks.{ArePassesOf};
 
 use crate::conversations::{one_pass, open};
 use crate::memory::{Input, Output, check, ended_in_refusal, is_refused};
@@ -220,9 +220,9 @@ fn converses_alone(alloc: Global, told: &Told, at_once: usize) -> Result<Option<
 
 /// The last of the passes.
 pub(crate) fn last_of<R>(desks: &Desks<R>, passes: &mut Vec<Passes>) -> Result<Passes, Stop>
-    requires of { All (AreOf desks.now) passes.old.items }
-    ensures last { IfOk result (λ pass. AreOf desks.now pass) }
-    ensures of { All (AreOf desks.now) passes.new.items }
+    requires of { All (ArePassesOf desks.now) passes.old.items }
+    ensures last { IfOk result (λ pass. ArePassesOf desks.now pass) }
+    ensures of { All (ArePassesOf desks.now) passes.new.items }
 {
     passes.pop().ok_or(Stop::Unread)
 }
@@ -234,7 +234,7 @@ fn converses_with_last<R: Wait>(
     desks: &Desks<R>,
     mut passes: Vec<Passes>,
 ) -> Result<Option<u64>, Stop>
-    requires of { All (AreOf desks.now) passes.items }
+    requires of { All (ArePassesOf desks.now) passes.items }
 {
     let mut pass = last_of(desks, &mut passes)?;
     converses(alloc, told, at_once, desks, &mut pass)

@@ -6,7 +6,7 @@ use Rattle.clap.specs.Kinds.{HasKind, IsAmong}
 use Rattle.clap.specs.Faults.{is_simple_and_free}
 use Rattle.pl_command.proofs.Matching.{among_help}
 use Rattle.clap.proofs.TakesLemmas.{passed_up}
-use Rattle.pl_command.specs.CommandLine.{IsGiven, Names, own_app}
+use Rattle.pl_command.specs.CommandLine.{IsWholeCommand, Names, own_app}
 use Rattle.pl_command.proofs.Taken.{takes_given}
 use Rattle.pl_command.proofs.command_line.match_arguments.Goals as goal
 
@@ -21,7 +21,7 @@ returns-clause-none c none taken =
     let words = map string_bytes c.args.arguments.now in
     let rows = (c.in_ok-matches.ensures.ok.2 (ap is_simple c.requires)).1 in
     let same : subcommand_rows_of c.in_ok-matches.matches ≡ subcommand_of own_app words = rows ∙ ap (λ a. subcommand_of a words) c.requires in
-    c.in_ok-line_of.ensures.none none (subst IsGiven (sym same) (takes_given words taken))
+    c.in_ok-line_of.ensures.none none (subst IsWholeCommand (sym same) (takes_given words taken))
 
 pub returns-in_err-matches-clause-help : goal.returns-in_err-matches-clause-help
 returns-in_err-matches-clause-help c =

@@ -1,7 +1,7 @@
 use Rattle.std.proofs.Common.{◌≡◌, ◌+◌, ℕ, [], ◌∷◌, ◌++◌, sym, ap, ◌∙◌, arith}
 use Rattle.pl_desk.specs.Rule.{terms_of}
-use Rattle.pl_desk.specs.Steps.{Held, dealing, dealt}
-use Rattle.pl_desk.specs.Passes.{Place, knowledge_of, place_of, fresh}
+use Rattle.pl_desk.specs.Steps.{HeldSlot, dealing, dealt}
+use Rattle.pl_desk.specs.Passes.{DeskOrigin, knowledge_of, origin_of, fresh}
 use Rattle.pl_desk.proofs.Dealing.{dealer, dealt-end}
 use Rattle.pl_desk.proofs.opening.deal_all.Goals as goal
 
@@ -10,10 +10,10 @@ loop-number-preserved c =
     let i = c.loop-number.invariant in
     let number : ℕ = c.loop-number.number in
     let key = c.args.board.now.key in
-    let desk : Place = place_of c.args.board.now.table_id key in
+    let desk : DeskOrigin = origin_of c.args.board.now.table_id key in
     let chair = c.deal-chair.result in
     let table : chair.table_id ≡ c.args.board.now.table_id = c.deal-chair.ensures.dealt.0 ∙ (i.same ∙ c.requires.board.0) in
-    let view : chair.me.0 ≡ dealt (dealer (terms_of key) number) = ap (λ (m : Held). m.0) c.deal-chair.ensures.dealt.1 ∙ ap (λ (m : Held). dealt m.0) i.first in
+    let view : chair.me.0 ≡ dealt (dealer (terms_of key) number) = ap (λ (m : HeldSlot). m.0) c.deal-chair.ensures.dealt.1 ∙ ap (λ (m : HeldSlot). dealt m.0) i.first in
     let new : knowledge_of chair.table_id chair.me.0 ≡ fresh desk (number + 1) = λ k. knowledge_of (table k) (view k) in
     let pushed = rw c.unwrap.ensures at c.push.ensures.items in
     let sizes = rw c.unwrap.ensures at c.push.ensures.len in
@@ -26,7 +26,7 @@ loop-number-preserved c =
       some = omega arith;
       few = omega (arith, test, size);
       same = c.deal-chair.ensures.same.0 ∙ i.same;
-      first = c.deal-chair.ensures.dealing ∙ ap (λ (m : Held). (dealing m.0, [])) i.first;
+      first = c.deal-chair.ensures.dealing ∙ ap (λ (m : HeldSlot). (dealing m.0, [])) i.first;
       passes = pushed ∙ (λ k. i.passes k ++ new k ∷ []) ∙ sym (dealt-end desk number i.some);
       size = let some = i.some in omega (arith, sizes, before, some);
       room = omega (arith, room, capacity);

@@ -1,7 +1,7 @@
 use Rattle.std.proofs.Common.{◌≡◌, ◌-◌, ◌≤◌, [], map, vec_len, vec_capacity}
 use Rattle.std.specs.List.{range_with_len}
 use Rattle.pl_desk.specs.Rule.{terms_of}
-use Rattle.pl_desk.specs.Passes.{fresh, place_of}
+use Rattle.pl_desk.specs.Passes.{fresh, origin_of}
 use Rattle.pl_desk.proofs.Dealing.{dealer}
 use Rattle.pl_desk.proofs.opening.deal_all.Given as goal
 
@@ -12,7 +12,7 @@ invariant-loop-number l = record {
   few : l.number ≤ l.seats;
   same : l.first.table_id ≡ l.fn.first.table_id;
   first : l.first.me ≡ (dealer (terms_of l.board.key) l.number, []);
-  passes : l.passes.items ≡ map (fresh (place_of l.board.table_id l.board.key)) (range_with_len 2 (l.number - 1));
+  passes : l.passes.items ≡ map (fresh (origin_of l.board.table_id l.board.key)) (range_with_len 2 (l.number - 1));
   size : vec_len l.passes ≡ l.number - 1;
   room : l.seats ≤ vec_capacity l.passes;
 }

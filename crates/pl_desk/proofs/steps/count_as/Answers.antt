@@ -1,7 +1,7 @@
 use Rattle.std.proofs.Common.{rules, ◌+◌, ◌%◌, subst}
 use Rattle.atomic_table.specs.Table.{Allows}
 use Rattle.pl_core.specs.History.{History}
-use Rattle.pl_desk.specs.Rule.{IsKept, terms_of}
+use Rattle.pl_desk.specs.Rule.{DeskInvariant, terms_of}
 use Rattle.pl_desk.specs.Steps.{counts_then}
 use Rattle.pl_desk.proofs.Drawing.{no_step}
 use Rattle.pl_desk.proofs.Turning.{counts}
@@ -12,6 +12,6 @@ fetch_add-requires g c =
     let adds = c.requires.turn.3 in
     let board = c.args.board.now in
     let chair = c.args.chair.now in
-    let rule = IsKept (terms_of board.key) in
+    let rule = DeskInvariant (terms_of board.key) in
     let allowed = counts _ board.table_id.slots chair.id chair.me _ _ _ adds.entry c.requires.turn.2 adds.own adds.grown adds.legal adds.fits in
     (search rules, search rules, subst (λ (h : History). Allows rule board.table_id.slots chair.id chair.me 0 (λ n. (n + 1) % 18446744073709551616) (counts_then h no_step chair.me)) c.requires.told allowed)

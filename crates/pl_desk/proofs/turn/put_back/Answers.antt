@@ -1,7 +1,7 @@
 use Rattle.std.proofs.Common.{◌≡◌, ℕ, List, [], ◌∷◌, Option, Some, ap, ◌∙◌}
 use Rattle.atomic_table.specs.Table.{rest}
 use Rattle.pl_core.specs.History.{History}
-use Rattle.pl_desk.specs.Steps.{Held}
+use Rattle.pl_desk.specs.Steps.{HeldSlot}
 use Rattle.pl_desk.proofs.turn.put_back.Goals as goal
 
 pub returns-clause-home : goal.returns-clause-home
@@ -11,6 +11,6 @@ returns-clause-home c =
     let empty : rest c.args.chair.now.me.1 ≡ [] = ap rest c.requires.out.1 in (
       c.requires.turn.0,
       db,
-      ap (λ (m : Held). m.0.stage) is ∙ c.requires.turn.1,
-      ap (λ (m : Held). m.1) is ∙ ap (λ (xs : List (ℕ × Option History)). (0, Some db) ∷ xs) empty,
+      ap (λ (m : HeldSlot). m.0.stage) is ∙ c.requires.turn.1,
+      ap (λ (m : HeldSlot). m.1) is ∙ ap (λ (xs : List (ℕ × Option History)). (0, Some db) ∷ xs) empty,
     )

@@ -1,7 +1,7 @@
 use Rattle.std.proofs.Common.{◌≡◌, ◌∙◌, ◌≤◌, ◌<◌, ℕ, List, [], ◌++◌, Option, Some, None, Result, Ok, Err, length, take, sym, ap, subst, arith}
 use Rattle.std.specs.Prelude.{IfOk, IfSome, IsOk, OnOk, option_map}
 use Rattle.std.proofs.lemmas.List.{length-take, take_all}
-use Rattle.pl_play.specs.Start.{IsTooLong, IsWhole}
+use Rattle.pl_play.specs.Start.{IsTooLongText, IsWhole}
 use Rattle.pl_play.proofs.start.read_text.Goals as goal
 
 -- a text that is shorter than what is read at most is the whole
@@ -15,7 +15,7 @@ whole_text (Some bytes) n front text empty limit fits same =
 
 -- a text that is longer than a text may be has a longer whole
 long_text : (o : Option (List ℕ)) (n : ℕ) (front text : List ℕ) → front ≡ [] → 65506 < length text
-    → IfSome (option_map (take n) o) (λ xs. text ≡ front ++ xs) → IsTooLong o
+    → IfSome (option_map (take n) o) (λ xs. text ≡ front ++ xs) → IsTooLongText o
 long_text None n front text empty over same = tt
 long_text (Some bytes) n front text empty over same =
     let cut : text ≡ take n bytes = subst (λ (f : List ℕ). text ≡ f ++ take n bytes) empty same in
@@ -45,5 +45,5 @@ pub returns-clause-long : goal.returns-clause-long
 returns-clause-long g c long =
     let over = c.text_of.ensures.long long in
     let bytes = where_read c.read_to_end-read.result _ over.0 c.read_to_end-read.ensures.bytes in
-    subst (λ r. IsTooLong (g.R.Read.remaining r)) c.take.ensures.inner
+    subst (λ r. IsTooLongText (g.R.Read.remaining r)) c.take.ensures.inner
     (long_text _ c.take.result.limit _ c.read_to_end-read.new.buf.items c.new-text.ensures.items over.1 bytes)

@@ -1,7 +1,7 @@
-use Rattle.pl_conn.specs.Desks.{AreOf, DesksCall}
+use Rattle.pl_conn.specs.Desks.{ArePassesOf, DesksCall}
 use Rattle.pl_program.specs.Paging.{Pages}
 use Rattle.pl_program.proofs.pager.page.Given as goal
 
 -- the passes are of the desks, and came of the rounds at the databases before this one
 abbrev pub invariant-loop-database : goal.invariant-loop-database
-invariant-loop-database g l = AreOf l.desks l.passes × Pages DesksCall l.pager l.database l.fn.passes l.passes
+invariant-loop-database g l = ArePassesOf l.desks l.passes × Pages DesksCall l.pager l.database l.fn.passes l.passes

@@ -1,7 +1,7 @@
 use Rattle.std.proofs.Common.{◌≡◌, ◌+◌, ◌∷◌, ◌++◌, [], length, sym, subst, ◌∙◌, arith}
 use Rattle.std.proofs.lemmas.List.FromFn.{map-range_with_len_more}
-use Rattle.pl_conn.specs.Desks.{AreOf, DesksCall, all_fresh, fresh_at}
-use Rattle.pl_conn.specs.Serving.{Serves}
+use Rattle.pl_conn.specs.Desks.{ArePassesOf, DesksCall, all_fresh, fresh_at}
+use Rattle.pl_conn.specs.Serving.{ServesConnections}
 use Rattle.pl_program.specs.Paging.{HasPaged}
 use Rattle.pl_program.proofs.Rounds.{ends_of}
 use Rattle.pl_program.proofs.service.serve_databases.Goals as goal
@@ -20,7 +20,7 @@ returns-in-Some-serve_over-clause-serves g c =
     record {
       desks = desks;
       made = c.in_ok-desks.ensures.terms;
-      serves = subst (λ given. Serves DesksCall (AreOf desks) given c.args.connections served.accepted served.stop served.passes.items) ends.fronts c.in-Some-serve_over.ensures.serves;
+      serves = subst (λ given. ServesConnections DesksCall (ArePassesOf desks) given c.args.connections served.accepted served.stop served.passes.items) ends.fronts c.in-Some-serve_over.ensures.serves;
       paged = elim c.match-pager.branch [
         | in-Some w ↦
             let has = rw w.paging-is at c.in-Some-serve_over.ensures.paged in

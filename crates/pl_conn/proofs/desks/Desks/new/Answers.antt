@@ -1,13 +1,13 @@
 use Rattle.std.proofs.Common.{ℕ, ◌<◌, List, ◌++◌, map, length, sym, ap, subst, ◌∙◌}
-use Rattle.pl_desk.specs.Passes.{Place}
+use Rattle.pl_desk.specs.Passes.{DeskOrigin}
 use Rattle.pl_conn.specs.Desks.{terms_of_each, all_fresh}
 use Rattle.pl_conn.proofs.Dealing.{all_fresh-none, all_fresh-pushed, all_fresh-of, terms_more, taken, some_left}
 use Rattle.pl_conn.proofs.desks.Desks.new.Goals as goal
 
 pub loop-alloc-init : goal.loop-alloc-init
 loop-alloc-init g c = record {
-  terms = ap (λ (ds : List Place). map (λ d. d.terms) ds ++ terms_of_each c.args.seats c.args.turns c.args.dbs.items) c.in_ok-desks.ensures.items;
-  fresh = c.in_ok-all.ensures ∙ all_fresh-none c.args.seats ∙ ap (λ (ds : List Place). all_fresh ds c.args.seats) (sym c.in_ok-desks.ensures.items);
+  terms = ap (λ (ds : List DeskOrigin). map (λ d. d.terms) ds ++ terms_of_each c.args.seats c.args.turns c.args.dbs.items) c.in_ok-desks.ensures.items;
+  fresh = c.in_ok-all.ensures ∙ all_fresh-none c.args.seats ∙ ap (λ (ds : List DeskOrigin). all_fresh ds c.args.seats) (sym c.in_ok-desks.ensures.items);
 }
 
 pub loop-alloc-preserved : goal.loop-alloc-preserved

@@ -1,7 +1,7 @@
 use Rattle.std.proofs.Common.{refl, sym, ap, subst, length}
 use Rattle.std.proofs.lemmas.Option.{slice_get_read}
 use Rattle.pl_table.specs.declared.head.Head.{Head}
-use Rattle.pl_conn.specs.Desks.{AreOf}
+use Rattle.pl_conn.specs.Desks.{ArePassesOf}
 use Rattle.pl_conn.proofs.Meeting.{of-set}
 use Rattle.pl_conn.proofs.Calling.{called}
 use Rattle.pl_conn.proofs.desks.DesksGate.call.Goals as goal
@@ -9,7 +9,7 @@ use Rattle.pl_conn.proofs.desks.DesksGate.call.Goals as goal
 pub returns-clause-own : goal.returns-clause-own
 returns-clause-own g c =
     of-set c.args.self.now c.passes.inside.items.items c.head.result.now.database c.in-Some.pass.now c.call.new.pass
-    (subst (AreOf c.args.self.now) (sym c.passes.view_is) c.requires.own)
+    (subst (ArePassesOf c.args.self.now) (sym c.passes.view_is) c.requires.own)
     (slice_get_read c.passes.inside.items.items (length c.passes.inside.items.items) c.head.result.now.database c.in-Some.pass.now refl c.in-Some.ensures.item.3.0 c.in-Some.ensures.value)
     c.call.ensures.same
 

@@ -5,8 +5,8 @@ use Rattle.pl_desk.specs.declared.rule.Terms.{Terms}
 use Rattle.pl_desk.specs.declared.rule.View.{View}
 use Rattle.pl_desk.specs.Rule.{IsAhead, terms_of}
 use Rattle.pl_core.specs.Step.{IsStep}
-use Rattle.pl_desk.specs.Steps.{Held, at_stage, asked, settled}
-use Rattle.pl_desk.specs.Passes.{Knowledge, Place, knowledge_of, WasCalled}
+use Rattle.pl_desk.specs.Steps.{HeldSlot, at_stage, asked, settled}
+use Rattle.pl_desk.specs.Passes.{Knowledge, DeskOrigin, knowledge_of, WasCalled}
 use Rattle.pl_desk.proofs.Calling.{called}
 use Rattle.pl_desk.proofs.desk.Desk.call.Goals as goal
 
@@ -18,17 +18,17 @@ returns-clause-called g c =
     let ticket : ℕ = c.draw-ticket.result in
     let turn = c.wait.ensures.turn in
     let found : History = turn.0 in
-    let stepped = c.take_turn-reply.ensures.stepped found (ap (λ (m : Held). m.1) turn.1) in
+    let stepped = c.take_turn-reply.ensures.stepped found (ap (λ (m : HeldSlot). m.1) turn.1) in
     let now : History = stepped.0 in
     let waits : c.draw-ticket.new.chair.me.0 ≡ at_stage (Waiting ticket) (asked read v) =
-    ap (λ (m : Held). m.0) c.draw-ticket.ensures.waits ∙ ap (λ (m : Held). at_stage (Waiting ticket) m.0) c.ask.ensures.asked in
+    ap (λ (m : HeldSlot). m.0) c.draw-ticket.ensures.waits ∙ ap (λ (m : HeldSlot). at_stage (Waiting ticket) m.0) c.ask.ensures.asked in
     let after : c.take_turn-reply.new.chair.me.0 ≡ settled now (asked read v) =
-    ap (λ (m : Held). m.0) stepped.1 ∙ (ap (λ (m : Held). settled now m.0) turn.1 ∙ ap (λ (u : View). settled now (at_stage (InTurn ticket found) u)) waits) in
+    ap (λ (m : HeldSlot). m.0) stepped.1 ∙ (ap (λ (m : HeldSlot). settled now m.0) turn.1 ∙ ap (λ (u : View). settled now (at_stage (InTurn ticket found) u)) waits) in
     let ahead : IsAhead v.terms v.number v.seen found = subst (λ (u : View). IsAhead u.terms u.number u.seen found) waits turn.2 in
     let number : c.pass.inside.number ≡ v.number = c.pass.invariant.2 in
     let step : IsStep v.number c.args.request found c.take_turn-reply.result now = subst (λ (k : ℕ). IsStep k c.args.request found c.take_turn-reply.result now) number stepped.2 in
     let of : v.terms ≡ terms_of c.self.inside.table.shared.key =
-    ap (λ (p : Knowledge). p.terms) c.pass.view_is ∙ (c.requires.of.1 ∙ sym (ap (λ (d : Place). d.terms) c.self.view_is)) in
+    ap (λ (p : Knowledge). p.terms) c.pass.view_is ∙ (c.requires.of.1 ∙ sym (ap (λ (d : DeskOrigin). d.terms) c.self.view_is)) in
     let turns : v.terms.turns ≡ c.self.inside.table.shared.key.turns = ap (λ (t : Terms). t.turns) of in
     let bound : c.self.inside.turns ≡ c.self.inside.table.shared.key.turns = c.self.invariant.2 in
     let less : read < c.self.inside.turns = c.if-ask-self.false in
