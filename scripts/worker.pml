@@ -46,7 +46,7 @@ inline ring(post) {
 }
 
 /* A channel may say that it is full while its worker takes a socket. */
-// serving.rt: offer
+// accepting.rt: offer
 inline offer(post) {
 #ifdef RINGS_FIRST
     ring(post);
@@ -66,7 +66,7 @@ inline offer(post) {
     fi
 }
 
-// serving.rt: hand_over
+// accepting.rt: hand_over
 inline hand_over() {
     if                                                     // let place = fewest(posts);
     :: place = 0
@@ -93,7 +93,7 @@ inline hand_over() {
     fi
 }
 
-// serving.rt: accept_all
+// accepting.rt: accept_all
 inline accept_all() {
                                                            // let mut is_told = false;
     do                                                     // for accepted in 0..connections {

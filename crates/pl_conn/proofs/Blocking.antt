@@ -13,7 +13,8 @@ use Rattle.pl_wire.specs.Frames.{frame, frames_of, longest_request}
 use Rattle.pl_wire.specs.FrameWriting.{reply_frame}
 use Rattle.pl_wire.specs.declared.frame_reading.FrameFault.{FrameFault}
 use Rattle.pl_wire.specs.declared.frame_reading.FrameFault.TheVariants as frame_faults
-use Rattle.pl_conn.specs.Conversation.{Answered, Calls, Converses, Ends, MayWait, Scene, Talk, Talks, cause_of, scene, replies_text}
+use Rattle.pl_wire.specs.Answering.{Answered, AnswersBody, Calls}
+use Rattle.pl_conn.specs.Conversation.{Converses, Ends, MayWait, Scene, Talk, Talks, cause_of, scene, replies_text}
 use Rattle.pl_conn.specs.Gathering.{Box, Gathers, TakesFrame, Told, Turns, emptied, told_talk, whole_in}
 use Rattle.pl_conn.specs.declared.cause.Cause.{Cause}
 use Rattle.pl_conn.specs.declared.cause.Cause.TheVariants as causes
@@ -64,8 +65,8 @@ module _ {P : Type 0} (calls : Calls P) where
         read = subst (λ (l : List ℕ). Consumes before.input after.input l)
             (sym (append_assoc (frames_of bodies) (frames_of talk.bodies) talk.part) ∙ ap (λ (l : List ℕ). l ++ talk.part) (sym (flat_map-append frame bodies talk.bodies)))
             (Consumes-trans before.input now.input after.input (frames_of bodies) (frames_of talk.bodies ++ talk.part) read t.read);
-        chain = subst (λ (rs : List Reply). Answered calls before.pass (bodies ++ talk.bodies) rs after.pass) (sym (append_assoc replies talk.whole talk.others))
-            (answered_then calls before.pass now.pass after.pass bodies talk.bodies replies (talk.whole ++ talk.others) chain t.chain);
+        chain = subst (λ (rs : List Reply). Answered (AnswersBody calls) before.pass (bodies ++ talk.bodies) rs after.pass) (sym (append_assoc replies talk.whole talk.others))
+            (answered_then (AnswersBody calls) before.pass now.pass after.pass bodies talk.bodies replies (talk.whole ++ talk.others) chain t.chain);
         fits = subst (AllByRecursion FitsReply) (sym (append_assoc replies talk.whole talk.others)) (all_then _ replies (talk.whole ++ talk.others) fits t.fits);
         written = subst (λ (l : List ℕ). Appends before.output after.output l)
             (sym (append_assoc (replies_text replies) (replies_text talk.whole) talk.cut) ∙ ap (λ (l : List ℕ). l ++ talk.cut) (sym (flat_map-append reply_frame replies talk.whole)))
@@ -128,7 +129,7 @@ module _ {P : Type 0} (calls : Calls P) where
       talks = record {
         short = g.short;
         read = subst (λ (l : List ℕ). Consumes input left l) (g.read ∙ sym (append-nil (frames_of g.bodies))) reads;
-        chain = subst (λ (rs : List Reply). Answered calls p g.bodies rs q) (sym (append-nil g.replies)) g.chain;
+        chain = subst (λ (rs : List Reply). Answered (AnswersBody calls) p g.bodies rs q) (sym (append-nil g.replies)) g.chain;
         fits = subst (AllByRecursion FitsReply) (sym (append-nil g.replies)) g.fits;
         written = subst (λ (l : List ℕ). Appends output out l) (h.text ∙ sym (append-nil (replies_text g.replies))) writes;
       };
@@ -145,7 +146,7 @@ module _ {P : Type 0} (calls : Calls P) where
           record {
             short = g.short;
             read = subst (λ (l : List ℕ). Consumes input left l) (g.read ∙ sym (append-nil (frames_of g.bodies))) reads;
-            chain = subst (λ (rs : List Reply). Answered calls p g.bodies rs q) c.parts g.chain;
+            chain = subst (λ (rs : List Reply). Answered (AnswersBody calls) p g.bodies rs q) c.parts g.chain;
             fits = subst (AllByRecursion FitsReply) c.parts g.fits;
             written = subst (λ (l : List ℕ). Appends output out l) (ap (take n) h.text ∙ c.text) writes;
           },

@@ -15,7 +15,8 @@ use Rattle.pl_wire.specs.FrameWriting.{reply_frame}
 use Rattle.pl_wire.specs.Reading.{MayLackMemory, request_reading}
 use Rattle.pl_wire.specs.declared.fault.WireFault.{WireFault}
 use Rattle.pl_wire.specs.declared.frame_reading.FrameFault.{FrameFault}
-use Rattle.pl_conn.specs.Conversation.{Calls, cause_of, replies_text}
+use Rattle.pl_wire.specs.Answering.{AnswersBody, Calls}
+use Rattle.pl_conn.specs.Conversation.{cause_of, replies_text}
 use Rattle.pl_conn.specs.Gathering.{AnswersRead, Box, Gathers, HoldsReplies, MayGather, TakesFrame, emptied, gathered}
 use Rattle.pl_conn.specs.Resting.{Replies, middle}
 use Rattle.pl_conn.proofs.Reading.{answers_body}
@@ -54,7 +55,7 @@ module _ {P : Type 0} (calls : Calls P) where
     short = all_then _ first.bodies then.bodies first.short then.short;
     fits = all_then _ first.replies then.replies first.fits then.fits;
     read = ap₂ (λ (k l : List ℕ). k ++ l) first.read then.read ∙ sym (flat_map-append frame first.bodies then.bodies);
-    chain = answered_then calls p q r first.bodies then.bodies first.replies then.replies first.chain then.chain;
+    chain = answered_then (AnswersBody calls) p q r first.bodies then.bodies first.replies then.replies first.chain then.chain;
     waits = λ front h. subst (HoldsReplies c) (append_assoc front first.replies then.replies) (then.waits (front ++ first.replies) (first.waits front h));
   }
 

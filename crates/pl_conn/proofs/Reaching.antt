@@ -4,7 +4,8 @@ use Rattle.pl_table.specs.Request.{Query}
 use Rattle.pl_core.specs.declared.reply.Reply.{Reply}
 use Rattle.pl_wire.specs.Reading.{request_reading}
 use Rattle.pl_wire.specs.declared.fault.WireFault.{WireFault}
-use Rattle.pl_conn.specs.Conversation.{AnswersBody, AnswersReading, Answered, Calls, Converses, Scene}
+use Rattle.pl_wire.specs.Answering.{AnswersBody, AnswersReading, Answered, Calls}
+use Rattle.pl_conn.specs.Conversation.{Converses, Scene}
 use Rattle.pl_conn.specs.declared.cause.ConnFault.{ConnFault}
 use Rattle.pl_conn.specs.Serving.{Chained, Reaches}
 
@@ -26,7 +27,7 @@ by_body : {P : Type 0} (calls : Calls P) (body : List ℕ) (p now q : P) (reply 
 by_body calls body p now q reply (inl one) more = by_reading calls (request_reading body) p now q reply one more
 by_body calls body p now q reply (inr none) more = subst (λ x. Reaches calls x q) none.2 more
 
-pub by_answers : {P : Type 0} (calls : Calls P) (p q : P) (bodies : List (List ℕ)) (rs : List Reply) → Answered calls p bodies rs q → Reaches calls p q
+pub by_answers : {P : Type 0} (calls : Calls P) (p q : P) (bodies : List (List ℕ)) (rs : List Reply) → Answered (AnswersBody calls) p bodies rs q → Reaches calls p q
 by_answers calls p q [] [] done = ([], done)
 by_answers calls p q [] (y ∷ ys) done = absurd done
 by_answers calls p q (b ∷ bs) [] done = absurd done

@@ -8,9 +8,9 @@ use Rattle.pl_block.specs.declared.fault.Failed.{Failed}
 use Rattle.pl_block.specs.declared.fault.Failed.TheVariants.{Malformed, NoMemory}
 use Rattle.pl_table.specs.Request.{Query}
 use Rattle.pl_core.specs.declared.reply.Reply.{Reply}
+use Rattle.pl_wire.specs.Answering.{AnswersBody, AnswersReading, Calls}
 use Rattle.pl_wire.specs.Reading.{MayLackMemory, request_reading}
 use Rattle.pl_wire.specs.declared.fault.WireFault.{WireFault}
-use Rattle.pl_conn.specs.Conversation.{AnswersBody, AnswersReading, Calls}
 use Rattle.pl_conn.specs.Gathering.{AnswersRead}
 
 -- a reply to what was read of a body is a reply to the body

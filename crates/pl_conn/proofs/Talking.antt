@@ -7,17 +7,18 @@ use Rattle.std.proofs.lemmas.Bool.{ltb-false, ltb-true, le-ltb, lt-ltb}
 use Rattle.std.proofs.lemmas.List.{length-append, drop_all}
 use Rattle.std.proofs.lemmas.Grind.{flat_map-append}
 use Rattle.pl_core.specs.declared.reply.Reply.{Reply}
+use Rattle.pl_wire.specs.Answering.{Answered, Answers}
 use Rattle.pl_wire.specs.FrameWriting.{reply_frame}
-use Rattle.pl_conn.specs.Conversation.{Answered, Calls, MayWait, replies_text}
+use Rattle.pl_conn.specs.Conversation.{MayWait, replies_text}
 use Rattle.pl_conn.specs.Gathering.{whole_in}
 
 -- a chain, and one behind it
-pub answered_then : {P : Type 0} (calls : Calls P) (p q r : P) (bs cs : List (List ℕ)) (xs ys : List Reply)
-    → Answered calls p bs xs q → Answered calls q cs ys r → Answered calls p (bs ++ cs) (xs ++ ys) r
-answered_then calls p q r [] cs [] ys first second = subst (λ x. Answered calls x cs ys r) first second
-answered_then calls p q r [] cs (x ∷ xs) ys first second = absurd first
-answered_then calls p q r (b ∷ bs) cs [] ys first second = absurd first
-answered_then calls p q r (b ∷ bs) cs (x ∷ xs) ys first second = (first.0, first.1, answered_then calls first.0 q r bs cs xs ys first.2 second)
+pub answered_then : {P : Type 0} (answers : Answers P) (p q r : P) (bs cs : List (List ℕ)) (xs ys : List Reply)
+    → Answered answers p bs xs q → Answered answers q cs ys r → Answered answers p (bs ++ cs) (xs ++ ys) r
+answered_then answers p q r [] cs [] ys first second = subst (λ x. Answered answers x cs ys r) first second
+answered_then answers p q r [] cs (x ∷ xs) ys first second = absurd first
+answered_then answers p q r (b ∷ bs) cs [] ys first second = absurd first
+answered_then answers p q r (b ∷ bs) cs (x ∷ xs) ys first second = (first.0, first.1, answered_then answers first.0 q r bs cs xs ys first.2 second)
 
 -- all of both
 pub all_then : {X : Type 0} (Q : X → Type 0) (xs ys : List X) → AllByRecursion Q xs → AllByRecursion Q ys → AllByRecursion Q (xs ++ ys)

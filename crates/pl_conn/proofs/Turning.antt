@@ -9,7 +9,8 @@ use Rattle.std.proofs.KnownBytes.{Appends-nil, Appends-trans, Consumes-nil, Cons
 use borrow.Rule.Slice.PartMut.{put_mid}
 use Rattle.pl_wire.specs.Frames.{frame, frames_of, longest_request}
 use Rattle.pl_wire.specs.FrameWriting.{reply_frame}
-use Rattle.pl_conn.specs.Conversation.{Calls, Scene, scene, replies_text}
+use Rattle.pl_wire.specs.Answering.{AnswersBody, Calls}
+use Rattle.pl_conn.specs.Conversation.{Scene, scene, replies_text}
 use Rattle.pl_conn.specs.Resting.{Hears, Middle, Replies, Rests, Resumes, Speaks, Tells, middle}
 use Rattle.pl_conn.specs.Serving.{Reaches}
 use Rattle.pl_conn.specs.declared.cause.Cause.{Cause}
@@ -65,7 +66,7 @@ module _ {P : Type 0} (calls : Calls P) where
     fits = all_then _ first.replies then.replies first.fits then.fits;
     read = first.read ∙ ap (λ l. frames_of first.bodies ++ l) then.read ∙ sym (append_assoc (frames_of first.bodies) (frames_of then.bodies) c.unread)
         ∙ ap (λ l. l ++ c.unread) (sym (flat_map-append frame first.bodies then.bodies));
-    chain = answered_then calls p q r first.bodies then.bodies first.replies then.replies first.chain then.chain;
+    chain = answered_then (AnswersBody calls) p q r first.bodies then.bodies first.replies then.replies first.chain then.chain;
     told = then.told ∙ ap (λ l. l ++ replies_text then.replies) first.told ∙ append_assoc a.waiting (replies_text first.replies) (replies_text then.replies)
         ∙ ap (λ l. a.waiting ++ l) (sym (flat_map-append reply_frame first.replies then.replies));
   }

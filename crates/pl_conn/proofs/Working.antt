@@ -3,7 +3,7 @@ use Rattle.std.proofs.Common.{◌≡◌, ℕ, ◌<◌, List, [], ◌∷◌, ◌+
 use lib.Seq.{take-append_seam}
 use Rattle.std.proofs.lemmas.List.{length-map}
 use Rattle.std.proofs.lemmas.List.Elements.{All-push, All-head, All-tail}
-use Rattle.pl_conn.specs.Conversation.{Calls}
+use Rattle.pl_wire.specs.Answering.{Calls}
 use Rattle.pl_conn.specs.Serving.{Reaches, Returned}
 use Rattle.pl_conn.specs.Workers.{Begun, Ended}
 use Rattle.pl_conn.proofs.Talking.{map_more}

@@ -3,16 +3,12 @@ use Rattle.std.specs.Prelude.{◌≡◌, ℕ, ◌+◌, ◌-◌, ◌^◌, ◌<◌
 use Rattle.std.specs.Int.{w32, to_be_bytes}
 use Rattle.std.specs.Io.KnownBytes.{Appends, Consumes, IsAtEnd}
 use Rattle.std.specs.List.{AllByRecursion, flat_map}
-use Rattle.pl_table.specs.Request.{Query}
 use Rattle.pl_core.specs.declared.reply.Reply.{Reply}
-use Rattle.pl_core.specs.declared.reply.Reply.TheVariants as replies
 use Rattle.pl_core.specs.Reply.{FitsReply}
-use Rattle.pl_wire.specs.Codes.{body_fault_code}
+use Rattle.pl_wire.specs.Answering.{Answered, AnswersBody, Calls}
 use Rattle.pl_wire.specs.FrameReading.{IsCut}
 use Rattle.pl_wire.specs.Frames.{frames_of, longest_request}
 use Rattle.pl_wire.specs.FrameWriting.{reply_frame}
-use Rattle.pl_wire.specs.Reading.{request_reading, MayLackMemory}
-use Rattle.pl_wire.specs.declared.fault.WireFault.{WireFault}
 use Rattle.pl_wire.specs.declared.frame_reading.FrameFault.{FrameFault}
 use Rattle.pl_wire.specs.declared.frame_reading.FrameFault.TheVariants as frame_faults
 use Rattle.pl_conn.specs.declared.cause.Cause.{Cause}
@@ -22,32 +18,6 @@ use Rattle.pl_conn.specs.declared.cause.ConnFault.{ConnFault}
 -- the frames of replies, one after the other
 abbrev pub replies_text : List Reply → List ℕ
 replies_text replies = flat_map reply_frame replies
-
--- which calls there may be: the pass before, the request, the reply, and the pass after
-abbrev pub Calls : Type 0 → Type 1
-Calls P = P → Query → Reply → P → Type 0
-
--- what was read as a request is called; for any other body the code of its fault is replied, without a call
-abbrev pub AnswersReading : {P : Type 0} → Calls P → Result Query WireFault → P → Reply → P → Type 0
-AnswersReading calls (Ok request) before reply after = calls before request reply after
-AnswersReading calls (Err fault) before reply after = (reply ≡ replies.Malformed (body_fault_code fault)) × (after ≡ before)
-
--- a body that asks for memory finds none: there is no call
-abbrev pub LacksMemory : {P : Type 0} → List ℕ → P → Reply → P → Type 0
-LacksMemory body before reply after = MayLackMemory body × (reply ≡ replies.NoMemory) × (after ≡ before)
-
--- the reply to a body
-abbrev pub AnswersBody : {P : Type 0} → Calls P → P → List ℕ → Reply → P → Type 0
-AnswersBody calls before body reply after =
-    AnswersReading calls (request_reading body) before reply after ⊎ LacksMemory body before reply after
-
--- each body has its reply, and each begins with the pass that the one before it left
-abbrev pub Answered : {P : Type 0} → Calls P → P → List (List ℕ) → List Reply → P → Type 0
-Answered calls before [] [] after = after ≡ before
-Answered calls before [] (reply ∷ replies) after = ⊥
-Answered calls before (body ∷ bodies) [] after = ⊥
-Answered calls before (body ∷ bodies) (reply ∷ replies) after =
-    (now : _) × AnswersBody calls before body reply now × Answered calls now bodies replies after
 
 -- what a reader has left, what a writer holds, and a pass
 pub record Scene (P : Type 0) : Type 0 where
@@ -71,7 +41,7 @@ pub record Talk : Type 0 where
 pub record Talks {P : Type 0} (calls : Calls P) (before after : Scene P) (talk : Talk) : Type 0 where
   pub short : AllByRecursion (λ body. length body ≤ longest_request) talk.bodies
   pub read : Consumes before.input after.input (frames_of talk.bodies ++ talk.part)
-  pub chain : Answered calls before.pass talk.bodies (talk.whole ++ talk.others) after.pass
+  pub chain : Answered (AnswersBody calls) before.pass talk.bodies (talk.whole ++ talk.others) after.pass
   pub fits : AllByRecursion FitsReply (talk.whole ++ talk.others)
   pub written : Appends before.output after.output (replies_text talk.whole ++ talk.cut)
 

@@ -8,13 +8,14 @@ use Rattle.pl_table.specs.Request.{Query}
 use Rattle.pl_core.specs.declared.reply.Reply.{Reply}
 use Rattle.pl_core.specs.declared.reply.Reply.TheVariants as replies
 use Rattle.pl_core.specs.Reply.{FitsReply}
+use Rattle.pl_wire.specs.Answering.{Answered, AnswersBody, Calls}
 use Rattle.pl_wire.specs.Codes.{body_fault_code}
 use Rattle.pl_wire.specs.FrameReading.{StopsFrame}
 use Rattle.pl_wire.specs.Frames.{frames_of, longest_request}
 use Rattle.pl_wire.specs.FrameWriting.{reply_frame}
 use Rattle.pl_wire.specs.declared.fault.WireFault.{WireFault}
 use Rattle.pl_wire.specs.declared.frame_reading.FrameFault.{FrameFault}
-use Rattle.pl_conn.specs.Conversation.{Answered, Calls, Converses, MayWait, Scene, Talk, Talks, cause_of, replies_text}
+use Rattle.pl_conn.specs.Conversation.{Converses, MayWait, Scene, Talk, Talks, cause_of, replies_text}
 use Rattle.pl_conn.specs.declared.cause.Cause.{Cause}
 use Rattle.pl_conn.specs.declared.cause.ConnFault.{ConnFault}
 
@@ -59,7 +60,7 @@ pub record Gathers {P : Type 0} (calls : Calls P) (before : P) (bytes : List ℕ
   pub short : AllByRecursion (λ body. length body ≤ longest_request) bodies
   pub fits : AllByRecursion FitsReply replies
   pub read : bytes ≡ frames_of bodies
-  pub chain : Answered calls before bodies replies after
+  pub chain : Answered (AnswersBody calls) before bodies replies after
   pub waits : (front : List Reply) → HoldsReplies box front → HoldsReplies left (front ++ replies)
 
 -- the next frame is answered, and its reply waits; or the input is at its end; or there is no frame

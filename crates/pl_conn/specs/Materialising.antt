@@ -3,10 +3,12 @@ use Rattle.std.specs.Prelude.{◌≡◌, ◌==◌, ◌≤◌, ◌+◌, ◌^◌, 
 use Rattle.std.specs.List.{AllByRecursion}
 use Rattle.pl_table.specs.declared.op.Role.TheVariants as roles
 use Rattle.pl_table.specs.declared.request.Act.TheVariants as acts
+use Rattle.pl_table.specs.declared.verdict.Section.{Section}
 use Rattle.pl_table.specs.declared.verdict.Section.TheVariants as sections
 use Rattle.pl_table.specs.Request.{Query}
 use Rattle.pl_core.specs.declared.reply.Reply.{Reply}
 use Rattle.pl_core.specs.declared.reply.Reply.TheVariants as replies
+use Rattle.pl_wire.specs.Answering.{Calls}
 use Rattle.pl_conn.specs.declared.materialising.Worked.{Worked}
 
 -- the request of a round: an advance of the partition by 16 blocks, as page server at this epoch
@@ -26,10 +28,15 @@ abbrev pub is_done : Reply → Bool
 is_done replies.Done = true
 is_done _ = false
 
+-- an older epoch is denied by row A2
+abbrev pub is_older_epoch : Section → ℕ → Bool
+is_older_epoch sections.A row = row == 2
+is_older_epoch _ row = false
+
 -- the current epoch, where the reply is a denial for an older one and the epoch is below 2^32
 abbrev pub told_epoch : Reply → Option ℕ
-told_epoch (replies.Denied sections.A row now) =
-    if row == 2 && nat_lt now (2 ^ 32) then Some now else None
+told_epoch (replies.Denied section row now) =
+    if is_older_epoch section row && nat_lt now (2 ^ 32) then Some now else None
 told_epoch _ = None
 
 -- whether another round may follow: the partition was advanced, or the current epoch is told
@@ -43,7 +50,7 @@ last_told_epoch (reply ∷ earlier) = unwrap_or (told_epoch reply) (last_told_ep
 
 -- calls with these replies, the newest first, lead from one pass to the other; each call makes the
 -- request at the epoch that had been told before it
-abbrev pub Asks : {P : Type 0} → (P → Query → Reply → P → Type 0) → (ℕ → Query) → P → List Reply → P → Type 0
+abbrev pub Asks : {P : Type 0} → Calls P → (ℕ → Query) → P → List Reply → P → Type 0
 Asks calls request before [] after = after ≡ before
 Asks calls request before (reply ∷ earlier) after =
     (now : _) × Asks calls request before earlier now × calls now (request (last_told_epoch earlier)) reply after
@@ -51,7 +58,7 @@ Asks calls request before (reply ∷ earlier) after =
 -- At most this many calls are made. Only the last reply may be one after which no round follows, and
 -- fewer calls are made only after such a reply. The replies of Done are counted, and the epoch is the
 -- one that was told last.
-pub record Works {P : Type 0} (calls : P → Query → Reply → P → Type 0) (request : ℕ → Query) (rounds : ℕ) (before : P) (worked : Worked) (after : P) : Type 0 where
+pub record Works {P : Type 0} (calls : Calls P) (request : ℕ → Query) (rounds : ℕ) (before : P) (worked : Worked) (after : P) : Type 0 where
   pub replies : List Reply
   pub asks : Asks calls request before replies after
   pub most : length replies ≤ rounds
@@ -61,7 +68,7 @@ pub record Works {P : Type 0} (calls : P → Query → Reply → P → Type 0) (
   pub epoch : worked.epoch ≡ last_told_epoch replies
 
 -- one round: its call, what is known after it, and whether another may follow
-pub record Round {P : Type 0} (calls : P → Query → Reply → P → Type 0) (request : ℕ → Query) (before : P) (old new : Worked) (more : Bool) (after : P) : Type 0 where
+pub record Round {P : Type 0} (calls : Calls P) (request : ℕ → Query) (before : P) (old new : Worked) (more : Bool) (after : P) : Type 0 where
   pub reply : Reply
   pub call : calls before (request old.epoch) reply after
   pub done : new.done ≡ old.done + (if is_done reply then 1 else 0)

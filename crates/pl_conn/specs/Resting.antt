@@ -4,9 +4,10 @@ use Rattle.std.specs.Io.KnownBytes.{Appends, Consumes, IsAtEnd}
 use Rattle.std.specs.List.{AllByRecursion}
 use Rattle.pl_core.specs.declared.reply.Reply.{Reply}
 use Rattle.pl_core.specs.Reply.{FitsReply}
+use Rattle.pl_wire.specs.Answering.{Answered, AnswersBody, Calls}
 use Rattle.pl_wire.specs.FrameReading.{IsCut}
 use Rattle.pl_wire.specs.Frames.{frames_of, longest_request}
-use Rattle.pl_conn.specs.Conversation.{Answered, Calls, Scene, replies_text}
+use Rattle.pl_conn.specs.Conversation.{Scene, replies_text}
 use Rattle.pl_conn.specs.declared.cause.Cause.{Cause}
 use Rattle.pl_conn.specs.declared.cause.Cause.TheVariants as causes
 use Rattle.pl_conn.specs.declared.resuming.Rest.{Rest}
@@ -28,7 +29,7 @@ pub record Replies {P : Type 0} (calls : Calls P) (before : P) (old : Middle) (a
   pub short : AllByRecursion (λ body. length body ≤ longest_request) bodies
   pub fits : AllByRecursion FitsReply replies
   pub read : old.unread ≡ frames_of bodies ++ new.unread
-  pub chain : Answered calls before bodies replies after
+  pub chain : Answered (AnswersBody calls) before bodies replies after
   pub told : new.waiting ≡ old.waiting ++ replies_text replies
 
 -- THE THEOREM of a conversation that rests. Bytes are heard after those that were unread, frames are answered, and

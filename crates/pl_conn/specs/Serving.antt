@@ -3,7 +3,7 @@ use Rattle.std.specs.Prelude.{◌≡◌, ℕ, ◌≤◌, ⊤, List, [], ◌∷�
 use Rattle.std.specs.List.{All}
 use Rattle.pl_table.specs.Request.{Query}
 use Rattle.pl_core.specs.declared.reply.Reply.{Reply}
-use Rattle.pl_conn.specs.Conversation.{Calls}
+use Rattle.pl_wire.specs.Answering.{Calls}
 use Rattle.pl_conn.specs.declared.serving.Stop.{Stop}
 use Rattle.pl_conn.specs.declared.serving.Stop.TheVariants as stops
 

@@ -1,7 +1,7 @@
 -- Workers: what their handles promise. A list of them comes first, so that what is said of each knows its type.
 use Rattle.std.specs.Prelude.{◌≡◌, List, ◌++◌, map}
 use Rattle.std.specs.List.{All}
-use Rattle.pl_conn.specs.Conversation.{Calls}
+use Rattle.pl_wire.specs.Answering.{Calls}
 use Rattle.pl_conn.specs.Serving.{Returned}
 
 -- what each has

@@ -1,6 +1,12 @@
-//! Connections, accepted: which failures of an accept pass, and are waited out.
+//! Connections, accepted and handed over to workers: which failures of an accept pass, and are waited out, and which worker
+//! has the next socket.
 
+ghost use Rattle.std.specs.Prelude.{◌≡◌, ◌≢◌, ◌≤◌};
+
+use crate::serving::Stop;
 use crate::watch::Watch;
+use crate::worker::Post;
+use crossbeam_channel::{Sender, TrySendError};
 use std::io;
 use std::net::{TcpListener, TcpStream};
 use std::sync::Wait;
@@ -24,10 +30,10 @@ fn passes(error: &io::Error) -> bool {
     }
 }
 
-/// The next connection. After a failure that passes the listener rests, and accepts again: the connections
-/// that wait at it are kept by the system meanwhile. The first such failure is told. An error is one of the
-/// listener itself.
-pub(crate) fn accept<R: Wait, W: Watch>(
+// The next connection. After a failure that passes the listener rests, and accepts again: the connections
+// that wait at it are kept by the system meanwhile. The first such failure is told. An error is one of the
+// listener itself.
+fn accept<R: Wait, W: Watch>(
     rt: &R,
     listener: &TcpListener,
     watch: &W,
@@ -49,4 +55,86 @@ pub(crate) fn accept<R: Wait, W: Watch>(
         }
     }
     unreachable!()
+}
+
+// The place of the worker that has the fewest connections.
+fn fewest(posts: &[Post]) -> usize {
+    let mut place = 0;
+    let mut least = u64::MAX;
+    for (at, post) in posts.iter().enumerate() {
+        let open = post.open();
+        if open < least {
+            least = open;
+            place = at;
+        }
+    }
+    place
+}
+
+// Hands the socket to the worker, if its channel has room. Else the socket comes back.
+fn offer<R: Wait>(
+    rt: &R,
+    post: &Post,
+    channel: &Sender<TcpStream>,
+    socket: TcpStream,
+) -> Option<TcpStream> {
+    post.opens();
+    match channel.try_send(rt, socket) {
+        Ok(()) => {
+            post.ring();
+            None
+        }
+        Err(TrySendError::Full(socket))
+        | Err(TrySendError::Disconnected(socket))
+        | Err(TrySendError::OutOfMemory(socket)) => {
+            post.closes();
+            Some(socket)
+        }
+    }
+}
+
+// Hands the socket to the worker that has the fewest connections. Where its channel is full, it goes to the first
+// that has room; where none has, to that worker, once it has.
+fn hand_over<R: Wait>(rt: &R, posts: &[Post], channels: &[Sender<TcpStream>], socket: TcpStream) {
+    let place = fewest(posts);
+    let (Some(post), Some(channel)) = (posts.get(place), channels.get(place)) else {
+        return;
+    };
+    let mut left = offer(rt, post, channel, socket);
+    for (other, its) in posts.iter().zip(channels) {
+        left = match left {
+            Some(socket) => offer(rt, other, its, socket),
+            None => None,
+        };
+    }
+    if let Some(socket) = left {
+        post.opens();
+        if channel.send(rt, socket).is_err() {
+            post.closes();
+        }
+        post.ring();
+    }
+}
+
+/// Accepts this many connections, and hands their sockets to the workers.
+pub(crate) fn accept_all<R: Wait, W: Watch>(
+    rt: &R,
+    listener: &TcpListener,
+    posts: &[Post],
+    channels: &[Sender<TcpStream>],
+    connections: u32,
+    watch: &W,
+) -> (u32, Stop)
+    ensures most { result.0 ≤ connections }
+    ensures limit { result.1 ≡ Stop.Limit → result.0 ≡ connections }
+    ensures started { result.1 ≢ Stop.Start }
+{
+    let mut is_told = false;
+    for accepted in 0..connections {
+        let Ok(socket) = accept(rt, listener, watch, &mut is_told) else {
+            return (accepted, Stop::Accept);
+        };
+        hand_over(rt, posts, channels, socket);
+    }
+    (connections, Stop::Limit)
 }

@@ -1,17 +1,15 @@
 //! Materialising a partition: the rounds of a page server that applies the log before anybody reads.
 
 ghost use Rattle.std.specs.Prelude.{◌≡◌, ◌+◌, ◌-◌, ◌^◌, ◌<◌, unwrap_or, if◌then◌else◌};
-ghost use Rattle.pl_conn.specs.Materialising.{advance_at, is_done, told_epoch, goes_on, Round, Works};
+ghost use Rattle.pl_conn.specs.Materialising.{advance_at, is_done, is_older_epoch, told_epoch, goes_on, Round, Works};
 
 use crate::gate::Gate;
 use pl_core::Reply;
+use pl_decide::Rule;
 use pl_table::{Act, Head, Request, Role, Section};
 
 /// By how many blocks a round advances the partition.
 const STEPS: u16 = 16;
-
-/// The number of the row by which an older epoch is denied.
-const OLDER_EPOCH: u16 = 2;
 
 /// What materialising a partition did.
 #[derive(Clone, Copy, Debug, PartialEq, Eq)]
@@ -20,6 +18,13 @@ pub struct Worked {
     pub done: u32,
     /// The epoch that was told last; 1 where none was told.
     pub epoch: u32,
+}
+
+// Whether a denial by this row is that of an older epoch.
+fn denies_older_epoch(section: Section, row: u16) -> bool
+    ensures value { result ≡ is_older_epoch section row }
+{
+    section == Rule::OlderEpoch.section() && row == Rule::OlderEpoch.number()
 }
 
 impl Worked {
@@ -36,10 +41,10 @@ impl Worked {
                 true
             }
             Reply::Denied {
-                section: Section::A,
-                row: OLDER_EPOCH,
+                section,
+                row,
                 value,
-            } if *value <= u64::from(u32::MAX) => {
+            } if denies_older_epoch(*section, *row) && *value <= u64::from(u32::MAX) => {
                 self.epoch = *value as u32;
                 true
             }

@@ -2,8 +2,9 @@
 
 ghost use Rattle.std.specs.Prelude.{◌≡◌, ◌↔◌, IfOk, IsTrue, OnErr, OnOk};
 ghost use Rattle.pl_core.specs.Reply.{FitsReply};
+ghost use Rattle.pl_wire.specs.Answering.{AnswersAsRead};
 ghost use Rattle.pl_wire.specs.Replies.{reply_spelling};
-ghost use Rattle.pl_play.specs.Answering.{AnswersBody, IsCopied, own_pass};
+ghost use Rattle.pl_play.specs.Answering.{IsCopied, PlayCall};
 ghost use Rattle.pl_play.specs.Played.{WritesReply};
 ghost use Rattle.pl_play.specs.Text.{line_text};
 
@@ -27,9 +28,8 @@ const NO_MEMORY: &[u8] = b"06\n";
 /// A written block keeps the bytes of the body. A step that runs out of memory has a reply too.
 /// `AllocError` comes where the records of a block or a table's text found no memory, before any step.
 pub(crate) fn reply_to(alloc: Global, body: Bytes, db: &mut Db) -> Result<Reply, AllocError>
-    // The reply of a step under pass 1, or the code of the body's fault (`AnswersBody`).
-    ensures answers { IfOk result (λ reply.
-        AnswersBody own_pass db.old body (reply_spelling reply) db.new) }
+    // The reply of a step under pass 1, or the code of the body's fault (`AnswersAsRead`).
+    ensures answers { IfOk result (λ reply. AnswersAsRead PlayCall db.old body reply db.new) }
     // The reply can be written.
     ensures fits { IfOk result (λ reply. FitsReply reply) }
     // `AllocError` changes nothing.
@@ -71,8 +71,7 @@ pub(crate) fn write_reply<W: Write>(
     requires { FitsReply reply.now }
     // The reply's line is written whole, cut by `Write`, or lost by `NoMemory`, but the reply
     // `NoMemory` is never lost.
-    ensures value { WritesReply (reply_spelling reply.now)
-        (W.contents writer.old) (W.contents writer.new) result }
+    ensures value { WritesReply reply.now (W.contents writer.old) (W.contents writer.new) result }
 {
     if lacks_memory(reply) {
         write_whole(writer, NO_MEMORY)?;

@@ -1,7 +1,7 @@
 //! Lines in, lines out.
 
 ghost use Rattle.std.specs.Prelude.{◌≡◌, ◌≢◌, ◌≤◌, IfErr, length};
-ghost use Rattle.pl_play.specs.Answering.{AnswersBody, own_pass};
+ghost use Rattle.pl_play.specs.Answering.{PlayCall};
 ghost use Rattle.pl_play.specs.Lines.{longest_line};
 ghost use Rattle.pl_play.specs.Played.{Played, PlaysLine, moment};
 
@@ -34,7 +34,7 @@ pub fn play<R: BufRead, W: Write>(
     // As many lines as it returns are answered in order, each by the line of its reply, and each
     // step begins where the last one ended. On a fault, it says which line stopped it, and what was
     // written and done by then (`Played`).
-    ensures value { Played (AnswersBody own_pass) (R.remaining reader.old)
+    ensures value { Played PlayCall (R.remaining reader.old)
         (moment (W.contents writer.old) db.old)
         (moment (W.contents writer.new) db.new) result }
 {
@@ -63,7 +63,7 @@ fn play_line<W: Write>(
     requires { length line.now ≤ longest_line }
     // The line is answered by the line of its reply, after one step. On a fault, it says what was
     // written and done by then (`PlaysLine`).
-    ensures value { PlaysLine (AnswersBody own_pass) number line.now
+    ensures value { PlaysLine PlayCall number line.now
         (moment (W.contents writer.old) db.old)
         (moment (W.contents writer.new) db.new) result }
     // The fault is never `Read`.

@@ -1,6 +1,6 @@
 -- The rounds of a page server at one database more, and the last of a list.
 use Rattle.std.proofs.Common.{◌≡◌, ℕ, ◌+◌, List, [], ◌∷◌, ◌++◌, length, refl, ap, subst, ◌∙◌, arith, length-append}
-use Rattle.pl_conn.specs.Conversation.{Calls}
+use Rattle.pl_wire.specs.Answering.{Calls}
 use Rattle.pl_conn.specs.Materialising.{Works, advance_at}
 use Rattle.pl_conn.specs.declared.materialising.Worked.{Worked}
 use Rattle.pl_program.specs.Paging.{Pages, PagesEach}

@@ -1,7 +1,7 @@
 -- What a page server does at the databases of a service.
 use Rattle.std.specs.Prelude.{◌≡◌, ℕ, ◌+◌, List, [], ◌∷◌, length}
 use Rattle.pl_desk.specs.Passes.{Knowledge}
-use Rattle.pl_conn.specs.Conversation.{Calls}
+use Rattle.pl_wire.specs.Answering.{Calls}
 use Rattle.pl_conn.specs.Desks.{DesksCall}
 use Rattle.pl_conn.specs.Materialising.{Works, advance_at}
 use Rattle.pl_conn.specs.declared.materialising.Worked.{Worked}

@@ -2,7 +2,7 @@ use Rattle.std.proofs.Common.{◌≡◌, ◌≢◌, ◌∙◌, true, false}
 use Rattle.std.proofs.KnownBytes.{Keeps-refl}
 use Rattle.std.proofs.lemmas.Result.{err_from_is_err_and}
 use Rattle.pl_core.specs.declared.reply.Reply.TheVariants as replies
-use Rattle.pl_play.proofs.Turns.{no_memory_line, other_spelling, tells_whole, tells_part}
+use Rattle.pl_play.proofs.Turns.{no_memory_line, tells_whole, tells_part}
 use Rattle.pl_play.proofs.answering.write_reply.Goals as goal
 
 pub returns-in_err-write_whole : goal.returns-in_err-write_whole
@@ -20,7 +20,7 @@ pub returns-in_err-line : goal.returns-in_err-line
 returns-in_err-line g c =
     let p = err_from_is_err_and c.from_residual-in_err-line.result c.from_residual-in_err-line.ensures.1 in
     let other : c.args.reply.now ≢ replies.NoMemory = λ same. let bad : false ≡ true = c.if-lacks_memory.ensures.value.1 same in cc in
-    record { value = rw (p.1, p.2) (other_spelling c.args.reply.now other, Keeps-refl _) }
+    record { value = rw (p.1, p.2) (other, Keeps-refl _) }
 
 pub returns-in_err-write_whole-2 : goal.returns-in_err-write_whole-2
 returns-in_err-write_whole-2 g c =
