@@ -18,8 +18,8 @@ a small table of six rows for five principals; each with rows that end at LSNs, 
 Prints nanoseconds of the processor, the median of the rounds, and ratios of times of one round: the median, and in brackets
 the half of the rounds around it. `hits` is how many of 1,000 pulls of `along` find their verdict cached, by the LSNs at which
 the rows say the same, where a verdict is kept at all. FOLDER is another checkout, of an older commit say: the same program is
-built over its crates, is asked of each table in turn with this one, and its times stand beside those of this checkout. The
-crates before rows had ends have no reach, and read no table whose rows end.
+built over its crates, is asked of each table in turn with this one, and its times are beside those of this checkout. Of the
+crates before `Asking` no reach is timed, and those before rows had ends read no table whose rows end.
 """
 
 import os
@@ -102,7 +102,7 @@ def main():
     paths = {"now": programs.program("verdicts", "pl_table pl_decide")}
     if len(sys.argv) > 2:
         folder = pathlib.Path(sys.argv[2])
-        is_older = not (folder / "crates" / "pl_table" / "src" / "reach.rt").exists()
+        is_older = not (folder / "crates" / "pl_table" / "src" / "asking.rt").exists()
         paths["before"] = programs.program("verdicts", "pl_table pl_decide", folder, is_older)
     running = {where: Program(path) for where, path in paths.items()}
     cases = [(table, where) for table in TABLES for where in paths]
