@@ -214,7 +214,8 @@ class Source:
                 self.words.update(re.findall(r"\w+", code))
                 self.words.add(file.stem)
             self.words.add(crate.name)
-        for file in (ROOT / "scripts").glob("*"):
+        clients = [file for file in (ROOT / "clients").rglob("*") if file.suffix in (".c", ".h", ".py")]
+        for file in [*(ROOT / "scripts").glob("*"), *clients]:
             if file.is_file() and file.name != "pages":
                 self.words.update(re.findall(r"\w+", file.read_text()))
 
