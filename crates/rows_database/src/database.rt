@@ -188,22 +188,36 @@ impl Database {
         if self.asked != self.queue.len() {
             return Ok(Stop::Amid);
         }
+        let mut twin: Database = Subject::new(self.alloc);
+        self.beside(&mut twin, replies)
+    }
+
+    // The same, where the twin is asked, step by step, what this database was asked in runs.
+    fn beside(&self, twin: &mut Database, replies: &[Reply]) -> Result<Stop, Stop> {
         let (ran, waiting) = self.queues();
-        let mut twin = self.opened_again()?;
-        for queued in ran {
-            twin.step_queued(queued)?;
-        }
-        let is_same = twin.steps_as(waiting, replies)?
-            && short_of(twin.db()?) == short_of(self.db()?);
+        twin.open_as(&self.opened)?;
+        twin.steps(ran)?;
+        let is_same = twin.steps_as(waiting, replies)? && self.is_as(twin)?;
         Ok(if is_same { Stop::Amid } else { Stop::Changed })
     }
 
-    // Another database, opened with the same words.
-    fn opened_again(&self) -> Result<Database, Stop> {
-        let mut twin: Database = Subject::new(self.alloc);
-        let words: Vec<&str> = self.opened.split_whitespace().collect(self.alloc)?;
-        twin.push_open(&words, &mut String::new(self.alloc))?;
-        Ok(twin)
+    // Whether both have the same entries, hardened blocks and epochs.
+    fn is_as(&self, other: &Database) -> Result<bool, Stop> {
+        Ok(short_of(self.db()?) == short_of(other.db()?))
+    }
+
+    // Opens it with the words with which another one was opened.
+    fn open_as(&mut self, opened: &str) -> Result<(), Stop> {
+        let words: Vec<&str> = opened.split_whitespace().collect(self.alloc)?;
+        self.push_open(&words, &mut String::new(self.alloc))
+    }
+
+    // Takes each of the requests as a step of its own.
+    fn steps(&mut self, queued: &[(usize, String)]) -> Result<(), Stop> {
+        for request in queued {
+            self.step_queued(request)?;
+        }
+        Ok(())
     }
 
     // Takes a request of the queue as a step of its own.
