@@ -95,7 +95,7 @@ module _ (limits : Limits) where
       let read : IsSignedIn (pos least) (pos most) v = accepts-Accepts false (Signed (pos least) (pos most)) v (first_passes s a v vs rows refl e) in
       values_good id WithoutMinus CommandLine v vs (without id rows) (subst (λ o. Reads o WithoutMinus v) (sym is) (refl, read)) (without_good id rows g)
 
-  -- the words behind the options
+  -- the words after the options
   pub words_use : (s : Shape) → limits (codes "words") ≡ None → Use s (with_index 1 (filled words_rule))
   words_use s none [] rows e g = absurd (true≢false (sym e))
   words_use s none (v ∷ vs) rows e g =

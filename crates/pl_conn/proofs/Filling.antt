@@ -1,4 +1,4 @@
--- Bytes that wait in a room, and those that a read puts behind them.
+-- Bytes that wait in a room, and those that a read puts after them.
 use Rattle.std.proofs.Common.{◌≡◌, ℕ, ◌+◌, ◌-◌, ◌≤◌, List, ◌++◌, arith, length, take, slice_range, sym, ap, ◌∙◌, le_refl, drop_at, length-take-le}
 use Rattle.std.proofs.lemmas.Slice.{take-put_mid_below}
 use borrow.Rule.Slice.PartMut.{put_mid, post_of}
@@ -15,7 +15,7 @@ take_split a b old new h front =
     let same : a + (b - a) ≡ b = omega arith in
     ap (λ l. l ++ slice_range new a b) (sym front) ∙ sym (take-add a (b - a) new) ∙ ap (λ n. take n new) same
 
--- what waits, and behind it what was read
+-- what waits, and after it what was read
 pub behind : (at k n : ℕ) (xs ys : List ℕ) → at ≤ length xs → n ≤ length ys → take at xs ++ take n ys ≡ take (at + n) (put_mid at k xs ys)
 behind at k n xs ys within fits =
     let front = take-put_mid_below _ _ _ _ _ (le_refl _) within in

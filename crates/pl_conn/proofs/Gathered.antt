@@ -73,7 +73,7 @@ module _ {P : Type 0} (calls : Calls P) where
     waits = λ front h. subst (λ (b : Box). HoldsReplies b (front ++ reply ∷ [])) (sym waits) (holds_more box front reply room.0 h);
   }
 
-  -- frames behind those that are answered
+  -- frames after those that are answered
   pub more_gathered : (p q r : P) (bytes : List ℕ) (n m : ℕ) (a b c : Box) → Gathers calls p (take n bytes) a q b
       → Gathers calls q (take m (take (length bytes - n) (drop n bytes))) b r c → Gathers calls p (take (n + m) bytes) a r c
   more_gathered p q r bytes n m a b c first second =

@@ -27,7 +27,7 @@ of-set desks passes k p q of is same = record {
   ];
 }
 
--- the passes behind those that are left have met; the others are as they were
+-- the passes after those that are left have met; the others are as they were
 pub record Meeting (desks : List DeskOrigin) (before others now left : List Knowledge) : Type 0 where
   pub of : ArePassesOf desks now
   pub count : length now ≡ length before

@@ -8,7 +8,7 @@ use Rattle.pl_core.specs.declared.reply.Reply.{Reply}
 use Rattle.pl_conn.specs.declared.materialising.Worked.{Worked}
 use Rattle.pl_conn.specs.Materialising.{is_done, told_epoch, goes_on, last_told_epoch, Asks, Round, Works}
 
--- so many rounds, after each of which another may follow
+-- this many rounds, after each of which another may follow
 pub record Going {P : Type 0} (calls : P → Query → Reply → P → Type 0) (request : ℕ → Query) (before : P) (worked : Worked) (round : ℕ) (now : P) : Type 0 where
   pub replies : List Reply
   pub asks : Asks calls request before replies now

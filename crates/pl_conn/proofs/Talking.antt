@@ -12,7 +12,7 @@ use Rattle.pl_wire.specs.FrameWriting.{reply_frame}
 use Rattle.pl_conn.specs.Conversation.{MayWait, replies_text}
 use Rattle.pl_conn.specs.Gathering.{whole_in}
 
--- a chain, and one behind it
+-- a chain, and one after it
 pub answered_then : {P : Type 0} (answers : Answers P) (p q r : P) (bs cs : List (List ℕ)) (xs ys : List Reply)
     → Answered answers p bs xs q → Answered answers q cs ys r → Answered answers p (bs ++ cs) (xs ++ ys) r
 answered_then answers p q r [] cs [] ys first second = subst (λ x. Answered answers x cs ys r) first second
@@ -39,7 +39,7 @@ all_but_last xs x =
     let count : length (xs ++ x ∷ []) - 1 ≡ length xs = omega (arith, length-append xs (x ∷ [])) in
     ap (λ (n : ℕ). take n (xs ++ x ∷ [])) count ∙ take-append_seam xs (x ∷ [])
 
--- those behind some that may wait may wait
+-- those after some that may wait may wait
 pub fewer_behind : (front back : List Reply) → MayWait (front ++ back) → MayWait back
 fewer_behind front [] few = omega arith
 fewer_behind front (r ∷ rs) few =
@@ -98,7 +98,7 @@ cut_text (r ∷ rs) n less = by (ltb n (length (reply_frame r))) refl (λ m l. c
               ∙ sym (append_assoc (reply_frame r) (replies_text c.whole) (take c.k (reply_frame c.next)));
         }
 
--- the lengths behind a place: the frame there is whole, or cut; there are none
+-- the lengths after a place: the frame there is whole, or cut; there are none
 pub whole_at : (lens : List ℕ) (i k : ℕ) → i < length lens → slice_index lens i ≤ k → whole_in (drop i lens) k ≡ suc (whole_in (drop (i + 1) lens) (k - slice_index lens i))
 whole_at lens i k within fits =
     rw (drop-cons lens i 0 within, le-ltb _ _ fits, add-one i) refl

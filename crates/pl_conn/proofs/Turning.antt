@@ -22,7 +22,7 @@ use Rattle.pl_conn.proofs.Filling.{behind}
 use Rattle.pl_conn.proofs.Reaching.{by_answers}
 use Rattle.pl_conn.proofs.Talking.{all_then, answered_then}
 
--- a read puts bytes behind those that wait
+-- a read puts bytes after those that wait
 pub heard_behind : (a b : Option (List ℕ)) (at k n : ℕ) (xs ys : List ℕ) → at ≤ length xs → n ≤ length ys → Consumes a b (take n ys)
     → Hears a (take at xs) b (take (at + n) (put_mid at k xs ys))
 heard_behind a b at k n xs ys within fits reads = (take n ys, reads, sym (behind at k n xs ys within fits))
@@ -71,7 +71,7 @@ module _ {P : Type 0} (calls : Calls P) where
         ∙ ap (λ l. a.waiting ++ l) (sym (flat_map-append reply_frame first.replies then.replies));
   }
 
-  -- the same behind what waited
+  -- the same after what waited
   replies_behind : (p q : P) (bytes rest waits text : List ℕ) → Replies calls p (middle bytes []) q (middle rest text)
       → Replies calls p (middle bytes waits) q (middle rest (waits ++ text))
   replies_behind p q bytes rest waits text r = record {
@@ -212,7 +212,7 @@ module _ {P : Type 0} (calls : Calls P) where
   rested before after old new waiting (Err causes.Write) r again is at_end input output over short err = (new, r, tt)
   rested before after old new waiting (Err causes.NoMemory) r again is at_end input output over short err = (new, r, none_left new.waiting (is ∙ err))
 
-  -- more is unread behind it all
+  -- more is unread after it all
   heard_later : (p q : P) (unread rest more waits then : List ℕ) → Replies calls p (middle unread waits) q (middle rest then)
       → Replies calls p (middle (unread ++ more) waits) q (middle (rest ++ more) then)
   heard_later p q unread rest more waits then r = record {

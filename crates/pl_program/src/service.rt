@@ -1,4 +1,4 @@
-//! A service: databases behind their desks, workers that serve connections, and a page server.
+//! A service: databases and their desks, workers that serve connections, and a page server.
 
 ghost use Rattle.std.specs.Prelude.{◌≡◌, ◌++◌, ◌∷◌, ◌≤◌, ◌⊎◌, [], IfErr, IfOk, IfSome, IsNone, IsSome, length, vec_len};
 ghost use Rattle.std.specs.List.{All};

@@ -59,16 +59,16 @@ set_table_takes bytes act e = subst (IsRead ops.SetTable bytes) (ok_is (SetTable
 
 -- ---- arguments of one size
 
--- nothing stands behind the last of so many bytes
+-- nothing comes after the last of this many bytes
 nothing_behind : (n : ℕ) (bytes : List ℕ) → length bytes ≡ n → drop n bytes ≡ []
 nothing_behind n bytes len = nil_from_length (drop n bytes) (omega (arith, length-drop n bytes))
 
--- the last number of so many bytes
+-- the last number of this many bytes
 last_number : (w : Width) (limit : ℕ) → IsWide w limit → (at : ℕ) (bytes : List ℕ) → AreBytes bytes → length bytes ≡ at + byte_len w → drop at bytes ≡ to_be_bytes w (number_in w at bytes)
 last_number w limit wide at bytes fits len =
     number_cut w limit wide at bytes fits (omega (arith, len)) ∙ ap (λ (t : List ℕ). to_be_bytes w (number_in w at bytes) ++ t) (nothing_behind (at + byte_len w) bytes len) ∙ append-nil (to_be_bytes w (number_in w at bytes))
 
--- a number before what stands behind it
+-- a number before what comes after it
 number_before : (w : Width) (limit : ℕ) → IsWide w limit → (at : ℕ) (bytes rest : List ℕ) → AreBytes bytes → at + byte_len w ≤ length bytes → drop (at + byte_len w) bytes ≡ rest → drop at bytes ≡ to_be_bytes w (number_in w at bytes) ++ rest
 number_before w limit wide at bytes rest fits long behind =
     number_cut w limit wide at bytes fits long ∙ ap (λ (t : List ℕ). to_be_bytes w (number_in w at bytes) ++ t) behind

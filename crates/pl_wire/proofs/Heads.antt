@@ -45,7 +45,7 @@ head_takes role body fits long e =
     let token : drop 4 body ≡ t ++ (role_number role ∷ (d ++ (f ++ (get_or body 29 0 ∷ drop 30 body)))) = cut 4 16 body ∙ ap (λ (x : List ℕ). t ++ x) as_role in
     number_cut w32 (2 ^ 32) wide32 0 body fits (omega arith) ∙ ap (λ (x : List ℕ). p ++ x) token
 
--- what stands behind a token
+-- what comes after a token
 behind_token : (token rest : List ℕ) (n : ℕ) → length token ≡ 16 → drop (16 + n) (token ++ rest) ≡ drop n rest
 behind_token token rest n len = subst (λ (k : ℕ). drop (k + n) (token ++ rest) ≡ drop n rest) len (drop-append-add token rest n)
 

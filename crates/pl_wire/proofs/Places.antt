@@ -49,11 +49,11 @@ wide64 = record {
   below = λ bytes fits. omega (arith, fits 0, fits 1, fits 2, fits 3, fits 4, fits 5, fits 6, fits 7);
 }
 
--- some of the bytes, and those behind them
+-- some of the bytes, and those after them
 pub cut : (at n : ℕ) (bytes : List ℕ) → drop at bytes ≡ take n (drop at bytes) ++ drop (at + n) bytes
 cut at n bytes = sym (take-append-drop n (drop at bytes)) ∙ ap (λ (t : List ℕ). take n (drop at bytes) ++ t) (drop-drop n at bytes)
 
--- a number, and the bytes behind it
+-- a number, and the bytes after it
 pub number_cut : (w : Width) (limit : ℕ) → IsWide w limit → (at : ℕ) (bytes : List ℕ) → AreBytes bytes → at + byte_len w ≤ length bytes → drop at bytes ≡ to_be_bytes w (number_in w at bytes) ++ drop (at + byte_len w) bytes
 number_cut w limit wide at bytes fits long =
     let piece = take (byte_len w) (drop at bytes) in
@@ -64,6 +64,6 @@ number_cut w limit wide at bytes fits long =
 pub number_below : (w : Width) (limit : ℕ) → IsWide w limit → (at : ℕ) (bytes : List ℕ) → AreBytes bytes → number_in w at bytes < limit
 number_below w limit wide at bytes fits = wide.below (take (byte_len w) (drop at bytes)) (AreBytes-take (byte_len w) (drop at bytes) (AreBytes-drop at bytes fits))
 
--- one byte, and the bytes behind it
+-- one byte, and the bytes after it
 pub byte_cut : (at : ℕ) (bytes : List ℕ) → at < length bytes → drop at bytes ≡ get_or bytes at 0 ∷ drop (at + 1) bytes
 byte_cut at bytes long = rw add-one (drop-cons bytes at 0 long)

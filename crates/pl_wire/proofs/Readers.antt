@@ -15,12 +15,12 @@ use Rattle.pl_wire.proofs.Steps.{bind_ok, bound, done, guard_ok, ok_is, ok_or-so
 use Rattle.pl_wire.proofs.Numbered.{IsNumbered}
 use Rattle.pl_wire.proofs.Places.{AreBytes-drop, AreBytes-take, IsWide, wide16, wide32, wide64}
 
--- a text at the front, and bytes behind it
+-- a text at the front, and the bytes after it
 pub record IsFront (bytes text rest : List ℕ) : Type 0 where
   pub parts : bytes ≡ text ++ rest
   pub rest_fits : AreBytes rest
 
--- one text behind another
+-- one text after another
 pub two : {bytes a after b rest : List ℕ} → IsFront bytes a after → IsFront after b rest → IsFront bytes (a ++ b) rest
 two {a = a} {b = b} {rest = rest} p q = record { parts = p.parts ∙ ap (λ (t : List ℕ). a ++ t) q.parts ∙ sym (append_assoc a b rest); rest_fits = q.rest_fits }
 
@@ -29,7 +29,7 @@ pub record Tells {X : Type 0} (read : List ℕ → Result (X × List ℕ) WireFa
   pub takes : (bytes : List ℕ) (x : X × List ℕ) → AreBytes bytes → read bytes ≡ Ok x → IsFront bytes (spell x.0) x.1 × Fits x.0
   pub again : (x : X) (rest : List ℕ) → Fits x → read (spell x ++ rest) ≡ Ok (x, rest)
 
--- where a field was read, and then what follows it: the field, and the bytes behind it
+-- where a field was read, and then what follows it: the field, and the bytes after it
 pub read_then : {X Z R : Type 0} {read : List ℕ → Result (X × List ℕ) WireFault} {spell : X → List ℕ} {Fits : X → Type 0} → Tells read spell Fits → (bytes : List ℕ) (k : X × List ℕ → Result Z WireFault) (z : Z) → AreBytes bytes → (read bytes >>= k) ≡ Ok z
     → ((x : X) (rest : List ℕ) → IsFront bytes (spell x) rest → Fits x → k (x, rest) ≡ Ok z → R) → R
 read_then {read = read} tells bytes k z fits e f =

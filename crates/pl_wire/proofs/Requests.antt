@@ -24,7 +24,7 @@ use Rattle.pl_wire.proofs.Acts.{act_takes, act_again}
 use Rattle.pl_wire.proofs.Numbered.{roles_numbered, ops_numbered}
 use Rattle.pl_wire.proofs.Steps.{done, ok_is, guard_ok, guard_passed, ok_or-some, bind_ok}
 
--- the role of a body that was opened, and where it stands
+-- the role of a body that was opened, and where it is
 record IsOpened (body : List ℕ) (opening : Head × Op) : Type 0 where
   long : 30 ≤ length body
   role : Role
