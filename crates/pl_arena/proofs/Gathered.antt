@@ -8,7 +8,7 @@ use Rattle.std.specs.declared.cmp.Ordering.{Ordering}
 use Rattle.std.specs.declared.cmp.Ordering.TheVariants.{Less, Equal, Greater}
 use Rattle.std.proofs.lemmas.Cmp.{nat_cmp_total, eq_by_cmp_equiv}
 use Rattle.std.specs.FinMap as maps
-use Rattle.pl_arena.specs.Arena.{Arena, frame, with_frame, without_frame}
+use Rattle.pl_arena.specs.Arena.{Arena, frame_bytes, with_frame, without_frame}
 use Rattle.pl_arena.specs.Free.{held, put, gathered, arena_of}
 
 -- a number is told from itself, and from another
@@ -67,7 +67,7 @@ in_gathered (suc n) f q within =
     ]
 
 -- what an arena has under a number
-pub frame_is : (frames : List (List ℕ)) (outs : List Bool) (max q : ℕ) → frame (arena_of frames outs max) q ≡ held frames outs q
+pub frame_is : (frames : List (List ℕ)) (outs : List Bool) (max q : ℕ) → frame_bytes (arena_of frames outs max) q ≡ held frames outs q
 frame_is frames outs max q =
     elim (cases_lt q (length outs)) [
       | inl lt ↦ in_gathered (length outs) (held frames outs) q lt

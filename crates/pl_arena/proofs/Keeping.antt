@@ -2,10 +2,10 @@
 use Rattle.std.proofs.Common.{◌≡◌, ◌≢◌, ℕ, ◌+◌, ◌-◌, ◌*◌, ◌<◌, ◌≤◌, ◌++◌, Bool, true, false, cond, List, [], ◌∷◌, length, get_or, set, Option, Some, None, is_some, IsSome, IfSome, IsErrOf, Ok, Err, refl, sym, ap, subst, ◌∙◌, inl, inr, arith, length-set, length-append, get_or-set_other, get_or-set_same, true≢false}
 use Rattle.std.proofs.lemmas.Bool.{cases_eq, cases_lt}
 use Rattle.std.proofs.lemmas.List.{get_or_past, get_or_append_left, get_or-append-add}
-use Rattle.pl_arena.specs.Arena.{Arena, frame, IsOut, IsFull, with_frame, without_frame}
+use Rattle.pl_arena.specs.Arena.{Arena, frame_bytes, IsOut, IsFull, with_frame, without_frame}
 use Rattle.pl_arena.specs.declared.arena.TakeFault.{TakeFault}
 use Rattle.pl_arena.specs.declared.arena.TakeFault.TheVariants.{Full, NoMemory}
-use Rattle.pl_arena.specs.Free.{link, links, held, arena_of, IsGiven, IsFreeList, IsKept}
+use Rattle.pl_arena.specs.Free.{link, links, held, arena_of, IsGiven, IsFreeList, IsArena}
 use Rattle.pl_arena.proofs.Rows.{Row}
 use Rattle.pl_arena.proofs.Chains.{same_list, pushed_list, given_list, taken_list, first_of, none_given}
 use Rattle.pl_arena.proofs.Gathered.{frame_is, put_frame, remove_frame, insert_here}
@@ -34,26 +34,26 @@ module _ (frames : Row) (outs : List Bool) where
   -- an arena seen as `seen`, at a number that it has out
   module _ (max : ℕ) (seen : Arena) (view : arena_of frames outs max ≡ seen) (k : ℕ) where
     pub out_flag : IsOut seen k → get_or outs k false ≡ true
-    out_flag is = flag_of k (subst IsSome (ap (λ a. frame a k) (sym view) ∙ frame_is frames outs max k) is)
+    out_flag is = flag_of k (subst IsSome (ap (λ a. frame_bytes a k) (sym view) ∙ frame_is frames outs max k) is)
 
     pub out_within : IsOut seen k → k < length outs
     out_within is = within_outs k (out_flag is)
 
-    pub out_bytes : IsOut seen k → frame seen k ≡ Some (get_or frames k [])
-    out_bytes is = ap (λ a. frame a k) (sym view) ∙ frame_is frames outs max k ∙ held_out k (out_flag is)
+    pub out_bytes : IsOut seen k → frame_bytes seen k ≡ Some (get_or frames k [])
+    out_bytes is = ap (λ a. frame_bytes a k) (sym view) ∙ frame_is frames outs max k ∙ held_out k (out_flag is)
 
-    pub seen_is : frame seen k ≡ held frames outs k
-    seen_is = ap (λ a. frame a k) (sym view) ∙ frame_is frames outs max k
+    pub seen_is : frame_bytes seen k ≡ held frames outs k
+    seen_is = ap (λ a. frame_bytes a k) (sym view) ∙ frame_is frames outs max k
 
     -- whether it is out
-    pub flag_is : get_or outs k false ≡ is_some (frame seen k)
+    pub flag_is : get_or outs k false ≡ is_some (frame_bytes seen k)
     flag_is = by_case (get_or outs k false) refl ∙ ap is_some (sym seen_is)
       where
         by_case : (b : Bool) → get_or outs k false ≡ b → get_or outs k false ≡ is_some (held frames outs k)
         by_case true e = e ∙ sym (ap is_some (held_out k e))
         by_case false e = e ∙ sym (ap is_some (held_not k e))
 
-module _ (frames : Row) (outs : List Bool) (head max : ℕ) (kept : IsKept frames outs head max) where
+module _ (frames : Row) (outs : List Bool) (head max : ℕ) (kept : IsArena frames outs head max) where
   -- the bytes of a frame that is out are written
   module _ (k : ℕ) (out : get_or outs k false ≡ true) (w : List ℕ) where
     abbrev written : Row
@@ -62,7 +62,7 @@ module _ (frames : Row) (outs : List Bool) (head max : ℕ) (kept : IsKept frame
     in_memory : k < length frames
     in_memory = omega (arith, kept.memory, within_outs frames outs k out)
 
-    pub written_kept : IsKept written outs head max
+    pub written_kept : IsArena written outs head max
     written_kept = record {
       memory = omega (arith, length-set frames k w, kept.memory);
       limit = kept.limit;
@@ -82,7 +82,7 @@ module _ (frames : Row) (outs : List Bool) (head max : ℕ) (kept : IsKept frame
 
   -- a frame that is out is given back, with the number of the list in it
   module _ (k : ℕ) (out : get_or outs k false ≡ true) (w : List ℕ) (here : link w ≡ head) where
-    pub given_kept : IsKept (set frames k w) (set outs k false) (k + 1) max
+    pub given_kept : IsArena (set frames k w) (set outs k false) (k + 1) max
     given_kept =
         let within = within_outs frames outs k out in record {
           memory = omega (arith, length-set frames k w, length-set outs k false, kept.memory);
@@ -118,7 +118,7 @@ module _ (frames : Row) (outs : List Bool) (head max : ℕ) (kept : IsKept frame
     pub first_given : IsGiven outs first
     first_given = (list_here.1.given first).0 (inl refl)
 
-    pub taken_kept : IsKept (set frames first w) (set outs first true) (links frames first) max
+    pub taken_kept : IsArena (set frames first w) (set outs first true) (links frames first) max
     taken_kept = record {
       memory = omega (arith, length-set frames first w, length-set outs first true, kept.memory);
       limit = omega (arith, length-set outs first true, kept.limit);
@@ -139,7 +139,7 @@ module _ (frames : Row) (outs : List Bool) (head max : ℕ) (kept : IsKept frame
     pub first_within : first < 64 * max
     first_within = omega (arith, first_given.0, kept.limit)
 
-    pub first_fresh : frame (arena_of frames outs max) first ≡ None
+    pub first_fresh : frame_bytes (arena_of frames outs max) first ≡ None
     first_fresh = frame_is frames outs max first ∙ held_not frames outs first first_given.1
 
     -- so not every frame is out
@@ -176,7 +176,7 @@ module _ (frames : Row) (outs : List Bool) (head max : ℕ) (kept : IsKept frame
           | inr ge ↦ held_not frames' outs' q (get_or_past outs' q false (omega (arith, long, ge, n))) ∙ sym (held_not frames outs q (get_or_past outs q false ge))
         ]
 
-    pub new_kept : IsKept frames' outs' head max
+    pub new_kept : IsArena frames' outs' head max
     new_kept = record {
       memory = omega (arith, long, length-append frames (w ∷ []), kept.memory);
       limit = omega (arith, long, below);
@@ -198,7 +198,7 @@ module _ (frames : Row) (outs : List Bool) (head max : ℕ) (kept : IsKept frame
     pub place_below : place < 64 * max
     place_below = omega (arith, e, kept.limit, open_yet)
 
-    pub place_fresh : frame (arena_of frames outs max) place ≡ None
+    pub place_fresh : frame_bytes (arena_of frames outs max) place ≡ None
     place_fresh = frame_is frames outs max place ∙ held_not frames outs place (get_or_past outs place false (omega (arith, e)))
 
     pub place_not_full : IsFull (arena_of frames outs max) → ⊥
@@ -213,15 +213,15 @@ module _ (frames : Row) (outs : List Bool) (head max : ℕ) (kept : IsKept frame
       ]
 
 -- it is taken, behind those that were out
-module _ (frames : Row) (outs : List Bool) (head max : ℕ) (kept : IsKept frames outs head max) (place : ℕ) (e : place ≡ length outs) (open_yet : place ≡ 64 * max → ⊥)
+module _ (frames : Row) (outs : List Bool) (head max : ℕ) (kept : IsArena frames outs head max) (place : ℕ) (e : place ≡ length outs) (open_yet : place ≡ 64 * max → ⊥)
     (w : List ℕ) (frames' : Row) (grown : frames' ≡ frames ++ w ∷ []) (outs' : List Bool) (pushed : outs' ≡ outs ++ true ∷ []) where
   below' : length outs < 64 * max
   below' = omega (arith, e, place_below frames outs head max kept place e open_yet)
 
-  pub extended_kept : IsKept frames' outs' head max
+  pub extended_kept : IsArena frames' outs' head max
   extended_kept =
-      subst (λ (fs : Row). IsKept fs outs' head max) (sym grown)
-      (subst (λ (os : List Bool). IsKept (frames ++ w ∷ []) os head max) (sym pushed) (new_kept frames outs head max kept below' w))
+      subst (λ (fs : Row). IsArena fs outs' head max) (sym grown)
+      (subst (λ (os : List Bool). IsArena (frames ++ w ∷ []) os head max) (sym pushed) (new_kept frames outs head max kept below' w))
 
   pub extended_is : arena_of frames' outs' max ≡ with_frame (arena_of frames outs max) place w
   extended_is =
@@ -231,7 +231,7 @@ module _ (frames : Row) (outs : List Bool) (head max : ℕ) (kept : IsKept frame
 
 -- a frame that was put is out
 pub now_out : (old new : Arena) (k : ℕ) (w : List ℕ) → new ≡ with_frame old k w → IsOut new k
-now_out old new k w e = ap is_some (ap (λ a. frame a k) e ∙ insert_here old.out k w k refl)
+now_out old new k w e = ap is_some (ap (λ a. frame_bytes a k) e ∙ insert_here old.out k w k refl)
 
 pub ok_is_no_fault : {X E : Type 0} (x : X) (e : E) → IsErrOf {T = X} {E = E} (Ok x) e → ⊥
 ok_is_no_fault x e h = cc
@@ -245,7 +245,7 @@ pub no_memory_is_not_full : {X : Type 0} → IsErrOf {T = X} {E = TakeFault} (Er
 no_memory_is_not_full e = cc
 
 -- where no frame is free and all were out, each is
-module _ (frames : Row) (outs : List Bool) (max : ℕ) (kept : IsKept frames outs 0 max) (all : length outs ≡ 64 * max) where
+module _ (frames : Row) (outs : List Bool) (max : ℕ) (kept : IsArena frames outs 0 max) (all : length outs ≡ 64 * max) where
   pub full : IsFull (arena_of frames outs max)
   full id within = ap is_some (frame_is frames outs max id ∙ held_out frames outs id (by_case (get_or outs id false) refl))
     where
@@ -254,7 +254,7 @@ module _ (frames : Row) (outs : List Bool) (max : ℕ) (kept : IsKept frames out
       by_case false e = absurd (none_given (links frames) outs kept.list.0 kept.list.1 id (omega (arith, within, all), e))
 
 -- the arena at the start
-pub first_kept : (max : ℕ) → 1 ≤ max → max ≤ 65536 → IsKept [] [] 0 max
+pub first_kept : (max : ℕ) → 1 ≤ max → max ≤ 65536 → IsArena [] [] 0 max
 first_kept max some few = record {
   memory = omega arith;
   limit = omega arith;

@@ -9,12 +9,12 @@ pub record Arena : Type 0 where
   pub out : maps.FinMap nat_cmp (List ℕ)
 
 -- the bytes of a frame, if it is out
-abbrev pub frame : Arena → ℕ → Option (List ℕ)
-frame arena id = maps.get arena.out id
+abbrev pub frame_bytes : Arena → ℕ → Option (List ℕ)
+frame_bytes arena id = maps.get arena.out id
 
 -- the frame is out
 abbrev pub IsOut : Arena → ℕ → Type 0
-IsOut arena id = IsSome (frame arena id)
+IsOut arena id = IsSome (frame_bytes arena id)
 
 -- how many frames there may be
 abbrev pub capacity : Arena → ℕ

@@ -6,7 +6,7 @@ use Rattle.pl_arena.specs.declared.memory.Deed.{Deed}
 
 -- They are one block for this many items, all of it: the items that there are, room for the others, and the right to
 -- give it back to this allocator.
-pub record IsBlock {X A : Type 0} (start : Start X) (items : Items X) (deed : Deed X A) (len : ℕ) (alloc : A) : Type 0 where
+pub record IsMemoryBlock {X A : Type 0} (start : Start X) (items : Items X) (deed : Deed X A) (len : ℕ) (alloc : A) : Type 0 where
   pub at_start : items.at ≡ start.first
   pub places : length items.items + items.room ≡ len
   pub right : (deed.at ≡ start.first) × (deed.len ≡ len) × (deed.alloc ≡ alloc)

@@ -41,7 +41,7 @@ pub record IsFreeList (next : ℕ → ℕ) (outs : List Bool) (head : ℕ) (ids 
 
 -- Each frame that there is was out before. Of each outs says whether it is out now; those that are not lie in the
 -- free list.
-pub record IsKept (frames : List (List ℕ)) (outs : List Bool) (head max_chunks : ℕ) : Type 0 where
+pub record IsArena (frames : List (List ℕ)) (outs : List Bool) (head max_chunks : ℕ) : Type 0 where
   pub memory : length outs ≡ length frames
   pub limit : length outs ≤ 64 * max_chunks
   pub some : 1 ≤ max_chunks

@@ -12,6 +12,6 @@ abbrev pub flat : List (List (List ℕ)) → List (List ℕ)
 flat chunks = flat_map (λ chunk. chunk) chunks
 
 -- the chunks, with the frame i of the chunk a as the frame j of the chunk b
-abbrev pub with_copy : List (List (List ℕ)) → ℕ → ℕ → ℕ → ℕ → List (List (List ℕ))
-with_copy chunks a i b j =
+abbrev pub with_copied_frame : List (List (List ℕ)) → ℕ → ℕ → ℕ → ℕ → List (List (List ℕ))
+with_copied_frame chunks a i b j =
     slice_set chunks b (slice_set (slice_index_or chunks b []) j (slice_index_or (slice_index_or chunks a []) i []))

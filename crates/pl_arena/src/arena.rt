@@ -3,7 +3,7 @@
 ghost use Rattle.std.specs.Prelude.{◌≡◌, ◌<◌, ◌≤◌, ◌*◌, ◌↔◌, [], ◌∷◌, ◌++◌, None, Some, true, false, length, is_some, slice_index_or, IfOk, IfSome, OnErr, OnOk, IsErrOf};
 ghost use Rattle.std.specs.FinMap as maps;
 ghost use Rattle.std.specs.Borrow.{sem};
-ghost use Rattle.pl_arena.specs.Arena.{IsFull, IsOut, capacity, frame, with_frame, without_frame, zeros};
+ghost use Rattle.pl_arena.specs.Arena.{IsFull, IsOut, capacity, frame_bytes, with_frame, without_frame, zeros};
 ghost use Rattle.pl_arena.specs.Lends.{LendsFrame};
 ghost use Rattle.pl_arena.specs.declared.arena.TakeFault.TheVariants.{Full};
 
@@ -59,7 +59,7 @@ pub struct VersionArena {
 impl Model for VersionArena {
     ghost use Rattle.pl_arena.specs.Arena.{Arena};
     ghost use Rattle.pl_arena.specs.Codes.{arena_code};
-    ghost use Rattle.pl_arena.specs.Free.{IsKept, arena_of};
+    ghost use Rattle.pl_arena.specs.Free.{IsArena, arena_of};
 
     ghost Value = { Arena };
 
@@ -67,7 +67,7 @@ impl Model for VersionArena {
 
     ghost view = { λ a. arena_of a.frames a.out.items a.max_chunks };
 
-    ghost invariant = { λ a. IsKept a.frames a.out.items a.free a.max_chunks };
+    ghost invariant = { λ a. IsArena a.frames a.out.items a.free a.max_chunks };
 }
 
 impl VersionArena {
@@ -92,7 +92,7 @@ impl VersionArena {
     /// Whether the frame is out. The cost is constant.
     pub fn is_out(&self, id: FrameId) -> bool
         // Whether the frame is out.
-        ensures value { result ≡ is_some (frame self.now id) }
+        ensures value { result ≡ is_some (frame_bytes self.now id) }
     {
         flag_at(&self.out, id.number as usize)
     }
@@ -106,7 +106,7 @@ impl VersionArena {
         // The frame's number is below 64 times the chunks.
         ensures within { IfOk result (λ id. id < capacity self.old) }
         // The frame was not out.
-        ensures fresh { IfOk result (λ id. frame self.old id ≡ None) }
+        ensures fresh { IfOk result (λ id. frame_bytes self.old id ≡ None) }
         // The frame has 8,192 zeros, and all others are as before.
         ensures taken { IfOk result (λ id. self.new ≡ with_frame self.old id zeros) }
         // The frame is out.
@@ -149,7 +149,7 @@ impl VersionArena {
         // The frame is out.
         requires out { IsOut self.now id }
         // The frame's bytes.
-        ensures value { frame self.now id ≡ Some result.now }
+        ensures value { frame_bytes self.now id ≡ Some result.now }
         // There are 8,192.
         ensures len { length result.now ≡ 8192 }
     {
@@ -164,7 +164,7 @@ impl VersionArena {
         // before.
         ensures* writes_back { sem 𝓛 (LendsFrame self.entry id result) }
         // The frame's bytes.
-        ensures value { frame self.old id ≡ Some result.now }
+        ensures value { frame_bytes self.old id ≡ Some result.now }
         // There are 8,192.
         ensures len { length result.now ≡ 8192 }
     {
@@ -180,7 +180,7 @@ impl VersionArena {
         requires from { IsOut self.old from }
         requires to { IsOut self.old to }
         // The frame `to` has the bytes of `from`, and all others are as before.
-        ensures value { IfSome (frame self.old from) (λ bytes. self.new ≡ with_frame self.old to bytes) }
+        ensures value { IfSome (frame_bytes self.old from) (λ bytes. self.new ≡ with_frame self.old to bytes) }
     {
         self.frames.copy(from.number as usize, to.number as usize);
     }

@@ -26,13 +26,13 @@ pub(crate) struct Chunk {
 
 impl Model for Chunk {
     ghost use Rattle.std.specs.Prelude.{◌≡◌, ℕ, List, length};
-    ghost use Rattle.pl_arena.specs.Block.{IsBlock};
+    ghost use Rattle.pl_arena.specs.Block.{IsMemoryBlock};
 
     ghost Value = { List (List ℕ) };
 
     ghost view = { λ c. c.items.items };
 
-    ghost invariant = { λ c. IsBlock c.start c.items c.deed 64 c.alloc × (c.used ≡ length c.items.items) };
+    ghost invariant = { λ c. IsMemoryBlock c.start c.items c.deed 64 c.alloc × (c.used ≡ length c.items.items) };
 }
 
 impl Drop for Chunk {

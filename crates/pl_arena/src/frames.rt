@@ -4,7 +4,7 @@ ghost use Rattle.std.specs.Prelude.{◌≡◌, ◌<◌, [], ◌∷◌, ◌++◌,
 ghost use Rattle.std.specs.Borrow.{sem};
 ghost use Rattle.pl_arena.specs.Arena.{zeros};
 ghost use Rattle.pl_arena.specs.Frames.{LendsPlace};
-ghost use Rattle.pl_arena.specs.Packed.{with_copy};
+ghost use Rattle.pl_arena.specs.Packed.{with_copied_frame};
 
 use crate::FRAME_SIZE;
 use crate::chunk::{CHUNK_FRAMES, Chunk};
@@ -90,7 +90,7 @@ impl Frames {
 fn copy_among(chunks: &mut [Chunk], a: usize, i: usize, b: usize, j: usize)
     requires from { (a < length chunks.old) × (i < length (slice_index_or chunks.old a [])) }
     requires to { (b < length chunks.old) × (j < length (slice_index_or chunks.old b [])) }
-    ensures value { chunks.new ≡ with_copy chunks.old a i b j }
+    ensures value { chunks.new ≡ with_copied_frame chunks.old a i b j }
 {
     if a == b {
         chunks[b].copy(i, j);

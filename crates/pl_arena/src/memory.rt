@@ -75,7 +75,7 @@ unsafe impl<T, A: Allocator + Send> Send for Deed<T, A> {}
 unsafe impl<T, A: Allocator> Sync for Deed<T, A> {}
 
 impl<T> Items<T> {
-    ghost use Rattle.pl_arena.specs.Block.{HasMore, IsBlock};
+    ghost use Rattle.pl_arena.specs.Block.{HasMore, IsMemoryBlock};
     ghost use Rattle.pl_arena.specs.Writes.{LendsItem, LendsItems};
 
     /// Allocates a block with room for `len` items.
@@ -84,7 +84,7 @@ impl<T> Items<T> {
         len: usize,
     ) -> Result<(Start<T>, Items<T>, Deed<T, A>), AllocError>
         requires fits { FitsInBlock T.row len }
-        ensures block { IfOk result (λ r. IsBlock r.0 r.1 r.2 len alloc.now × (r.1.items ≡ [])) }
+        ensures block { IfOk result (λ r. IsMemoryBlock r.0 r.1 r.2 len alloc.now × (r.1.items ≡ [])) }
     {
         match alloc.allocate(len * size_of::<T>(), align_of::<T>()) {
             Ok(block) => {
@@ -109,7 +109,7 @@ impl<T> Items<T> {
         items: Items<T>,
         deed: Deed<T, A>,
     )
-        requires block { IsBlock start items deed len alloc.now }
+        requires block { IsMemoryBlock start items deed len alloc.now }
     {
         let Items { mark: _ } = items;
         let Deed { mark: _ } = deed;

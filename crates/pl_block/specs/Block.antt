@@ -1,5 +1,5 @@
 -- What a block is: an LSN and records, and the partitions that they touch.
-use Rattle.std.specs.Prelude.{ℕ, ◌+◌, ◌/◌, ◌^◌, ◌<◌, ◌≤◌, Bool, false, ◌&&◌, ◌==◌, nat_lt, if◌then◌else◌, List, [], ◌∷◌, length, fold}
+use Rattle.std.specs.Prelude.{ℕ, ◌+◌, ◌/◌, ◌^◌, ◌<◌, ◌≤◌, Bool, true, false, ◌&&◌, ◌==◌, nat_lt, if◌then◌else◌, List, [], ◌∷◌, length, fold, Option, None, Some}
 use Rattle.std.specs.Cmp.Lexicographic.{pointwise}
 use Rattle.std.specs.Str.{bytes_eq}
 use Rattle.pl_block.specs.Bounds.{page_size}
@@ -21,6 +21,11 @@ same_record (Zero p) (Put q u c) = false
 -- a test whether two blocks are one
 abbrev pub same_block : Content → Content → Bool
 same_block a b = a.lsn == b.lsn && pointwise same_record a.records b.records
+
+-- a number that has this content, if any, is open to the block: it has none yet, or this block
+abbrev pub is_open_to : Content → Option Content → Bool
+is_open_to block None = true
+is_open_to block (Some content) = same_block content block
 
 -- the page that a record changes
 abbrev pub changed_page : Record → ℕ

@@ -7,37 +7,37 @@ use Rattle.std.proofs.lemmas.List.Elements.{All-from_recursion}
 use Rattle.pl_core.specs.History.{History}
 use Rattle.pl_desk.specs.declared.rule.Terms.{Terms}
 use Rattle.pl_desk.specs.Passes.{Knowledge, DeskOrigin, IsOf, fresh, fresh_passes}
-use Rattle.pl_conn.specs.Desks.{ArePassesOf, dealt, terms_of_each, fresh_at, all_fresh}
+use Rattle.pl_conn.specs.Desks.{ArePassesOf, dealt_into, terms_of_each, fresh_at, all_fresh}
 
 -- the last item is dealt to the list at its place
-pub dealt-last : (items : List Knowledge) (lists : List (List Knowledge)) (item : Knowledge) (d : List Knowledge) → length items < length lists
-    → dealt items (set lists (length items) (get_or lists (length items) d ++ item ∷ [])) ≡ dealt (items ++ item ∷ []) lists
-dealt-last [] [] item d less = absurd (omega (arith, less))
-dealt-last [] (list ∷ lists) item d less = refl
-dealt-last (x ∷ xs) [] item d less = absurd (omega (arith, less))
-dealt-last (x ∷ xs) (list ∷ lists) item d less = ap (λ (ls : List (List Knowledge)). (list ++ x ∷ []) ∷ ls) (dealt-last xs lists item d (omega (arith, less)))
+pub dealt_into-last : (items : List Knowledge) (lists : List (List Knowledge)) (item : Knowledge) (d : List Knowledge) → length items < length lists
+    → dealt_into items (set lists (length items) (get_or lists (length items) d ++ item ∷ [])) ≡ dealt_into (items ++ item ∷ []) lists
+dealt_into-last [] [] item d less = absurd (omega (arith, less))
+dealt_into-last [] (list ∷ lists) item d less = refl
+dealt_into-last (x ∷ xs) [] item d less = absurd (omega (arith, less))
+dealt_into-last (x ∷ xs) (list ∷ lists) item d less = ap (λ (ls : List (List Knowledge)). (list ++ x ∷ []) ∷ ls) (dealt_into-last xs lists item d (omega (arith, less)))
 
 -- the last pass is dealt, and the others are left
 pub deal_last : (items left : List Knowledge) (lists : List (List Knowledge)) (item : Knowledge) (k : ℕ) (list new : List Knowledge) → items ≡ left ++ item ∷ [] → k ≡ length left → length items ≤ length lists → list ≡ get_or lists k list → new ≡ list ++ item ∷ []
-    → (dealt left (set lists k new) ≡ dealt items lists) × (length left ≤ length (set lists k new))
+    → (dealt_into left (set lists k new) ≡ dealt_into items lists) × (length left ≤ length (set lists k new))
 deal_last items left lists item k list new are place room was pushed =
     let size : length (left ++ item ∷ []) ≡ length left + 1 = length-append left (item ∷ []) in
     let total : length items ≡ length (left ++ item ∷ []) = ap length are in
     let same : length (set lists k new) ≡ length lists = length-set lists k new in
     let value : new ≡ get_or lists (length left) list ++ item ∷ [] = pushed ∙ ap (λ (l : List Knowledge). l ++ item ∷ []) (was ∙ ap (λ (j : ℕ). get_or lists j list) place) in (
-      (λ i. dealt left (set lists (place i) (value i))) ∙ dealt-last left lists item list (omega (arith, size, total, room)) ∙ ap (λ (xs : List Knowledge). dealt xs lists) (sym are),
+      (λ i. dealt_into left (set lists (place i) (value i))) ∙ dealt_into-last left lists item list (omega (arith, size, total, room)) ∙ ap (λ (xs : List Knowledge). dealt_into xs lists) (sym are),
       omega (arith, size, total, room, same),
     )
 
 fresh_more : (desks : List DeskOrigin) (desk : DeskOrigin) (a n : ℕ)
-    → dealt (map (fresh desk) (range_with_len a n)) (map (fresh_at desks) (range_with_len a n)) ≡ map (fresh_at (desks ++ desk ∷ [])) (range_with_len a n)
+    → dealt_into (map (fresh desk) (range_with_len a n)) (map (fresh_at desks) (range_with_len a n)) ≡ map (fresh_at (desks ++ desk ∷ [])) (range_with_len a n)
 fresh_more desks desk a zero = refl
 fresh_more desks desk a (suc n) =
     let one : fresh_at desks a ++ fresh desk a ∷ [] ≡ fresh_at (desks ++ desk ∷ []) a = sym (map-append (λ d. fresh d a) desks (desk ∷ [])) in
     λ i. one i ∷ fresh_more desks desk (a + 1) n i
 
 -- the passes of one desk more are dealt to those who have the passes of the others
-pub all_fresh-more : (desks : List DeskOrigin) (desk : DeskOrigin) (seats : ℕ) → dealt (map (fresh desk) (range_with_len 1 seats)) (all_fresh desks seats) ≡ all_fresh (desks ++ desk ∷ []) seats
+pub all_fresh-more : (desks : List DeskOrigin) (desk : DeskOrigin) (seats : ℕ) → dealt_into (map (fresh desk) (range_with_len 1 seats)) (all_fresh desks seats) ≡ all_fresh (desks ++ desk ∷ []) seats
 all_fresh-more desks desk seats = fresh_more desks desk 1 seats
 
 none_fresh : (a n : ℕ) → replicate n [] ≡ map (fresh_at []) (range_with_len a n)
@@ -45,9 +45,9 @@ none_fresh a zero = refl
 none_fresh a (suc n) = ap (λ (ls : List (List Knowledge)). [] ∷ ls) (none_fresh (a + 1) n)
 
 -- the same, where a desk and the passes of all desks were added
-pub all_fresh-pushed : (desks new : List DeskOrigin) (desk : DeskOrigin) (seats : ℕ) (passes : List Knowledge) (all dealt_out : List (List Knowledge)) → new ≡ desks ++ desk ∷ [] → passes ≡ fresh_passes desk seats → all ≡ all_fresh desks seats → dealt_out ≡ dealt passes all → dealt_out ≡ all_fresh new seats
+pub all_fresh-pushed : (desks new : List DeskOrigin) (desk : DeskOrigin) (seats : ℕ) (passes : List Knowledge) (all dealt_out : List (List Knowledge)) → new ≡ desks ++ desk ∷ [] → passes ≡ fresh_passes desk seats → all ≡ all_fresh desks seats → dealt_out ≡ dealt_into passes all → dealt_out ≡ all_fresh new seats
 all_fresh-pushed desks new desk seats passes all dealt_out pushed are so_far done =
-    done ∙ (λ i. dealt (are i) (so_far i)) ∙ all_fresh-more desks desk seats ∙ ap (λ (ds : List DeskOrigin). all_fresh ds seats) (sym pushed)
+    done ∙ (λ i. dealt_into (are i) (so_far i)) ∙ all_fresh-more desks desk seats ∙ ap (λ (ds : List DeskOrigin). all_fresh ds seats) (sym pushed)
 
 -- with no desk, nobody has a pass
 pub all_fresh-none : (seats : ℕ) → replicate seats [] ≡ all_fresh [] seats

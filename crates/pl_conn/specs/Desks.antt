@@ -48,7 +48,7 @@ abbrev pub all_fresh : List DeskOrigin → ℕ → List (List Knowledge)
 all_fresh desks seats = map (fresh_at desks) (range_with_len 1 seats)
 
 -- each list has the item at its place after its own, as far as there are items
-abbrev pub dealt : List Knowledge → List (List Knowledge) → List (List Knowledge)
-dealt [] lists = lists
-dealt (item ∷ items) [] = []
-dealt (item ∷ items) (list ∷ lists) = (list ++ item ∷ []) ∷ dealt items lists
+abbrev pub dealt_into : List Knowledge → List (List Knowledge) → List (List Knowledge)
+dealt_into [] lists = lists
+dealt_into (item ∷ items) [] = []
+dealt_into (item ∷ items) (list ∷ lists) = (list ++ item ∷ []) ∷ dealt_into items lists

@@ -2,7 +2,7 @@
 
 ghost use Rattle.std.specs.Prelude.{◌≡◌, ◌≤◌, ◌^◌, ◌++◌, ◌∷◌, [], map, length, vec_len, replicate, IfOk, OnOk};
 ghost use Rattle.std.specs.List.{All};
-ghost use Rattle.pl_conn.specs.Desks.{ArePassesOf, DesksCall, HaveMet, dealt, terms_of_each, all_fresh};
+ghost use Rattle.pl_conn.specs.Desks.{ArePassesOf, DesksCall, HaveMet, dealt_into, terms_of_each, all_fresh};
 
 use crate::gate::Gate;
 use pl_core::{Db, Reply};
@@ -75,7 +75,7 @@ fn empty_passes(alloc: Global, seats: u32) -> Result<Vec<Passes>, AllocError>
 // Deals the passes of one desk out, one to each.
 fn deal(all: &mut Vec<Passes>, mut passes: Vec<Pass>) -> Result<(), AllocError>
     requires { length passes.items ≤ length all.old.items }
-    ensures { OnOk result (all.new.items ≡ dealt passes.items all.old.items) }
+    ensures { OnOk result (all.new.items ≡ dealt_into passes.items all.old.items) }
 {
     while let Some(pass) = passes.pop() {
         let place = &mut all[passes.len()];

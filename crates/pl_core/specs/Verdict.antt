@@ -1,7 +1,7 @@
 -- The verdict on a request, asked of the whole history.
 use Rattle.std.specs.Prelude.{◌+◌, ◌-◌, Bool, true}
 use Rattle.std.specs.List.{list_all, range_with_len}
-use Rattle.pl_log.specs.Window.{is_open_to}
+use Rattle.pl_block.specs.Block.{is_open_to}
 use Rattle.pl_table.specs.declared.request.Act.{Act}
 use Rattle.pl_table.specs.declared.request.Act.TheVariants as acts
 use Rattle.pl_table.specs.declared.verdict.Verdict.{Verdict}

@@ -9,11 +9,11 @@ use Rattle.std.specs.declared.cmp.Ordering.TheVariants.{Less, Equal, Greater}
 use Rattle.std.proofs.lemmas.Cmp.{nat_cmp_total, eq_by_cmp_equiv}
 use Rattle.std.specs.FinMap as maps
 use Rattle.pl_arena.specs.Arena as frames
-use Rattle.pl_arena.specs.Arena.{Arena, IsOut, frame, with_frame}
+use Rattle.pl_arena.specs.Arena.{Arena, IsOut, frame_bytes, with_frame}
 use Rattle.pl_block.specs.Block.{Content}
 use Rattle.pl_pages.specs.Page.{zeros, after_block}
 use Rattle.pl_pages.specs.State.{Version, IsVersion, AreVersions}
-use Rattle.pl_pages.specs.Kept.{AreKept, VersionsState, frames_of, StayInPlace, StayTrue, with_block, versions_in, version_in, version_at}
+use Rattle.pl_pages.specs.Kept.{AreKept, VersionsState, frame_ids, StayInPlace, StayTrue, with_block, versions_in, version_in, version_at}
 use Rattle.pl_pages.specs.declared.versions.Kept.{Kept}
 
 -- ---- an arena of which one frame was written
@@ -31,16 +31,16 @@ other_number q k differs = by_case (eq_by_cmp nat_cmp q k) refl
     by_case true e = absurd (differs (equal_by q k (nat_cmp q k) refl e))
 
 module _ (a : Arena) (id : ℕ) (w : List ℕ) where
-  pub frame_here : frame (with_frame a id w) id ≡ Some w
-  frame_here = maps.get-insert nat_cmp_total a.out id w id ∙ ap (λ t. cond t (Some w) (frame a id)) ((eq_by_cmp_equiv nat_cmp_total).refl id)
+  pub frame_here : frame_bytes (with_frame a id w) id ≡ Some w
+  frame_here = maps.get-insert nat_cmp_total a.out id w id ∙ ap (λ t. cond t (Some w) (frame_bytes a id)) ((eq_by_cmp_equiv nat_cmp_total).refl id)
 
-  pub frame_other : (q : ℕ) → q ≢ id → frame (with_frame a id w) q ≡ frame a q
-  frame_other q n = maps.get-insert nat_cmp_total a.out id w q ∙ ap (λ t. cond t (Some w) (frame a q)) (other_number q id n)
+  pub frame_other : (q : ℕ) → q ≢ id → frame_bytes (with_frame a id w) q ≡ frame_bytes a q
+  frame_other q n = maps.get-insert nat_cmp_total a.out id w q ∙ ap (λ t. cond t (Some w) (frame_bytes a q)) (other_number q id n)
 
   put_out : (q : ℕ) → IsOut a q → IsOut (with_frame a id w) q
   put_out q out =
       elim (cases_eq q id) [
-        | inl e ↦ subst IsSome (sym (ap (frame (with_frame a id w)) e ∙ frame_here)) refl
+        | inl e ↦ subst IsSome (sym (ap (frame_bytes (with_frame a id w)) e ∙ frame_here)) refl
         | inr n ↦ subst IsSome (sym (frame_other q n)) out
       ]
 
@@ -78,19 +78,19 @@ module _ (log : List Content) (vs : List Version) (v : Version) (is : IsVersion 
 
 -- ---- versions in frames
 
-module _ (a : Arena) (ks : List Kept) (oldest : ℕ) (kept : AreKept a (frames_of ks) oldest) where
-  frames_len : length (frames_of ks) ≡ length ks
+module _ (a : Arena) (ks : List Kept) (oldest : ℕ) (kept : AreKept a (frame_ids ks) oldest) where
+  frames_len : length (frame_ids ks) ≡ length ks
   frames_len = length-map ks (λ k. k.frame)
 
   versions_len : (b : Arena) (ls : List Kept) → length (versions_in b ls) ≡ length ls
   versions_len b ls = length-map ls (version_in b)
 
-  frame_at : (j : ℕ) (d : Kept) → j < length ks → get_or (frames_of ks) j 0 ≡ (get_or ks j d).frame
-  frame_at j d within = get_or_default (frames_of ks) j 0 d.frame (omega (arith, frames_len, within)) ∙ get_or_map (λ k. k.frame) ks j d
+  frame_at : (j : ℕ) (d : Kept) → j < length ks → get_or (frame_ids ks) j 0 ≡ (get_or ks j d).frame
+  frame_at j d within = get_or_default (frame_ids ks) j 0 d.frame (omega (arith, frames_len, within)) ∙ get_or_map (λ k. k.frame) ks j d
 
   -- a version that was read
   module _ (i : ℕ) (k : Kept) (read : k ≡ get_or ks i k) (within : i < length ks) where
-    frame_is : get_or (frames_of ks) i 0 ≡ k.frame
+    frame_is : get_or (frame_ids ks) i 0 ≡ k.frame
     frame_is = frame_at i k within ∙ ap (λ x. x.frame) (sym read)
 
     pub out_at : IsOut a k.frame
@@ -103,8 +103,8 @@ module _ (a : Arena) (ks : List Kept) (oldest : ℕ) (kept : AreKept a (frames_o
 
     -- its frame is written, and it may get another name
     module _ (to : Kept) (w : List ℕ) (same : to.frame ≡ k.frame) where
-      same_frames : frames_of (set ks i to) ≡ frames_of ks
-      same_frames = map-set (λ x. x.frame) ks i to ∙ ap (set (frames_of ks) i) (same ∙ sym frame_is) ∙ set-get_or (frames_of ks) i 0
+      same_frames : frame_ids (set ks i to) ≡ frame_ids ks
+      same_frames = map-set (λ x. x.frame) ks i to ∙ ap (set (frame_ids ks) i) (same ∙ sym frame_is) ∙ set-get_or (frame_ids ks) i 0
 
       out_still : (q : ℕ) → IsOut (with_frame a k.frame w) q → IsOut a q
       out_still q out =
@@ -113,7 +113,7 @@ module _ (a : Arena) (ks : List Kept) (oldest : ℕ) (kept : AreKept a (frames_o
             | inr n ↦ out_before a k.frame w q n out
           ]
 
-      kept_then : AreKept (with_frame a k.frame w) (frames_of ks) oldest
+      kept_then : AreKept (with_frame a k.frame w) (frame_ids ks) oldest
       kept_then = record {
         some = kept.some;
         out = λ j within. put_out a k.frame w _ (kept.out j within);
@@ -122,7 +122,7 @@ module _ (a : Arena) (ks : List Kept) (oldest : ℕ) (kept : AreKept a (frames_o
         turn = kept.turn;
       }
 
-      pub written_kept : AreKept (with_frame a k.frame w) (frames_of (set ks i to)) oldest
+      pub written_kept : AreKept (with_frame a k.frame w) (frame_ids (set ks i to)) oldest
       written_kept = subst (λ fs. AreKept (with_frame a k.frame w) fs oldest) (sym same_frames) kept_then
 
       abbrev new_version : Version
@@ -130,7 +130,7 @@ module _ (a : Arena) (ks : List Kept) (oldest : ℕ) (kept : AreKept a (frames_o
 
       here : version_in (with_frame a k.frame w) to ≡ new_version
       here =
-          ap (λ o. record { page = to.page; lsn = to.lsn; bytes = unwrap_or o [] }) (ap (frame (with_frame a k.frame w)) same ∙ frame_here a k.frame w)
+          ap (λ o. record { page = to.page; lsn = to.lsn; bytes = unwrap_or o [] }) (ap (frame_bytes (with_frame a k.frame w)) same ∙ frame_here a k.frame w)
 
       elsewhere : (j : ℕ) → j < length ks → j ≢ i → version_in (with_frame a k.frame w) (get_or ks j k) ≡ version_in a (get_or ks j k)
       elsewhere j near n =
@@ -159,11 +159,11 @@ module _ (a : Arena) (ks : List Kept) (oldest : ℕ) (kept : AreKept a (frames_o
           (λ j d near. at_each j d (omega (arith, near, versions_len b (set ks i to), length-set ks i to)))
 
   -- a frame that was not out gets a version
-  module _ (to : Kept) (w : List ℕ) (fresh : frame a to.frame ≡ None) where
+  module _ (to : Kept) (w : List ℕ) (fresh : frame_bytes a to.frame ≡ None) where
     not_fresh : (j : ℕ) → j < length ks → (get_or ks j to).frame ≢ to.frame
     not_fresh j near e =
-        let out : IsSome (frame a (get_or ks j to).frame) = subst (IsOut a) (frame_at j to near) (kept.out j (omega (arith, frames_len, near))) in
-        absurd (false≢true (subst IsSome (ap (frame a) e ∙ fresh) out))
+        let out : IsSome (frame_bytes a (get_or ks j to).frame) = subst (IsOut a) (frame_at j to near) (kept.out j (omega (arith, frames_len, near))) in
+        absurd (false≢true (subst IsSome (ap (frame_bytes a) e ∙ fresh) out))
 
     stays : (b : Arena) (ls : List Kept) → b ≡ with_frame a to.frame w → ((j : ℕ) → j < length ls → (get_or ls j to).frame ≢ to.frame) → versions_in b ls ≡ versions_in a ls
     stays b ls is apart =
@@ -171,7 +171,7 @@ module _ (a : Arena) (ks : List Kept) (oldest : ℕ) (kept : AreKept a (frames_o
         let close : j < length ls = omega (arith, near, versions_len b ls) in
         let x = get_or ls j to in
         get_or_default (versions_in b ls) j d (version_in b to) near ∙ get_or_map (version_in b) ls j to
-        ∙ ap (λ o. record { page = x.page; lsn = x.lsn; bytes = unwrap_or o [] }) (ap (λ c. frame c x.frame) is ∙ frame_other a to.frame w x.frame (apart j close))
+        ∙ ap (λ o. record { page = x.page; lsn = x.lsn; bytes = unwrap_or o [] }) (ap (λ c. frame_bytes c x.frame) is ∙ frame_other a to.frame w x.frame (apart j close))
         ∙ sym (get_or_map (version_in a) ls j to) ∙ get_or_default (versions_in a ls) j (version_in a to) d (omega (arith, versions_len a ls, close)))
 
     pub added_is : versions_in (with_frame a to.frame w) (ks ++ to ∷ []) ≡ versions_in a ks ++ record { page = to.page; lsn = to.lsn; bytes = w } ∷ []
@@ -182,11 +182,11 @@ module _ (a : Arena) (ks : List Kept) (oldest : ℕ) (kept : AreKept a (frames_o
         ∙ ap (λ vs. vs ++ version_in b to ∷ []) (stays b ks refl not_fresh)
         ∙ ap (λ (o : Option (List ℕ)). let v : Version = record { page = to.page; lsn = to.lsn; bytes = unwrap_or o [] } in versions_in a ks ++ v ∷ []) (frame_here a to.frame w)
 
-    more_frames : frames_of (ks ++ to ∷ []) ≡ frames_of ks ++ to.frame ∷ []
+    more_frames : frame_ids (ks ++ to ∷ []) ≡ frame_ids ks ++ to.frame ∷ []
     more_frames = map-append (λ k. k.frame) ks (to ∷ [])
 
     abbrev fs : List ℕ
-    fs = frames_of ks
+    fs = frame_ids ks
 
     old_at : (j : ℕ) → j < length fs → get_or (fs ++ to.frame ∷ []) j 0 ≡ get_or fs j 0
     old_at j near = get_or_append_left fs (to.frame ∷ []) 0 j near
@@ -195,7 +195,7 @@ module _ (a : Arena) (ks : List Kept) (oldest : ℕ) (kept : AreKept a (frames_o
     new_at j e = get_or_push fs to.frame 0 j e
 
     old_differs : (j : ℕ) → j < length fs → get_or fs j 0 ≢ to.frame
-    old_differs j near e = absurd (false≢true (subst IsSome (ap (frame a) e ∙ fresh) (kept.out j near)))
+    old_differs j near e = absurd (false≢true (subst IsSome (ap (frame_bytes a) e ∙ fresh) (kept.out j near)))
 
     longer : length (fs ++ to.frame ∷ []) ≡ length fs + 1
     longer = length-append fs (to.frame ∷ [])
@@ -229,7 +229,7 @@ module _ (a : Arena) (ks : List Kept) (oldest : ℕ) (kept : AreKept a (frames_o
           | inr ge ↦ subst (IsOut (with_frame a to.frame w)) (sym (new_at j (omega (arith, longer, near, ge)))) (subst IsSome (sym (frame_here a to.frame w)) refl)
         ]
 
-    pub added_kept : AreKept (with_frame a to.frame w) (frames_of (ks ++ to ∷ [])) oldest
+    pub added_kept : AreKept (with_frame a to.frame w) (frame_ids (ks ++ to ∷ [])) oldest
     added_kept = subst (λ (l : List ℕ). AreKept (with_frame a to.frame w) l oldest) (sym more_frames) (record {
       some = kept.some;
       out = out_then;
@@ -240,7 +240,7 @@ module _ (a : Arena) (ks : List Kept) (oldest : ℕ) (kept : AreKept a (frames_o
 
 -- ---- the same of what is seen of versions
 
-module _ (a : Arena) (ks : List Kept) (oldest : ℕ) (kept : AreKept a (frames_of ks) oldest) (seen : VersionsState) (view : ◌≡◌ {A = VersionsState} (record { versions = versions_in a ks; chunks = a.max_chunks }) seen) where
+module _ (a : Arena) (ks : List Kept) (oldest : ℕ) (kept : AreKept a (frame_ids ks) oldest) (seen : VersionsState) (view : ◌≡◌ {A = VersionsState} (record { versions = versions_in a ks; chunks = a.max_chunks }) seen) where
   pub seen_len : length seen.versions ≡ length ks
   seen_len = ap (λ s. length s.versions) (sym view) ∙ length-map ks (version_in a)
 
@@ -255,7 +255,7 @@ module _ (a : Arena) (ks : List Kept) (oldest : ℕ) (kept : AreKept a (frames_o
     version_seen = ap (λ s. version_at s.versions i) (sym view) ∙ version_is a ks oldest kept i k read near
 
     module _ (to : Kept) (w : List ℕ) (same : to.frame ≡ k.frame) where
-      pub kept_seen : AreKept (with_frame a k.frame w) (frames_of (set ks i to)) oldest
+      pub kept_seen : AreKept (with_frame a k.frame w) (frame_ids (set ks i to)) oldest
       kept_seen = written_kept a ks oldest kept i k read near to w same
 
       pub written_seen : versions_in (with_frame a k.frame w) (set ks i to) ≡ set seen.versions i (record { page = to.page; lsn = to.lsn; bytes = w })
@@ -283,7 +283,7 @@ cleared old len = ap (λ (n : ℕ). replicate n 0) len ∙ sym page_zeros
 pub blank_true : (log : List Content) (page : ℕ) (bytes : List ℕ) → bytes ≡ zeros → IsVersion log (record { page = page; lsn = 0; bytes = bytes })
 blank_true log page bytes is = record { within = omega arith; bytes = is }
 
-module _ (a : Arena) (ks : List Kept) (oldest : ℕ) (kept : AreKept a (frames_of ks) oldest) (seen : VersionsState) (view : ◌≡◌ {A = VersionsState} (record { versions = versions_in a ks; chunks = a.max_chunks }) seen) (to : Kept) (fresh : frame a to.frame ≡ None) (start : to.lsn ≡ 0) where
+module _ (a : Arena) (ks : List Kept) (oldest : ℕ) (kept : AreKept a (frame_ids ks) oldest) (seen : VersionsState) (view : ◌≡◌ {A = VersionsState} (record { versions = versions_in a ks; chunks = a.max_chunks }) seen) (to : Kept) (fresh : frame_bytes a to.frame ≡ None) (start : to.lsn ≡ 0) where
   module _ (b : Arena) (ls : List Kept) (taken : b ≡ with_frame a to.frame frames.zeros) (pushed : ls ≡ ks ++ to ∷ []) where
     abbrev first_version : Version
     first_version = record { page = to.page; lsn = to.lsn; bytes = frames.zeros }
@@ -291,10 +291,10 @@ module _ (a : Arena) (ks : List Kept) (oldest : ℕ) (kept : AreKept a (frames_o
     new_true : (log : List Content) → IsVersion log first_version
     new_true log = subst (λ (n : ℕ). IsVersion log (record { page = to.page; lsn = n; bytes = frames.zeros })) (sym start) (blank_true log to.page frames.zeros (frame_zeros ∙ sym page_zeros))
 
-    pub taken_kept : AreKept b (frames_of ls) oldest
+    pub taken_kept : AreKept b (frame_ids ls) oldest
     taken_kept =
-        subst (λ (c : Arena). AreKept c (frames_of ls) oldest) (sym taken)
-        (subst (λ (l : List Kept). AreKept (with_frame a to.frame frames.zeros) (frames_of l) oldest) (sym pushed) (added_kept a ks oldest kept to frames.zeros fresh))
+        subst (λ (c : Arena). AreKept c (frame_ids ls) oldest) (sym taken)
+        (subst (λ (l : List Kept). AreKept (with_frame a to.frame frames.zeros) (frame_ids l) oldest) (sym pushed) (added_kept a ks oldest kept to frames.zeros fresh))
 
     pub taken_is : versions_in b ls ≡ seen.versions ++ first_version ∷ []
     taken_is =
@@ -313,9 +313,9 @@ module _ (a : Arena) (ks : List Kept) (oldest : ℕ) (kept : AreKept a (frames_o
 
 -- ---- no frame is out
 
-pub none_kept : (a : Arena) (ks : List Kept) (chunks : ℕ) → a.max_chunks ≡ chunks → a.out ≡ maps.empty → ks ≡ [] → 1 ≤ chunks → AreKept a (frames_of ks) 0
+pub none_kept : (a : Arena) (ks : List Kept) (chunks : ℕ) → a.max_chunks ≡ chunks → a.out ≡ maps.empty → ks ≡ [] → 1 ≤ chunks → AreKept a (frame_ids ks) 0
 none_kept a ks chunks max none no_versions some =
-    let len : length (frames_of ks) ≡ 0 = ap (λ l. length (frames_of l)) no_versions in
+    let len : length (frame_ids ks) ≡ 0 = ap (λ l. length (frame_ids l)) no_versions in
     record {
       some = omega (arith, some, max);
       out = λ i within. absurd (omega (arith, within, len));
@@ -330,14 +330,14 @@ block_made v block = record { page = v.page; lsn = block.lsn; bytes = after_bloc
 
 -- ---- a version that was changed by a block, and one that was copied
 
-pub redone : (vs : List Version) (i : ℕ) (block : Content) (a : Arena) (k : Kept) (old new : List ℕ) (lsn : ℕ) → version_at vs i ≡ version_in a k → frame a k.frame ≡ Some old → new ≡ after_block k.page old block → lsn ≡ block.lsn → set vs i (record { page = k.page; lsn = lsn; bytes = new }) ≡ with_block vs i block
+pub redone : (vs : List Version) (i : ℕ) (block : Content) (a : Arena) (k : Kept) (old new : List ℕ) (lsn : ℕ) → version_at vs i ≡ version_in a k → frame_bytes a k.frame ≡ Some old → new ≡ after_block k.page old block → lsn ≡ block.lsn → set vs i (record { page = k.page; lsn = lsn; bytes = new }) ≡ with_block vs i block
 redone vs i block a k old new lsn is had made numbered =
     let bytes : new ≡ after_block k.page (version_at vs i).bytes block = made ∙ ap (λ o. after_block k.page (unwrap_or o []) block) (sym had) ∙ ap (λ v. after_block k.page v.bytes block) (sym is) in
     ap (λ n. set vs i (record { page = k.page; lsn = n; bytes = new })) numbered
     ∙ ap (λ b. set vs i (record { page = k.page; lsn = block.lsn; bytes = b })) bytes
     ∙ ap (λ p. set vs i (record { page = p; lsn = block.lsn; bytes = after_block p (version_at vs i).bytes block })) (ap (λ v. v.page) (sym is))
 
-pub copied : (vs : List Version) (i j : ℕ) (a : Arena) (k : Kept) (bytes : List ℕ) → version_at vs j ≡ version_in a k → frame a k.frame ≡ Some bytes → set vs i (record { page = k.page; lsn = k.lsn; bytes = bytes }) ≡ set vs i (version_at vs j)
+pub copied : (vs : List Version) (i j : ℕ) (a : Arena) (k : Kept) (bytes : List ℕ) → version_at vs j ≡ version_in a k → frame_bytes a k.frame ≡ Some bytes → set vs i (record { page = k.page; lsn = k.lsn; bytes = bytes }) ≡ set vs i (version_at vs j)
 copied vs i j a k bytes is had =
     ap (λ o. set vs i (record { page = k.page; lsn = k.lsn; bytes = unwrap_or o [] })) (sym had) ∙ ap (set vs i) (sym is)
 

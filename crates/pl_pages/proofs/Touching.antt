@@ -13,7 +13,7 @@ use Rattle.pl_block.specs.Spelling.{IsBlock}
 use Rattle.pl_pages.specs.Page.{changed, after_record, after_block, page_of, zeros}
 use Rattle.pl_pages.specs.State.{Version, IsVersion, AreVersions, changes_page, lsns_of}
 use Rattle.pl_pages.specs.Kept.{IsAt, version_at, with_block}
-use Rattle.pl_pages.specs.Index.{IndexState, IsIndex, HasBlock, IsBehind, count_before}
+use Rattle.pl_pages.specs.Index.{IndexState, IsIndex, HasBlock, IsAfterChanges, count_before}
 use Rattle.pl_pages.proofs.Replays.{take_block, block_more, block_true}
 use Rattle.pl_pages.proofs.Frames.{replaced_true, with_block_stands, block_made}
 
@@ -208,7 +208,7 @@ module _ (page : ℕ) (log : List Content) (numbered : AreNumbered 1 log) where
         (λ less. subst (λ (l : List ℕ). n < get_or l p 0) are (above (omega (arith, less, ap length are))))
 
 -- a version at an LSN is behind as many blocks as change its page up to that
-pub behind_at : (vs : List Version) (place page p n i : ℕ) (log : List Content) → IsAt vs place p n → p ≡ page → count_before page log n ≡ i → IsBehind vs place page log i
+pub behind_at : (vs : List Version) (place page p n i : ℕ) (log : List Content) → IsAt vs place p n → p ≡ page → count_before page log n ≡ i → IsAfterChanges vs place page log i
 behind_at vs place page p n i log at own count = record {
   within = at.within;
   page = at.page ∙ own;
@@ -236,7 +236,7 @@ index_more log old new block is here has = record {
 
 -- ---- the version at a place, with the next block that changes its page
 
-module _ (vs : List Version) (place page : ℕ) (log : List Content) (i : ℕ) (all : AreVersions vs log) (behind : IsBehind vs place page log i) (b : ℕ) (block : Content) (here : slice_get log (b - 1) ≡ Some block) (own : block.lsn ≡ b) (some : 1 ≤ b) (below : count_before page log (b - 1) ≡ i) (with_own : count_before page log b ≡ i + 1) where
+module _ (vs : List Version) (place page : ℕ) (log : List Content) (i : ℕ) (all : AreVersions vs log) (behind : IsAfterChanges vs place page log i) (b : ℕ) (block : Content) (here : slice_get log (b - 1) ≡ Some block) (own : block.lsn ≡ b) (some : 1 ≤ b) (below : count_before page log (b - 1) ≡ i) (with_own : count_before page log b ≡ i + 1) where
   abbrev v : Version
   v = version_at vs place
 
@@ -262,7 +262,7 @@ module _ (vs : List Version) (place page : ℕ) (log : List Content) (i : ℕ) (
   pub block_redone : AreVersions (with_block vs place block) log
   block_redone = replaced_true log vs _ (block_true log (record { page = v.page; lsn = b - 1; bytes = v.bytes }) (b - 1) block up_to_block refl here (omega (arith, own, some))) all place
 
-  pub behind_block : IsBehind (with_block vs place block) place page log (i + 1)
+  pub behind_block : IsAfterChanges (with_block vs place block) place page log (i + 1)
   behind_block =
       let stands = with_block_stands vs place block behind.within in
       record {
@@ -273,7 +273,7 @@ module _ (vs : List Version) (place page : ℕ) (log : List Content) (i : ℕ) (
 
 -- ---- the version behind as many blocks as change the page up to an LSN is the page at it
 
-pub given_at : (vs : List Version) (place page lsn : ℕ) (log : List Content) → AreVersions vs log → lsn ≤ length log → IsBehind vs place page log (count_before page log lsn) → (version_at vs place).bytes ≡ page_of page (take lsn log)
+pub given_at : (vs : List Version) (place page lsn : ℕ) (log : List Content) → AreVersions vs log → lsn ≤ length log → IsAfterChanges vs place page log (count_before page log lsn) → (version_at vs place).bytes ≡ page_of page (take lsn log)
 given_at vs place page lsn log all hard behind =
     let v = version_at vs place in
     let is = all place _ behind.within in

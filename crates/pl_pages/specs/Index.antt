@@ -73,7 +73,7 @@ abbrev pub count_before : ℕ → List Content → ℕ → ℕ
 count_before page log n = length (lsns_of page (take n log))
 
 -- the version at a place is of the page, after the first i of the blocks that change it
-pub record IsBehind (versions : List Version) (place p : ℕ) (log : List Content) (i : ℕ) : Type 0 where
+pub record IsAfterChanges (versions : List Version) (place p : ℕ) (log : List Content) (i : ℕ) : Type 0 where
   pub within : place < length versions
   pub page : (version_at versions place).page ≡ p
   pub count : count_before p log (version_at versions place).lsn ≡ i

@@ -1,6 +1,6 @@
 -- The versions that the code keeps: which page and LSN lies in which frame.
 use Rattle.std.specs.Prelude.{◌≡◌, ℕ, ◌<◌, ◌≤◌, List, [], length, map, slice_index_or, slice_set, unwrap_or}
-use Rattle.pl_arena.specs.Arena.{Arena, IsOut, frame}
+use Rattle.pl_arena.specs.Arena.{Arena, IsOut, frame_bytes}
 use Rattle.pl_block.specs.Block.{Content}
 use Rattle.pl_pages.specs.Page.{after_block}
 use Rattle.pl_pages.specs.State.{Version, AreVersions}
@@ -13,15 +13,15 @@ pub record VersionsState : Type 0 where
 
 -- the page that lies in a frame
 abbrev pub version_in : Arena → Kept → Version
-version_in arena k = record { page = k.page; lsn = k.lsn; bytes = unwrap_or (frame arena k.frame) [] }
+version_in arena k = record { page = k.page; lsn = k.lsn; bytes = unwrap_or (frame_bytes arena k.frame) [] }
 
 -- the pages that lie in frames
 abbrev pub versions_in : Arena → List Kept → List Version
 versions_in arena ks = map (version_in arena) ks
 
 -- the frames of versions
-abbrev pub frames_of : List Kept → List ℕ
-frames_of ks = map (λ k. k.frame) ks
+abbrev pub frame_ids : List Kept → List ℕ
+frame_ids ks = map (λ k. k.frame) ks
 
 -- Of the frames of versions each is out, and no two are the same; each frame that is out is one of
 -- them. The oldest version is one of those that there are.

@@ -32,8 +32,8 @@ abbrev pub chosen : ℕ → ℕ → Bool → ℕ
 chosen applied lsn exact = if not exact && nat_le lsn applied then applied else lsn
 
 -- the LSN at which a page is given
-abbrev pub choice_of : PagesState → ℕ → ℕ → Bool → ℕ
-choice_of pages page lsn exact = chosen (applied_at pages (page / 65536)) lsn exact
+abbrev pub chosen_lsn : PagesState → ℕ → ℕ → Bool → ℕ
+chosen_lsn pages page lsn exact = chosen (applied_at pages (page / 65536)) lsn exact
 
 -- a block changes the page
 abbrev pub changes_page : ℕ → Content → Bool

@@ -7,11 +7,11 @@ ghost use Rattle.pl_block.specs.Block.{Content};
 ghost use Rattle.pl_block.specs.Bounds.{page_size};
 ghost use Rattle.pl_block.specs.Numbered.{AreNumbered};
 ghost use Rattle.pl_block.specs.Spelling.{IsBlock};
-ghost use Rattle.pl_pages.specs.Index.{IsBehind, IsIndex, count_before};
+ghost use Rattle.pl_pages.specs.Index.{IsAfterChanges, IsIndex, count_before};
 ghost use Rattle.pl_pages.specs.Kept.{IsAt, version_at};
 ghost use Rattle.pl_pages.specs.Page.{page_of};
 ghost use Rattle.pl_pages.specs.Ends.{EndsFitting};
-ghost use Rattle.pl_pages.specs.State.{AreVersions, FitsLog, SameApplied, applied_at, choice_of, chosen, lsns_of};
+ghost use Rattle.pl_pages.specs.State.{AreVersions, FitsLog, SameApplied, applied_at, chosen, chosen_lsn, lsns_of};
 
 use crate::changes::is_image;
 use crate::index::Index;
@@ -164,11 +164,11 @@ impl Pages {
         // When the bytes are no longer lent, the pages fit the log, and the applied LSNs and the
         // number of chunks are as before, after an error too.
         ensures* keeps { sem 𝓛 (EndsFitting self.entry log.old.hardened) }
-        // The LSN that is answered (`choice_of`).
-        ensures at { IfOk result (λ given. given.0 ≡ choice_of self.old page lsn exact) }
+        // The LSN that is answered (`chosen_lsn`).
+        ensures at { IfOk result (λ given. given.0 ≡ chosen_lsn self.old page lsn exact) }
         // The page at that LSN: the log up to it, replayed.
         ensures page { IfOk result (λ given. given.1.now ≡
-            page_of page (take (choice_of self.old page lsn exact) log.old.hardened)) }
+            page_of page (take (chosen_lsn self.old page lsn exact) log.old.hardened)) }
         // The page has 8,192 bytes.
         ensures len { IfOk result (λ given. length given.1.now ≡ page_size) }
         // The log is as before.
@@ -284,13 +284,13 @@ fn bring_up(
     requires numbered { AreNumbered 1 log.old.hardened }
     requires lsns { lsns.now ≡ lsns_of page log.old.hardened }
     requires truth { AreVersions versions.old.versions log.old.hardened }
-    requires behind { IsBehind versions.old.versions place page log.old.hardened from }
+    requires behind { IsAfterChanges versions.old.versions place page log.old.hardened from }
     requires rising { from ≤ to }
     requires within { to ≤ length lsns.now }
     ensures log { log.new ≡ log.old }
     ensures truth { AreVersions versions.new.versions log.old.hardened }
     ensures chunks { versions.new.chunks ≡ versions.old.chunks }
-    ensures behind { OnOk result (IsBehind versions.new.versions place page log.old.hardened to) }
+    ensures behind { OnOk result (IsAfterChanges versions.new.versions place page log.old.hardened to) }
 {
     for i in from..to {
         let block = log.read(lsns[i])?;
@@ -379,7 +379,7 @@ fn show(
     ensures log { log.new ≡ log.old }
     ensures truth { AreVersions versions.new.versions log.old.hardened }
     ensures chunks { versions.new.chunks ≡ versions.old.chunks }
-    ensures behind { IfOk result (λ place. IsBehind versions.new.versions place page
+    ensures behind { IfOk result (λ place. IsAfterChanges versions.new.versions place page
         log.old.hardened (count_before page log.old.hardened lsn)) }
 {
     let to = count_up_to(lsns, lsn);

@@ -45,7 +45,7 @@ pub(crate) struct Versions {
 }
 
 impl Model for Versions {
-    ghost use Rattle.pl_pages.specs.Kept.{AreKept, VersionsState, frames_of, versions_in};
+    ghost use Rattle.pl_pages.specs.Kept.{AreKept, VersionsState, frame_ids, versions_in};
     ghost use Rattle.pl_pages.specs.Codes.{versions_code};
 
     ghost Value = { VersionsState };
@@ -54,7 +54,7 @@ impl Model for Versions {
 
     ghost view = { λ v. record { versions = versions_in v.arena v.kept.items; chunks = v.arena.max_chunks } };
 
-    ghost invariant = { λ v. AreKept v.arena (frames_of v.kept.items) v.oldest };
+    ghost invariant = { λ v. AreKept v.arena (frame_ids v.kept.items) v.oldest };
 }
 
 impl fmt::Debug for Versions {

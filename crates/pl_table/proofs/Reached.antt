@@ -8,7 +8,7 @@ use Rattle.pl_table.specs.Asking.{Asked, asked_at}
 use Rattle.pl_table.specs.Row.{is_about, row_matches}
 use Rattle.pl_table.specs.FirstMatch.{found_allows, rows_allow}
 use Rattle.pl_table.specs.Index.{can_match, places_from}
-use Rattle.pl_table.specs.Reach.{any_ends, matches_at, IsBehind}
+use Rattle.pl_table.specs.Reach.{any_ends, matches_at, Narrows}
 use Rattle.pl_table.proofs.Listed.{IsLeft, IsLeft-next, IsLeft-none, listed-next, found-next, missed-next}
 use Rattle.pl_table.proofs.Ends.{with_number, own_asked, none_asked, row_at, lower_lsns, no_ends}
 
@@ -77,7 +77,7 @@ found_here rows q list p ps row own n b some left is here about matches allows =
     ap found_allows (sym found) ∙ allows
 
 -- a row that is about the request
-pub reached-behind : (rows : List Row) (q : Asked) (most low high : ℕ) (list : List ℕ) (p : ℕ) (ps : List ℕ) (row : Row) (own new_low new_high : ℕ) → q.lsn ≡ Some own → IsReached rows q most low high list → list ≡ p ∷ ps → row ≡ get_or rows p row → is_about row q ≡ true → IsBehind row low high new_low new_high → IsReached rows q most new_low new_high ps
+pub reached-behind : (rows : List Row) (q : Asked) (most low high : ℕ) (list : List ℕ) (p : ℕ) (ps : List ℕ) (row : Row) (own new_low new_high : ℕ) → q.lsn ≡ Some own → IsReached rows q most low high list → list ≡ p ∷ ps → row ≡ get_or rows p row → is_about row q ≡ true → Narrows row low high new_low new_high → IsReached rows q most new_low new_high ps
 reached-behind rows q most low high list p ps row own new_low new_high some reached is here about behind = record {
   order = (behind.order.1, omega (arith, behind.order, reached.order));
   allowed = λ n le. elim (cases_lt low n) [
@@ -97,7 +97,7 @@ reached-behind rows q most low high list p ps row own new_low new_high some reac
       missed-next rows (asked_at q n) p ps row next here (row_at row q own n some ∙ rw (about, behind.between n gt le) refl);
 }
 
-pub reached-about : (rows : List Row) (q : Asked) (most low high : ℕ) (list : List ℕ) (p : ℕ) (ps : List ℕ) (row : Row) (new_low new_high : ℕ) → IsSome q.lsn → IsReached rows q most low high list → list ≡ p ∷ ps → row ≡ get_or rows p row → is_about row q ≡ true → IsBehind row low high new_low new_high → IsReached rows q most new_low new_high ps
+pub reached-about : (rows : List Row) (q : Asked) (most low high : ℕ) (list : List ℕ) (p : ℕ) (ps : List ℕ) (row : Row) (new_low new_high : ℕ) → IsSome q.lsn → IsReached rows q most low high list → list ≡ p ∷ ps → row ≡ get_or rows p row → is_about row q ≡ true → Narrows row low high new_low new_high → IsReached rows q most new_low new_high ps
 reached-about rows q most low high list p ps row new_low new_high names reached is here about behind =
     with_number q.lsn (IsReached rows q most new_low new_high ps)
     (λ none. absurd (let clash : false ≡ true = rw none at names in cc))

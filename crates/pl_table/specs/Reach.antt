@@ -18,7 +18,7 @@ matches_at row lsn = part_matches (through_matches row.allows (Some lsn)) row.th
 
 -- One row more, for the LSNs above low, up to high: up to the new low it allows and matches, above the new
 -- high it denies and matches, and between the two it does not match.
-pub record IsBehind (row : Row) (low high new_low new_high : ℕ) : Type 0 where
+pub record Narrows (row : Row) (low high new_low new_high : ℕ) : Type 0 where
   pub order : (low ≤ new_low) × (new_low ≤ new_high) × (new_high ≤ high)
   pub allowed : (lsn : ℕ) → low < lsn → lsn ≤ new_low → (row.allows ≡ true) × (matches_at row lsn ≡ true)
   pub denied : (lsn : ℕ) → new_high < lsn → lsn ≤ high → (row.allows ≡ false) × (matches_at row lsn ≡ true)

@@ -4,7 +4,7 @@ ghost use Rattle.std.specs.Prelude.{◌≡◌, ◌≤◌, ℕ, All, IsSome, true
 ghost use Rattle.pl_table.specs.Asking.{asked_at, asked_by};
 ghost use Rattle.pl_table.specs.FirstMatch.{rows_allow};
 ghost use Rattle.pl_table.specs.Index.{can_match, places_from};
-ghost use Rattle.pl_table.specs.Reach.{IsBehind, NoEndBetween};
+ghost use Rattle.pl_table.specs.Reach.{Narrows, NoEndBetween};
 
 use crate::asking::Asking;
 use crate::row::Row;
@@ -68,7 +68,7 @@ impl Reach {
     // The same, with one row more, which is about the request.
     fn behind(self, row: &Row) -> Reach
         requires order { self.low ≤ self.high }
-        ensures behind { IsBehind row.now self.low self.high result.low result.high }
+        ensures behind { Narrows row.now self.low self.high result.low result.high }
     {
         let open = if row.allows { self.high } else { self.low };
         let end = row.through.unwrap_or(open).max(self.low).min(self.high);

@@ -1,7 +1,8 @@
 //! The landing zone: it fills, its run ends at a gap, and its contents come out at its end.
 
 ghost use Rattle.std.specs.Prelude.{◌≡◌};
-ghost use Rattle.pl_landing.specs.Landing.{content_of, is_open_to};
+ghost use Rattle.pl_block.specs.Block.{is_open_to};
+ghost use Rattle.pl_landing.specs.Landing.{content_of};
 
 use crate::stores::{Row, Size, Stop, block, meets_refusal, plays, wants};
 use pl_block::{Block, LAST_LSN};

@@ -1,5 +1,5 @@
 use Rattle.std.proofs.Common.{◌≡◌, ◌+◌, ◌-◌, Some, get_or, length, slice_get, sym, ap, subst, ◌∙◌, arith}
-use Rattle.pl_pages.specs.Index.{IsBehind}
+use Rattle.pl_pages.specs.Index.{IsAfterChanges}
 use Rattle.pl_pages.specs.State.{AreVersions}
 use Rattle.pl_pages.proofs.Touching.{next_listed, block_redone, behind_block}
 use Rattle.pl_pages.proofs.pages.bring_up.Goals as goal
@@ -30,6 +30,6 @@ loop-i-preserved c =
       chunks = c.redo.ensures.chunks ∙ inv.chunks;
       truth = subst (λ new. AreVersions new log) (sym c.redo.ensures.versions)
           (block_redone vs place page log i inv.truth inv.behind b block here c.in_ok-block.ensures.number listed.some listed.below listed.here);
-      behind = subst (λ new. IsBehind new place page log (i + 1)) (sym c.redo.ensures.versions)
+      behind = subst (λ new. IsAfterChanges new place page log (i + 1)) (sym c.redo.ensures.versions)
           (behind_block vs place page log i inv.truth inv.behind b block here c.in_ok-block.ensures.number listed.some listed.below listed.here);
     }

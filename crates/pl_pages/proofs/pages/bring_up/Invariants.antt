@@ -1,5 +1,5 @@
 use Rattle.std.proofs.Common.{◌≡◌}
-use Rattle.pl_pages.specs.Index.{IsBehind}
+use Rattle.pl_pages.specs.Index.{IsAfterChanges}
 use Rattle.pl_pages.specs.State.{AreVersions}
 use Rattle.pl_pages.proofs.pages.bring_up.Given as goal
 
@@ -9,5 +9,5 @@ invariant-loop-i l = record {
   log : l.log ≡ l.fn.log;
   chunks : l.versions.chunks ≡ l.fn.versions.chunks;
   truth : AreVersions l.versions.versions l.fn.log.hardened;
-  behind : IsBehind l.versions.versions l.place l.page l.fn.log.hardened l.i;
+  behind : IsAfterChanges l.versions.versions l.place l.page l.fn.log.hardened l.i;
 }

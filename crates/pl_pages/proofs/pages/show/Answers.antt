@@ -1,5 +1,5 @@
 use Rattle.std.proofs.Common.{refl, sym, subst, ◌∙◌, arith}
-use Rattle.pl_pages.specs.Index.{IsBehind, count_before}
+use Rattle.pl_pages.specs.Index.{IsAfterChanges, count_before}
 use Rattle.pl_pages.proofs.Touching.{rising, counted, rise, behind_at}
 use Rattle.pl_pages.proofs.pages.show.Goals as goal
 
@@ -30,7 +30,7 @@ bring_up-requires-clause-behind c =
     let begun = c.in_ok-begun.begun in
     let from = c.count_up_to-from.ensures in
     let one = counted page log c.requires.numbered c.args.lsns.now c.requires.lsns _ begun.lsn (omega (arith, c.in_ok-begun.ensures.below, c.requires.hard)) from.within from.below from.above in
-    subst (λ l. IsBehind c.begin.new.versions.versions begun.place page l.hardened c.count_up_to-from.result) (sym c.in_ok-begun.ensures.log)
+    subst (λ l. IsAfterChanges c.begin.new.versions.versions begun.place page l.hardened c.count_up_to-from.result) (sym c.in_ok-begun.ensures.log)
     (behind_at c.begin.new.versions.versions begun.place page page begun.lsn _ log c.in_ok-begun.ensures.at refl one)
 
 pub bring_up-requires-clause-rising : goal.bring_up-requires-clause-rising
@@ -51,6 +51,6 @@ returns-clause-behind c =
     let place = c.in_ok-begun.begun.place in
     let to = c.count_up_to-to.ensures in
     let other = counted page log c.requires.numbered c.args.lsns.now c.requires.lsns _ c.args.lsn c.requires.hard to.within to.below to.above in
-    subst (λ v. IsBehind v.versions place page log (count_before page log c.args.lsn)) (sym c.enter.ensures.same)
-    (subst (λ k. IsBehind c.bring_up.new.versions.versions place page log k) (sym other)
-    (subst (λ l. IsBehind c.bring_up.new.versions.versions place page l.hardened c.count_up_to-to.result) c.in_ok-begun.ensures.log c.in_ok-bring_up.ensures.behind))
+    subst (λ v. IsAfterChanges v.versions place page log (count_before page log c.args.lsn)) (sym c.enter.ensures.same)
+    (subst (λ k. IsAfterChanges c.bring_up.new.versions.versions place page log k) (sym other)
+    (subst (λ l. IsAfterChanges c.bring_up.new.versions.versions place page l.hardened c.count_up_to-to.result) c.in_ok-begun.ensures.log c.in_ok-bring_up.ensures.behind))

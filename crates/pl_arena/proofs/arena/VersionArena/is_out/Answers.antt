@@ -1,5 +1,5 @@
 use Rattle.std.proofs.Common.{ℕ, Bool, false, List, get_or, is_some, ap, ◌∙◌}
-use Rattle.pl_arena.specs.Arena.{frame}
+use Rattle.pl_arena.specs.Arena.{frame_bytes}
 use Rattle.pl_arena.proofs.Keeping.{flag_is}
 use Rattle.pl_arena.proofs.arena.VersionArena.is_out.Goals as goal
 
@@ -12,5 +12,5 @@ returns c =
           c.flag_at.ensures.value
           ∙ ap (λ (outs : List Bool). get_or outs id false) c.deref.ensures.value
           ∙ flag_is a.frames a.out.items a.max_chunks c.args.self.now c.self.view_is id
-          ∙ ap (λ (k : ℕ). is_some (frame c.args.self.now k)) c.id.view_is;
+          ∙ ap (λ (k : ℕ). is_some (frame_bytes c.args.self.now k)) c.id.view_is;
     }

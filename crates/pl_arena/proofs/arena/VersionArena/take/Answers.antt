@@ -1,6 +1,6 @@
 use Rattle.std.proofs.Common.{◌≡◌, ℕ, ◌-◌, ◌<◌, length, set, true, None, refl, subst, sym, ap, ◌∙◌, arith}
-use Rattle.pl_arena.specs.Arena.{Arena, IsFull, frame, with_frame, zeros, capacity}
-use Rattle.pl_arena.specs.Free.{links, link, IsKept}
+use Rattle.pl_arena.specs.Arena.{Arena, IsFull, frame_bytes, with_frame, zeros, capacity}
+use Rattle.pl_arena.specs.Free.{links, link, IsArena}
 use Rattle.pl_arena.proofs.Keeping.{first_given, first_within, first_fresh, not_full, taken_kept, taken_is, place_fresh, place_not_full, extended_kept, extended_is, now_out, ok_is_no_fault, of_fault, full_only, full}
 use Rattle.pl_arena.proofs.arena.VersionArena.take.Goals as goal
 
@@ -24,7 +24,7 @@ pub invariant_of-self : goal.invariant_of-self
 invariant_of-self c =
     let a = c.self.inside in
     let next : links a.frames (a.free - 1) ≡ c.link_of-self-inside.result = sym (c.link_of-self-inside.ensures.value ∙ ap link c.get.ensures.value) in
-    subst (λ (k : ℕ). IsKept (set a.frames (a.free - 1) c.clear.new.frame) (set a.out.items (a.free - 1) true) k a.max_chunks) next (taken_kept a.frames a.out.items a.free a.max_chunks c.self.invariant c.if-self-gt0.true c.clear.new.frame)
+    subst (λ (k : ℕ). IsArena (set a.frames (a.free - 1) c.clear.new.frame) (set a.out.items (a.free - 1) true) k a.max_chunks) next (taken_kept a.frames a.out.items a.free a.max_chunks c.self.invariant c.if-self-gt0.true c.clear.new.frame)
 
 pub returns-then-self-gt0-clause-within : goal.returns-then-self-gt0-clause-within
 returns-then-self-gt0-clause-within c =
@@ -34,7 +34,7 @@ returns-then-self-gt0-clause-within c =
 pub returns-then-self-gt0-clause-fresh : goal.returns-then-self-gt0-clause-fresh
 returns-then-self-gt0-clause-fresh c =
     let a = c.self.inside in
-    subst (λ (s : Arena). frame s (a.free - 1) ≡ None) c.self.view_is (first_fresh a.frames a.out.items a.free a.max_chunks c.self.invariant c.if-self-gt0.true zeros)
+    subst (λ (s : Arena). frame_bytes s (a.free - 1) ≡ None) c.self.view_is (first_fresh a.frames a.out.items a.free a.max_chunks c.self.invariant c.if-self-gt0.true zeros)
 
 pub returns-then-self-gt0-clause-taken : goal.returns-then-self-gt0-clause-taken
 returns-then-self-gt0-clause-taken c =
@@ -59,7 +59,7 @@ pub returns-in-Err-clause-full : goal.returns-in-Err-clause-full
 returns-in-Err-clause-full c =
     let a = c.self.inside in
     let none : a.free ≡ 0 = omega (arith, c.if-self-gt0.false) in (
-      (λ e. subst IsFull c.self.view_is (full a.frames a.out.items a.max_chunks (subst (λ (k : ℕ). IsKept a.frames a.out.items k a.max_chunks) none c.self.invariant)
+      (λ e. subst IsFull c.self.view_is (full a.frames a.out.items a.max_chunks (subst (λ (k : ℕ). IsArena a.frames a.out.items k a.max_chunks) none c.self.invariant)
           (c.in-Err.ensures.full.0 (of_fault c.in-Err.fault e)))),
       (λ f. of_fault c.in-Err.fault (c.in-Err.ensures.full.1 (full_only a.frames a.out.items a.free a.max_chunks c.self.invariant (length a.out.items) refl (subst IsFull (sym c.self.view_is) f)))),
     )
@@ -74,7 +74,7 @@ invariant_of-self-2 c =
 pub returns-clause-fresh : goal.returns-clause-fresh
 returns-clause-fresh c =
     let a = c.self.inside in
-    subst (λ (s : Arena). frame s c.in-Ok.number ≡ None) c.self.view_is
+    subst (λ (s : Arena). frame_bytes s c.in-Ok.number ≡ None) c.self.view_is
     (place_fresh a.frames a.out.items a.free a.max_chunks c.self.invariant c.in-Ok.number c.in-Ok.ensures.number (λ e. ok_is_no_fault _ _ (c.in-Ok.ensures.full.1 (sym c.in-Ok.ensures.number ∙ e))))
 
 pub returns-clause-taken : goal.returns-clause-taken

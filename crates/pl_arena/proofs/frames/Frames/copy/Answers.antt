@@ -1,6 +1,6 @@
 use Rattle.std.proofs.Common.{◌≡◌, ℕ, ◌<◌, ◌/◌, ◌%◌, [], List, length, get_or, set, length-set, subst, sym, ap, ◌∙◌}
 use Rattle.std.proofs.lemmas.List.{with_items_is}
-use Rattle.pl_arena.specs.Packed.{IsPacked, flat, with_copy}
+use Rattle.pl_arena.specs.Packed.{IsPacked, flat, with_copied_frame}
 use Rattle.pl_arena.proofs.Rows.{Row, IsAt, at_number, packed_set}
 use Rattle.pl_arena.proofs.frames.Frames.copy.Goals as goal
 
@@ -19,7 +19,7 @@ copy_among-requires-clause-to c =
 -- the chunks, with one of them written
 module _ (chunks new : List Row) (from to : ℕ) where
   abbrev Copied : Type 0
-  Copied = new ≡ with_copy chunks (from / 64) (from % 64) (to / 64) (to % 64)
+  Copied = new ≡ with_copied_frame chunks (from / 64) (from % 64) (to / 64) (to % 64)
 
   as_many : Copied → length new ≡ length chunks
   as_many e = ap length e ∙ length-set chunks (to / 64) _

@@ -33,7 +33,7 @@ use Rattle.core.proofs.slots.Leases.{uncapped, block_ty, block_size, block_align
 use Rattle.std_alloc.proofs.RcSteps.{first_Good}
 use Rattle.std_alloc.proofs.ResultValues.{ok_of, err_of}
 use Rattle.std_alloc.proofs.VecSteps.Shapes.{head, arm_body}
-use Rattle.pl_arena.specs.Block.{IsBlock}
+use Rattle.pl_arena.specs.Block.{IsMemoryBlock}
 use Rattle.pl_arena.specs.Ownership.{places}
 use Rattle.pl_arena.specs.contracts.memory.Deed as Deed
 use Rattle.pl_arena.specs.contracts.memory.Items.allocate as stands
@@ -76,7 +76,7 @@ module _ (E : El) (Z : Al) where
   Out = Answered-by.the_row Parts Refusal.the_row
 
   abbrev Says : Z.row.Denot → ℕ → Out.Denot → Type 0
-  Says a len r = IfOk r (λ t. IsBlock t.0 t.1 t.2 len a × (t.1.items ≡ []))
+  Says a len r = IfOk r (λ t. IsMemoryBlock t.0 t.1 t.2 len a × (t.1.items ≡ []))
 
 module _ (E : El) (Z : Al) {M : Type 1} {𝓤 : Ura M} (𝓛 : Logic 𝓤) (at_mem : Memory → SProp 𝓤) (run : Routine → Fun 𝓤) (C : Calls 𝓤 𝓛.H) (Λ : Loops 𝓤 𝓛.H) (fm : FmC 𝓤 𝓛.H 𝓛.laws C)
     (callee : Triple 𝓤 (C (takes_key Z)) (Takes Z 𝓛 at_mem run)) (κ κ₁ κ₂ : Lft) (q q₁ q₂ : Share) (short : κ ⊑ κ₂) (inside : κ₂ ⊑ Z.row.lives)

@@ -17,7 +17,7 @@ use denote.Triple.Call.{calls_at_last}
 use denote.Triple.Statement.{Triple}
 use Rattle.core.proofs.alloc.Calls.{Al, second, token, gives_key, Gives, at_gives, Gives-goes, Gives-Gives, Goes-blank}
 use Rattle.core.proofs.slots.Leases.{uncapped, block_ty, block_size, block_align, args, P}
-use Rattle.pl_arena.specs.Block.{IsBlock}
+use Rattle.pl_arena.specs.Block.{IsMemoryBlock}
 use Rattle.pl_arena.specs.Ownership.{items_own, deed_owns}
 use Rattle.pl_arena.specs.contracts.memory.Deed as Deed
 use Rattle.pl_arena.specs.contracts.memory.Items.deallocate as stands
@@ -45,7 +45,7 @@ module _ (E : El) (Z : Al) where
   )
 
   abbrev Asks : Z.row.Denot → (Sta E).Denot → ℕ → (Its E).Denot → Ded.Denot → Type 0
-  Asks a start len items deed = IsBlock start items deed len a
+  Asks a start len items deed = IsMemoryBlock start items deed len a
 
 module _ (E : El) (Z : Al) {M : Type 1} {𝓤 : Ura M} (𝓛 : Logic 𝓤) (at_mem : Memory → SProp 𝓤) (run : Routine → Fun 𝓤) (C : Calls 𝓤 𝓛.H) (Λ : Loops 𝓤 𝓛.H) (fm : FmC 𝓤 𝓛.H 𝓛.laws C)
     (callee : Triple 𝓤 (C (gives_key Z)) (Gives Z 𝓛 at_mem run)) (κ κ₁ κ₂ : Lft) (q q₁ q₂ : Share) (short : κ ⊑ κ₂) (inside : κ₂ ⊑ Z.row.lives)
