@@ -212,7 +212,7 @@ module _ (frames : Row) (outs : List Bool) (head max : ℕ) (kept : IsArena fram
         | inr n ↦ absurd (place_not_full place e n f)
       ]
 
--- it is taken, behind those that were out
+-- it is taken, after those that were out
 module _ (frames : Row) (outs : List Bool) (head max : ℕ) (kept : IsArena frames outs head max) (place : ℕ) (e : place ≡ length outs) (open_yet : place ≡ 64 * max → ⊥)
     (w : List ℕ) (frames' : Row) (grown : frames' ≡ frames ++ w ∷ []) (outs' : List Bool) (pushed : outs' ≡ outs ++ true ∷ []) where
   below' : length outs < 64 * max

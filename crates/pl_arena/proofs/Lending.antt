@@ -32,7 +32,7 @@ module _ {M : Type 1} {𝓤 : Ura M} (𝓛 : Logic 𝓤) (l : Lft) (R : RattleTy
       Lends-both 𝓛 (part_at R full_share x b o) (cells (mem R) xs b next) (shared_of R x b o) (elements_shared R xs b next) l
       (λ κ ts. Shares-less 𝓛 R R.lives l inc (L.shares 𝓛) x κ ts b o) (each xs b next)
 
-  -- the room behind them is let go for the time
+  -- the room after them is let go for the time
   pub Lends-items : (p : Ptr) (xs : List R.Denot) (n : ℕ) → Lends 𝓛 (items_own R p xs n) (items_lent R p xs n) l
   Lends-items (block_ptr b o) xs n =
       let small = is_small R xs n in

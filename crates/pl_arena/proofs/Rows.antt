@@ -6,7 +6,7 @@ use Rattle.pl_arena.specs.Packed.{IsPacked, flat}
 abbrev pub Row : Type 0
 Row = List (List ℕ)
 
--- a frame that is not in the first chunk is behind 64 others
+-- a frame that is not in the first chunk comes after 64 others
 first_whole : (c : Row) (cs : List Row) (i : ℕ) → 64 ≤ i → i < length (c ++ flat cs) → IsPacked (c ∷ cs) → length c ≡ 64
 first_whole c [] i past within all = absurd (omega (arith, past, within, length-append c [], all.0))
 first_whole c (d ∷ ds) i past within all = all.1 (omega arith)
@@ -51,7 +51,7 @@ packed_set [] q c e all = all
 packed_set (x ∷ xs) zero c e all = (omega (arith, e, all.0), (λ more. e ∙ all.1 more), all.2)
 packed_set (x ∷ xs) (suc q) c e all = (all.0, (λ more. all.1 (omega (arith, more, length-set xs q c))), packed_set xs q c e all.2)
 
--- a chunk is put behind those that there are, where the last is whole
+-- a chunk is added after those that there are, where the last is whole
 pub packed_pushed : (chunks : List Row) (c : Row) → length c ≤ 64 → ((n : ℕ) → n + 1 ≡ length chunks → length (get_or chunks n []) ≡ 64) → IsPacked chunks → IsPacked (chunks ++ c ∷ [])
 packed_pushed [] c small whole all = (small, (λ more. absurd (omega (arith, more))), tt)
 packed_pushed (x ∷ []) c small whole all = (all.0, (λ more. whole 0 (omega arith)), packed_pushed [] c small (λ n e. absurd (omega (arith, e))) tt)

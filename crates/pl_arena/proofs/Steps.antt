@@ -124,7 +124,7 @@ item_fits c s more small = block_fits s (rows.one_below c s (2 ^ 63) more small)
 pub part_fits : (i c s : ℕ) → i ≤ c → c * s < 2 ^ 63 → i * s < 2 ^ 64
 part_fits i c s within small = block_fits (i * s) (rows.times_below i c s (2 ^ 63) within small)
 
--- where the room begins behind n items, and behind one more
+-- where the room begins after n items, and after one more
 pub behind : (len n k s o : ℕ) → len ≡ n → k ≡ n + 1 → len * s + o + s ≡ k * s + o
 behind len n k s o e more = omega (arith, ap (λ (j : ℕ). j * s) e, ap (λ (j : ℕ). j * s) more ∙ rows.next n s)
 
@@ -160,7 +160,7 @@ module _ (E : El) {M : Type 1} {𝓤 : Ura M} (𝓛 : Logic 𝓤) (b : ℕ) wher
       use1 𝓛 (some (λ (v : Val). given (Good (elτ E) v) (‵ (fat full_share (elτ E) b o v) ⊛ ‵ (E.row.own_val x (v ∷ []))))) (rows.el_out (item E) 𝓛 full_share x b o) $
       pick ! (λ v. learn ! (λ _. split ! $ keep ! (0 ∷ []) $ by ! (𝓛.laws.at_room (elτ E) b o v)))
 
-  -- one item more behind a row
+  -- one item more after a row
   pub longer : (xs : List (el_x E)) (x : el_x E) (o at : ℕ) → at ≡ length xs * s + o
       → ent 𝓤 (sep 𝓤 (sem 𝓛 (Row o xs)) (sem 𝓛 (part_at (R E) full_share x b at))) (sem 𝓛 (Row o (xs ++ x ∷ [])))
   longer [] x o at e =
@@ -201,7 +201,7 @@ module _ (E : El) {M : Type 1} {𝓤 : Ura M} (𝓛 : Logic 𝓤) (b : ℕ) wher
       qed 𝓛 (‵ (part_at (R E) full_share y b at) ∷ ‵ (besides (x ∷ xs) (suc i) o) ∷ []) ∵ move ! (1 ∷ []) $ fsplit ! $ move ! (2 ∷ 1 ∷ []) $
       use2 𝓛 (‵ (Row (o + s) (set xs i y))) (put_back xs i y (o + s) at (omega (arith, lt)) (omega (arith, e, suc-mul i s))) $ move ! (1 ∷ 0 ∷ []) $ fjoin ! $ done !
 
-  -- a row with the room behind it is room
+  -- a row with the room after it is room
   pub emptied : (xs : List (el_x E)) (n all o at : ℕ) → all ≡ length xs + n → at ≡ length xs * s + o
       → ent 𝓤 (sep 𝓤 (sem 𝓛 (Row o xs)) (H.room (ty_array (elτ E) n) b at)) (H.room (ty_array (elτ E) all) b o)
   emptied [] n all o at long e =

@@ -84,7 +84,7 @@ any_again lo hi (p ∷ ps) rest fits =
 read_count : (lo hi : ℕ) (front rest : List ℕ) (n : ℕ) → length front ≡ 2 → from_be_bytes w16 front ≡ n → any_at lo hi (from_be_bytes w16 (take 2 (front ++ rest))) (drop 2 (front ++ rest)) ≡ any_at lo hi n rest
 read_count lo hi front rest n len value = rw (take_at front rest 2 len, drop_at front rest 2 len, value) refl
 
--- behind the LSN: the count and the partitions
+-- after the LSN: the count and the partitions
 pub read_annotations : (lo hi : ℕ) (b : Content) → IsBlock b → any_at lo hi (from_be_bytes w16 (take 2 (drop 8 (block_spelling b)))) (drop 2 (drop 8 (block_spelling b))) ≡ touches_between lo hi b
 read_annotations lo hi b h =
     let ps = touched b.records in

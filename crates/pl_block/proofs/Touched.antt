@@ -22,7 +22,7 @@ abbrev pub In : ℕ → List ℕ → Type 0
 In x [] = ⊥
 In x (y ∷ ys) = (y ≡ x) ⊎ In x ys
 
--- how two partitions stand to one another
+-- how two partitions compare
 data Place (p q : ℕ) : Type 0 where
   above : q < p → Place p q
   here : q ≡ p → Place p q

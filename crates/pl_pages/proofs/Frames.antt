@@ -52,7 +52,7 @@ get_or_map f [] i d = refl
 get_or_map f (x ∷ xs) zero d = refl
 get_or_map f (x ∷ xs) (suc i) d = get_or_map f xs i d
 
--- what stands at a place of a list of which one was replaced
+-- what is at a place of a list of which one was replaced
 at_set_place : {X : Type 0} (xs : List X) (i k : ℕ) (x d : X) → k ≡ i → k < length xs → get_or (set xs i x) k d ≡ x
 at_set_place xs i k x d e within = ap (λ j. get_or (set xs i x) j d) e ∙ get_or-set_same xs i x d (omega (arith, e, within))
 

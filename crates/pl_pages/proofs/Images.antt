@@ -18,7 +18,7 @@ use Rattle.pl_pages.proofs.Sizes.{IsPage, length-zeros, one_sized, page_sized}
 use Rattle.pl_pages.proofs.Replays.{block_more}
 use Rattle.pl_pages.proofs.Frames.{replaced_true, with_block_stands, block_made}
 
--- bytes that are as many as a page has stand from its first byte on, and nothing is left of it
+-- bytes that are as many as a page has start at its first byte, and nothing is left of it
 put_alone : (offset : ℕ) (bytes old : List ℕ) → offset + length bytes ≤ page_size → length bytes ≡ page_size → IsPage old → ((take offset old ++ bytes) ++ drop (offset + length bytes) old) ≡ (([] ++ bytes) ++ [])
 put_alone offset bytes old within full sized =
     let first : offset ≡ 0 = omega (arith, within, full) in

@@ -70,7 +70,7 @@ take_block log k block is =
 pub block_more : (page : ℕ) (old : List ℕ) (log : List Content) (k : ℕ) (block : Content) → slice_get log k ≡ Some block → after_block page (after_blocks page old (take k log)) block ≡ after_blocks page old (take (k + 1) log)
 block_more page old log k block is = sym (ap (after_blocks page old) (take_block log k block is) ∙ fold-append (after_block page) old (take k log) (block ∷ []))
 
--- a version with the changes of the block behind it
+-- a version with the changes of the next block
 pub block_true : (log : List Content) (v : Version) (k : ℕ) (block : Content) → IsVersion log v → v.lsn ≡ k → slice_get log k ≡ Some block → block.lsn ≡ k + 1 → IsVersion log (record { page = v.page; lsn = block.lsn; bytes = after_block v.page v.bytes block })
 block_true log v k block is at here numbered = record {
   within = omega (arith, numbered, slice_get_within log k block here);

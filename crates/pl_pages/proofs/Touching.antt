@@ -112,7 +112,7 @@ numbered_at first (b ∷ bs) zero block each is = omega (arith, each.0, ap (λ (
 numbered_at first (b ∷ bs) (suc k) block each is = omega (arith, numbered_at (first + 1) bs k block each.1 is)
 
 module _ (page : ℕ) (log : List Content) (numbered : AreNumbered 1 log) where
-  -- the LSN at a place of the list: so many blocks below it change the page, and its own
+  -- the LSN at the place j of the list: j blocks below it change the page, and so does its own
   pub record IsListed (n j b : ℕ) : Type 0 where
     pub some : 1 ≤ b
     pub last : b ≤ n
@@ -207,7 +207,7 @@ module _ (page : ℕ) (log : List Content) (numbered : AreNumbered 1 log) where
         (λ some. subst (λ (l : List ℕ). get_or l (p - 1) 0 ≤ n) are (below some))
         (λ less. subst (λ (l : List ℕ). n < get_or l p 0) are (above (omega (arith, less, ap length are))))
 
--- a version at an LSN is behind as many blocks as change its page up to that
+-- a version at an LSN has as many changes as there are of its page up to that
 pub behind_at : (vs : List Version) (place page p n i : ℕ) (log : List Content) → IsAt vs place p n → p ≡ page → count_before page log n ≡ i → IsAfterChanges vs place page log i
 behind_at vs place page p n i log at own count = record {
   within = at.within;
@@ -271,7 +271,7 @@ module _ (vs : List Version) (place page : ℕ) (log : List Content) (i : ℕ) (
         count = ap (λ w. count_before page log w.lsn) stands ∙ ap (count_before page log) own ∙ with_own;
       }
 
--- ---- the version behind as many blocks as change the page up to an LSN is the page at it
+-- ---- the version with all changes of the page up to an LSN is the page at it
 
 pub given_at : (vs : List Version) (place page lsn : ℕ) (log : List Content) → AreVersions vs log → lsn ≤ length log → IsAfterChanges vs place page log (count_before page log lsn) → (version_at vs place).bytes ≡ page_of page (take lsn log)
 given_at vs place page lsn log all hard behind =

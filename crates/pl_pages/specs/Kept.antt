@@ -42,7 +42,7 @@ pub record IsAt (versions : List Version) (place p n : ℕ) : Type 0 where
   pub page : (version_at versions place).page ≡ p
   pub lsn : (version_at versions place).lsn ≡ n
 
--- those that there were stand where they stood
+-- those that there were are where they were
 pub record StayInPlace (old new : List Version) : Type 0 where
   pub len : length old ≤ length new
   pub same : (place : ℕ) → place < length old → version_at new place ≡ version_at old place

@@ -8,7 +8,7 @@ use Rattle.pl_table.specs.Asking.{Asked}
 use Rattle.pl_table.specs.Row.{row_matches}
 use Rattle.pl_table.specs.FirstMatch.{IsFirstMatch, first_match_from}
 
--- how many rows stand above the one that is found, where the first of the list has the number k
+-- how many rows come before the one that is found, where the first of the list has the number k
 abbrev FirstFrom : ℕ → List Row → Asked → ℕ × Bool → Type 0
 FirstFrom k rows q found = (i : ℕ) × (found.0 ≡ k + i) × IsSomeAnd (slice_get rows i) (λ row. IsTrue (row_matches row q) × (row.allows ≡ found.1)) × AllByRecursion (λ row. row_matches row q ≡ false) (take i rows)
 

@@ -136,7 +136,7 @@ row_of ps row = do
   op ← ops_under row
   Some (record { allows = allows; who = who; role = role; op = op; range = range; through = through })
 
--- the zone that has so many copies, and so many of them as its quorum
+-- the zone with this number of copies and this quorum
 abbrev pub zone_of_numbers : ℕ → ℕ → Option Zone
 zone_of_numbers copies quorum = if copies == 3 && quorum == 2 then Some Three else if copies == 6 && quorum == 4 then Some Six else None
 

@@ -16,8 +16,9 @@ any_ends rows = list_any (λ row. is_some row.through) rows
 abbrev pub matches_at : Row → ℕ → Bool
 matches_at row lsn = part_matches (through_matches row.allows (Some lsn)) row.through
 
--- One row more, for the LSNs above low, up to high: up to the new low it allows and matches, above the new
--- high it denies and matches, and between the two it does not match.
+-- The row narrows the LSNs above low, up to high, that are still open: up to the new low it allows and
+-- matches, above the new high it denies and matches, and between the two, which stay open, it does not
+-- match.
 pub record Narrows (row : Row) (low high new_low new_high : ℕ) : Type 0 where
   pub order : (low ≤ new_low) × (new_low ≤ new_high) × (new_high ≤ high)
   pub allowed : (lsn : ℕ) → low < lsn → lsn ≤ new_low → (row.allows ≡ true) × (matches_at row lsn ≡ true)
