@@ -3,7 +3,7 @@
 //!
 //! A contract sees a [`Block`] as its LSN and its records. That a block also keeps the partitions
 //! that it touches and the length of its spelling, and that blocks share their bytes, is seen by no
-//! contract. The bounds and the kind of failure that every crate shares stand here too.
+//! contract. The bounds and the kind of failure that every crate shares are here too.
 #![tactic(auto)]
 
 mod block;

@@ -96,7 +96,7 @@ fn parts_of(alloc: Global, lsn: u64, records: Vec<Record>) -> Result<Parts, Bloc
 }
 
 impl Block {
-    /// A block of the LSN and the records, which are kept as they stand. The LSN is 1 to 2^48, each
+    /// A block of the LSN and the records, which are kept as they are. The LSN is 1 to 2^48, each
     /// Put has at least one byte and ends within its page, and the spelling has at most 32,768 bytes.
     ///
     /// The LSN is tested first, then each record in turn, and the length of the spelling last. After

@@ -321,7 +321,7 @@ pub(crate) fn row_of(
     }))
 }
 
-// The zone that has so many copies, and so many of them as its quorum.
+// The zone with this number of copies and this quorum.
 fn zone_of_numbers(copies: u64, quorum: u64) -> Option<Zone>
     ensures value { result ≡ zone_of_numbers copies quorum }
 {
