@@ -36,7 +36,7 @@ in_a t rule there = Contains-append_left (section_a ++ section_b (length t.rows)
 in_c : (t : WrittenTable) (rule : Rule) → Contains section_c rule → Contains (order_of t) rule
 in_c t rule there = Contains-append_right (section_a ++ section_b (length t.rows)) section_c rule there
 
--- behind rules that do not stand, an allowed request is allowed still
+-- after rules that do not stand against it, an allowed request is still allowed
 past : (order rest : List Rule) (q : Query) (t : WrittenTable) (e : Epochs) (v : View) → first_denial (order ++ rest) q t e v ≡ verdicts.Allowed → first_denial rest q t e v ≡ verdicts.Allowed
 past [] rest q t e v h = h
 past (rule ∷ order) rest q t e v h = past order rest q t e v (passes rule (order ++ rest) q t e v h).1

@@ -79,7 +79,7 @@ denies_first-is (suc n) rows a =
     let one : suc n - 1 ≡ n = omega arith in
     rw (lt-ltb 0 (suc n) (omega arith), one) (sym (found_at 1 n (suc n) rows a (omega arith)))
 
--- and the rule behind them where there is none
+-- and the rule after them where there is none
 pub none_matches-is : (k : ℕ) (rows : List Row) (a : Asked) → none_matches rows a ≡ is_unmatched (first_match_from k rows a)
 none_matches-is k [] a = refl
 none_matches-is k (row ∷ rows) a =
@@ -90,7 +90,7 @@ none_matches-is k (row ∷ rows) a =
 
 -- ---- section B
 
--- rows that do not deny are passed over
+-- rows that do not deny are skipped
 passed : (k n : ℕ) (rest : List Rule) (q : Query) (t : WrittenTable) (e : Epochs) (v : View) → ((row : ℕ) → denies_first row t.rows (asked_in q) ≡ false) → first_denial (map TableRow (range_with_len k n) ++ rest) q t e v ≡ first_denial rest q t e v
 passed k zero rest q t e v none = refl
 passed k (suc n) rest q t e v none = rw (none k) (passed (k + 1) n rest q t e v none)
@@ -106,7 +106,7 @@ reached k (suc n) row rest q t e v low high each =
           rw (each k, ne_eqb row k differ) (reached (k + 1) n row rest q t e v (omega arith) (omega arith) each)
     ]
 
--- sections B and C, with the rule behind the rows in front of section C
+-- sections B and C, with the rule after the rows in front of section C
 in_front : (q : Query) (t : WrittenTable) (e : Epochs) (v : View) → first_denial (section_b (length t.rows) ++ section_c) q t e v ≡ first_denial (map TableRow (range_with_len 1 (length t.rows)) ++ NoRowMatches ∷ section_c) q t e v
 in_front q t e v = ap (λ (order : List Rule). first_denial order q t e v) (append_assoc (map TableRow (range_with_len 1 (length t.rows))) (NoRowMatches ∷ []) section_c)
 

@@ -25,7 +25,7 @@ abbrev pub section_c : List Rule
 section_c = AboveTheEnd ∷ HardenedAlready ∷ AboveTheWindow ∷ OtherContent ∷ NoSuchCopy ∷ BelowQuorum
     ∷ NoTable ∷ UnlistedPrimary ∷ LastEpoch ∷ []
 
--- the rules in their order, for a table of so many rows
+-- the rules in their order, for a table of this many rows
 abbrev pub written_order : ℕ → List Rule
 written_order rows = section_a ++ section_b rows ++ section_c
 
