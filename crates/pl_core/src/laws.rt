@@ -26,14 +26,14 @@ pub fn denials_change_nothing()
 /// epoch.
 pub fn logs_only_grow()
     // No entry takes a hardened block away, and a content stays to the end of its epoch.
-    ensures grows { LogsOnlyGrow }
+    ensures law { LogsOnlyGrow }
 {}
 
 /// A known principal's request of an older epoch is denied by row A2 with the present epoch: what it
 /// asks and what it would write make no difference.
 pub fn older_epochs_are_fenced()
     // A known principal's request of an older epoch is denied by row A2.
-    ensures fenced { OlderEpochsAreFenced }
+    ensures law { OlderEpochsAreFenced }
 {
     order_laws();
 }
@@ -56,7 +56,7 @@ pub fn reads_reach_as_rows_allow()
 /// No partition is applied above the hardened end, and no entry takes back what was applied.
 pub fn applied_lsns_only_rise()
     // No partition is applied above the hardened end, and no entry takes back what was applied.
-    ensures rises { AppliedLsnsOnlyRise }
+    ensures law { AppliedLsnsOnlyRise }
 {}
 
 /// Each page that is served is its database's hardened log, replayed to the answered LSN. That LSN is
@@ -64,7 +64,7 @@ pub fn applied_lsns_only_rise()
 pub fn pages_are_replays()
     // A served page is the hardened log replayed to the answered LSN, at least the one asked for
     // and at most the hardened end.
-    ensures replay { PagesAreReplays }
+    ensures law { PagesAreReplays }
 {
     order_laws();
 }
@@ -73,7 +73,7 @@ pub fn pages_are_replays()
 /// written, reported or failed over in between.
 pub fn gets_are_repeatable()
     // Two gets of a page answered at one LSN give the same bytes, whatever was entered in between.
-    ensures same { GetsAreRepeatable }
+    ensures law { GetsAreRepeatable }
 {
     order_laws();
     page_laws();
@@ -98,7 +98,7 @@ pub fn served_blocks_are_hardened()
 /// further.
 pub fn pulls_miss_nothing()
     // What was asked for below the LSN to go on from was served.
-    ensures complete { PullsMissNothing }
+    ensures law { PullsMissNothing }
 {
     order_laws();
 }
@@ -110,7 +110,7 @@ pub fn pulls_miss_nothing()
 pub fn pulls_join()
     // Two pulls in a row serve what one would up to the reach of the second, also of a log that has
     // grown in between, and by another table.
-    ensures same { HistoryPullsJoin }
+    ensures law { HistoryPullsJoin }
 {
     order_laws();
     pl_log::laws::pulls_join();
@@ -119,7 +119,7 @@ pub fn pulls_join()
 /// A legal history stays legal with a request in its ranges, and a reply that it may have.
 pub fn histories_stay_legal()
     // A request in range and a reply that it may get lead from a legal history to a legal one.
-    ensures legal { HistoriesStayLegal }
+    ensures law { HistoriesStayLegal }
 {}
 
 /// In a legal history no LSN more than 64 above the hardened ones is in a copy, so that the run

@@ -37,7 +37,7 @@ pub fn unknown_principals_come_first()
 /// reports the current epoch.
 pub fn older_epochs_are_denied()
     // A known principal's request of an older epoch is denied as A2, with the current epoch.
-    ensures older { OlderEpochIsDenied }
+    ensures law { OlderEpochIsDenied }
 {}
 
 /// Two views decide alike if they agree on what the rules look at for the request. For a request of
@@ -45,7 +45,7 @@ pub fn older_epochs_are_denied()
 pub fn views_decide_alike()
     // Views that agree on what the rules look at for the request give one verdict. For a request of
     // another epoch, all views do.
-    ensures same { ViewsDecideAlike }
+    ensures law { ViewsDecideAlike }
 {}
 
 /// A pull or a get that is allowed at one LSN is allowed at each LSN up to the hardened end at which the

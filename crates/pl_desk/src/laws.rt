@@ -25,5 +25,5 @@ pub fn meetings_bind_later_calls()
 /// All passes see one history: of two that meet, one had seen a beginning of what the other had seen.
 pub fn passes_that_meet_saw_one_history()
     // Of two passes that meet, one had seen a beginning of what the other had seen.
-    ensures history { PassesThatMeetSawOneHistory }
+    ensures law { PassesThatMeetSawOneHistory }
 {}

@@ -16,11 +16,11 @@ pub fn setting_is_a_first_match()
 /// What a text reads as keeps every rule of a table.
 pub fn texts_read_as_tables()
     // What a text reads as keeps each rule of a table (`IsTable`).
-    ensures table { TextsReadAsTables }
+    ensures law { TextsReadAsTables }
 {}
 
 /// Where the rows allow a request at an LSN, they allow it at each lower one.
 pub fn lower_lsns_are_allowed()
     // Rows that allow a request at an LSN allow it at each lower one.
-    ensures lower { LowerLsnsAreAllowed }
+    ensures law { LowerLsnsAreAllowed }
 {}

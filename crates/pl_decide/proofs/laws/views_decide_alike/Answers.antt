@@ -2,4 +2,4 @@ use Rattle.pl_decide.proofs.Views.{decide_alike}
 use Rattle.pl_decide.proofs.laws.views_decide_alike.Goals as goal
 
 pub returns : goal.returns
-returns c = record { same = decide_alike }
+returns c = record { law = decide_alike }

@@ -2,4 +2,4 @@ use Rattle.pl_desk.proofs.Binding.{calls_forget_nothing, meetings_forget_nothing
 use Rattle.pl_desk.proofs.laws.meetings_bind_later_calls.Goals as goal
 
 pub returns : goal.returns
-returns c = record { calls = calls_forget_nothing; meetings = meetings_forget_nothing; epochs = older_epochs_stay_fenced c.older_epochs_are_fenced.ensures.fenced; tables = tables_only_get_newer }
+returns c = record { calls = calls_forget_nothing; meetings = meetings_forget_nothing; epochs = older_epochs_stay_fenced c.older_epochs_are_fenced.ensures.law; tables = tables_only_get_newer }

@@ -2,4 +2,4 @@ use Rattle.pl_pages.proofs.Images.{images_are_whole}
 use Rattle.pl_pages.proofs.laws.images_are_whole.Goals as goal
 
 pub returns : goal.returns
-returns c = record { page = images_are_whole }
+returns c = record { law = images_are_whole }

@@ -2,4 +2,4 @@ use Rattle.pl_pages.proofs.Replays.{page_of_longer}
 use Rattle.pl_pages.proofs.laws.pages_stay.Goals as goal
 
 pub returns : goal.returns
-returns c = record { page = page_of_longer }
+returns c = record { law = page_of_longer }

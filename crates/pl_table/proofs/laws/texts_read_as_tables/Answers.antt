@@ -2,4 +2,4 @@ use Rattle.pl_table.proofs.Readings.{reads_as_table}
 use Rattle.pl_table.proofs.laws.texts_read_as_tables.Goals as goal
 
 pub returns : goal.returns
-returns c = record { table = reads_as_table }
+returns c = record { law = reads_as_table }
