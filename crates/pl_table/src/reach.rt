@@ -1,4 +1,4 @@
-//! How far rows allow a asking, and at which LSNs they find the same row for it.
+//! How far rows allow what is asked, and at which LSNs they find the same row for it.
 
 ghost use Rattle.std.specs.Prelude.{◌≡◌, ◌≤◌, ℕ, All, IsSome, true, nat_le};
 ghost use Rattle.pl_table.specs.Asking.{asked_at, asked_by};

@@ -196,14 +196,35 @@ impl Table {
         ensures exact { (lsn : ℕ) → lsn ≤ most →
             rows_allow self.now.rows (asked_at (asked_in request.now) lsn) ≡ nat_le lsn result }
     {
+        self.reach_of(&request.asking(), most)
+    }
+
+    /// How far the rows allow what is asked, as [`Table::reach`] finds it for a request.
+    pub fn reach_of(&self, asking: &Asking<'_>, most: u64) -> u64
+        // The rows allow what is asked.
+        requires allowed { rows_allow self.now.rows (asked_by asking.now) ≡ true }
+        // A number up to `most`.
+        ensures within { result ≤ most }
+        // Of the LSNs up to `most`, the rows allow what is asked at those up to this number, and at
+        // no other (`rows_allow`, `asked_at`).
+        ensures exact { (lsn : ℕ) → lsn ≤ most →
+            rows_allow self.now.rows (asked_at (asked_by asking.now) lsn) ≡ nat_le lsn result }
+    {
         if !self.has_ends {
             return most;
         }
-        let asking = request.asking();
         match asking.lsn {
-            Some(_) => self.index.reach_in(&self.rows, &asking, most),
+            Some(_) => self.index.reach_in(&self.rows, asking, most),
             None => most,
         }
+    }
+
+    /// Whether some row ends at an LSN.
+    pub fn has_ends(&self) -> bool
+        // Whether some row ends at an LSN (`any_ends`).
+        ensures value { result ≡ any_ends self.now.rows }
+    {
+        self.has_ends
     }
 
     /// A range of LSNs around that of the request, at each of which [`Table::first_match`] finds for it
