@@ -12,7 +12,8 @@ a small table of six rows for five principals; each with rows that end at LSNs, 
 - again: `Decider::decide` on the same request, whose verdict is cached where `kept` is 1;
 - along: `Decider::decide` on pulls at 20,000 LSNs that follow one another, as a reader asks who follows the end of the log,
   with what it costs to make them; the rows that end do so at each thousandth LSN;
-- reach: `Decider::reach`, where the rows allow the request and the hardened end is above the ends of all rows;
+- reach: `Decider::reach`, where the rows allow the request and the hardened end is above the ends of all rows, after a decision
+  on the request, by whose verdict it is told where that is cached;
 - near: the same with a hardened end below the ends of all rows.
 
 Prints nanoseconds of the processor, the median of the rounds, and ratios of times of one round: the median, and in brackets

@@ -1,5 +1,6 @@
 -- Cached verdicts: what a look-up and a put leave of them.
-use Rattle.std.proofs.Common.{◌≡◌, ◌⊎◌, List, [], ◌∷◌, Contains, All, sym, ap, subst, ◌∙◌, inl, inr}
+use Rattle.std.proofs.Common.{◌≡◌, ℕ, ◌⊎◌, List, [], ◌∷◌, Some, Contains, All, sym, ap, subst, ◌∙◌, inl, inr}
+use Rattle.std.specs.Prelude.{IfSome}
 use Rattle.std.proofs.lemmas.List.Elements.{All-contains, All-contains_itself, All-nil, All-cons, Contains-append_right}
 use Rattle.lru.specs.LruCache.{LruCache}
 use Rattle.pl_table.specs.declared.row.Row.{Row}
@@ -10,7 +11,8 @@ use Rattle.pl_table.specs.Reach.{IsAtOne}
 use Rattle.pl_decide.specs.declared.key.VerdictKey.{VerdictKey}
 use Rattle.pl_decide.specs.declared.row_verdict.RowVerdict.{RowVerdict}
 use Rattle.pl_decide.specs.Keys.{CachedVerdict, IsKeyOf}
-use Rattle.pl_decide.specs.Agreement.{most_cached, IsOfRows, IsSpan, AgreesWith, IsCache}
+use Rattle.pl_decide.specs.Agreement.{most_cached, IsAllowedThrough, IsOfRows, IsSpan, AgreesWith, IsCache}
+use Rattle.pl_decide.proofs.AllowedThrough.{own_through}
 
 abbrev pub Cache : Type 0
 Cache = LruCache VerdictKey RowVerdict
@@ -45,8 +47,13 @@ cache-stays was now stays cap cache = record {
 
 -- what is found is the verdict of the rows
 pub found-is : (verdicts : List CachedVerdict) (t : WrittenTable) (a : Asked) (key : VerdictKey) (verdict : RowVerdict) → AgreesWith verdicts t → IsKeyOf key a → IsAtOne verdict.lsns a.lsn → Contains verdicts (key, verdict) → verdict.found ≡ first_match_from 1 t.rows a
-unfolding AgreesWith IsOfRows
-found-is verdicts t a key verdict agrees is at there = sym (All-contains (IsOfRows t.rows) verdicts (key, verdict) agrees there a.lsn at) ∙ ap (first_match_from 1 t.rows) is
+unfolding AgreesWith
+found-is verdicts t a key verdict agrees is at there = sym ((All-contains (IsOfRows t.rows) verdicts (key, verdict) agrees there).found a.lsn at) ∙ ap (first_match_from 1 t.rows) is
+
+-- so is how far they allow what is asked
+pub end-is : (verdicts : List CachedVerdict) (t : WrittenTable) (a : Asked) (own : ℕ) (key : VerdictKey) (verdict : RowVerdict) → AgreesWith verdicts t → IsKeyOf key a → a.lsn ≡ Some own → Contains verdicts (key, verdict) → IfSome verdict.allowed_through (IsAllowedThrough t.rows a)
+unfolding AgreesWith
+end-is verdicts t a own key verdict agrees is some there = own_through t.rows a own key verdict.allowed_through is some (All-contains (IsOfRows t.rows) verdicts (key, verdict) agrees there).end
 
 -- ---- a put: each verdict was there, or is the new one
 

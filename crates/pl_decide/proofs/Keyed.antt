@@ -11,7 +11,7 @@ use Rattle.pl_table.specs.Reach.{IsAtOne, AreAlike}
 use Rattle.pl_table.specs.FirstMatch.{first_match_from}
 use Rattle.pl_decide.specs.declared.key.VerdictKey.{VerdictKey}
 use Rattle.pl_decide.specs.Keys.{CachedVerdict, IsKeyOf, asked_with}
-use Rattle.pl_decide.specs.Agreement.{IsOfRows, IsSpan}
+use Rattle.pl_decide.specs.Agreement.{IsAllowedThrough, IsFoundAt, IsOfRows, IsSpan}
 use Rattle.pl_decide.specs.Laws.{OneKeyIsMatchedAlike, OneKeyOneVerdict}
 use Rattle.pl_decide.proofs.Rows.{first_match-within}
 
@@ -25,9 +25,9 @@ one-verdict key a b of_a of_b lsn rows = ap (first_match_from 1 rows) (sym of_a 
 abbrev pub first_with : List Row → VerdictKey → Option ℕ → Option (ℕ × Bool)
 first_with rows key lsn = first_match_from 1 rows (asked_with key lsn)
 
--- what is found, under the key at the LSNs
-abbrev pub under : VerdictKey → Option LsnRange → Option (ℕ × Bool) → CachedVerdict
-under key lsns found = (key, record { found = found; lsns = lsns })
+-- what is found, under the key at the LSNs, and how far the rows allow
+abbrev pub under : VerdictKey → Option LsnRange → Option (ℕ × Bool) → Option ℕ → CachedVerdict
+under key lsns found through = (key, record { found = found; lsns = lsns; allowed_through = through })
 
 -- ---- LSNs of a range, or none
 
@@ -39,23 +39,25 @@ named : (range : LsnRange) (lsn : Option ℕ) → IsAtOne (Some range) lsn → (
 named range None at = absurd at
 named range (Some own) at = (own, refl, at.0, at.1)
 
-pub span-at : (key : VerdictKey) (found : Option (ℕ × Bool)) (lsns : Option LsnRange) (lsn : Option ℕ) → IsAtOne lsns lsn → IsSpan (under key lsns found)
+pub span-at : (key : VerdictKey) (found : Option (ℕ × Bool)) (lsns : Option LsnRange) (through lsn : Option ℕ) → IsAtOne lsns lsn → IsSpan (under key lsns found through)
 unfolding IsSpan
-span-at key found None lsn at = tt
-span-at key found (Some range) lsn at = let own = named range lsn at in omega (arith, own.2, own.3)
+span-at key found None through lsn at = tt
+span-at key found (Some range) through lsn at = let own = named range lsn at in omega (arith, own.2, own.3)
 
 -- what is found for one that asks is found with its key at all LSNs at which it finds the same
-pub of-rows : (rows : List Row) (a : Asked) (key : VerdictKey) (found : Option (ℕ × Bool)) (lsns : Option LsnRange) → IsKeyOf key a → found ≡ first_match_from 1 rows a → IsAtOne lsns a.lsn → IfSome lsns (AreAlike rows a) → IsOfRows rows (under key lsns found)
-unfolding IsOfRows
-of-rows rows a key found None is value own alike lsn at =
+found-of : (rows : List Row) (a : Asked) (key : VerdictKey) (found : Option (ℕ × Bool)) (lsns : Option LsnRange) → IsKeyOf key a → found ≡ first_match_from 1 rows a → IsAtOne lsns a.lsn → IfSome lsns (AreAlike rows a) → (lsn : Option ℕ) → IsAtOne lsns lsn → first_with rows key lsn ≡ found
+found-of rows a key found None is value own alike lsn at =
     ap (first_with rows key) (unnamed lsn at ∙ sym (unnamed a.lsn own)) ∙ ap (first_match_from 1 rows) is ∙ sym value
-of-rows rows a key found (Some range) is value own alike lsn at =
+found-of rows a key found (Some range) is value own alike lsn at =
     let it = named range lsn at in
     let here = named range a.lsn own in
     ap (first_with rows key) (it.1 ∙ sym (ap (option_map (λ o. it.0)) here.1))
     ∙ ap (λ (b : Asked). first_match_from 1 rows (asked_at b it.0)) is
     ∙ alike it.0 it.2 it.3
     ∙ sym value
+
+pub of-rows : (rows : List Row) (a : Asked) (key : VerdictKey) (found : Option (ℕ × Bool)) (lsns : Option LsnRange) (through : Option ℕ) → IsKeyOf key a → found ≡ first_match_from 1 rows a → IsAtOne lsns a.lsn → IfSome lsns (AreAlike rows a) → IfSome through (IsAllowedThrough rows (asked_with key (Some 0))) → IsOfRows rows (under key lsns found through)
+of-rows rows a key found lsns through is value own alike end = record { found = found-of rows a key found lsns is value own alike; end = end }
 
 -- ---- between two LSNs
 
@@ -89,10 +91,10 @@ first_between k (row ∷ rows) key low n high above below same =
     step k row.allows (row_matches row (at low)) (row_matches row (at n)) (row_matches row (at high)) (first_match_from (k + 1) rows (at low)) (first_match_from (k + 1) rows (at n)) (first_match_from (k + 1) rows (at high)) here (first_between (k + 1) rows key low n high above below) (apart k row.allows rows (at low)) (apart k row.allows rows (at high)) same
 
 -- a verdict is that of the rows at all its LSNs where it is at the first and at the last of them
-pub at-ends : (rows : List Row) (key : VerdictKey) (lsns : Option LsnRange) (found : Option (ℕ × Bool)) → IsSpan (under key lsns found) → IsOfRows rows (under key lsns found) ↔ (first_with rows key (option_map (λ l. l.from) lsns) ≡ found) × (first_with rows key (option_map (λ l. l.to) lsns) ≡ found)
-unfolding IsOfRows IsSpan
-at-ends rows key None found span = (λ of. (of None tt, of None tt), λ both lsn at. ap (first_with rows key) (unnamed lsn at) ∙ both.0)
-at-ends rows key (Some range) found span = (
+pub at-ends : (rows : List Row) (key : VerdictKey) (lsns : Option LsnRange) (found : Option (ℕ × Bool)) (through : Option ℕ) → IsSpan (under key lsns found through) → IsFoundAt rows (under key lsns found through) ↔ (first_with rows key (option_map (λ l. l.from) lsns) ≡ found) × (first_with rows key (option_map (λ l. l.to) lsns) ≡ found)
+unfolding IsSpan
+at-ends rows key None found through span = (λ of. (of None tt, of None tt), λ both lsn at. ap (first_with rows key) (unnamed lsn at) ∙ both.0)
+at-ends rows key (Some range) found through span = (
   λ of. (of (Some range.from) (omega arith, span), of (Some range.to) (span, omega arith)),
   λ both lsn at.
       let it = named range lsn at in

@@ -1,14 +1,15 @@
 //! Verdicts of the rows of a table, by their keys.
 
-ghost use Rattle.std.specs.Prelude.{◌≡◌, ◌⊎◌, ◌↔◌, All, Contains, IfSome, IsTrue, option_map};
-ghost use Rattle.pl_table.specs.FirstMatch.{first_match_from};
+ghost use Rattle.std.specs.Prelude.{◌≡◌, ◌⊎◌, ◌↔◌, All, Contains, IfSome, IsTrue, Some, option_map};
+ghost use Rattle.pl_table.specs.Asking.{asked_by};
+ghost use Rattle.pl_table.specs.FirstMatch.{first_match_from, rows_allow};
 ghost use Rattle.pl_decide.specs.Keys.{asked_with, CachedVerdict};
-ghost use Rattle.pl_decide.specs.Agreement.{IsOfRows, IsSpan};
+ghost use Rattle.pl_decide.specs.Agreement.{IsAllowedThrough, IsFoundAt, IsOfRows, IsSpan};
 
 use crate::key::VerdictKey;
 use crate::row_verdict::{Found, RowVerdict};
 use lru::LruCache;
-use pl_table::{LsnRange, Table};
+use pl_table::{Asking, LsnRange, Table};
 
 // What is cached under the key, which becomes the one that was used last.
 pub(crate) fn find(
@@ -24,6 +25,19 @@ pub(crate) fn find(
         return None;
     }
     verdicts.get(&key).copied()
+}
+
+// What is cached under the key. No other becomes the one that was used last.
+pub(crate) fn look_at(
+    verdicts: &LruCache<VerdictKey, RowVerdict>,
+    key: VerdictKey,
+) -> Option<RowVerdict>
+    ensures found { IfSome result (λ verdict. Contains verdicts.now.entries (key, verdict)) }
+{
+    if verdicts.is_empty() {
+        return None;
+    }
+    verdicts.peek(&key).copied()
 }
 
 // Caches the verdict under the key, in the place of one that is there. Where there is no memory for it,
@@ -53,11 +67,19 @@ pub(crate) fn are_of_rows(verdicts: &LruCache<VerdictKey, RowVerdict>, table: &T
     true
 }
 
-// Whether the rows give this verdict at each of its LSNs, which is so where they do at the first and at
-// the last of them.
+// Whether the rows give this verdict, and allow as far as it says.
 fn is_of_rows(key: VerdictKey, verdict: RowVerdict, table: &Table) -> bool
     requires span { IsSpan (key, verdict) }
     ensures exact { IsTrue result ↔ IsOfRows table.now.rows (key, verdict) }
+{
+    is_found_at(key, verdict, table) && has_end(table, key, verdict.allowed_through)
+}
+
+// Whether the rows give this verdict at each of its LSNs, which is so where they do at the first and at
+// the last of them.
+fn is_found_at(key: VerdictKey, verdict: RowVerdict, table: &Table) -> bool
+    requires span { IsSpan (key, verdict) }
+    ensures exact { IsTrue result ↔ IsFoundAt table.now.rows (key, verdict) }
 {
     let (first, last) = ends(verdict.lsns);
     finds(table, key, first, verdict.found) && finds(table, key, last, verdict.found)
@@ -79,4 +101,31 @@ fn finds(table: &Table, key: VerdictKey, lsn: Option<u64>, found: Found) -> bool
     ensures exact { IsTrue result ↔ (first_match_from 1 table.now.rows (asked_with key lsn) ≡ found) }
 {
     table.first_match_of(&key.asking(lsn)) == found
+}
+
+// Whether the rows allow what is asked with the key as far as this, if it is given.
+fn has_end(table: &Table, key: VerdictKey, end: Option<u64>) -> bool
+    ensures exact { IsTrue result ↔
+        IfSome end (IsAllowedThrough table.now.rows (asked_with key (Some 0))) }
+{
+    match end {
+        Some(end) => allows_through(table, key, end),
+        None => true,
+    }
+}
+
+// Whether the rows allow what is asked with the key up to this LSN, and not above it.
+fn allows_through(table: &Table, key: VerdictKey, end: u64) -> bool
+    ensures exact { IsTrue result ↔
+        IsAllowedThrough table.now.rows (asked_with key (Some 0)) end }
+{
+    let asking = key.asking(Some(0));
+    allows(table, &asking) && table.reach_of(&asking, u64::MAX) == end
+}
+
+// Whether the rows allow what is asked.
+fn allows(table: &Table, asking: &Asking<'_>) -> bool
+    ensures value { result ≡ rows_allow table.now.rows (asked_by asking.now) }
+{
+    matches!(table.first_match_of(asking), Some((_, true)))
 }

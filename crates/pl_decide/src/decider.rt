@@ -9,12 +9,13 @@ ghost use Rattle.pl_table.specs.FirstMatch.{first_match_from, rows_allow};
 ghost use Rattle.pl_decide.specs.Asked.{is_known};
 ghost use Rattle.pl_decide.specs.WrittenOrder.{decision, section_b, section_c, order_of, first_denial, NoneStands, IsFirstDenial};
 ghost use Rattle.pl_decide.specs.Keys.{IsKeyOf};
-ghost use Rattle.pl_decide.specs.Agreement.{AgreesWith, most_cached};
+ghost use Rattle.pl_decide.specs.Agreement.{AgreesWith, IsAllowedThrough, most_cached};
 
-use crate::cache::{are_of_rows, find, keep};
+use crate::cache::{are_of_rows, find, keep, look_at};
 use crate::key::VerdictKey;
 use crate::row_verdict::{Found, RowVerdict};
 use crate::rule::Rule;
+use crate::through::{ends, lsn_read, verdict_of};
 use crate::view::{Epochs, View};
 use lru::LruCache;
 use pl_block::WINDOW;
@@ -38,13 +39,15 @@ pub fn known(table: &Table, head: &Head) -> bool
 /// The most verdicts that a decider keeps.
 const MOST_CACHED: usize = 1024;
 
-// What was found among so many rows is not cached: to look it up costs as much.
+// The verdict of a row that is found among as few is not cached: to look it up costs as much as some 8
+// rows, and to cache it costs more.
 const FEW_ROWS: usize = 16;
 
 /// Decides on requests, one after the other. What was asked before makes no difference.
 ///
 /// It keeps what the rows of the table said of up to 1,024 keys, those used last, where many rows were
-/// looked at or none matched, and of each key at which LSNs they say so.
+/// looked at or none matched, and of each key at which LSNs they say so; and of a get or a pull that they
+/// allow, how far.
 #[derive(Debug, Drop)]
 pub struct Decider {
     verdicts: LruCache<VerdictKey, RowVerdict>,
@@ -99,12 +102,12 @@ impl Decider {
         self.verdicts.len()
     }
 
-    /// Whether each cached verdict is that of the table's rows, for all requests of its key at its LSNs.
-    /// The rows that can match are looked at, for the first and for the last of these LSNs. Nothing is
-    /// allocated.
+    /// Whether each cached verdict is that of the table's rows, for all requests of its key at its LSNs, and
+    /// ends where they do. The rows that can match are looked at, for the first and for the last of these
+    /// LSNs, and for the end. Nothing is allocated.
     pub fn agrees_with(&self, table: &Table) -> bool
         // Whether each cached verdict is that of the table's rows, whatever is asked with its key at
-        // its LSNs (`AgreesWith`).
+        // its LSNs, and how far they allow that (`AgreesWith`).
         ensures exact { IsTrue result ↔ AgreesWith self.now table.now }
     {
         are_of_rows(&self.verdicts, table)
@@ -175,10 +178,13 @@ impl Decider {
     /// of an allowed one: the greatest LSN up to `hard` at which they do. A request that names no LSN they
     /// allow at each.
     ///
-    /// The rows that can match are looked at once. Nothing is allocated.
+    /// Where that is cached no row is looked at, else those that can match are, once. Nothing is allocated,
+    /// and what is cached stays as it is.
     ///
     /// [`decide`]: Decider::decide
     pub fn reach(&self, table: &Table, hard: u64, request: &Request) -> u64
+        // The decider agrees with the table (`AgreesWith`).
+        requires agrees { AgreesWith self.now table.now }
         // The rows allow the request, as `Table::first_match` tells.
         requires allowed { rows_allow table.now.rows (asked_in request.now) ≡ true }
         // An LSN up to `hard`.
@@ -188,19 +194,38 @@ impl Decider {
         ensures exact { (lsn : ℕ) → lsn ≤ hard →
             rows_allow table.now.rows (asked_at (asked_in request.now) lsn) ≡ nat_le lsn result }
     {
-        table.reach(request, hard)
+        match self.allowed_through(table, request) {
+            Some(end) => end.min(hard),
+            None => table.reach(request, hard),
+        }
     }
 
     /// Whether the rows of the table allow at this LSN a request that they allow at its own.
     ///
-    /// The rows that can match are looked at once. Nothing is allocated.
+    /// Rows are looked at as by [`reach`](Decider::reach).
     pub fn allows_at(&self, table: &Table, request: &Request, lsn: u64) -> bool
+        // The decider agrees with the table (`AgreesWith`).
+        requires agrees { AgreesWith self.now table.now }
         // The rows allow the request, as `Table::first_match` tells.
         requires allowed { rows_allow table.now.rows (asked_in request.now) ≡ true }
         // Whether the rows allow the request at this LSN.
         ensures value { result ≡ rows_allow table.now.rows (asked_at (asked_in request.now) lsn) }
     {
-        lsn <= table.reach(request, lsn)
+        lsn <= self.reach(table, lsn, request)
+    }
+
+    // How far the rows allow a get or a pull, where that is cached. It is for no key of which few rows can
+    // match, and of no use where no row ends.
+    fn allowed_through(&self, table: &Table, request: &Request) -> Option<u64>
+        requires agrees { AgreesWith self.now table.now }
+        ensures exact { IfSome result (IsAllowedThrough table.now.rows (asked_in request.now)) }
+    {
+        lsn_read(request.act())?;
+        if !table.has_ends() || table.candidates(request) <= FEW_ROWS {
+            return None;
+        }
+        let key = VerdictKey::of(&request.asking())?;
+        look_at(&self.verdicts, key)?.allowed_through
     }
 
     // The verdict on a known principal's request.
@@ -270,15 +295,20 @@ impl Decider {
         ensures agrees { AgreesWith self.new table.now }
     {
         let lsns = table.lsns_alike(request);
-        keep(&mut self.verdicts, key, RowVerdict { found, lsns });
+        let verdict = verdict_of(table, request, key, found, lsns);
+        keep(&mut self.verdicts, key, verdict);
     }
 }
 
-// Whether it is to be cached: where no row matches, and where the one that does stands behind many of
-// the rows that can.
+// Whether it is to be cached: where no row matches, and, if many rows can, where the one that does comes
+// after many rows or where it ends and allows a get or a pull, whose reach has to look at those after it.
 fn is_far(table: &Table, request: &Request, found: Found) -> bool {
     match found {
-        Some((row, _)) => usize::from(row) > FEW_ROWS && table.candidates(request) > FEW_ROWS,
+        Some((row, allows)) => {
+            let walks = usize::from(row) > FEW_ROWS
+                || (allows && lsn_read(request.act()).is_some() && ends(table, row));
+            walks && table.candidates(request) > FEW_ROWS
+        }
         None => true,
     }
 }

@@ -12,6 +12,7 @@ mod key;
 pub mod laws;
 mod row_verdict;
 mod rule;
+mod through;
 mod view;
 
 pub use decider::{Decider, known};

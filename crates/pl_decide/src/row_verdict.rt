@@ -15,6 +15,9 @@ pub struct RowVerdict {
     pub found: Option<(u16, bool)>,
     /// The LSNs of the requests of which this holds, or `None` where they name no LSN.
     pub lsns: Option<LsnRange>,
+    /// The greatest LSN at which the rows allow a request with the key, whatever `lsns` are: they allow it
+    /// at each up to this one, and at none above it. Kept for a get or a pull that they allow.
+    pub allowed_through: Option<u64>,
 }
 
 impl RowVerdict {

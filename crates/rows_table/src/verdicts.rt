@@ -2,6 +2,7 @@
 //! pulls is played once more, from its beginning, where an allocation was refused.
 
 mod ends;
+mod reaches;
 
 use pl_core::{Db, Limits, Reply};
 use pl_decide::{Decider, Epochs, View};
@@ -375,6 +376,16 @@ fn asked_on_both_sides_of_an_end(rt: HostRuntime) -> Result<(), Fail> {
     let wrong = match ends::wrong_of_tables_of_ends(rt.alloc()) {
         Ok(wrong) => wrong,
         Err(_) => ends::wrong_of_tables_of_ends(rt.alloc())?,
+    };
+    assert_eq!(rt; wrong, None);
+    Ok(())
+}
+
+#[test]
+fn reaches_by_cached_verdicts(rt: HostRuntime) -> Result<(), Fail> {
+    let wrong = match reaches::wrong_of_reaches(rt.alloc()) {
+        Ok(wrong) => wrong,
+        Err(_) => reaches::wrong_of_reaches(rt.alloc())?,
     };
     assert_eq!(rt; wrong, None);
     Ok(())

@@ -29,7 +29,7 @@ to = 9
 
 /// Row 19 allows pulls of partition 0 up to LSN 2. Row 20 denies those of partition 1 above LSN 3, and
 /// row 21 allows the others of them.
-const ROWS_THAT_END: &str = r#"[[row]]
+pub(crate) const ROWS_THAT_END: &str = r#"[[row]]
 verdict = "allow"
 who = 3
 op = ["pull"]
@@ -109,19 +109,25 @@ const ON_ONE_SIDE: [(u16, u64, Verdict); 4] = [
     (1, 1, Verdict::Allowed),
 ];
 
-// The table of these rows after 17 others of principal 3.
-fn table_of_ends(alloc: Global, rows: &str) -> Result<Table, AllocError> {
+// The table of the first of these rows, 17 others of principal 3, and the last.
+pub(crate) fn table_around(alloc: Global, first: &str, last: &str) -> Result<Table, AllocError> {
     let mut text = String::new(alloc);
     text.push_str(TWO_PRINCIPALS)?;
+    text.push_str(first)?;
     for _ in 0..17 {
         text.push_str(ROW_BEFORE)?;
     }
-    text.push_str(rows)?;
+    text.push_str(last)?;
     table_of(alloc, &text)
 }
 
-// What is decided on the pull of the partition from the LSN on, by principal 3.
-fn decided_at(decider: &mut Decider, table: &Table, partition: u16, lsn: u64) -> Option<Verdict> {
+// The table of these rows after 17 others of principal 3.
+fn table_of_ends(alloc: Global, rows: &str) -> Result<Table, AllocError> {
+    table_around(alloc, "", rows)
+}
+
+// The pull of the partition from the LSN on, by principal 3.
+pub(crate) fn pull_at(partition: u16, lsn: u64) -> Option<Request> {
     let head = head_of(3, 0x33, Role::PageServer);
     let act = Act::Pull {
         lo: partition,
@@ -129,7 +135,17 @@ fn decided_at(decider: &mut Decider, table: &Table, partition: u16, lsn: u64) ->
         lsn,
         max: 16,
     };
-    let request = Request::new(head, act)?;
+    Request::new(head, act)
+}
+
+// What is decided on that pull.
+pub(crate) fn decided_at(
+    decider: &mut Decider,
+    table: &Table,
+    partition: u16,
+    lsn: u64,
+) -> Option<Verdict> {
+    let request = pull_at(partition, lsn)?;
     if decider.agrees_with(table) {
         Some(decider.decide(table, &EPOCHS, &EIGHT_BLOCKS, &request))
     } else {

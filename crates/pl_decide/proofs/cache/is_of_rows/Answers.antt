@@ -1,16 +1,8 @@
 use Rattle.std.proofs.Common.{◌≡◌, true, false, sym, ◌∙◌}
-use Rattle.pl_decide.proofs.Keyed.{at-ends}
 use Rattle.pl_decide.proofs.cache.is_of_rows.Goals as goal
 
-pub returns-then-finds : goal.returns-then-finds
-returns-then-finds c =
-    let both = at-ends c.args.table.now.rows c.args.key c.args.verdict.lsns c.args.verdict.found c.requires.span in
-    let first = rw c.ends-first.ensures.first at c.finds.ensures.exact in
-    let last = rw c.ends-first.ensures.last at c.finds-then-finds.ensures.exact in
-    record { exact = (λ yes. both.1 (first.0 c.if-finds.true, last.0 yes), λ of. last.1 (both.0 of).1) }
+pub returns-then-is_found_at : goal.returns-then-is_found_at
+returns-then-is_found_at c = record { exact = (λ yes. record { found = c.is_found_at.ensures.exact.0 c.if-is_found_at.true; end = c.has_end.ensures.exact.0 yes }, λ of. c.has_end.ensures.exact.1 of.end) }
 
-pub returns-else-finds : goal.returns-else-finds
-returns-else-finds c =
-    let both = at-ends c.args.table.now.rows c.args.key c.args.verdict.lsns c.args.verdict.found c.requires.span in
-    let first = rw c.ends-first.ensures.first at c.finds.ensures.exact in
-    record { exact = (λ yes. absurd (let clash : true ≡ false = sym yes ∙ c.if-finds.false in cc), λ of. first.1 (both.0 of).0) }
+pub returns-else-is_found_at : goal.returns-else-is_found_at
+returns-else-is_found_at c = record { exact = (λ yes. absurd (let clash : true ≡ false = sym yes ∙ c.if-is_found_at.false in cc), λ of. c.is_found_at.ensures.exact.1 of.found) }
