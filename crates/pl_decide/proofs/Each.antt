@@ -36,7 +36,7 @@ in_a t rule there = Contains-append_left (section_a ++ section_b (length t.rows)
 in_c : (t : WrittenTable) (rule : Rule) → Contains section_c rule → Contains (order_of t) rule
 in_c t rule there = Contains-append_right (section_a ++ section_b (length t.rows)) section_c rule there
 
--- after rules that do not stand against it, an allowed request is still allowed
+-- an allowed request is allowed by the rules that follow those that do not deny it
 past : (order rest : List Rule) (q : Query) (t : WrittenTable) (e : Epochs) (v : View) → first_denial (order ++ rest) q t e v ≡ verdicts.Allowed → first_denial rest q t e v ≡ verdicts.Allowed
 past [] rest q t e v h = h
 past (rule ∷ order) rest q t e v h = past order rest q t e v (passes rule (order ++ rest) q t e v h).1
@@ -55,13 +55,13 @@ allowing None h row = absurd cc
 allowing (Some (number, true)) h row = (and_right (eqb number row) false refl, refl)
 allowing (Some (number, false)) h row = absurd cc
 
--- where the rows allow, none of them stands against the request, and one matches
+-- where the rows allow, none of them denies the request, and one matches
 pub rows-pass : (q : Query) (t : WrittenTable) (e : Epochs) (v : View) → rows_allow t.rows (asked_in q) ≡ true → (row : ℕ) → (stands_against (rules.TableRow row) q t e v ≡ false) × (stands_against rules.NoRowMatches q t e v ≡ false)
 rows-pass q t e v allow row =
     let passed = allowing (first_match_from 1 t.rows (asked_in q)) allow row in
     (denies_first-is row t.rows (asked_in q) ∙ passed.0, none_matches-is 1 t.rows (asked_in q) ∙ passed.1)
 
--- no rule stands against what is allowed
+-- no rule denies what is allowed
 stands_not : (rule : Rule) (q : Query) (t : WrittenTable) (e : Epochs) (v : View) → decision q t e v ≡ verdicts.Allowed → stands_against rule q t e v ≡ false
 stands_not rules.UnknownPrincipal q t e v h = member (order_of t) rules.UnknownPrincipal q t e v ((allowed_exactly (order_of t) q t e v).0 h) (in_a t rules.UnknownPrincipal (0, omega arith, refl))
 stands_not rules.OlderEpoch q t e v h = member (order_of t) rules.OlderEpoch q t e v ((allowed_exactly (order_of t) q t e v).0 h) (in_a t rules.OlderEpoch (1, omega arith, refl))

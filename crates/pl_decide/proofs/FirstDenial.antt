@@ -1,4 +1,4 @@
--- Any order of rules: the first that stands denies, and where none stands the request is allowed.
+-- Any order of rules: the first that denies the request decides, and where none does the request is allowed.
 use Rattle.std.proofs.Common.{◌≡◌, ◌≢◌, Bool, true, false, cond, List, [], ◌∷◌, ◌++◌, refl, sym, ap, ◌∙◌, inl, inr}
 use Rattle.std.specs.Prelude.{◌↔◌}
 use Rattle.std.proofs.lemmas.Bool.{cases_Bool}
@@ -30,7 +30,7 @@ none_stands (rule ∷ order) q t e v h =
     let passed = passes rule order q t e v h in
     All-cons (λ (r : Rule). stands_against r q t e v ≡ false) rule order passed.0 (none_stands order q t e v passed.1)
 
--- rules that do not stand against the request are skipped
+-- rules that do not deny are skipped
 pub passed_over : (order rest : List Rule) (q : Query) (t : WrittenTable) (e : Epochs) (v : View) → NoneStands order q t e v → first_denial (order ++ rest) q t e v ≡ first_denial rest q t e v
 passed_over [] rest q t e v none = refl
 passed_over (rule ∷ order) rest q t e v none =

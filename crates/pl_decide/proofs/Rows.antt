@@ -1,5 +1,5 @@
--- The rows of the table in the written order: none stands against a request but the first that
--- matches, if it denies.
+-- The rows of the table in the written order: none denies a request but the first that matches, if
+-- it denies.
 use Rattle.std.proofs.Common.{◌≡◌, ℕ, zero, suc, ◌+◌, ◌-◌, ◌<◌, ◌≤◌, Bool, true, false, not, ◌&&◌, eqb, List, [], ◌∷◌, ◌++◌, length, map, take, Option, Some, None, refl, sym, ap, ◌∙◌, inl, inr, arith}
 use Rattle.std.specs.Prelude.{slice_get}
 use Rattle.std.specs.List.{range_with_len}
@@ -72,7 +72,7 @@ found_at k (suc i) number (row ∷ rows) a is =
       | inr fails ↦ rw fails (found_at (k + 1) i number rows a (omega arith))
     ]
 
--- a row of the written order stands where it is the first match, and denies
+-- the rule of a row denies where the row is the first match, and denies
 pub denies_first-is : (number : ℕ) (rows : List Row) (a : Asked) → denies_first number rows a ≡ denies_at number (first_match_from 1 rows a)
 denies_first-is zero rows a = sym (none_above 1 0 rows a (omega arith))
 denies_first-is (suc n) rows a =
@@ -106,7 +106,7 @@ reached k (suc n) row rest q t e v low high each =
           rw (each k, ne_eqb row k differ) (reached (k + 1) n row rest q t e v (omega arith) (omega arith) each)
     ]
 
--- sections B and C, with the rule after the rows in front of section C
+-- sections B and C, with the rule after the rows at the head of section C
 in_front : (q : Query) (t : WrittenTable) (e : Epochs) (v : View) → first_denial (section_b (length t.rows) ++ section_c) q t e v ≡ first_denial (map TableRow (range_with_len 1 (length t.rows)) ++ NoRowMatches ∷ section_c) q t e v
 in_front q t e v = ap (λ (order : List Rule). first_denial order q t e v) (append_assoc (map TableRow (range_with_len 1 (length t.rows))) (NoRowMatches ∷ []) section_c)
 

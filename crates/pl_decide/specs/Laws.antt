@@ -37,18 +37,18 @@ OneKeyOneVerdict = (key : VerdictKey) (a b : Asked) → IsKeyOf key a → IsKeyO
     → a.lsn ≡ b.lsn
     → (rows : List Row) → first_match_from 1 rows a ≡ first_match_from 1 rows b
 
--- a request is allowed exactly where no rule of the order stands against it, whatever the order
+-- a request is allowed exactly where no rule of the order denies it, whatever the order
 abbrev pub AllowedExactly : Type 0
 AllowedExactly = (order : List Rule) (q : Query) (t : WrittenTable) (e : Epochs) (v : View)
     → (first_denial order q t e v ≡ verdicts.Allowed) ↔ NoneStands order q t e v
 
--- and where it is not, the verdict is the denial of the first rule that stands
+-- and where it is not, the verdict is the denial of the first rule that denies it
 abbrev pub DeniedByTheFirst : Type 0
 DeniedByTheFirst = (order : List Rule) (q : Query) (t : WrittenTable) (e : Epochs) (v : View)
     → first_denial order q t e v ≢ verdicts.Allowed
     → IsFirstDenial (first_denial order q t e v) order q t e v
 
--- none of all rules stands against an allowed request
+-- none of all rules denies an allowed request
 abbrev pub AllowedMeetsNoRule : Type 0
 AllowedMeetsNoRule = (q : Query) (t : WrittenTable) (e : Epochs) (v : View)
     → decision q t e v ≡ verdicts.Allowed → (rule : Rule) → stands_against rule q t e v ≡ false

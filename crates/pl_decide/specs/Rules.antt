@@ -1,4 +1,4 @@
--- The rules of the written order: what each stands against, where it is found, and what its denial
+-- The rules of the written order: what each denies, where it is found, and what its denial
 -- reports. What the rules of section C look at is given as a view of the log.
 use Rattle.std.specs.Prelude.{ℕ, ◌+◌, Bool, not, ◌&&◌, ◌==◌, nat_lt, nat_le, is_some, is_none, is_ok}
 use Rattle.std.specs.Option.{option_map_or}
@@ -22,7 +22,7 @@ use Rattle.pl_table.specs.Acts.{number_of, block_of}
 use Rattle.pl_table.specs.Asking.{asked_in}
 use Rattle.pl_decide.specs.Asked.{is_some_and, is_known, none_matches, denies_first, reads_the_log, copy_of, primary_named, text_in_act, fault_code, last_epoch}
 
--- a rule stands against a request
+-- a rule denies a request
 abbrev pub stands_against : Rule → Query → WrittenTable → Epochs → View → Bool
 stands_against rules.UnknownPrincipal q t e v = not (is_known t q.head)
 stands_against rules.OlderEpoch q t e v = nat_lt q.head.epoch e.epoch

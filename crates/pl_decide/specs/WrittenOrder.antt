@@ -1,5 +1,5 @@
--- The written order, and the decision: the first rule of the order that stands against a request
--- denies it.
+-- The written order, and the decision: the denial of the first rule of the order that denies a
+-- request.
 use Rattle.std.specs.Prelude.{◌≡◌, ℕ, false, true, List, [], ◌∷◌, ◌++◌, length, map, All, if◌then◌else◌}
 use Rattle.std.specs.List.{range_with_len}
 use Rattle.pl_table.specs.declared.verdict.Verdict.{Verdict}
@@ -25,7 +25,7 @@ abbrev pub section_c : List Rule
 section_c = AboveTheEnd ∷ HardenedAlready ∷ AboveTheWindow ∷ OtherContent ∷ NoSuchCopy ∷ BelowQuorum
     ∷ NoTable ∷ UnlistedPrimary ∷ LastEpoch ∷ []
 
--- the rules in their order, for a table of this many rows
+-- the rules in their order, for a table with this number of rows
 abbrev pub written_order : ℕ → List Rule
 written_order rows = section_a ++ section_b rows ++ section_c
 
@@ -33,7 +33,7 @@ written_order rows = section_a ++ section_b rows ++ section_c
 abbrev pub order_of : WrittenTable → List Rule
 order_of t = written_order (length t.rows)
 
--- the first rule that stands against the request denies it
+-- the denial of the first rule that denies the request
 abbrev pub first_denial : List Rule → Query → WrittenTable → Epochs → View → Verdict
 first_denial [] q t e v = verdicts.Allowed
 first_denial (rule ∷ rules) q t e v =
@@ -43,11 +43,11 @@ first_denial (rule ∷ rules) q t e v =
 abbrev pub decision : Query → WrittenTable → Epochs → View → Verdict
 decision q t e v = first_denial (order_of t) q t e v
 
--- no rule of the order stands against the request
+-- no rule of the order denies the request
 abbrev pub NoneStands : List Rule → Query → WrittenTable → Epochs → View → Type 0
 NoneStands order q t e v = All (λ rule. stands_against rule q t e v ≡ false) order
 
--- the rule stands against the request, and no rule before it in the order does
+-- the rule denies the request, and no rule before it in the order does
 pub record IsFirst (rule : Rule) (order : List Rule) (q : Query) (t : WrittenTable) (e : Epochs)
     (v : View) : Type 0 where
   pub before : List Rule
@@ -56,7 +56,7 @@ pub record IsFirst (rule : Rule) (order : List Rule) (q : Query) (t : WrittenTab
   pub stands : stands_against rule q t e v ≡ true
   pub none_before : NoneStands before q t e v
 
--- the verdict is the denial of the first rule that stands, with its section, number and value
+-- the verdict is the denial of the first rule that denies, with its section, number and value
 abbrev pub IsFirstDenial : Verdict → List Rule → Query → WrittenTable → Epochs → View → Type 0
 IsFirstDenial verdict order q t e v =
     (rule : Rule) × IsFirst rule order q t e v × (verdict ≡ denial rule q.act e v)

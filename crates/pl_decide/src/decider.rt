@@ -1,4 +1,4 @@
-//! The decision: the first rule of the written order that stands against a request.
+//! The decision: the first rule of the written order that denies a request.
 
 ghost use Rattle.std.specs.Prelude.{◌≡◌, ◌≢◌, ◌==◌, ◌≤◌, ◌&&◌, ◌↔◌, ◌++◌, nat_le, not, true, [], length, ℕ, Some, None, IfOk, IfSome, IsTrue, Contains};
 ghost use Rattle.pl_block.specs.Block.{Content};
@@ -113,8 +113,8 @@ impl Decider {
         are_of_rows(&self.verdicts, table)
     }
 
-    /// The verdict on any request: the denial of the first rule of the written order that stands
-    /// against it, or that none does.
+    /// The verdict on any request: the denial of the first rule of the written order that denies it, or
+    /// `Allowed` where none does.
     ///
     /// The rows of the table that can match are looked at, up to the first that does, or what they said
     /// of the same key is looked up, at LSNs of which the request's is one. Where it is to be cached and an

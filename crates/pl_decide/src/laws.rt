@@ -3,7 +3,7 @@
 
 ghost use Rattle.pl_decide.specs.Laws.{AllowedExactly, DeniedByTheFirst, AllowedMeetsNoRule, AllowedMayBeServed, UnknownIsDenied, KnownIsNotUnknown, OlderEpochIsDenied, ViewsDecideAlike, ReadsReachTheEnd, RowsAllowTheAllowed, RequestsAskAt, OneKeyIsMatchedAlike, OneKeyOneVerdict};
 
-/// In any order of rules, a request is allowed exactly where no rule stands against it. Elsewhere
+/// In any order of rules, a request is allowed exactly where no rule denies it. Elsewhere
 /// the verdict is the denial of the first rule that does.
 pub fn the_first_rule_decides()
     // A request is allowed exactly where no rule of the order denies it, for any order of rules.
@@ -12,7 +12,7 @@ pub fn the_first_rule_decides()
     ensures first { DeniedByTheFirst }
 {}
 
-/// No rule stands against an allowed request. So it is of a known principal and of the current
+/// No rule denies an allowed request. So it is of a known principal and of the current
 /// epoch; the block of a write or an offer is in the window and agrees, and the copy of a write is
 /// there; a report can be hardened; a get is of the hardened end or below, and there a pull begins;
 /// the primary of a failover is listed, and the epoch is not the last; the text of a set_table is a

@@ -1,4 +1,4 @@
-//! The decision on a request: the first rule of the written order that stands against it.
+//! The decision on a request: the first rule of the written order that denies it.
 //!
 //! The written order is section A (who asks, in which epoch and role), section B (the rows of the
 //! table in force) and section C (what the log has). Section C is read from a [`View`], which the

@@ -43,7 +43,7 @@ pub enum Rule {
 }
 
 impl Rule {
-    /// The section in which the rule stands.
+    /// The section of the rule.
     pub fn section(self) -> Section
         // The section of the rule (`rule_place`).
         ensures value { result ≡ (rule_place self).0 }

@@ -9,7 +9,7 @@ use Rattle.std.proofs.lemmas.List.Elements.{All-from_recursion}
 use Rattle.pl_table.specs.declared.table.Principal.{Principal}
 use Rattle.pl_table.specs.Table.{token_of}
 
--- what is found after a principal of another id is found with it in front
+-- what is found in a list is found with a principal of another id in front of it
 others : (id : ℕ) (p : Principal) (found : Option (List ℕ)) (ps : List Principal) → AllByRecursion (λ n. eqb p.id n ≡ false) (map (λ q. q.id) ps) → AllByRecursion (λ q. q.id ≡ id → found ≡ Some q.token) ps → AllByRecursion (λ q. q.id ≡ id → (eqb p.id id ≡ false) × (found ≡ Some q.token)) ps
 others id p found [] apart tells = tt
 others id p found (q ∷ qs) apart tells = (λ e. (ap (λ (n : ℕ). eqb p.id n) (sym e) ∙ apart.0, tells.0 e), others id p found qs apart.1 tells.1)

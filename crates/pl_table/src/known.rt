@@ -1,5 +1,5 @@
-//! What is read is known. A number behind a reference is known to be in the range of its type once
-//! the body reads it, and a block to be one by its grammar once it is asked for its LSN. The
+//! What is read is known. A number that a reference points to is known to be in the range of its
+//! type once the body reads it, and a block to be one by its grammar once it is asked for its LSN. The
 //! functions here only read, so that their callers may rest on those facts.
 
 ghost use Rattle.pl_table.specs.Request.{IsHead, FitsActFields};

@@ -27,10 +27,10 @@ impl Section {
 /// The verdict on a request.
 #[derive(Clone, Copy, Debug, PartialEq, Eq)]
 pub enum Verdict {
-    /// No row stands against it.
+    /// No rule denies it.
     Allowed,
-    /// Denied by the first row that stands against it. `row` is the number of the row in its section,
-    /// and `value` what the row reports.
+    /// Denied by the first rule that denies it. `row` is the number of the rule in its section, and
+    /// `value` what the rule reports.
     Denied {
         section: Section,
         row: u16,
