@@ -214,8 +214,8 @@ impl Decider {
         lsn <= self.reach(table, lsn, request)
     }
 
-    // How far the rows allow a get or a pull, where that is cached. It is for no key of which few rows can
-    // match, and of no use where no row ends.
+    // How far the rows allow a get or a pull, where that is cached. It never is where few rows can match,
+    // and where no row ends it is not needed.
     fn allowed_through(&self, table: &Table, request: &Request) -> Option<u64>
         requires agrees { AgreesWith self.now table.now }
         ensures exact { IfSome result (IsAllowedThrough table.now.rows (asked_in request.now)) }
