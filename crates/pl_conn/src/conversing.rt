@@ -33,7 +33,7 @@ fn request_in(alloc: Global, body: Vec<u8>) -> Result<Request, BodyFault>
     }
 }
 
-// TakesFrame the next frame and answers it: where it lies, if all of it is buffered, and else by reads. The reply has its
+// Takes the next frame and answers it: where it lies, if all of it is buffered, and else by reads. The reply has its
 // room before the request has its step. False at the end of input.
 #[tactic(auto, using(crate::proofs::Gathered::takes_at_hand, crate::proofs::Gathered::takes_fault))]
 fn take_next<R: Source, G: Gate>(

@@ -141,7 +141,7 @@ impl<R> Desks<R> {
         Ok((Desks { rt, desks }, all))
     }
 
-    /// TakesFrame in other passes: at each desk the first pass has then seen what both had. It neither
+    /// Takes in other passes: at each desk the first pass has then seen what both had. It neither
     /// waits nor takes a turn.
     pub fn meet(&self, passes: &mut Passes, other: Passes)
         // Both passes are of these desks.

@@ -28,7 +28,7 @@ fn denies_older_epoch(section: Section, row: u16) -> bool
 }
 
 impl Worked {
-    // TakesFrame in the reply to a round, and returns whether another round may follow.
+    // Takes in the reply to a round, and returns whether another round may follow.
     fn learn(&mut self, reply: &Reply) -> bool
         requires { self.old.done < 2 ^ 32 - 1 }
         ensures done { self.new.done ≡ self.old.done + (if is_done reply.now then 1 else 0) }

@@ -262,7 +262,7 @@ where
     }
 }
 
-/// ServesConnections connections, with one worker thread for each pass, until this many were accepted; then it waits
+/// Serves connections, with one worker thread for each pass, until this many were accepted; then it waits
 /// for the workers to end. A worker serves all the connections that it was given, each as [`Conversation`] says: it
 /// reads what is there, answers the frames that are whole, and writes what the socket takes. A new connection goes
 /// to the worker that has the fewest. So one that is silent, or does not read its replies, holds up no other; a call
@@ -305,7 +305,7 @@ where
     serve_watched(rt, alloc, listener, gate, passes, connections, &Unwatched)
 }
 
-/// ServesConnections as [`serve`] does, and tells the watch what it cannot do meanwhile.
+/// Serves as [`serve`] does, and tells the watch what it cannot do meanwhile.
 pub fn serve_watched<R: Threads + Wait + Net + Sync, G: Gate + Sync, W: Watch>(
     rt: &R,
     alloc: Global,

@@ -22,7 +22,7 @@ pub trait Source: Read {
         // Reads give these bytes next.
         ensures next { IfSome (Self.remaining self.now) (λ bytes. StartsWith bytes (hand self.now)) };
 
-    /// TakesFrame this many of the buffered bytes, as reads of them would.
+    /// Takes this many of the buffered bytes, as reads of them would.
     fn consume(&mut self, count: usize)
         // This many bytes are buffered.
         requires few { count ≤ length (hand self.old) }

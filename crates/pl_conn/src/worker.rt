@@ -118,7 +118,7 @@ fn turn<G: Gate>(
 }
 
 impl Lines {
-    // TakesFrame a socket in, which does not wait from now on. Returns whether it could.
+    // Takes a socket in, which does not wait from now on. Returns whether it could.
     fn open(&mut self, alloc: Global, poll: &Poll, socket: TcpStream) -> bool {
         // Small replies are not held back where the system lets that be set.
         let _is_set = socket.set_nodelay(true);
@@ -250,7 +250,7 @@ fn turn_ready<G: Gate>(
     }
 }
 
-// TakesFrame in the sockets that were accepted for the worker. Returns whether more may come.
+// Takes in the sockets that were accepted for the worker. Returns whether more may come.
 fn take_new<R: Wait>(rt: &R, alloc: Global, post: &Post, poll: &Poll, lines: &mut Lines) -> bool {
     for _ in rt.forever() {
         match post.sockets.try_recv(rt) {
@@ -351,7 +351,7 @@ impl Worker {
         }
     }
 
-    /// ServesConnections the sockets that come, all of them at the same time, until none is left and no more can come.
+    /// Serves the sockets that come, all of them at the same time, until none is left and no more can come.
     pub(crate) fn work<R: Wait, G: Gate>(
         self,
         rt: &R,

@@ -28,7 +28,7 @@ struct Paging {
     databases: u32,
 }
 
-// ServesConnections, and at the same time lets the page server make its rounds, if there is one. `None` where the
+// Serves connections, and at the same time lets the page server make its rounds, if there is one. `None` where the
 // page server's thread could not be started.
 fn serve_in<'s, E, R: Threads + Wait + Net + Sync + Drop, W: Watch>(
     scope: &Scope<'s, E>,
@@ -77,7 +77,7 @@ fn take_last<R>(desks: &Desks<R>, passes: &mut Vec<Passes>) -> Passes
     last
 }
 
-// ServesConnections the databases of the desks, with a worker for each of the passes.
+// Serves the databases of the desks, with a worker for each of the passes.
 fn serve_over<R: Threads + Wait + Net + Sync + Drop, W: Watch>(
     rt: &R,
     alloc: Global,
@@ -121,7 +121,7 @@ fn serve_over<R: Threads + Wait + Net + Sync + Drop, W: Watch>(
     )
 }
 
-/// ServesConnections the databases to connections, with this many workers, until this many were accepted. Where
+/// Serves the databases to connections, with this many workers, until this many were accepted. Where
 /// there is a pager, it works at the same time, in a thread of its own, and is waited for. What the service
 /// cannot do while it goes on is told to the watch.
 ///
