@@ -1,6 +1,7 @@
 """The plain model of scripts/model.py as a service over TCP, for tests of clients: it starts at once and needs no prover.
 
 Usage: scripts/model serve --listen ADDRESS --table FILE --primary N [--dbs N] [--audit N] [--workers N] [--connections N]
+                           [--idle-polls N]
 
 It answers the request frames of any number of connections over 1 to 16 databases, as docs/FORMATS.md says, until it is
 ended. The pass in an entry of the audit list is the number of its connection. It never replies NoMemory or Spent, takes all
@@ -93,7 +94,7 @@ def arguments():
     serve.add_argument("--dbs", default=1, metavar="N", type=number_up_to(1, 16), help="how many databases there are, 1 to 16")
     serve.add_argument("--audit", default=65536, metavar="N", type=number_up_to(1, 2 ** 24),
                        help="how many entries each audit list holds")
-    for word in ("--workers", "--connections"):
+    for word in ("--workers", "--connections", "--idle-polls"):
         serve.add_argument(word, metavar="N", type=int, help="taken as pagelog takes it, and without effect")
     return parser.parse_args()
 

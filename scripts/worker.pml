@@ -6,8 +6,9 @@
  * nobody comes, or ends. The peers of a worker's connections act as often as they like, and may be silent for ever. A turn of
  * a connection leaves it at rest, or due, or closed: turns.pml has what happens in one. Each step of a channel, of a bell and
  * of a poll is a step by itself. A poll with no time returns at once, and another one sleeps until something is to be told.
- * Once nobody can go on, no socket lies in a channel and no connection has an event or a turn due; a worker whose channel is
- * closed, and that has no connection, has ended.
+ * Before a worker sleeps it polls with no time, up to IDLE_POLLS times, until one tells of something. Once nobody can go on,
+ * no socket lies in a channel, and no connection has an event, one that a worker was told of too, or a turn due; a worker whose
+ * channel is closed, and that has no connection, has ended.
  *
  * Behind each step stands the line of the code that it is for, under the name of its function; two dots stand for lines that
  * the model leaves out. scripts/waiting compares these lines with the source.
@@ -27,6 +28,9 @@
 #ifndef EVENTS
 #define EVENTS 2 /* how many events a poll gives at most */
 #endif
+#ifndef IDLE_POLLS
+#define IDLE_POLLS 1 /* how often a worker polls with no time before it sleeps, idle_polls */
+#endif
 
 byte lying[WORKERS];   /* the sockets in the channel of a worker */
 bit dropped[WORKERS];  /* whether its sender is dropped */
@@ -34,6 +38,7 @@ bit rung[WORKERS];     /* whether its bell has rung since a poll told so */
 byte resting[WORKERS]; /* its connections of which there is nothing to tell */
 byte ready[WORKERS];   /* those of which the next poll tells */
 byte due[WORKERS];     /* those whose turn is due */
+byte events[WORKERS];  /* those of which its last poll told, and that had no turn since */
 bit ended[WORKERS];
 
 #define IS_EMPTY (resting[me] == 0 && ready[me] == 0 && due[me] == 0)
@@ -157,29 +162,50 @@ inline turn() {
 }
 
 #ifdef SLEEPS_ON_WHAT_IS_DUE
-#define HAS_NO_TIME false
+#define NOTHING_IS_DUE true
 #else
-#define HAS_NO_TIME (due[me] > 0)
+#define NOTHING_IS_DUE (due[me] == 0)
 #endif
 
+/* A poll with no time. */
 inline poll() {
-    if
-    :: HAS_NO_TIME
-    :: !HAS_NO_TIME ->
-end_sleeps:
-       rung[me] || ready[me] > 0
-    fi;
     do
     :: atomic { rung[me] && told < EVENTS -> rung[me] = false; told++ }
-    :: atomic { ready[me] > 0 && told < EVENTS -> ready[me]--; events++; told++ }
-    :: else -> told = 0; break
+    :: atomic { ready[me] > 0 && told < EVENTS -> ready[me]--; events[me]++; told++ }
+    :: else -> break
     od
+}
+
+#ifdef SLEEPS_ON_WHAT_WAS_TOLD
+#define NOTHING_WAS_TOLD true
+#elif defined SLEEPS_ON_ITS_BELL
+#define NOTHING_WAS_TOLD (events[me] == 0)
+#else
+#define NOTHING_WAS_TOLD (told == 0)
+#endif
+
+// worker.rt: wait
+inline wait() {
+    do                                                     // for _ in 0..idle_polls {
+    :: polls < IDLE_POLLS -> polls++;
+       poll();                                             // poll.poll(events, Some(AT_ONCE))?;
+       if                                                  // if !events.is_empty() {
+       :: !NOTHING_WAS_TOLD -> break                       // return Ok(()); }
+       :: NOTHING_WAS_TOLD                                 // yield_now(); }
+       fi
+    :: polls == IDLE_POLLS ->
+end_sleeps:
+       rung[me] || ready[me] > 0;
+       poll();                                             // poll.poll(events, None)
+       break
+    od;
+    polls = 0
 }
 
 inline turn_ready() {
     do
-    :: atomic { events > 0 -> events--; turn() }
-    :: events == 0 -> break
+    :: atomic { events[me] > 0 -> events[me]--; turn() }
+    :: events[me] == 0 -> break
     od
 }
 
@@ -234,15 +260,15 @@ inline take_new() {
 
 // worker.rt: Worker::round
 inline round() {
-                                                           // let Worker { poll, events, lines, room } = self;
-                                                           // let at_once = Duration::from_millis(0);
-                                                           // let timeout = if lines.due.is_empty() { None }
-                                                           // else { Some(at_once) };
+                                                           // let Worker { poll, events, lines, room, idle_polls } = self;
 #ifdef TAKES_BEFORE_IT_WAITS
     take_new();
 #endif
-    poll();                                                // if poll.poll(events, timeout).is_err() {
-                                                           // post.leaves(); return false; }
+    if                                                     // let polled = if lines.due.is_empty() {
+    :: NOTHING_IS_DUE -> wait()                            // wait(poll, events, *idle_polls) } else {
+    :: !NOTHING_IS_DUE -> poll()                           // poll.poll(events, Some(AT_ONCE)) };
+    fi;
+    told = 0;                                              // if polled.is_err() { post.leaves(); return false; }
     turn_ready();                                          // turn_ready(alloc, post, events, lines, gate, pass, room);
     turn_due();                                            // lines.turn_due(alloc, post, gate, pass, room);
 #ifndef TAKES_BEFORE_IT_WAITS
@@ -270,14 +296,15 @@ inline rounds() {
 
 active [WORKERS] proctype Worker() {
     byte me = _pid - 1 - WORKERS;
-    byte events, told, count;
+    byte told, polls, count;
     bit is_closed, more;
     rounds();
     assert(lying[me] == 0 && IS_EMPTY);
     ended[me] = true
 }
 
-#define SLEEPS_WELL(me) (lying[me] == 0 && ready[me] == 0 && due[me] == 0 && (ended[me] || !dropped[me] || resting[me] > 0))
+#define SLEEPS_WELL(me) (lying[me] == 0 && ready[me] == 0 && events[me] == 0 && due[me] == 0 && \
+    (ended[me] || !dropped[me] || resting[me] > 0))
 
 /* Nobody can go on. */
 active proctype Watch() {

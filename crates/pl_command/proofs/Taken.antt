@@ -52,7 +52,8 @@ play_limits = limits_in ((codes "primary", (0, most_u32)) ∷ [])
 abbrev serve_limits : Limits
 serve_limits = limits_in
     ((codes "primary", (0, most_u32)) ∷ (codes "dbs", (1, 16)) ∷ (codes "workers", (1, 64)) ∷ (codes "connections", (1, most_u32))
-    ∷ (codes "audit", (1, 16777216)) ∷ (codes "pager", (0, most_u32)) ∷ (codes "partition", (0, 65535)) ∷ (codes "rounds", (0, most_u32)) ∷ [])
+    ∷ (codes "audit", (1, 16777216)) ∷ (codes "pager", (0, most_u32)) ∷ (codes "partition", (0, 65535)) ∷ (codes "rounds", (0, most_u32))
+    ∷ (codes "idle-polls", (0, 10000)) ∷ [])
 
 abbrev ask_limits : Limits
 ask_limits = limits_in ((codes "id", (0, most_u32)) ∷ (codes "db", (0, most_u32)) ∷ (codes "epoch", (0, most_u32)) ∷ [])
@@ -91,8 +92,11 @@ serve_uses = (
                   (
                     number_use serve_limits serve 1 (codes "rounds") 0 most_u32 false (codes "0" ∷ []) refl,
                     (
-                      help_use serve_limits serve 1,
-                      tt,
+                      number_use serve_limits serve 1 (codes "idle-polls") 0 10000 false (codes "0" ∷ []) refl,
+                      (
+                        help_use serve_limits serve 1,
+                        tt,
+                      ),
                     ),
                   ),
                 ),
@@ -154,8 +158,11 @@ serve_defaults = (
                   (
                     with_zero serve_limits (rule_at serve.rules 9) (codes "0") refl (refl, accepts-Accepts false (Signed (pos 0) (pos most_u32)) (codes "0") refl),
                     (
-                      no_default serve_limits (rule_at serve.rules 10) refl,
-                      tt,
+                      with_zero serve_limits (rule_at serve.rules 10) (codes "0") refl (refl, accepts-Accepts false (Signed (pos 0) (pos 10000)) (codes "0") refl),
+                      (
+                        no_default serve_limits (rule_at serve.rules 11) refl,
+                        tt,
+                      ),
                     ),
                   ),
                 ),
@@ -235,6 +242,8 @@ serve_passes rest e =
     let partition : has_row (codes "partition") rows ≡ true =
     there (codes "partition") (take 8 serve.rules) (drop 9 serve.rules) (rule_at serve.rules 8) (codes "0") left refl refl refl in
     let rounds : has_row (codes "rounds") rows ≡ true = there (codes "rounds") (take 9 serve.rules) (drop 10 serve.rules) (rule_at serve.rules 9) (codes "0") left refl refl refl in
+    let idle_polls : has_row (codes "idle-polls") rows ≡ true =
+    there (codes "idle-polls") (take 10 serve.rules) (drop 11 serve.rules) (rule_at serve.rules 10) (codes "0") left refl refl refl in
     record {
       listen = gives_text serve_limits (codes "listen") rows (given_row serve_limits (codes "listen") rows good listen.0);
       table = gives_text serve_limits (codes "table") rows (given_row serve_limits (codes "table") rows good table.0);
@@ -246,6 +255,7 @@ serve_passes rest e =
       pager = gives_number serve_limits (codes "pager") 0 most_u32 rows refl (kept_row serve_limits (codes "pager") rows good pager);
       partition = gives_number serve_limits (codes "partition") 0 65535 rows refl (kept_row serve_limits (codes "partition") rows good partition);
       rounds = gives_number serve_limits (codes "rounds") 0 most_u32 rows refl (kept_row serve_limits (codes "rounds") rows good rounds);
+      idle_polls = gives_number serve_limits (codes "idle-polls") 0 10000 rows refl (kept_row serve_limits (codes "idle-polls") rows good idle_polls);
     }
 
 ask_passes : (rest : List Text) → level_passes ask [] nothing_held rest false ≡ true → GivesAsk (rows_after ask.rules [] rest)
@@ -326,6 +336,6 @@ unfolding clap_on_literals
 ask_taken = refl
 
 serve_taken : takes own_app (codes "p" ∷ codes "serve" ∷ codes "--listen" ∷ codes "a" ∷ codes "--table=t" ∷ codes "--primary=2" ∷ codes "--dbs=16" ∷ codes "--workers=64"
-    ∷ codes "--connections=1" ∷ codes "--audit=16777216" ∷ codes "--rounds=3" ∷ []) ≡ true
+    ∷ codes "--connections=1" ∷ codes "--audit=16777216" ∷ codes "--rounds=3" ∷ codes "--idle-polls=10000" ∷ []) ≡ true
 unfolding clap_on_literals
 serve_taken = refl

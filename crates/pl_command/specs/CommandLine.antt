@@ -53,14 +53,15 @@ abbrev pub play_app : App
 play_app = subcommand_with (codes "play")
     (text_option (codes "table") ∷ number_option (codes "primary") 0 most_u32 ∷ [])
 
--- `serve` with its options, of which the last three are 0 where they are not given
+-- `serve` with its options, of which the last four are 0 where they are not given
 abbrev pub serve_app : App
 serve_app = subcommand_with (codes "serve")
     (text_option (codes "listen") ∷ text_option (codes "table")
     ∷ number_option (codes "primary") 0 most_u32 ∷ number_option (codes "dbs") 1 16
     ∷ number_option (codes "workers") 1 64 ∷ number_option (codes "connections") 1 most_u32
     ∷ number_option (codes "audit") 1 16777216 ∷ number_or_zero (codes "pager") most_u32
-    ∷ number_or_zero (codes "partition") 65535 ∷ number_or_zero (codes "rounds") most_u32 ∷ [])
+    ∷ number_or_zero (codes "partition") 65535 ∷ number_or_zero (codes "rounds") most_u32
+    ∷ number_or_zero (codes "idle-polls") 10000 ∷ [])
 
 -- `ask` with its options, and then words
 abbrev pub ask_app : App
@@ -111,6 +112,7 @@ pub record HasNumbers (rows : List Row) (numbers : ServeNumbers) : Type 0 where
   pub pager_is : HasNumber rows (codes "pager") 0 most_u32 numbers.pager
   pub partition_is : HasNumber rows (codes "partition") 0 65535 numbers.partition
   pub rounds_is : HasNumber rows (codes "rounds") 0 most_u32 numbers.rounds
+  pub idle_polls_is : HasNumber rows (codes "idle-polls") 0 10000 numbers.idle_polls
 
 -- `serve` with these options
 pub record HasServe (rows : List Row) (listen table : Text) (numbers : ServeNumbers) : Type 0 where
@@ -133,7 +135,7 @@ abbrev pub Has : Text → List Row → CommandLine → Type 0
 Has name rows (lines.Help text) = ⊥
 Has name rows (lines.Play table primary) =
     (name ≡ codes "play") × HasPlay rows (string_bytes table) primary
-Has name rows (lines.Serve listen table primary dbs workers connections audit pager partition rounds) =
+Has name rows (lines.Serve listen table primary dbs workers connections audit pager partition rounds idle_polls) =
     (name ≡ codes "serve") × HasServe rows (string_bytes listen) (string_bytes table) (record {
       primary = primary;
       dbs = dbs;
@@ -143,6 +145,7 @@ Has name rows (lines.Serve listen table primary dbs workers connections audit pa
       pager = pager;
       partition = partition;
       rounds = rounds;
+      idle_polls = idle_polls;
     })
 Has name rows (lines.Ask to id token db epoch words) =
     (name ≡ codes "ask") × HasAsk rows (string_bytes to) id (string_bytes token) db epoch
@@ -160,9 +163,9 @@ abbrev pub AsksFor : List Text → CommandLine → Type 0
 AsksFor words (lines.Help text) = IsAmong DisplayHelp (fault_of own_app words)
 AsksFor words (lines.Play table primary) =
     Names (subcommand_of own_app words) (lines.Play table primary)
-AsksFor words (lines.Serve listen table primary dbs workers connections audit pager partition rounds) =
+AsksFor words (lines.Serve listen table primary dbs workers connections audit pager partition rounds idle_polls) =
     Names (subcommand_of own_app words)
-    (lines.Serve listen table primary dbs workers connections audit pager partition rounds)
+    (lines.Serve listen table primary dbs workers connections audit pager partition rounds idle_polls)
 AsksFor words (lines.Ask to id token db epoch words_are) =
     Names (subcommand_of own_app words) (lines.Ask to id token db epoch words_are)
 
@@ -194,6 +197,7 @@ pub record GivesServe (rows : List Row) : Type 0 where
   pub pager : GivesNumber rows (codes "pager") 0 most_u32
   pub partition : GivesNumber rows (codes "partition") 0 65535
   pub rounds : GivesNumber rows (codes "rounds") 0 most_u32
+  pub idle_polls : GivesNumber rows (codes "idle-polls") 0 10000
 
 pub record GivesAsk (rows : List Row) : Type 0 where
   pub to : GivesText rows (codes "to")

@@ -46,6 +46,8 @@ pub enum CommandLine {
         partition: u16,
         /// How often it advances the partition of each database.
         rounds: u32,
+        /// How often a worker polls its sockets again before it sleeps, 0 to 10,000.
+        idle_polls: u32,
     },
     /// `ask`: send one request of an operator, and show the reply.
     Ask {
@@ -189,6 +191,12 @@ fn serve_command<'a>(alloc: Global) -> Result<Command<'a>, AllocError>
             "rounds",
             u32::MAX,
             "How often it advances the partition of each database",
+        ))?
+        .arg(number_from_zero(
+            alloc,
+            "idle-polls",
+            10_000,
+            "How often a worker polls again before it sleeps, 0 to 10,000",
         ))
 }
 
@@ -290,6 +298,8 @@ pub struct ServeNumbers {
     pub partition: u16,
     /// How often it advances the partition of each database.
     pub rounds: u32,
+    /// How often a worker polls its sockets again before it sleeps, 0 to 10,000.
+    pub idle_polls: u32,
 }
 
 fn serve_numbers(found: &ArgMatches<'_>) -> Option<ServeNumbers>
@@ -305,6 +315,7 @@ fn serve_numbers(found: &ArgMatches<'_>) -> Option<ServeNumbers>
         pager: number_of(found, "pager", 0, u32::MAX)?,
         partition: number_of(found, "partition", 0, 65_535)? as u16,
         rounds: number_of(found, "rounds", 0, u32::MAX)?,
+        idle_polls: number_of(found, "idle-polls", 0, 10_000)?,
     })
 }
 
@@ -329,6 +340,7 @@ fn serve_of(alloc: Global, found: &ArgMatches<'_>) -> Result<Option<CommandLine>
         pager: numbers.pager,
         partition: numbers.partition,
         rounds: numbers.rounds,
+        idle_polls: numbers.idle_polls,
     }))
 }
 

@@ -57,7 +57,12 @@ struct Staff {
 
 impl Staff {
     // This many, or as many as there is memory for, and descriptors.
-    fn hire<R: Net>(rt: &R, alloc: Global, count: usize) -> Result<Staff, AllocError> {
+    fn hire<R: Net>(
+        rt: &R,
+        alloc: Global,
+        count: usize,
+        idle_polls: u32,
+    ) -> Result<Staff, AllocError> {
         let mut staff = Staff {
             workers: Vec::with_capacity(alloc, count)?,
             posts: Vec::with_capacity(alloc, count)?,
@@ -67,7 +72,7 @@ impl Staff {
             let Ok((channel, sockets)) = crossbeam_channel::bounded(alloc, WAITING) else {
                 break;
             };
-            let Some((worker, post)) = Worker::new(rt, alloc, sockets) else {
+            let Some((worker, post)) = Worker::new(rt, alloc, sockets, idle_polls) else {
                 break;
             };
             staff.workers.push(worker)?;
@@ -302,10 +307,20 @@ where
     ensures serves { ServesConnections (G.calls gate.now) (G.owns gate.now) passes.items connections
         result.accepted result.stop result.passes.items }
 {
-    serve_watched(rt, alloc, listener, gate, passes, connections, &Unwatched)
+    serve_watched(
+        rt,
+        alloc,
+        listener,
+        gate,
+        passes,
+        connections,
+        0,
+        &Unwatched,
+    )
 }
 
-/// Serves as [`serve`] does, and tells the watch what it cannot do meanwhile.
+/// Serves as [`serve`] does, and tells the watch what it cannot do meanwhile. A worker that has nothing to do first polls
+/// its sockets `idle_polls` times more, awake, and then sleeps; with 0, as `serve` has it, it sleeps at once.
 pub fn serve_watched<R: Threads + Wait + Net + Sync, G: Gate + Sync, W: Watch>(
     rt: &R,
     alloc: Global,
@@ -313,6 +328,7 @@ pub fn serve_watched<R: Threads + Wait + Net + Sync, G: Gate + Sync, W: Watch>(
     gate: &G,
     passes: Vec<G::Pass>,
     connections: u32,
+    idle_polls: u32,
     watch: &W,
 ) -> Served<G::Pass>
 where
@@ -325,7 +341,7 @@ where
     ensures serves { ServesConnections (G.calls gate.now) (G.owns gate.now) passes.items connections
         result.accepted result.stop result.passes.items }
 {
-    let Ok(staff) = Staff::hire(rt, alloc, passes.len()) else {
+    let Ok(staff) = Staff::hire(rt, alloc, passes.len(), idle_polls) else {
         return stopped(alloc, Stop::NoMemory);
     };
     let Staff {

@@ -10,10 +10,12 @@ use mio::event::Event;
 use mio::{Events, Interest, Poll, Token, Waker};
 use slab::Slab;
 use std::alloc::Global;
+use std::io;
 use std::net::{Net, TcpStream};
 use std::sync::Wait;
 use std::sync::atomic::AtomicU64;
 use std::sync::atomic::Ordering::SeqCst;
+use std::thread::yield_now;
 use std::time::Duration;
 
 /// The token of a worker's bell. Those of its connections are their places.
@@ -24,6 +26,9 @@ const EVENTS: usize = 256;
 
 /// For how many connections a worker has memory from its start.
 const LINES: usize = 1_024;
+
+/// A poll with this timeout returns at once.
+const AT_ONCE: Duration = Duration::ZERO;
 
 /// What the accepting thread and a worker share.
 #[derive(Drop)]
@@ -87,6 +92,8 @@ pub(crate) struct Worker {
     events: Events,
     lines: Lines,
     room: Room,
+    // How often it polls again, awake, before it sleeps.
+    idle_polls: u32,
 }
 
 /// What a worker leaves.
@@ -250,6 +257,19 @@ fn turn_ready<G: Gate>(
     }
 }
 
+// Waits for events, however long it takes. It first polls awake, this often at most: an event that comes soon costs no
+// wake-up then. Between two polls other threads may run.
+fn wait(poll: &mut Poll, events: &mut Events, idle_polls: u32) -> io::Result<()> {
+    for _ in 0..idle_polls {
+        poll.poll(events, Some(AT_ONCE))?;
+        if !events.is_empty() {
+            return Ok(());
+        }
+        yield_now();
+    }
+    poll.poll(events, None)
+}
+
 // Takes in the sockets that were accepted for the worker. Returns whether more may come.
 fn take_new<R: Wait>(rt: &R, alloc: Global, post: &Post, poll: &Poll, lines: &mut Lines) -> bool {
     for _ in rt.forever() {
@@ -267,12 +287,13 @@ fn take_new<R: Wait>(rt: &R, alloc: Global, post: &Post, poll: &Poll, lines: &mu
 }
 
 impl Worker {
-    /// A worker for the sockets that come here, with all that it needs, and what the accepting thread shares with
-    /// it. `None` where there was no memory, or no descriptor.
+    /// A worker for the sockets that come here, which polls so often before it sleeps, with all that it needs, and what
+    /// the accepting thread shares with it. `None` where there was no memory, or no descriptor.
     pub(crate) fn new<R: Net>(
         rt: &R,
         alloc: Global,
         sockets: Receiver<TcpStream>,
+        idle_polls: u32,
     ) -> Option<(Worker, Post)> {
         let poll = Poll::new(rt).ok()?;
         let bell = Waker::new(poll.registry(), BELL).ok()?;
@@ -286,6 +307,7 @@ impl Worker {
             events: Events::with_capacity(alloc, EVENTS).ok()?,
             lines,
             room: Room::new(alloc).ok()?,
+            idle_polls,
         };
         let post = Post {
             sockets,
@@ -314,14 +336,14 @@ impl Worker {
             events,
             lines,
             room,
+            idle_polls,
         } = self;
-        let at_once = Duration::from_millis(0);
-        let timeout = if lines.due.is_empty() {
-            None
+        let polled = if lines.due.is_empty() {
+            wait(poll, events, *idle_polls)
         } else {
-            Some(at_once)
+            poll.poll(events, Some(AT_ONCE))
         };
-        if poll.poll(events, timeout).is_err() {
+        if polled.is_err() {
             post.leaves();
             return false;
         }

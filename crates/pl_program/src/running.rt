@@ -60,6 +60,7 @@ where
             pager,
             partition,
             rounds,
+            idle_polls,
         } => {
             let numbers = ServeNumbers {
                 primary,
@@ -70,6 +71,7 @@ where
                 pager,
                 partition,
                 rounds,
+                idle_polls,
             };
             serve_with(rt, listen.as_str(), table.as_str(), numbers)
         }
@@ -153,24 +155,23 @@ where
 {
     let text = text_of_file(rt, table)?;
     let opening = opening_of(rt.alloc(), text.as_slice(), numbers)?;
-    serve_all(rt, listen, opening, numbers.workers, numbers.connections)?;
+    serve_all(rt, listen, opening, numbers)?;
     Ok(Ending::Done)
 }
 
-/// Serves the databases at the address until this many connections were accepted.
+/// Serves the databases at the address until as many connections were accepted as the numbers say.
 fn serve_all<R>(
     rt: &R,
     listen: &str,
     opening: Opening,
-    workers: u32,
-    connections: u32,
+    numbers: ServeNumbers,
 ) -> Result<(), RunFault>
 where
     R: Print + Eprint + AllocGlobal + Threads + Wait + Sync + Copy + Drop,
     R: Net<Listener = TcpListener, Stream = TcpStream>,
     requires some { 1 ≤ vec_len opening.dbs }
     requires few { vec_len opening.dbs ≤ 16 }
-    requires workers { workers ≤ 64 }
+    requires workers { numbers.workers ≤ 64 }
 {
     let listener = match TcpListener::bind(rt, listen) {
         Ok(listener) => listener,
@@ -188,9 +189,10 @@ where
         alloc,
         &listener,
         dbs,
-        workers,
-        connections,
+        numbers.workers,
+        numbers.connections,
         pager,
+        numbers.idle_polls,
         &watch,
     )?;
     show(rt, &tally_of(&served)?)

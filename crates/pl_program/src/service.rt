@@ -39,6 +39,7 @@ fn serve_in<'s, E, R: Threads + Wait + Net + Sync + Drop, W: Watch>(
     passes: Vec<Passes>,
     paging: Option<Paging>,
     connections: u32,
+    idle_polls: u32,
     watch: &W,
 ) -> Option<Served<Passes>>
     requires own { All (ArePassesOf desks.now) passes.items }
@@ -50,7 +51,16 @@ fn serve_in<'s, E, R: Threads + Wait + Net + Sync + Drop, W: Watch>(
     ensures none { IsNone result → IsSome paging }
 {
     let Some(paging) = paging else {
-        return Some(serve_watched(rt, alloc, listener, desks, passes, connections, watch));
+        return Some(serve_watched(
+            rt,
+            alloc,
+            listener,
+            desks,
+            passes,
+            connections,
+            idle_polls,
+            watch,
+        ));
     };
     let Paging {
         pager,
@@ -58,7 +68,16 @@ fn serve_in<'s, E, R: Threads + Wait + Net + Sync + Drop, W: Watch>(
         databases,
     } = paging;
     let started = start_pager(scope, desks, own, pager, databases)?;
-    let served = serve_watched(rt, alloc, listener, desks, passes, connections, watch);
+    let served = serve_watched(
+        rt,
+        alloc,
+        listener,
+        desks,
+        passes,
+        connections,
+        idle_polls,
+        watch,
+    );
     let _left = started.join(rt);
     Some(served)
 }
@@ -86,6 +105,7 @@ fn serve_over<R: Threads + Wait + Net + Sync + Drop, W: Watch>(
     passes: Vec<Passes>,
     paging: Option<Paging>,
     connections: u32,
+    idle_polls: u32,
     watch: &W,
 ) -> Option<Served<Passes>>
     requires own { All (ArePassesOf desks.now) passes.items }
@@ -115,6 +135,7 @@ fn serve_over<R: Threads + Wait + Net + Sync + Drop, W: Watch>(
                 passes,
                 paging,
                 connections,
+                idle_polls,
                 watch,
             )
         },
@@ -122,8 +143,9 @@ fn serve_over<R: Threads + Wait + Net + Sync + Drop, W: Watch>(
 }
 
 /// Serves the databases to connections, with this many workers, until this many were accepted. Where
-/// there is a pager, it works at the same time, in a thread of its own, and is waited for. What the service
-/// cannot do while it goes on is told to the watch.
+/// there is a pager, it works at the same time, in a thread of its own, and is waited for. A worker that has nothing to
+/// do polls its sockets `idle_polls` times more before it sleeps. What the service cannot do while it goes on is told
+/// to the watch.
 ///
 /// `NoMemory` where the desks found none, and `Threads` where the page server's thread could not be
 /// started.
@@ -135,6 +157,7 @@ pub fn serve_databases<R: Threads + Wait + Net + Sync + Copy + Drop, W: Watch>(
     workers: u32,
     connections: u32,
     pager: Option<Pager>,
+    idle_polls: u32,
     watch: &W,
 ) -> Result<Served<Passes>, RunFault>
     // 1 to 16 databases.
@@ -171,6 +194,7 @@ pub fn serve_databases<R: Threads + Wait + Net + Sync + Copy + Drop, W: Watch>(
         passes,
         paging,
         connections,
+        idle_polls,
         watch,
     ) {
         Some(served) => Ok(served),

@@ -15,4 +15,5 @@ returns c =
     let step_7 = c.in_ok-arg-7.ensures.shape c.number-5.ensures.local ∙ ap₂ with_rule step_6 c.number-5.ensures.rule in
     let step_8 = c.in_ok-arg-8.ensures.shape c.number_from_zero.ensures.local ∙ ap₂ with_rule step_7 c.number_from_zero.ensures.rule in
     let step_9 = c.in_ok-arg-9.ensures.shape c.number_from_zero-2.ensures.local ∙ ap₂ with_rule step_8 c.number_from_zero-2.ensures.rule in
-    record { ok = IfOk-weaker c.arg-10.result _ _ (λ whole adds. adds.shape c.number_from_zero-3.ensures.local ∙ ap₂ with_rule step_9 c.number_from_zero-3.ensures.rule) c.arg-10.ensures }
+    let step_10 = c.in_ok-arg-10.ensures.shape c.number_from_zero-3.ensures.local ∙ ap₂ with_rule step_9 c.number_from_zero-3.ensures.rule in
+    record { ok = IfOk-weaker c.arg-11.result _ _ (λ whole adds. adds.shape c.number_from_zero-4.ensures.local ∙ ap₂ with_rule step_10 c.number_from_zero-4.ensures.rule) c.arg-11.ensures }
