@@ -1,6 +1,6 @@
 """Times `pagelog serve` over the loopback, beside a bare echo of the same frames and, where it is installed, redis-server.
 
-Usage: python3 bench/serve.py [SHARE]     (1; a tenth of the requests with 0.1)
+Usage: python3 bench/serve.py [SHARE] [--idle-polls N]     (1; a tenth of the requests with 0.1)
 
 For each of a 100-byte write (the same block again and again), a report, a pull of one block and a get of a page, round trips
 a second of services of 2, 4 and 64 workers: at 1, 8 and 64 connections with one request each at a time; at 64 of 1,000 and of
@@ -20,7 +20,8 @@ service holds for each silent one. A server that does not serve so many has no n
 Last come the delays of one request at a time on 64 connections, in microseconds: the 50th, 99th and 99.9th percentile and the
 longest, alone and beside silent connections.
 
-The service is crates/pagelog/out/pagelog, which scripts/pagelog proves and builds, or the program that PAGELOG names.
+The service is crates/pagelog/out/pagelog, which scripts/pagelog proves and builds, or the program that PAGELOG names. Its workers
+poll so often before they sleep as --idle-polls says, 0 if it is not given.
 
 Where etcd is installed, a client in Python asks the service and one node of etcd, which syncs nothing to its disk, one
 request at a time on one connection: a 100-byte write beside a put, and a pull of one block beside a range of one key.
@@ -41,7 +42,7 @@ import tempfile
 import time
 
 import rounds
-from serving import PROGRAM, SHARE, TABLE, about, build_frames, primary, reader, wire
+from serving import IDLE, PROGRAM, SHARE, TABLE, about, build_frames, primary, reader, wire
 
 ROUNDS = 25
 WORKERS = (2, 4, 64)
@@ -96,7 +97,7 @@ class Running:
 
 def service(workers):
     running = Running([PROGRAM, "serve", "--listen", "127.0.0.1:0", "--table", TABLE,
-                       "--primary", 2, "--dbs", 1, "--workers", workers, "--connections", 4294967295, "--audit", 16777216])
+                       "--primary", 2, "--dbs", 1, "--workers", workers, "--connections", 4294967295, "--audit", 16777216, *IDLE])
     running.port = int(running.process.stdout.readline().split()[1].rsplit(":", 1)[1])
     for request in SETUP:
         assert first_bytes(running.port, request) == b"\0\0\0\1\0"

@@ -1,5 +1,6 @@
 """What the benches of a running service share: the program, its table, how much of the work is done, and frames of requests."""
 
+import argparse
 import os
 import pathlib
 import subprocess
@@ -14,8 +15,18 @@ import wire  # noqa: E402
 
 PROGRAM = programs.pagelog()
 TABLE = ROOT / "crates" / "pagelog" / "data" / "t0.toml"
-# Of the work of a whole run: the first word of the command, or all of it.
-SHARE = float(sys.argv[1]) if len(sys.argv) > 1 else 1.0
+
+
+def words():
+    parser = argparse.ArgumentParser()
+    parser.add_argument("share", nargs="?", type=float, default=1.0, metavar="SHARE", help="of the work of a whole run")
+    parser.add_argument("--idle-polls", type=int, default=0, metavar="N", help="the option of pagelog serve")
+    return parser.parse_args()
+
+
+SHARE, IDLE_POLLS = words().share, words().idle_polls
+# The option for the service, none where it is 0, so that a program from before it can be timed too.
+IDLE = ["--idle-polls", IDLE_POLLS] if IDLE_POLLS else []
 
 
 def primary(op, rest):
@@ -35,4 +46,5 @@ def build_frames(work):
 
 def about():
     """What a run was made with, in a line."""
-    return f"{os.cpu_count()} processors, load {os.getloadavg()[0]:.1f}, {PROGRAM.name}, share {SHARE}"
+    return (f"{os.cpu_count()} processors, load {os.getloadavg()[0]:.1f}, {PROGRAM.name}, {IDLE_POLLS} idle polls, "
+            f"share {SHARE}")

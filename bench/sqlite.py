@@ -1,8 +1,10 @@
 """Times SQLite over the service beside plain SQLite in WAL, with synchronous=full and off, on a file.
 
-Usage: python3 bench/sqlite.py [SHARE | --short]     (1; a tenth of the work with 0.1; --short is 0.3, a minute or two)
+Usage: python3 bench/sqlite.py [SHARE | --short] [--idle-polls N]     (1; a tenth of the work with 0.1; --short is 0.3, a
+minute or two)
 
-The service is crates/pagelog/out/pagelog, or the program that PAGELOG names; the client is built by `make -C clients/c`.
+The service is crates/pagelog/out/pagelog, or the program that PAGELOG names; its workers poll so often before they sleep as
+--idle-polls says, 0 if it is not given. The client is built by `make -C clients/c`.
 Everything is measured in this one run, by the same statements, in this one process, round after round in turns: a table with
 a text of a hundred bytes and an index on a random number. Plain SQLite has its file in bench/work. Beside each rate stands its
 share of that of plain SQLite in WAL with synchronous=off. Both are medians of all rounds; who comes first in a round is drawn.
@@ -32,6 +34,7 @@ On a busy machine `chrt -r 5 python3 bench/sqlite.py` has it run before others, 
 was given a processor.
 """
 
+import argparse
 import os
 import pathlib
 import random
@@ -44,13 +47,23 @@ import time
 ROOT = pathlib.Path(__file__).resolve().parent.parent
 CLIENT = ROOT / "clients" / "c"
 WORK = ROOT / "bench" / "work" / "sqlite"
-SHARE = 0.3 if "--short" in sys.argv else float(sys.argv[1]) if len(sys.argv) > 1 else 1.0
 UPDATE = "update t set value = value + 1 where id = 1"
 ROUNDS = 20
 # How many there are in all rounds together, where the share is 1.
 COLUMNS = {"inserts": 8000, "updates": 8000, "thousands": 40, "warm": 40000, "in one": 80000, "cold": 4000, "scan": 10}
 WRITES = ("inserts", "updates", "thousands")
 LOADS = "import sqlite3; sqlite3.Connection.enable_load_extension"
+
+
+def words():
+    parser = argparse.ArgumentParser()
+    parser.add_argument("share", nargs="?", type=float, default=1.0, metavar="SHARE", help="of the work of a whole run")
+    parser.add_argument("--short", action="store_true", help="0.3 of it")
+    parser.add_argument("--idle-polls", type=int, default=0, metavar="N", help="the option of pagelog serve")
+    return parser.parse_args()
+
+
+SHARE, IDLE_POLLS = 0.3 if words().short else words().share, words().idle_polls
 
 
 def python_that_loads():
@@ -336,7 +349,7 @@ def measure_speedtest(aims):
     from service import Service
 
     def opened():
-        service = Service()
+        service = Service(idle_polls=IDLE_POLLS)
         service.uri = uri(service.address, check=50)
         return service
 
@@ -356,8 +369,9 @@ def main():
     shutil.rmtree(WORK, ignore_errors=True)
     WORK.mkdir(parents=True)
     print(f"{os.cpu_count()} processors, load {os.getloadavg()[0]:.1f}, SQLite {sqlite3.sqlite_version}, share {SHARE}, "
-          f"{ROUNDS} rounds")
-    with Service() as first, Service() as second, Service() as third:
+          f"{IDLE_POLLS} idle polls, {ROUNDS} rounds")
+    with (Service(idle_polls=IDLE_POLLS) as first, Service(idle_polls=IDLE_POLLS) as second,
+          Service(idle_polls=IDLE_POLLS) as third):
         systems = systems_of(first, second, third)
         measure(systems)
         show(systems)

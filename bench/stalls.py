@@ -1,6 +1,6 @@
 """Times how long a request of one database waits for another one, over the loopback.
 
-Usage: python3 bench/stalls.py [SHARE]     (1; a tenth of the blocks and requests with 0.1)
+Usage: python3 bench/stalls.py [SHARE] [--idle-polls N]     (1; a tenth of the blocks and requests with 0.1)
 
 Three cases, each on a service of its own with one database:
 
@@ -26,7 +26,7 @@ import subprocess
 import tempfile
 import time
 
-from serving import PROGRAM, SHARE, TABLE, about, build_frames, primary, reader, wire
+from serving import IDLE, PROGRAM, SHARE, TABLE, about, build_frames, primary, reader, wire
 
 WINDOW = 64
 
@@ -50,7 +50,7 @@ class Service:
 
     def __init__(self):
         words = [PROGRAM, "serve", "--listen", "127.0.0.1:0", "--table", TABLE, "--primary", 2, "--dbs", 1, "--workers", 64,
-                 "--connections", 4294967295, "--audit", 16777216]
+                 "--connections", 4294967295, "--audit", 16777216, *IDLE]
         self.process = subprocess.Popen([str(word) for word in words], stdout=subprocess.PIPE, stderr=subprocess.DEVNULL,
                                         text=True)
         self.port = int(self.process.stdout.readline().split()[1].rsplit(":", 1)[1])

@@ -34,7 +34,7 @@ class Service:
     """Ends with the block that it is used in."""
 
     def __init__(self, table=TABLE, primary=2, dbs=1, workers=16, connections=4294967295, audit=16777216, listen=None,
-                 prefix=(), quiet=False, text=None):
+                 prefix=(), quiet=False, text=None, idle_polls=0):
         """`text` is that of the table, in place of a file."""
         if text is not None:
             self.file = tempfile.NamedTemporaryFile("w", suffix=".toml")
@@ -42,6 +42,8 @@ class Service:
             table = self.file.name
         words = ["serve", "--listen", listen or "127.0.0.1:0", "--table", table, "--primary", primary, "--dbs", dbs,
                  "--workers", workers, "--connections", connections, "--audit", audit]
+        if idle_polls:
+            words += ["--idle-polls", idle_polls]
         words = list(prefix) + [PROGRAM] + [str(word) for word in words]
         self.process = subprocess.Popen(words, stdout=subprocess.PIPE, text=True, env=plain_environment(),
                                         stderr=subprocess.DEVNULL if quiet else None)
