@@ -3,8 +3,8 @@
 Usage: python3 bench/sqlite.py [SHARE | --short] [--idle-polls N]     (1; a tenth of the work with 0.1; --short is 0.3, a
 minute or two)
 
-The service is crates/pagelog/out/pagelog, or the program that PAGELOG names; its workers poll so often before they sleep as
---idle-polls says, 0 if it is not given. The client is built by `make -C clients/c`.
+The service is crates/pagelog/out/pagelog, or the program that PAGELOG names; its workers poll before they sleep as often as
+--idle-polls says, and 0 times if it is not given. The client is built by `make -C clients/c`.
 Everything is measured in this one run, by the same statements, in this one process, round after round in turns: a table with
 a text of a hundred bytes and an index on a random number. Plain SQLite has its file in bench/work. Beside each rate stands its
 share of that of plain SQLite in WAL with synchronous=off. Both are medians of all rounds; who comes first in a round is drawn.

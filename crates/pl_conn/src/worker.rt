@@ -287,7 +287,7 @@ fn take_new<R: Wait>(rt: &R, alloc: Global, post: &Post, poll: &Poll, lines: &mu
 }
 
 impl Worker {
-    /// A worker for the sockets that come here, which polls so often before it sleeps, with all that it needs, and what
+    /// A worker for the sockets that come here, which polls this often before it sleeps, with all that it needs, and what
     /// the accepting thread shares with it. `None` where there was no memory, or no descriptor.
     pub(crate) fn new<R: Net>(
         rt: &R,
