@@ -7,4 +7,4 @@ pub returns-then-lsns-lt18446744073709551615 : goal.returns-then-lsns-lt18446744
 returns-then-lsns-lt18446744073709551615 c = record { exact = λ lsn lt. c.reach.ensures.exact lsn (omega (arith, lt)) }
 
 pub returns : goal.returns
-returns c = record { exact = λ lsn lt. to_the_last c.args.table.now.rows (asked_in c.args.request.now) c.args.lsns 18446744073709551615 c.lower_lsns_are_allowed.ensures.lower c.requires.allowed c.requires.order c.requires.alike (omega (arith, c.if-lsns-lt18446744073709551615.false)) lsn (omega (arith, lt)) }
+returns c = record { exact = λ lsn lt. to_the_last c.args.table.now.rows (asked_in c.args.request.now) c.args.lsns 18446744073709551615 c.lower_lsns_are_allowed.ensures.law c.requires.allowed c.requires.order c.requires.alike (omega (arith, c.if-lsns-lt18446744073709551615.false)) lsn (omega (arith, lt)) }
