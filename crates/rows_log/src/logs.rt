@@ -94,7 +94,7 @@ annulled 1 3     = 3:03
 annulled 1 4     = none
 annulled 1 5     = 5:05
 annulled 2 3     = none
-# The window is empty: another content fits, and stands in no copy yet.
+# The window is empty: another content fits, and is in no copy yet.
 write 3:33 1     = Ok
 can_harden 3     = false
 ";

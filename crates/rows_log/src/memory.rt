@@ -66,8 +66,8 @@ fn arenas_free_their_memory(rt: HostRuntime) {
 }
 
 // Gets each of the pages.
-fn get_all(served: &mut Served, first: u32, behind: u32) -> Result<(), Stop> {
-    for page in first..behind {
+fn get_all(served: &mut Served, first: u32, end: u32) -> Result<(), Stop> {
+    for page in first..end {
         if served.get(page, 0, true)? != [0; 3] {
             return Err(Stop::Changed);
         }
