@@ -1,6 +1,6 @@
 //! Rows of one database whose audit list is read.
 //!
-//! The passes of the requests are 1, 0 and 18446744073709551615, over and over.
+//! The passes of the requests are 1, 0 and 18446744073709551615, in turn.
 
 use crate::database::Database;
 use std::test::Fail;

@@ -65,7 +65,7 @@ open start 2 65536                    = Ok
 2 22 primary 1 write 2:bb 1           = Done
 2 22 primary 1 offer 2:bc             = Denied C4 0
 2 22 primary 1 offer 2:bb             = Done
-# An offer is in no copy, also of a block that stands in one.
+# An offer is in no copy, also where the same block is in one.
 2 22 primary 1 report 2               = Denied C6 0
 2 22 primary 1 offer 64:cc            = Done
 2 22 primary 1 offer 65:cc            = Denied C3 0
