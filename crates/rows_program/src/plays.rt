@@ -56,7 +56,7 @@ const LINES: &[u8] =
     b"\n0000000222222222222222222222222222222222010000000000000001030000000000000000\n";
 
 // Plays the lines after this many of them. How many it answered.
-fn play_behind(
+fn play_after(
     alloc: Global,
     lines: usize,
     output: &mut Vec<u8>,
@@ -81,14 +81,14 @@ fn answers_all(alloc: Global) -> Result<bool, Fail> {
     let mut refused = false;
     let mut db = fresh_on(alloc, &mut refused)?;
     let mut output = room_on(alloc, 100, &mut refused)?;
-    let end = play_behind(alloc, 0, &mut output, &mut db);
+    let end = play_after(alloc, 0, &mut output, &mut db);
     if refused || !is_refused(&end, &output) {
         return Ok(end == Ok(2) && are_answers(&output) && db.audit_len() == 1);
     }
-    let behind = answered(&output).min(1);
-    output.truncate(if behind == 0 { 0 } else { ANSWER });
-    let end = play_behind(alloc, behind, &mut output, &mut db);
-    let lines = if behind == 0 { 2 } else { 1 };
+    let before = answered(&output).min(1);
+    output.truncate(if before == 0 { 0 } else { ANSWER });
+    let end = play_after(alloc, before, &mut output, &mut db);
+    let lines = if before == 0 { 2 } else { 1 };
     Ok(end == Ok(lines) && are_answers(&output) && matches!(db.audit_len(), 1 | 2))
 }
 
