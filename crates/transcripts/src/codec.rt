@@ -77,7 +77,7 @@ impl Codec {
     }
 
     // Puts the block after what is there. Where memory is refused, it has what it had.
-    fn put_behind(&mut self, block: &Block) -> Result<(), Stop> {
+    fn append(&mut self, block: &Block) -> Result<(), Stop> {
         let before = self.out.to_vec(self.alloc)?;
         match encode_onto(&mut self.out, block) {
             Ok(()) => Ok(()),
@@ -89,10 +89,10 @@ impl Codec {
     // The same, and once more where memory is refused.
     fn onto(&mut self, word: &str, out: &mut String, refused: &mut bool) -> Result<(), Stop> {
         let block = block_of(self.alloc, word)?;
-        let mut end = self.put_behind(&block);
+        let mut end = self.append(&block);
         if matches!(end, Err(Stop::NoMemory)) && !*refused {
             *refused = true;
-            end = self.put_behind(&block);
+            end = self.append(&block);
         }
         end?;
         push_bytes(out, &self.out)
