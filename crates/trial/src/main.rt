@@ -2,8 +2,8 @@
 //! standard output.
 //!
 //! Bodies are words: hexadecimal digits, and `COUNT*BYTE` for a run of equal bytes, which a reply has
-//! wherever eight or more stand in a row. A line `open FILE PRIMARY LIMIT` drops the database and
-//! opens another, with the table of that file, that first primary and an audit list of at most so many
+//! wherever there are eight or more in a row. A line `open FILE PRIMARY LIMIT` drops the database and
+//! opens another, with the table of that file, that first primary and an audit list of at most LIMIT
 //! entries. A line that is neither is answered `?`. `scripts/trial.py` writes the stored lines and
 //! replies from a model of its own.
 #![tactic(auto)]
