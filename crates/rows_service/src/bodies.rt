@@ -85,7 +85,7 @@ act 1 1 00 0000000000000001 0000 0001 01 00000000 0000 2001 = fault 12
 act 1 1 00 0000000000000001 0000 0000 00                = fault 13
 act 1 1 00 0000000000000001 0001 0000 0000              = fault 14
 act 1 1 fill 00 32770                                   = fault 15
-# An offer's block is all that stands behind the head.
+# An offer's block is all that follows the head.
 act 1 2                                                 = fault 7
 act 1 2 0000000000000000                                = fault 8
 act 1 2 0000000000000001 0002 0005 0005                 = fault 9

@@ -15,7 +15,7 @@ use std::thread::Threads;
 use transcripts::asking::head_of;
 use transcripts::transcript::Stop;
 
-/// What became of calls: so many were answered, so many were refused memory, and so many had no turn.
+/// What became of calls: how many were answered, how many were refused memory, and how many had no turn.
 #[derive(Clone, Copy, Drop)]
 struct Calls {
     answered: u64,
@@ -24,7 +24,7 @@ struct Calls {
 }
 
 impl Calls {
-    // Counts the reply to one more status. One call of a test may be refused memory, and none has a turn behind one that
+    // Counts the reply to one more status. One call of a test may be refused memory, and none has a turn after one that
     // had none.
     fn count(&mut self, reply: &Reply, refused: &mut bool) -> Result<(), Stop> {
         match reply {
@@ -52,7 +52,7 @@ fn status() -> Result<Request, Stop> {
     Request::new(head, Act::Status).ok_or(Stop::Unread)
 }
 
-// Asks for so many statuses.
+// Asks for this many statuses.
 fn call_each(
     rt: &impl Wait,
     desk: &Desk,
@@ -141,8 +141,8 @@ fn call_by_two<R: Threads + Wait + Sync>(
     );
     let (first, second) = (first?, second?);
     meet(desk, &mut p, q);
-    let behind = call_each(rt, desk, &mut p, 1, &mut by_first)?;
-    if behind.spent != 1 {
+    let after = call_each(rt, desk, &mut p, 1, &mut by_first)?;
+    if after.spent != 1 {
         return Err(Stop::Changed);
     }
     Ok((first, second, p))

@@ -23,7 +23,7 @@ fn frames_in_any_pieces(rt: HostRuntime) -> Result<(), Fail> {
 }
 
 const FAULTS_OF_FRAMES: &str = "\
-# The input ends inside a length, behind one, and inside a body.
+# The input ends inside a length, after one, and inside a body.
 frames 65536 00                         = Short 0
 frames 65536 000000                     = Short 0
 frames 65536 00000001                   = Short 0

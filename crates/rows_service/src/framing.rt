@@ -1,6 +1,6 @@
 //! Frames, asked line by line.
 
-use crate::pieces::{Behind, Feed, Full, Sink};
+use crate::pieces::{Ending, Feed, Full, Sink};
 use pl_core::Reply;
 use pl_wire::{
     BodyFault, FrameFault, ReplyFault, WriteFault, put_reply, read_body, read_frame, read_head,
@@ -142,7 +142,7 @@ impl Frames {
         &self,
         asked: Asked,
         bytes: &[u8],
-        stop: (Option<usize>, Behind),
+        stop: (Option<usize>, Ending),
         out: &mut String,
     ) -> Result<(), Stop> {
         let (whole, _) = self.read(asked, Feed::new(bytes, usize::MAX, stop))?;
@@ -178,7 +178,7 @@ impl Frames {
         Ok((sink.held, whole))
     }
 
-    // A writer of so much room, which takes its bytes in such pieces.
+    // A writer with this much room: how many bytes it takes at once, and what comes when the room is full.
     fn sink(&self, room: usize, way: (usize, Full)) -> Result<Sink, Stop> {
         let (at_once, full) = way;
         Ok(Sink {
@@ -189,7 +189,7 @@ impl Frames {
         })
     }
 
-    // What a writer of so much room holds in the end, in any pieces, and however it stops.
+    // What a writer with this much room holds in the end, in any pieces, and however it stops.
     fn held(&self, what: &[&str], room: usize) -> Result<(Vec<u8>, bool), Stop> {
         let (held, whole) = self.written(what, self.sink(room, (usize::MAX, Full::Fails))?)?;
         for way in WAYS {
@@ -229,7 +229,7 @@ impl Frames {
         push_numbers(out, &[frame.len() as u64])
     }
 
-    // Pushes what a writer of so much room holds, and whether it is the whole.
+    // Pushes what a writer with this much room holds, and whether that is the whole.
     fn push_stopped(&self, room: usize, what: &[&str], out: &mut String) -> Result<(), Stop> {
         let (held, whole) = self.held(what, room)?;
         push_body(out, &held)?;
@@ -242,7 +242,7 @@ impl Frames {
     fn push_input(
         &self,
         words: &[&str],
-        stop: (Option<usize>, Behind),
+        stop: (Option<usize>, Ending),
         out: &mut String,
     ) -> Result<(), Stop> {
         if let ["sent", words @ ..] = words {
@@ -257,7 +257,7 @@ impl Frames {
     fn push_sent(
         &self,
         words: &[&str],
-        stop: (Option<usize>, Behind),
+        stop: (Option<usize>, Ending),
         out: &mut String,
     ) -> Result<(), Stop> {
         let (asked, bytes) = asked_in(words)?;
@@ -271,7 +271,7 @@ impl Frames {
     fn push_reads(&self, words: &[&str], out: &mut String) -> Result<(), Stop> {
         let (asked, bytes) = asked_in(words)?;
         let bytes = bytes_of(self.alloc, bytes)?;
-        let (_, reads) = self.read(asked, Feed::new(&bytes, 1, (None, Behind::End)))?;
+        let (_, reads) = self.read(asked, Feed::new(&bytes, 1, (None, Ending::End)))?;
         push_numbers(out, &[reads])
     }
 }
@@ -304,12 +304,12 @@ impl Subject for Frames {
         match words {
             ["send", what @ ..] => self.send(what, out),
             ["room", room, what @ ..] => self.push_stopped(room.parse()?, what, out),
-            ["failing", words @ ..] => self.push_input(words, (None, Behind::Failure), out),
+            ["failing", words @ ..] => self.push_input(words, (None, Ending::Failure), out),
             ["interrupted", given, words @ ..] => {
-                self.push_input(words, (Some(given.parse()?), Behind::End), out)
+                self.push_input(words, (Some(given.parse()?), Ending::End), out)
             }
             ["reads", words @ ..] => self.push_reads(words, out),
-            _ => self.push_input(words, (None, Behind::End), out),
+            _ => self.push_input(words, (None, Ending::End), out),
         }
     }
 }

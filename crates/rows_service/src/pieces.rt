@@ -4,7 +4,7 @@ use std::io::{self, ErrorKind, Read, Write};
 
 /// What follows the bytes that a reader gives.
 #[derive(Clone, Copy)]
-pub(crate) enum Behind {
+pub(crate) enum Ending {
     /// The end of input.
     End,
     /// A read that fails.
@@ -18,25 +18,25 @@ pub(crate) struct Feed<'a> {
     at_once: usize,
     /// How many bytes it gives before a read is interrupted. The reads after that one go on.
     interrupted: Option<usize>,
-    behind: Behind,
+    ending: Ending,
     pub(crate) reads: u64,
     given: u64,
 }
 
 impl<'a> Feed<'a> {
-    pub(crate) fn new(left: &'a [u8], at_once: usize, stop: (Option<usize>, Behind)) -> Feed<'a> {
-        let (interrupted, behind) = stop;
+    pub(crate) fn new(left: &'a [u8], at_once: usize, stop: (Option<usize>, Ending)) -> Feed<'a> {
+        let (interrupted, ending) = stop;
         Feed {
             left,
             at_once,
             interrupted,
-            behind,
+            ending,
             reads: 0,
             given: 0,
         }
     }
 
-    // Whether there were so few reads as there may be: each but the last brought a byte at least.
+    // Whether there were as few reads as there may be: each but the last brought at least one byte.
     pub(crate) fn has_few_reads(&self) -> bool {
         self.reads <= self.given.saturating_add(1)
     }
@@ -49,7 +49,7 @@ impl Read for Feed<'_> {
             self.interrupted = None;
             return Err(io::Error::from(ErrorKind::Interrupted));
         }
-        if self.left.is_empty() && matches!(self.behind, Behind::Failure) {
+        if self.left.is_empty() && matches!(self.ending, Ending::Failure) {
             return Err(io::Error::from(ErrorKind::InvalidData));
         }
         let before = self.interrupted.unwrap_or(usize::MAX);
