@@ -1,4 +1,4 @@
-//! Desks that two threads call at once: what is so in the end whatever the schedule.
+//! Desks that two threads call at once: what holds in the end, whatever the schedule.
 
 ghost use Rattle.std.specs.Prelude.{IfOk};
 ghost use Rattle.std.specs.List.{All};
@@ -16,7 +16,7 @@ use transcripts::asking::request_of;
 use transcripts::line_text::push_lines;
 use transcripts::transcript::Stop;
 
-/// What one thread asks, over and over.
+/// What one thread asks, again and again.
 #[derive(Clone, Copy, Drop)]
 struct Asked {
     times: u64,
@@ -84,13 +84,13 @@ fn ask_over_a_change(
     requires of { IsOf desk.now pass.old }
     ensures of { IsOf desk.now pass.new }
 {
-    let [before, behind] = asked.answers;
+    let [before, after] = asked.answers;
     let mut count: u64 = 0;
     for number in 1..=asked.times {
         let text = ask_once(rt, alloc, desk, pass, asked.words, number, refused)?;
         if text.trim() == before && count == number - 1 {
             count = number;
-        } else if text.trim() != behind {
+        } else if text.trim() != after {
             return Err(Stop::Changed);
         }
     }
@@ -228,18 +228,23 @@ fn are_writes(alloc: Global, lines: &[Line], allowed: u64) -> Result<bool, Stop>
     Ok(listed == wanted)
 }
 
-// Whether the first 65 lines of the audit list are those.
-fn has_writes(alloc: Global, db: &mut Db, allowed: u64) -> Result<bool, Stop> {
-    let words = ["1", "11", "operator", "2", "audit", "1", "65"];
-    let request = request_of(alloc, 0, &words)?.ok_or(Stop::Unread)?;
-    match db.step(1, request) {
+// Whether the reply is those lines.
+fn lists_writes(alloc: Global, reply: &Reply, allowed: u64) -> Result<bool, Stop> {
+    match reply {
         Reply::Entries { lines } => are_writes(alloc, lines.as_slice(), allowed),
         Reply::NoMemory => Err(Stop::NoMemory),
         _ => Ok(false),
     }
 }
 
-// The same, and once more where memory is refused: the lines of the audits come behind these.
+// Whether the first 65 lines of the audit list are those.
+fn has_writes(alloc: Global, db: &mut Db, allowed: u64) -> Result<bool, Stop> {
+    let words = ["1", "11", "operator", "2", "audit", "1", "65"];
+    let request = request_of(alloc, 0, &words)?.ok_or(Stop::Unread)?;
+    lists_writes(alloc, &db.step(1, request), allowed)
+}
+
+// The same, and once more where memory is refused: the lines of the audits come after these.
 fn has_writes_on(
     alloc: Global,
     db: &mut Db,

@@ -24,7 +24,10 @@ pub(crate) fn open(alloc: Global, audit: u64) -> Result<Db, Stop> {
         return Err(Stop::Unread);
     }
     let table = table_named(alloc, "start")?;
-    Db::new(alloc, table, 2, limits).map_err(|_| Stop::NoMemory)
+    match Db::new(alloc, table, 2, limits) {
+        Ok(db) => Ok(db),
+        Err(_) => Err(Stop::NoMemory),
+    }
 }
 
 // The same, and once more where memory is refused.
@@ -37,8 +40,21 @@ fn open_on(alloc: Global, audit: u64, refused: &mut bool) -> Result<Db, Stop> {
     open(alloc, audit)
 }
 
-/// A desk of such a database, with this many passes and turns. Where memory is refused to the desk, the
-/// database comes back, and a desk of it is opened.
+// A desk of the database that came back.
+fn desk_again(alloc: Global, db: Db, seats: u32, turns: u64) -> Result<(Desk, Vec<Pass>), Stop>
+    requires seats { 1 ≤ seats }
+    requires some { 1 ≤ turns }
+    requires few { turns ≤ 2 ^ 62 }
+    ensures of { IfOk result (λ opened. All (IsOf opened.0) opened.1.items) }
+{
+    match Desk::new(alloc, db, seats, turns) {
+        Ok(opened) => Ok(opened),
+        Err(_) => Err(Stop::NoMemory),
+    }
+}
+
+/// A desk of a database with this limit, with this many passes and turns. Where memory is refused to the
+/// desk, the database comes back, and a desk of it is opened.
 pub(crate) fn desk_of(
     alloc: Global,
     audit: u64,
@@ -51,17 +67,14 @@ pub(crate) fn desk_of(
     requires few { turns ≤ 2 ^ 62 }
     ensures of { IfOk result (λ opened. All (IsOf opened.0) opened.1.items) }
 {
-    let db = match Desk::new(alloc, open_on(alloc, audit, refused)?, seats, turns) {
-        Ok(opened) => return Ok(opened),
-        Err(back) => back,
-    };
-    if *refused {
-        return Err(Stop::NoMemory);
-    }
-    *refused = true;
+    let db = open_on(alloc, audit, refused)?;
     match Desk::new(alloc, db, seats, turns) {
         Ok(opened) => Ok(opened),
-        Err(_) => Err(Stop::NoMemory),
+        Err(_) if *refused => Err(Stop::NoMemory),
+        Err(back) => {
+            *refused = true;
+            desk_again(alloc, back, seats, turns)
+        }
     }
 }
 
@@ -355,9 +368,9 @@ fn enter_status_on(alloc: Global, db: &mut Db, refused: &mut bool) -> Result<(),
     enter_status(alloc, db)
 }
 
-// How many entries a database of one entry has behind a desk. It goes through another where it came
-// back from the first.
-fn entries_behind_a_desk(alloc: Global) -> Result<u64, Stop> {
+// How many entries a database of one entry has after it went through a desk. Where memory is refused to the
+// desk, it goes through another one.
+fn entries_after_a_desk(alloc: Global) -> Result<u64, Stop> {
     let mut refused = false;
     let mut db = open_on(alloc, 65_536, &mut refused)?;
     enter_status_on(alloc, &mut db, &mut refused)?;
@@ -373,6 +386,6 @@ fn entries_behind_a_desk(alloc: Global) -> Result<u64, Stop> {
 
 #[test]
 fn database_comes_back(rt: HostRuntime) {
-    let entries = entries_behind_a_desk(rt.alloc());
+    let entries = entries_after_a_desk(rt.alloc());
     assert!(&rt; matches!(entries, Ok(1)));
 }
