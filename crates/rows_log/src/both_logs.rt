@@ -1,6 +1,7 @@
 //! The log beside a plain one: steps that are drawn from a seed are taken in both, and each answer is
 //! the same.
 
+ghost use Rattle.std.specs.Prelude.{IfOk};
 ghost use Rattle.pl_log.specs.Change.{ArePast};
 
 use crate::draws::{Asked, Draws, FIRST_ZONE};
@@ -21,24 +22,23 @@ struct Both {
     ghost past: { ArePast epoch log.annulled },
 }
 
-fn new_log(alloc: Global, refused: &mut bool) -> Result<Both, Stop> {
-    let plain = PlainLog::new(alloc, FIRST_ZONE);
-    let epoch = 1;
+fn new_log(alloc: Global, refused: &mut bool) -> Result<DbLog, Stop>
+    ensures past { IfOk result (λ log. ArePast 1 log.annulled) }
+{
     if let Ok(log) = DbLog::new(alloc, 3, 2) {
-        return Ok(Both {
-            alloc,
-            epoch,
-            log,
-            plain,
-        });
+        return Ok(log);
     }
     meets_refusal(refused)?;
-    let log = DbLog::new(alloc, 3, 2)?;
+    Ok(DbLog::new(alloc, 3, 2)?)
+}
+
+fn new_logs(alloc: Global, refused: &mut bool) -> Result<Both, Stop> {
+    let log = new_log(alloc, refused)?;
     Ok(Both {
         alloc,
-        epoch,
+        epoch: 1,
         log,
-        plain,
+        plain: PlainLog::new(alloc, FIRST_ZONE),
     })
 }
 
@@ -289,9 +289,9 @@ struct Steps {
     count: usize,
 }
 
-impl Row for Steps {
-    fn play(self, alloc: Global, refused: &mut bool) -> Result<(), Stop> {
-        let mut both = new_log(alloc, refused)?;
+impl Steps {
+    // Takes the steps in both logs.
+    fn take(self, both: &mut Both, refused: &mut bool) -> Result<(), Stop> {
         let mut draws = Draws::new(self.seed);
         for _ in 0..self.count {
             both.step(&mut draws, refused)?;
@@ -300,6 +300,13 @@ impl Row for Steps {
         both.compare_all(refused)?;
         wants(300 < both.log.hard(), "more than 300 hardened blocks")?;
         wants(5 < both.epoch, "more than five epochs")
+    }
+}
+
+impl Row for Steps {
+    fn play(self, alloc: Global, refused: &mut bool) -> Result<(), Stop> {
+        let mut both = new_logs(alloc, refused)?;
+        self.take(&mut both, refused)
     }
 }
 
