@@ -25,8 +25,8 @@ pub(crate) fn may_be_refused(rt: &impl Env) -> bool {
     rt.var("REFUSE_AT", &mut word).is_ok() || rt.var("REFUSE_THREAD", &mut word).is_ok()
 }
 
-/// A reader that gives a few bytes at once, of which it says that they are at hand. At the end it
-/// fails, or has no more.
+/// A reader that gives a few bytes at once, which are what it holds (`at_hand`). At the end it fails, or has
+/// no more.
 #[derive(Drop)]
 pub(crate) struct Input<'a> {
     pub(crate) left: &'a [u8],

@@ -97,7 +97,7 @@ impl Gate for Counting<'_> {
 #[derive(Drop)]
 struct Coming<'a> {
     left: &'a [u8],
-    /// How many of them are at hand.
+    /// How many of them have come.
     hand: usize,
     /// How many come at once.
     piece: usize,
@@ -167,7 +167,7 @@ fn frames_of(alloc: Global, count: usize) -> Result<Vec<u8>, Stop> {
     Ok(frames)
 }
 
-// A conversation over these frames, of which this many bytes come at once, with a writer of so much room.
+// A conversation over these frames, of which this many bytes come at once, with a writer that has this much room.
 fn talk(
     alloc: Global,
     frames: &[u8],
@@ -216,7 +216,7 @@ fn answers_all_in_time(alloc: Global) -> Result<(), Stop> {
 }
 
 /// Twelve frames that come in pieces of any length, cut anywhere: whenever the reader has to wait, the
-/// replies to all frames before are written, also where a part of the next one is at hand.
+/// replies to all frames before are written, also where a part of the next one has come.
 #[test]
 fn replies_before_each_wait(rt: HostRuntime) {
     let mut done = answers_all_in_time(rt.alloc());
@@ -226,7 +226,7 @@ fn replies_before_each_wait(rt: HostRuntime) {
     assert!(&rt; done.is_ok());
 }
 
-// Where the writer takes this many bytes of the replies to these frames, which are all at hand.
+// Where the writer takes this many bytes of the replies to these frames, which are all there at once.
 fn stops_soon(alloc: Global, frames: &[u8], room: usize) -> Result<(), Stop> {
     let tally = Tally::new();
     let end = talk(alloc, frames, frames.len(), room, &tally)?;
@@ -246,7 +246,7 @@ fn stops_at_each(alloc: Global) -> Result<(), Stop> {
     Ok(())
 }
 
-/// Twenty thousand frames that are all at hand, and a writer that fails: after the answered ones no
+/// Twenty thousand frames that are all there at once, and a writer that fails: after the answered ones no
 /// more requests were handed to the gate than those whose replies wait, 256 KiB and one reply more.
 #[test]
 fn steps_before_a_failed_write(rt: HostRuntime) {
