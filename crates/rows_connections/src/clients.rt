@@ -4,9 +4,9 @@ ghost use Rattle.std.specs.List.{All};
 ghost use Rattle.pl_conn.specs.Desks.{ArePassesOf};
 
 use crate::connections::{Started, check_served, connect, listen, stop_of, unserved};
-use crate::conversations::{FRAMES, REPLIES, REPLY_ENDS};
+use crate::conversations::{FRAMES, REPLIES, REPLY_ENDS, one_db};
 use crate::memory::may_be_refused;
-use crate::talking::{TURNS, one_db};
+use crate::talking::TURNS;
 use pl_conn::{Desks, Passes, Served, Solo, SoloPass, Stop as Stopped, serve};
 use std::alloc::Global;
 use std::io::{Read, Write};
@@ -100,9 +100,9 @@ fn first_refused(
     asked: &Asked<'_>,
     replies: (usize, usize),
 ) -> Result<Option<usize>, Stop> {
-    let (first, behind) = replies;
+    let (first, end) = replies;
     let mut refused = None;
-    for number in first..behind {
+    for number in first..end {
         let mut bytes = [0; 64];
         let reply = next_reply(stream, &mut bytes)?;
         if refused.is_none() && reply == NO_MEMORY.as_slice() {

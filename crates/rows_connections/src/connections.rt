@@ -176,14 +176,12 @@ fn ask_both<R: Net<Stream = TcpStream>>(
     Ok(replies_to_both(rt, addr, gate))
 }
 
-// Two clients at once: the second asks once the first one's request is in the gate. Their replies.
-fn replies_to_both<R: Net<Stream = TcpStream>>(
-    rt: &R,
-    addr: SocketAddr,
+// The second connection asks once the first one's request is in the gate. Their replies.
+fn replies_on_both(
+    first: &mut TcpStream,
+    second: &mut TcpStream,
     gate: &Holds,
 ) -> Option<[[u8; 5]; 2]> {
-    let mut first = connect(rt, addr).ok()?;
-    let mut second = connect(rt, addr).ok()?;
     let (mut of_first, mut of_second) = ([0; 5], [0; 5]);
     first.write_all(&report(1)?).ok()?;
     if !comes(&gate.entered) {
@@ -193,6 +191,17 @@ fn replies_to_both<R: Net<Stream = TcpStream>>(
     second.read_exact(&mut of_second).ok()?;
     first.read_exact(&mut of_first).ok()?;
     Some([of_first, of_second])
+}
+
+// The same of two clients that connect.
+fn replies_to_both<R: Net<Stream = TcpStream>>(
+    rt: &R,
+    addr: SocketAddr,
+    gate: &Holds,
+) -> Option<[[u8; 5]; 2]> {
+    let mut first = connect(rt, addr).ok()?;
+    let mut second = connect(rt, addr).ok()?;
+    replies_on_both(&mut first, &mut second, gate)
 }
 
 // Serves two connections with two workers, over a gate that answers the first request after the second.

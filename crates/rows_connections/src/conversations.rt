@@ -1,6 +1,6 @@
 //! Conversations over memory: whole, cut anywhere, and with frames that are none.
 
-ghost use Rattle.std.specs.Prelude.{IfOk};
+ghost use Rattle.std.specs.Prelude.{◌≡◌, IfOk, vec_len};
 ghost use Rattle.pl_conn.specs.Solo.{HasDatabases};
 
 use crate::connections::stop_of;
@@ -44,16 +44,34 @@ pub(crate) fn open(alloc: Global) -> Result<Db, Stop> {
     if !limits.are_valid() {
         return Err(Stop::Unread);
     }
-    Db::new(alloc, table_named(alloc, "start")?, 2, limits).map_err(|_| Stop::NoMemory)
+    let table = table_named(alloc, "start")?;
+    match Db::new(alloc, table, 2, limits) {
+        Ok(db) => Ok(db),
+        Err(_) => Err(Stop::NoMemory),
+    }
+}
+
+// A list of the database alone.
+fn list_of(alloc: Global, db: Db) -> Result<Vec<Db>, Stop>
+    ensures one { IfOk result (λ dbs. vec_len dbs ≡ 1) }
+{
+    let mut dbs = Vec::with_capacity(alloc, 1)?;
+    dbs.push_reserved(db);
+    Ok(dbs)
+}
+
+/// One database, with the start table and primary 2.
+pub(crate) fn one_db(alloc: Global) -> Result<Vec<Db>, Stop>
+    ensures one { IfOk result (λ dbs. vec_len dbs ≡ 1) }
+{
+    list_of(alloc, open(alloc)?)
 }
 
 /// A pass with one database, under the number 1.
 pub(crate) fn one_pass(alloc: Global) -> Result<SoloPass, Stop>
     ensures has { IfOk result (λ pass. HasDatabases pass) }
 {
-    let mut dbs = Vec::with_capacity(alloc, 1)?;
-    dbs.push_reserved(open(alloc)?);
-    Ok(SoloPass::new(dbs, 1))
+    Ok(SoloPass::new(one_db(alloc)?, 1))
 }
 
 // What a conversation ended with, what it wrote, and how many entries it made.
@@ -93,7 +111,7 @@ pub(crate) fn whole(ends: &[usize], count: usize) -> u64 {
     whole
 }
 
-// The conversation over these bytes, all at hand, ends with this fault, without a reply or an entry.
+// The conversation over these bytes, which are all there at once, ends with this fault, without a reply or an entry.
 fn ends_at_once(alloc: Global, bytes: &[u8], wanted: ConnFault) -> Result<(), Stop> {
     let input = Input {
         left: bytes,
@@ -142,7 +160,7 @@ fn converse_over_broken_frames(rt: HostRuntime) {
 }
 
 // A frame whose body is this many zeros, with this length before it.
-fn zeros_behind(alloc: Global, length: [u8; 4], count: usize) -> Result<Vec<u8>, Stop> {
+fn frame_of_zeros(alloc: Global, length: [u8; 4], count: usize) -> Result<Vec<u8>, Stop> {
     let mut frame = Vec::with_capacity(alloc, 4 + count.min(100_000))?;
     frame.extend_from_slice(&length)?;
     for _ in 0..count {
@@ -151,9 +169,9 @@ fn zeros_behind(alloc: Global, length: [u8; 4], count: usize) -> Result<Vec<u8>,
     Ok(frame)
 }
 
-// The longest body is read where all of it is at hand, and one byte more is too long there.
+// The longest body is read where all of it is there at once, and one byte more is too long.
 fn longest_body(alloc: Global) -> Result<(), Stop> {
-    let frame = zeros_behind(alloc, [0, 1, 0, 0], 65_536)?;
+    let frame = frame_of_zeros(alloc, [0, 1, 0, 0], 65_536)?;
     let input = Input {
         left: &frame,
         at_once: 70_000,
@@ -162,7 +180,7 @@ fn longest_body(alloc: Global) -> Result<(), Stop> {
     let talked = talk(alloc, input, 1_000, 1_000)?;
     check(matches!(talked.end, Ok(1)))?;
     check(talked.output.taken() == [0, 0, 0, 2, 10, 2].as_slice() && talked.entries == 0)?;
-    let frame = zeros_behind(alloc, [0, 1, 0, 1], 65_537)?;
+    let frame = frame_of_zeros(alloc, [0, 1, 0, 1], 65_537)?;
     let input = Input {
         left: &frame,
         at_once: 70_000,
@@ -185,7 +203,7 @@ fn longest_body_at_hand(rt: HostRuntime) {
     assert!(&rt; done.is_ok());
 }
 
-// Takes two of the bytes at hand, if there are two.
+// Takes two of the bytes that the reader holds, if there are two.
 fn took_two<R: Source>(reader: &mut R) -> bool {
     if reader.at_hand().len() < 2 {
         return false;
@@ -220,7 +238,7 @@ fn read_on<R: Read>(reader: &mut R, rest: &mut Vec<u8>, refused: &mut bool) -> i
     }
 }
 
-// What is at hand at a buffered reader comes next, and is gone once it is taken.
+// What a buffered reader holds (`at_hand`) comes next, and is gone once it is taken.
 fn takes_at_hand(alloc: Global) -> Result<(), Stop> {
     let mut refused = false;
     let bytes = [1, 2, 3, 4, 5, 6, 7];
@@ -240,7 +258,7 @@ fn bytes_at_hand_are_taken(rt: HostRuntime) {
     assert!(&rt; takes_at_hand(rt.alloc()).is_ok());
 }
 
-// However few bytes come at once, and however many are at hand, the replies are the same.
+// However few bytes come at once, and however many the reader holds, the replies are the same.
 fn any_cut(alloc: Global) -> Result<(), Stop> {
     let frames = hex::decode(alloc, FRAMES)?;
     let replies = hex::decode(alloc, REPLIES)?;

@@ -87,20 +87,42 @@ const AUDIT: (&str, &str) = (
 
 const NO_ENTRY: (&str, &str) = ("1 11 operator 1 audit 1 9", "Entries");
 
+// Two passes each ask the last database for its status, and one of them asks one that there is not.
+fn ask_statuses<R: Wait>(
+    alloc: Global,
+    desks: &Desks<R>,
+    last: &mut Passes,
+    before: &mut Passes,
+) -> Result<(), Stop>
+    requires last { ArePassesOf desks.now last.old }
+    requires before { ArePassesOf desks.now before.old }
+    ensures last { ArePassesOf desks.now last.new }
+    ensures before { ArePassesOf desks.now before.new }
+{
+    answers(alloc, desks, last, 15, STATUS)?;
+    answers(alloc, desks, last, 16, NO_DATABASE)?;
+    answers(alloc, desks, before, 15, STATUS)
+}
+
+// The pass finds both statuses in the last database, and none in the one before it.
+fn ask_audits<R: Wait>(alloc: Global, desks: &Desks<R>, last: &mut Passes) -> Result<(), Stop>
+    requires of { ArePassesOf desks.now last.old }
+{
+    answers(alloc, desks, last, 15, AUDIT)?;
+    answers(alloc, desks, last, 14, NO_ENTRY)
+}
+
 // The pass of the last seat, and that of the seat before it, each ask the last database. The first has
-// met the second then, and finds both statuses there, and none in the database before it.
+// met the second then, and finds what both asked.
 fn ask_last<R: Wait>(alloc: Global, desks: &Desks<R>, mut passes: Vec<Passes>) -> Result<(), Stop>
     requires of { All (ArePassesOf desks.now) passes.items }
 {
     check(passes.len() == 65)?;
     let mut last = last_of(desks, &mut passes)?;
     let mut before = last_of(desks, &mut passes)?;
-    answers(alloc, desks, &mut last, 15, STATUS)?;
-    answers(alloc, desks, &mut last, 16, NO_DATABASE)?;
-    answers(alloc, desks, &mut before, 15, STATUS)?;
+    ask_statuses(alloc, desks, &mut last, &mut before)?;
     desks.meet(&mut last, before);
-    answers(alloc, desks, &mut last, 15, AUDIT)?;
-    answers(alloc, desks, &mut last, 14, NO_ENTRY)
+    ask_audits(alloc, desks, &mut last)
 }
 
 fn open_and_ask<R: Wait + Drop>(rt: R, alloc: Global) -> Result<(), Stop> {

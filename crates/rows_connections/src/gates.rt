@@ -1,6 +1,6 @@
 //! Gates: a page server that materialises a partition, and desks of one database and of two.
 
-ghost use Rattle.std.specs.Prelude.{IfSome};
+ghost use Rattle.std.specs.Prelude.{◌≡◌, ◌+◌, IfSome, OnOk, vec_len};
 ghost use Rattle.std.specs.List.{All};
 ghost use Rattle.pl_conn.specs.Desks.{ArePassesOf};
 ghost use Rattle.pl_conn.specs.Solo.{HasDatabases};
@@ -57,6 +57,15 @@ const SECONDARY: Head = Head {
     epoch: 1,
 };
 
+/// The operator at the second database.
+const BESIDE: Head = Head {
+    principal: 1,
+    token: [0x11; 16],
+    role: Role::Operator,
+    database: 1,
+    epoch: 1,
+};
+
 /// The token of the page server, whose number is 4.
 const PAGER_TOKEN: [u8; 16] = [0x44; 16];
 
@@ -97,7 +106,18 @@ fn open(alloc: Global) -> Result<Db, Stop> {
         audit: 65_536,
         chunks: 16,
     };
-    Db::new(alloc, table, 2, limits).map_err(|_| Stop::NoMemory)
+    match Db::new(alloc, table, 2, limits) {
+        Ok(db) => Ok(db),
+        Err(_) => Err(Stop::NoMemory),
+    }
+}
+
+// Opens one more database.
+fn push_open(alloc: Global, dbs: &mut Vec<Db>) -> Result<(), Stop>
+    ensures one { OnOk result (vec_len dbs.new ≡ vec_len dbs.old + 1) }
+{
+    dbs.push(open(alloc)?)?;
+    Ok(())
 }
 
 // The reply of the gate. An error is that memory was refused.
@@ -147,6 +167,15 @@ fn harden<G: Gate>(alloc: Global, gate: &G, pass: &mut G::Pass) -> Result<Reply,
     ask(gate, pass, PRIMARY, Act::Report { lsn: 40 })
 }
 
+// The LSN and the first byte of a page's reply.
+fn at_and_first(reply: &Reply) -> Result<(u64, u8), Stop> {
+    let Reply::Page { at, bytes } = reply else {
+        return Err(Stop::Refused);
+    };
+    let byte = bytes.as_slice().first().ok_or(Stop::Refused)?;
+    Ok((*at, *byte))
+}
+
 // What came of three rounds, the LSN and the first byte of the page then, and what came of three
 // rounds more after a failover.
 fn materialise_twice(
@@ -163,19 +192,16 @@ fn materialise_twice(
         lsn: 1,
         exact: false,
     };
-    let Reply::Page { at, bytes } = ask(gate, pass, SECONDARY, get)? else {
-        return Err(Stop::Refused);
-    };
+    let (at, byte) = at_and_first(&ask(gate, pass, SECONDARY, get)?)?;
     ask(gate, pass, OPERATOR, Act::Failover { primary: 5 })?;
     let second = materialise(gate, pass, 4, PAGER_TOKEN, 0, 0, 3);
-    let byte = *bytes.as_slice().first().ok_or(Stop::Refused)?;
     Ok((first, at, byte, second))
 }
 
 // The same of a fresh database. An error is that memory was refused, to the test or to a round.
 fn materialise_fresh(alloc: Global) -> Result<(Worked, u64, u8, Worked), Stop> {
     let mut dbs = Vec::new(alloc);
-    dbs.push(open(alloc)?)?;
+    push_open(alloc, &mut dbs)?;
     let gate = Telling::new();
     let mut pass = SoloPass::new(dbs, 1);
     let seen = materialise_twice(alloc, &gate, &mut pass);
@@ -212,24 +238,27 @@ fn two_of<R>(desks: &Desks<R>, mut passes: Vec<Passes>) -> Option<(Passes, Passe
 }
 
 // The reply for a database that there is not, and what the audit list has after the passes have met.
+fn none_and_audit<R: Wait>(
+    desks: &Desks<R>,
+    first: &mut Passes,
+    second: Passes,
+) -> Result<(Reply, Reply), Stop>
+    requires of { ArePassesOf desks.now first.old }
+    requires second { ArePassesOf desks.now second }
+{
+    let none = ask(desks, first, BESIDE, Act::Status)?;
+    desks.meet(first, second);
+    let audit = ask(desks, first, OPERATOR, Act::Audit { first: 1, max: 10 })?;
+    Ok((none, audit))
+}
+
+// The same of two passes of one database.
 fn ask_beside<R: Wait + Drop>(rt: R, alloc: Global) -> Result<(Reply, Reply), Stop> {
     let mut dbs = Vec::new(alloc);
-    dbs.push(open(alloc)?)?;
+    push_open(alloc, &mut dbs)?;
     let (desks, passes) = Desks::new(alloc, rt, dbs, 2, TURNS)?;
     let (mut first, second) = two_of(&desks, passes).ok_or(Stop::Refused)?;
-    let beside = Head {
-        database: 1,
-        ..OPERATOR
-    };
-    let none = ask(&desks, &mut first, beside, Act::Status)?;
-    desks.meet(&mut first, second);
-    let audit = ask(
-        &desks,
-        &mut first,
-        OPERATOR,
-        Act::Audit { first: 1, max: 10 },
-    )?;
-    Ok((none, audit))
+    none_and_audit(&desks, &mut first, second)
 }
 
 fn is_empty_list(reply: &Reply) -> bool {
@@ -246,23 +275,40 @@ fn no_such_database(rt: HostRuntime) {
     assert!(&rt; matches!(&replies, Ok((Reply::NoDatabase, audit)) if is_empty_list(audit)));
 }
 
+// The second pass fails the second database over, and the first pass meets it.
+fn fail_over_and_meet<R: Wait>(
+    desks: &Desks<R>,
+    first: &mut Passes,
+    mut second: Passes,
+) -> Result<(), Stop>
+    requires of { ArePassesOf desks.now first.old }
+    requires second { ArePassesOf desks.now second }
+    ensures of { ArePassesOf desks.now first.new }
+{
+    ask(desks, &mut second, BESIDE, Act::Failover { primary: 5 })?;
+    desks.meet(first, second);
+    Ok(())
+}
+
+// The status of each of the two databases.
+fn statuses<R: Wait>(desks: &Desks<R>, pass: &mut Passes) -> Result<(Reply, Reply), Stop>
+    requires of { ArePassesOf desks.now pass.old }
+{
+    let here = ask(desks, pass, OPERATOR, Act::Status)?;
+    let there = ask(desks, pass, BESIDE, Act::Status)?;
+    Ok((here, there))
+}
+
 // A failover of the second of two databases, by one of two passes, and what the status of each is to
 // the other pass after they have met.
 fn fail_over_second<R: Wait + Drop>(rt: R, alloc: Global) -> Result<(Reply, Reply), Stop> {
     let mut dbs = Vec::new(alloc);
-    dbs.push(open(alloc)?)?;
-    dbs.push(open(alloc)?)?;
+    push_open(alloc, &mut dbs)?;
+    push_open(alloc, &mut dbs)?;
     let (desks, passes) = Desks::new(alloc, rt, dbs, 2, TURNS)?;
-    let (mut first, mut second) = two_of(&desks, passes).ok_or(Stop::Refused)?;
-    let beside = Head {
-        database: 1,
-        ..OPERATOR
-    };
-    ask(&desks, &mut second, beside, Act::Failover { primary: 5 })?;
-    desks.meet(&mut first, second);
-    let here = ask(&desks, &mut first, OPERATOR, Act::Status)?;
-    let there = ask(&desks, &mut first, beside, Act::Status)?;
-    Ok((here, there))
+    let (mut first, second) = two_of(&desks, passes).ok_or(Stop::Refused)?;
+    fail_over_and_meet(&desks, &mut first, second)?;
+    statuses(&desks, &mut first)
 }
 
 #[test]

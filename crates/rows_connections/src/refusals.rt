@@ -5,10 +5,11 @@ ghost use Rattle.std.specs.Prelude.{◌≡◌, IfOk, vec_len};
 ghost use Rattle.std.specs.List.{All};
 ghost use Rattle.pl_conn.specs.Desks.{ArePassesOf};
 
-use crate::conversations::{FRAMES, REPLIES, one_pass};
+use crate::conversations::{FRAMES, REPLIES, one_db, one_pass};
 use crate::memory::{Input, check};
-use crate::talking::{TURNS, last_of, one_db};
-use pl_conn::{Cause, ConnFault, Desks, Gate, Passes, Solo, converse};
+use crate::talking::{TURNS, last_of};
+use pl_conn::{Cause, ConnFault, Desks, Gate, Passes, Solo, SoloPass, converse};
+use pl_core::Db;
 use std::alloc::Global;
 use std::io::{self, ErrorKind, Write};
 use std::sync::Wait;
@@ -148,7 +149,7 @@ fn again_of(
 ) -> Result<Option<Again>, Stop> {
     match end {
         Ok(4) if told == run.replies => Ok(None),
-        Ok(4) => again_behind(told).map(Some),
+        Ok(4) => again_after(told).map(Some),
         Err(
             ConnFault {
                 cause: Cause::NoMemory,
@@ -160,7 +161,7 @@ fn again_of(
 }
 
 // What is asked once more after a reply NoMemory.
-fn again_behind(told: &[u8]) -> Result<Again, Stop> {
+fn again_after(told: &[u8]) -> Result<Again, Stop> {
     for (words, again) in REFUSED {
         if are_bytes(told, words) {
             return Ok(again);
@@ -208,14 +209,26 @@ fn goes_on<G: Gate>(
     Ok(Some(entries))
 }
 
+// Whether the block is hardened, and there are this many entries, at least and at most.
+fn is_hardened(db: &Db, entries: (u64, u64)) -> bool {
+    let (least, most) = entries;
+    let count = db.audit_len();
+    db.hard() == 1 && db.log().counts() == (0, 1) && least <= count && count <= most
+}
+
+// The one database of the pass has the block hardened, and this many entries.
+fn ends_hardened(pass: SoloPass, entries: (u64, u64)) -> Result<(), Stop> {
+    match pass.into_dbs().pop() {
+        Some(db) => check(is_hardened(&db, entries)),
+        None => Err(Stop::Unread),
+    }
+}
+
 // Over one caller's gate. In the end the block is hardened, whatever was refused.
 fn goes_on_alone(alloc: Global, run: Run<'_>) -> Result<bool, Stop> {
     let mut pass = one_pass(alloc)?;
     let more = goes_on(alloc, run, &Solo, &mut pass)?;
-    let (least, most) = more.unwrap_or((4, 4));
-    let db = pass.into_dbs().pop().ok_or(Stop::Unread)?;
-    check(db.hard() == 1 && db.log().counts() == (0, 1))?;
-    check(least <= db.audit_len() && db.audit_len() <= most)?;
+    ends_hardened(pass, more.unwrap_or((4, 4)))?;
     Ok(more.is_some())
 }
 
@@ -261,7 +274,7 @@ fn goes_on_in_pieces<R: Wait + Drop + Copy>(
     }
 }
 
-/// The frames of the stored run are all at hand. A refusal is replied NoMemory, or ends the conversation
+/// The frames of the stored run are all there at once. A refusal is replied NoMemory, or ends the conversation
 /// after the frames that it answered; what was not answered is asked once more.
 #[test]
 fn stored_run_goes_on(rt: HostRuntime) {

@@ -5,9 +5,9 @@ ghost use Rattle.std.specs.List.{All};
 ghost use Rattle.pl_conn.specs.Desks.{ArePassesOf};
 
 use crate::connections::{Started, check_served, connect, listen, report, stop_of, unserved};
-use crate::conversations::FRAMES;
+use crate::conversations::{FRAMES, one_db};
 use crate::memory::{check, is_refused, may_be_refused};
-use crate::talking::{TURNS, one_db, push_frame};
+use crate::talking::{TURNS, push_frame};
 use pl_conn::{Desks, Gate, Passes, Served, serve};
 use pl_core::Reply;
 use pl_table::{Act, Request};
@@ -79,8 +79,45 @@ fn ask_on_each(alloc: Global, streams: &mut [TcpStream]) -> Result<(), Stop> {
     Ok(())
 }
 
-// One connection stays silent, one sends half a frame, and the others ask. In the end the half is made whole. All of them are
-// there before anything is asked, so that the service comes to its end.
+// The connections that speak.
+fn connect_all<R: Net<Stream = TcpStream>>(
+    rt: &R,
+    addr: SocketAddr,
+    streams: &mut Vec<TcpStream>,
+) -> Result<(), Stop> {
+    for _ in 0..SPEAKING {
+        streams.push(connect(rt, addr).map_err(stop_of)?)?;
+    }
+    Ok(())
+}
+
+// One connection sends half a frame, the others ask, and in the end the half is made whole.
+fn ask_amid_a_frame(
+    alloc: Global,
+    half: &mut TcpStream,
+    streams: &mut [TcpStream],
+) -> Result<(), Stop> {
+    let frame = report(250).ok_or(Stop::Unread)?;
+    let (front, back) = frame.split_at(20);
+    half.write_all(front).map_err(stop_of)?;
+    ask_on_each(alloc, streams)?;
+    half.write_all(back).map_err(stop_of)?;
+    check(told_lsn(alloc, half)? == 250)
+}
+
+// The same. All of them are there before anything is asked, so that the service comes to its end.
+fn ask_beside_half<R: Net<Stream = TcpStream>>(
+    rt: &R,
+    alloc: Global,
+    addr: SocketAddr,
+    streams: &mut Vec<TcpStream>,
+) -> Result<(), Stop> {
+    let mut half = connect(rt, addr).map_err(stop_of)?;
+    connect_all(rt, addr, streams)?;
+    ask_amid_a_frame(alloc, &mut half, streams)
+}
+
+// The same, while another connection stays silent.
 fn ask_beside_silent<R: Net<Stream = TcpStream>>(
     rt: &R,
     alloc: Global,
@@ -90,19 +127,10 @@ fn ask_beside_silent<R: Net<Stream = TcpStream>>(
 ) -> Result<(), Stop> {
     started.waits()?;
     let silent = connect(rt, addr).map_err(stop_of)?;
-    let mut half = connect(rt, addr).map_err(stop_of)?;
     let mut streams = room;
-    for _ in 0..SPEAKING {
-        streams.push(connect(rt, addr).map_err(stop_of)?)?;
-    }
-    let frame = report(250).ok_or(Stop::Unread)?;
-    let (front, back) = frame.split_at(20);
-    half.write_all(front).map_err(stop_of)?;
-    ask_on_each(alloc, &mut streams)?;
-    half.write_all(back).map_err(stop_of)?;
-    check(told_lsn(alloc, &mut half)? == 250)?;
+    let told = ask_beside_half(rt, alloc, addr, &mut streams);
     drop(silent);
-    Ok(())
+    told
 }
 
 // Serves them with one worker.
@@ -182,6 +210,33 @@ fn status_frame(alloc: Global) -> Result<Vec<u8>, Stop> {
     Ok(frame)
 }
 
+// Asks for the pages, and reads the replies to the frames before the gets.
+fn ask_for_pages(slow: &mut TcpStream, gets: &[u8]) -> Result<(), Stop> {
+    slow.write_all(gets).map_err(stop_of)?;
+    let mut told = [0; 15];
+    slow.read_exact(&mut told).map_err(stop_of)?;
+    check(told == [0, 0, 0, 1, 0, 0, 0, 0, 1, 0, 0, 0, 0, 1, 0])
+}
+
+// Asks for the status three times, and is answered.
+fn ask_statuses(alloc: Global, other: &mut TcpStream, status: &[u8]) -> Result<(), Stop> {
+    for _ in 0..3 {
+        other.write_all(status).map_err(stop_of)?;
+        check(told_lsn(alloc, other)? == 1)?;
+    }
+    Ok(())
+}
+
+// Reads all of the pages.
+fn read_pages(alloc: Global, slow: &mut TcpStream) -> Result<(), Stop> {
+    let mut reply = vec![in alloc; 0; PAGE_REPLY]?;
+    for _ in 0..GETS {
+        slow.read_exact(&mut reply).map_err(stop_of)?;
+        check(is_page(&reply))?;
+    }
+    Ok(())
+}
+
 // One client asks for pages and does not read, while another one asks and is answered. Then it reads them all. Both are there
 // before anything is asked.
 fn ask_beside_slow<R: Net<Stream = TcpStream>>(
@@ -195,20 +250,9 @@ fn ask_beside_slow<R: Net<Stream = TcpStream>>(
     let mut slow = connect(rt, addr).map_err(stop_of)?;
     let mut other = connect(rt, addr).map_err(stop_of)?;
     let (gets, status) = frames;
-    slow.write_all(gets).map_err(stop_of)?;
-    let mut told = [0; 15];
-    slow.read_exact(&mut told).map_err(stop_of)?;
-    check(told == [0, 0, 0, 1, 0, 0, 0, 0, 1, 0, 0, 0, 0, 1, 0])?;
-    for _ in 0..3 {
-        other.write_all(status).map_err(stop_of)?;
-        check(told_lsn(alloc, &mut other)? == 1)?;
-    }
-    let mut reply = vec![in alloc; 0; PAGE_REPLY]?;
-    for _ in 0..GETS {
-        slow.read_exact(&mut reply).map_err(stop_of)?;
-        check(is_page(&reply))?;
-    }
-    Ok(())
+    ask_for_pages(&mut slow, gets)?;
+    ask_statuses(alloc, &mut other, status)?;
+    read_pages(alloc, &mut slow)
 }
 
 // Serves both with one worker, over the desk of one database.

@@ -5,10 +5,10 @@ ghost use Rattle.std.specs.Prelude.{◌≡◌, IfOk, IfSome, vec_len};
 ghost use Rattle.std.specs.List.{All};
 ghost use Rattle.pl_conn.specs.Desks.{ArePassesOf};
 
-use crate::conversations::{one_pass, open};
+use crate::conversations::{one_db, one_pass};
 use crate::memory::{Input, Output, check, ended_in_refusal, is_refused};
 use pl_conn::{Desks, Gate, Passes, Solo, converse};
-use pl_core::{Db, Reply};
+use pl_core::Reply;
 use pl_wire::{ReplyFault, encode_request, put_reply, read_reply};
 use std::alloc::{AllocError, Global};
 use std::sync::Wait;
@@ -21,7 +21,7 @@ use transcripts::transcript::Stop;
 /// As many turns as a desk may have.
 pub(crate) const TURNS: u64 = 1 << 62;
 
-/// How many bytes are at hand at once, and are written at once.
+/// How many bytes come at once, and are written at once.
 pub(crate) const PIECES: [usize; 4] = [1, 61, 4_096, usize::MAX];
 
 /// The frames of the requests of a text, and of their replies.
@@ -238,15 +238,6 @@ fn converses_with_last<R: Wait>(
 {
     let mut pass = last_of(desks, &mut passes)?;
     converses(alloc, told, at_once, desks, &mut pass)
-}
-
-/// One database, with the start table and primary 2.
-pub(crate) fn one_db(alloc: Global) -> Result<Vec<Db>, Stop>
-    ensures one { IfOk result (λ dbs. vec_len dbs ≡ 1) }
-{
-    let mut dbs = Vec::with_capacity(alloc, 1)?;
-    dbs.push_reserved(open(alloc)?);
-    Ok(dbs)
 }
 
 fn converses_at_desk<R: Wait + Drop>(
