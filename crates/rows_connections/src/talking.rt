@@ -1,7 +1,7 @@
 //! Conversations of which each line has a request and its reply: over one caller's gate and over a
 //! desk, in any pieces.
 
-ghost use Rattle.std.specs.Prelude.{◌≡◌, IfOk, IfSome, vec_len};
+ghost use Rattle.std.specs.Prelude.{IfOk};
 ghost use Rattle.std.specs.List.{All};
 ghost use Rattle.pl_conn.specs.Desks.{ArePassesOf};
 
