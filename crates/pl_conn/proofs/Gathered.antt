@@ -95,9 +95,9 @@ module _ {P : Type 0} (calls : Calls P) where
   }
 
   -- the next frame is taken where it lies
-  pub takes_at_hand : (a b : Option (List ℕ)) (p q : P) (bytes : List ℕ) (box left : Box) → Consumes a b bytes → Gathers calls p bytes box q left
+  pub takes_buffered : (a b : Option (List ℕ)) (p q : P) (bytes : List ℕ) (box left : Box) → Consumes a b bytes → Gathers calls p bytes box q left
       → TakesFrame calls a p box b q left (Ok true)
-  takes_at_hand a b p q bytes box left reads g = (bytes, reads, g)
+  takes_buffered a b p q bytes box left reads g = (bytes, reads, g)
 
   -- the next frame is read by itself
   pub takes_read : (a b : Option (List ℕ)) (p same q : P) (body : List ℕ) (box kept left : Box) (reply : Reply) (read : Result Query (Failed WireFault))

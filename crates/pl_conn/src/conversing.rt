@@ -35,7 +35,7 @@ fn request_in(alloc: Global, body: Vec<u8>) -> Result<Request, BodyFault>
 
 // Takes the next frame and answers it: where it lies, if all of it is buffered, and else by reads. The reply has its
 // room before the request has its step. False at the end of input.
-#[tactic(auto, using(crate::proofs::Gathered::takes_at_hand, crate::proofs::Gathered::takes_fault))]
+#[tactic(auto, using(crate::proofs::Gathered::takes_buffered, crate::proofs::Gathered::takes_fault))]
 fn take_next<R: Source, G: Gate>(
     alloc: Global,
     reader: &mut R,
@@ -50,7 +50,7 @@ fn take_next<R: Source, G: Gate>(
         (R.remaining reader.new) pass.new outbox.new result }
     ensures one { result ≡ Ok true → length outbox.new.lens ≡ length outbox.old.lens + 1 }
 {
-    if let Some(count) = answer_first(alloc, reader.at_hand(), gate, pass, outbox) {
+    if let Some(count) = answer_first(alloc, reader.buffered(), gate, pass, outbox) {
         reader.consume(count);
         return Ok(true);
     }
@@ -92,7 +92,7 @@ fn turn<R: Source, W: Write, G: Gate>(
         Ok(false) => return Ok(0),
         Err(cause) => return Err(ConnFault { cause, answered: 0 }),
     }
-    let taken = answer_whole(alloc, reader.at_hand(), most - 1, gate, pass, outbox);
+    let taken = answer_whole(alloc, reader.buffered(), most - 1, gate, pass, outbox);
     reader.consume(taken);
     let (sent, _end) = write_ready(writer, outbox.text());
     if sent < outbox.text().len() {

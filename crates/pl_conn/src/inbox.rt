@@ -42,7 +42,7 @@ fn put_front(room: &mut [u8], bytes: &[u8])
 
 // Reads once, into the room after this many bytes that wait.
 #[tactic(auto, using(crate::proofs::Turning::heard_behind))]
-fn read_behind<R: Read>(from: &mut R, room: &mut [u8], count: usize) -> io::Result<usize>
+fn read_after<R: Read>(from: &mut R, room: &mut [u8], count: usize) -> io::Result<usize>
     requires within { count ≤ length room.old }
     ensures len { length room.new ≡ length room.old }
     ensures bound { IfOk result (λ more. count + more ≤ length room.new) }
@@ -93,7 +93,7 @@ impl Inbox {
         ensures hears { Hears (R.remaining from.old) self.old (R.remaining from.new) self.new }
         ensures end { IfOk result (λ more. more ≡ 0 → length self.old < 65540 → IsAtEnd (R.remaining from.new)) }
     {
-        let more = read_behind(from, self.room.as_mut_slice(), self.len)?;
+        let more = read_after(from, self.room.as_mut_slice(), self.len)?;
         self.len += more;
         Ok(more)
     }

@@ -16,7 +16,7 @@ pub trait Source: Read {
     ghost hand: { Self → List ℕ };
 
     /// The bytes that come next and are buffered. There may be more.
-    fn at_hand(&self) -> &[u8]
+    fn buffered(&self) -> &[u8]
         // The buffered bytes.
         ensures value { result.now ≡ hand self.now }
         // Reads give these bytes next.
@@ -34,7 +34,7 @@ pub trait Source: Read {
 impl<R: Read, A: Allocator> Source for BufReader<R, A> {
     ghost hand = { reader_buffer };
 
-    fn at_hand(&self) -> &[u8] {
+    fn buffered(&self) -> &[u8] {
         self.buffer()
     }
 
@@ -48,7 +48,7 @@ impl Source for &[u8] {
 
     ghost hand = { λ bytes. bytes.now };
 
-    fn at_hand(&self) -> &[u8] {
+    fn buffered(&self) -> &[u8] {
         self
     }
 

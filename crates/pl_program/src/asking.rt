@@ -44,7 +44,7 @@ pub fn credentials_of(
 }
 
 // The second of two words, where the first is `set_table`.
-fn file_behind<'a>(word: &str, file: &'a str) -> Option<&'a str>
+fn file_after<'a>(word: &str, file: &'a str) -> Option<&'a str>
     ensures some { IfSome result (λ found.
         word.now ∷ file.entry.now ∷ [] ≡ codes "set_table" ∷ found.now ∷ []) }
     ensures none { IsNone result → (found : _) →
@@ -67,7 +67,7 @@ pub fn file_of(words: &[String]) -> Option<&str>
         map string_bytes words.now ≡ codes "set_table" ∷ file ∷ [] → ⊥ }
 {
     match words {
-        [word, file] => file_behind(word.as_str(), file.as_str()),
+        [word, file] => file_after(word.as_str(), file.as_str()),
         _ => None,
     }
 }

@@ -195,7 +195,7 @@ fn longest_body(alloc: Global) -> Result<(), Stop> {
 }
 
 #[test]
-fn longest_body_at_hand(rt: HostRuntime) {
+fn longest_body_is_buffered(rt: HostRuntime) {
     let mut done = longest_body(rt.alloc());
     if matches!(done, Err(Stop::NoMemory)) {
         done = longest_body(rt.alloc());
@@ -205,7 +205,7 @@ fn longest_body_at_hand(rt: HostRuntime) {
 
 // Takes two of the bytes that the reader holds, if there are two.
 fn took_two<R: Source>(reader: &mut R) -> bool {
-    if reader.at_hand().len() < 2 {
+    if reader.buffered().len() < 2 {
         return false;
     }
     reader.consume(2);
@@ -238,24 +238,24 @@ fn read_on<R: Read>(reader: &mut R, rest: &mut Vec<u8>, refused: &mut bool) -> i
     }
 }
 
-// What a buffered reader holds (`at_hand`) comes next, and is gone once it is taken.
-fn takes_at_hand(alloc: Global) -> Result<(), Stop> {
+// What a buffered reader holds (`buffered`) comes next, and is gone once it is taken.
+fn takes_buffered(alloc: Global) -> Result<(), Stop> {
     let mut refused = false;
     let bytes = [1, 2, 3, 4, 5, 6, 7];
     let mut reader = buffered_on(alloc, &bytes, &mut refused).map_err(stop_of)?;
-    check(reader.at_hand().is_empty())?;
+    check(reader.buffered().is_empty())?;
     let mut one = [0];
     check(matches!(reader.read(&mut one), Ok(1)) && one == [1])?;
-    check(reader.at_hand() == [2, 3, 4].as_slice())?;
-    check(took_two(&mut reader) && reader.at_hand() == [4].as_slice())?;
+    check(reader.buffered() == [2, 3, 4].as_slice())?;
+    check(took_two(&mut reader) && reader.buffered() == [4].as_slice())?;
     let mut rest = Vec::new(alloc);
     check(matches!(read_on(&mut reader, &mut rest, &mut refused), Ok(4)))?;
-    check(rest.as_slice() == [4, 5, 6, 7].as_slice() && reader.at_hand().is_empty())
+    check(rest.as_slice() == [4, 5, 6, 7].as_slice() && reader.buffered().is_empty())
 }
 
 #[test]
-fn bytes_at_hand_are_taken(rt: HostRuntime) {
-    assert!(&rt; takes_at_hand(rt.alloc()).is_ok());
+fn buffered_bytes_are_taken(rt: HostRuntime) {
+    assert!(&rt; takes_buffered(rt.alloc()).is_ok());
 }
 
 // However few bytes come at once, and however many the reader holds, the replies are the same.

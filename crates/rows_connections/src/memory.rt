@@ -25,7 +25,7 @@ pub(crate) fn may_be_refused(rt: &impl Env) -> bool {
     rt.var("REFUSE_AT", &mut word).is_ok() || rt.var("REFUSE_THREAD", &mut word).is_ok()
 }
 
-/// A reader that gives a few bytes at once, which are what it holds (`at_hand`). At the end it fails, or has
+/// A reader that gives a few bytes at once, which are what it holds (`buffered`). At the end it fails, or has
 /// no more.
 #[derive(Drop)]
 pub(crate) struct Input<'a> {
@@ -51,7 +51,7 @@ impl Read for Input<'_> {
 impl Source for Input<'_> {
     ghost hand = { λ input. take input.at_once input.left.now };
 
-    fn at_hand(&self) -> &[u8] {
+    fn buffered(&self) -> &[u8] {
         let (now, _) = self.left.split_at(self.at_once.min(self.left.len()));
         now
     }

@@ -93,7 +93,7 @@ const PAGES_AT_HAND: &str = "\
 
 /// Seventy gets that are all there at once: more than twice 256 KiB of replies.
 #[test]
-fn pages_at_hand(rt: HostRuntime) -> Result<(), Fail> {
+fn buffered_pages(rt: HostRuntime) -> Result<(), Fail> {
     converses_as(rt, rt.alloc(), PAGES_AT_HAND, &[65_540, usize::MAX])
 }
 

@@ -123,7 +123,7 @@ impl Read for Coming<'_> {
 impl Source for Coming<'_> {
     ghost hand = { λ coming. take coming.hand coming.left.now };
 
-    fn at_hand(&self) -> &[u8] {
+    fn buffered(&self) -> &[u8] {
         let (now, _) = self.left.split_at(self.hand.min(self.left.len()));
         now
     }

@@ -102,7 +102,7 @@ onto 1:aa                     = 000000000000000100000000\
 ";
 
 #[test]
-fn writes_behind_what_stands(rt: HostRuntime) -> Result<(), Fail> {
+fn block_is_appended(rt: HostRuntime) -> Result<(), Fail> {
     plays::<Codec>(rt.alloc(), WRITES_BEHIND_WHAT_STANDS)
 }
 

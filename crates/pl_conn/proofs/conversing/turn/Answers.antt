@@ -10,12 +10,12 @@ returns-in-Err-clause-turns g c = turn_stops _ _ _ _ _ _ _ c.in-Err.ensures.take
 
 pub returns-then-sent-text-clause-turns : goal.returns-then-sent-text-clause-turns
 returns-then-sent-text-clause-turns g c =
-    let gathers = rw c.at_hand.ensures.value at c.answer_whole-taken.ensures.gathers in
+    let gathers = rw c.buffered.ensures.value at c.answer_whole-taken.ensures.gathers in
     turn_cut _ _ _ _ _ _ _ _ _ _ _ _ _ _ c.restart.ensures.value (rw c.in-Ok-true.field-0-test at c.in-Ok-true.ensures.takes) gathers c.consume.ensures.taken
     (rw c.text.ensures.value at c.write_ready-sent.ensures.appends) _ c.whole_in-answered.ensures.value (search rules)
 
 pub returns-clause-turns : goal.returns-clause-turns
 returns-clause-turns g c =
-    let gathers = rw c.at_hand.ensures.value at c.answer_whole-taken.ensures.gathers in
+    let gathers = rw c.buffered.ensures.value at c.answer_whole-taken.ensures.gathers in
     rw c.count.ensures.value (turn_tells _ _ _ _ _ _ _ _ _ _ _ _ _ _ c.restart.ensures.value (rw c.in-Ok-true.field-0-test at c.in-Ok-true.ensures.takes) gathers
     c.consume.ensures.taken (rw c.text.ensures.value at c.write_ready-sent.ensures.appends) (search rules) (search rules))

@@ -1,5 +1,5 @@
 use Rattle.pl_conn.proofs.Turning.{heard_none}
-use Rattle.pl_conn.proofs.inbox.read_behind.Goals as goal
+use Rattle.pl_conn.proofs.inbox.read_after.Goals as goal
 
 pub returns-clause-err : goal.returns-clause-err
 returns-clause-err g c =
