@@ -118,6 +118,16 @@ name_of o = unwrap_or (option_map (λ p. p.0) o) []
 abbrev rows_in : Option (Text × List Row) → List Row
 rows_in o = unwrap_or (option_map (λ p. p.1) o) []
 
+-- the name of what was found with its rows
+pub named : {S : Type 0} (s : Option S) (f : S → Text) (g : S → List Row) (name : Text) (rows : List Row)
+    → option_map {U = Text × List Row} (λ b. (f b, g b)) s ≡ Some (name, rows) → option_map f s ≡ Some name
+named None f g name rows both_are = cc
+named (Some b) f g name rows both_are = ap (λ (o : Option (Text × List Row)). option_map (λ p. p.0) o) both_are
+
+-- what is None is not there
+pub not_there : {S : Type 0} (o : Option S) → o ≡ None → is_some o ≡ true → ⊥
+not_there o none some = true≢false (sym some ∙ ap is_some none)
+
 pub play_only : (found : Option (Text × List Row)) (rows : List Row) → found ≡ Some (codes "play", rows) → IsWholeCommand found → GivesPlay rows
 play_only found rows is given = elim given.1 [
   | inl p ↦ subst GivesPlay (ap rows_in (sym p.0 ∙ is)) p.1
