@@ -1,6 +1,7 @@
 //! A block, read from its bytes.
 
-ghost use Rattle.std.specs.Prelude.{◌≡◌, ◌≤◌, length, IfOk, Ok};
+ghost use Rattle.std.specs.Prelude.{◌≡◌, ◌≤◌, length, IfOk, Ok, nat_eq};
+ghost use Rattle.std.specs.Cmp.Lexicographic.{pointwise};
 ghost use Rattle.pl_block.specs.Block.{Content, touched};
 ghost use Rattle.pl_block.specs.Bounds.{longest_block};
 ghost use Rattle.pl_block.specs.Spelling.{IsBlock, block_spelling};
@@ -14,7 +15,7 @@ use crate::fault::{BlockFault, Fault};
 use crate::record::{PUT, Record, ZERO, touched_partitions};
 use crate::seen::each_is_byte;
 use bytes::{Buf, Bytes};
-use std::alloc::Global;
+use std::alloc::{AllocError, Global};
 
 #[tactic(auto, unfolding(crate::specs::Reading::lsn_at))]
 fn take_lsn(rest: &mut Bytes) -> Result<u64, Fault>
@@ -100,6 +101,16 @@ fn take_records(alloc: Global, count: u16, rest: &mut Bytes) -> Result<Vec<Recor
     Ok(records)
 }
 
+// Whether the records touch these partitions. Those of one record are compared without memory.
+fn are_touched(alloc: Global, partitions: &[u16], records: &[Record]) -> Result<bool, AllocError>
+    ensures value { IfOk result (λ same. same ≡ pointwise nat_eq partitions.now (touched records.now)) }
+{
+    if let [entry] = records {
+        return Ok(partitions == [entry.partition()].as_slice());
+    }
+    Ok(partitions == touched_partitions(alloc, records)?.as_slice())
+}
+
 // Whether the annotations are the partitions that the records touch.
 fn check_annotations(
     alloc: Global,
@@ -109,7 +120,7 @@ fn check_annotations(
     ensures exact { Returns result (annotations_fault partitions.now records.now) }
     ensures valid { IfOk result (λ _. partitions.now ≡ touched records.now) }
 {
-    if partitions != touched_partitions(alloc, records)?.as_slice() {
+    if !are_touched(alloc, partitions, records)? {
         return Err(BlockFault::Malformed(Fault::WrongAnnotations));
     }
     Ok(())

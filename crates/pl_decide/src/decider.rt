@@ -1,6 +1,7 @@
 //! The decision: the first rule of the written order that denies a request.
 
 ghost use Rattle.std.specs.Prelude.{◌≡◌, ◌≢◌, ◌==◌, ◌≤◌, ◌&&◌, ◌↔◌, ◌++◌, nat_le, not, true, [], length, ℕ, Some, None, IfOk, IfSome, IsTrue, Contains};
+ghost use Rattle.std.specs.Str.{bytes_eq};
 ghost use Rattle.pl_block.specs.Block.{Content};
 ghost use Rattle.pl_table.specs.Ops.{same_role};
 ghost use Rattle.pl_table.specs.Table.{WrittenTable};
@@ -31,9 +32,20 @@ pub fn known(table: &Table, head: &Head) -> bool
     ensures value { result ≡ is_known table.now head.now }
 {
     match table.token(head.principal) {
-        Some(token) => token == head.token,
+        Some(token) => is_same_token(&token, &head.token),
         None => false,
     }
+}
+
+// Whether the tokens are the same. All bytes are looked at, which takes the same time wherever they differ.
+fn is_same_token(one: &[u8; 16], other: &[u8; 16]) -> bool
+    ensures value { result ≡ bytes_eq one.now other.now }
+{
+    let mut is_same = true;
+    for place in 0..one.len() {
+        is_same &= one[place] == other[place];
+    }
+    is_same
 }
 
 /// The most verdicts that a decider keeps.

@@ -1,6 +1,6 @@
 //! A request, read from its bytes.
 
-ghost use Rattle.std.specs.Prelude.{◌≡◌, ◌+◌, ◌≤◌, IfOk, IsSome, drop, length, slice_index, take};
+ghost use Rattle.std.specs.Prelude.{◌≡◌, ◌≢◌, ◌+◌, ◌≤◌, IfOk, IsSome, drop, length, slice_index, take};
 ghost use Rattle.std.specs.Int.{w16, w32, w64};
 ghost use Rattle.pl_block.specs.declared.fault.Failed.TheVariants.{NoMemory};
 ghost use Rattle.pl_block.specs.Faults.{Returns};
@@ -256,10 +256,15 @@ fn act_in(alloc: Global, op: Op, arguments: Bytes) -> Result<Act, BodyFault>
     }
 }
 
-fn ranged_request(head: Head, act: Act) -> Result<Request, WireFault>
-    ensures value { result ≡ ranged head act }
+// It is made as what is returned, so that it is moved once.
+fn ranged_request(head: Head, act: Act) -> Result<Request, BodyFault>
+    ensures exact { Returns result (ranged head act) }
+    ensures memory { result ≢ Err NoMemory }
 {
-    Request::new(head, act).ok_or(WireFault::OutOfRange)
+    match Request::new(head, act) {
+        Some(request) => Ok(request),
+        None => Err(BodyFault::Malformed(WireFault::OutOfRange)),
+    }
 }
 
 // The head and the operation that a body begins with.
@@ -286,7 +291,7 @@ fn request_of(alloc: Global, body: &[u8]) -> Result<Request, BodyFault>
     let (head, op) = opening_of(body)?;
     let (_, arguments) = body.split_at(OPENING_BYTES);
     let act = act_of(alloc, op, arguments)?;
-    Ok(ranged_request(head, act)?)
+    ranged_request(head, act)
 }
 
 #[tactic(auto, unfolding(crate::specs::Reading::request_reading))]
@@ -298,7 +303,7 @@ fn request_in(alloc: Global, body: Bytes) -> Result<Request, BodyFault>
     let mut arguments = body;
     arguments.advance(OPENING_BYTES);
     let act = act_in(alloc, op, arguments)?;
-    Ok(ranged_request(head, act)?)
+    ranged_request(head, act)
 }
 
 /// The request that the bytes spell, or the fault of the least code.

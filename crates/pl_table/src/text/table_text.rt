@@ -12,32 +12,57 @@ use std::alloc::{AllocError, Global};
 use std::fmt;
 use std::marker::Model;
 
-/// A text that was read once, with the table that it reads as, or with its first fault. A contract
-/// sees the text alone, since the text determines the rest. The debug text leaves the text out, since
-/// it has tokens.
+// A text, and what it reads as.
 #[derive(Drop)]
-pub struct TableText {
+struct ReadText {
     text: Vec<u8>,
     reading: Result<Table, TableFault>,
 }
 
-impl fmt::Debug for TableText {
-    fn fmt<W: fmt::Write>(&self, f: &mut fmt::Formatter<W>) -> fmt::Result {
-        f.debug_struct("TableText")
-            .field("reading", &self.reading)
-            .finish_non_exhaustive()
-    }
-}
-
-impl Model for TableText {
+impl Model for ReadText {
     ghost use Rattle.std.specs.Prelude.{◌≡◌, ℕ, List};
     ghost use Rattle.pl_table.specs.TableText.{table_reading};
 
     ghost Value = { List ℕ };
 
-    ghost view = { λ t. t.text.items };
+    ghost view = { λ p. p.text.items };
 
-    ghost invariant = { λ t. t.reading ≡ table_reading t.text.items };
+    ghost invariant = { λ p. p.reading ≡ table_reading p.text.items };
+}
+
+impl ReadText {
+    fn of(text: Vec<u8>, reading: Result<Table, TableFault>) -> ReadText
+        requires reading { reading ≡ table_reading text.items }
+        ensures value { result ≡ text.items }
+    {
+        ReadText { text, reading }
+    }
+}
+
+/// A text that was read once, with the table that it reads as, or with its first fault. A contract
+/// sees the text alone, since the text determines the rest. The debug text leaves the text out, since
+/// it has tokens.
+///
+/// Both lie in a box: every request has the size of the largest, and is moved more than once.
+#[derive(Drop)]
+pub struct TableText {
+    read: Box<ReadText>,
+}
+
+impl fmt::Debug for TableText {
+    fn fmt<W: fmt::Write>(&self, f: &mut fmt::Formatter<W>) -> fmt::Result {
+        f.debug_struct("TableText")
+            .field("reading", self.reading())
+            .finish_non_exhaustive()
+    }
+}
+
+impl Model for TableText {
+    ghost use Rattle.std.specs.Prelude.{ℕ, List};
+
+    ghost Value = { List ℕ };
+
+    ghost view = { λ t. t.read.value };
 }
 
 // The reading that a call of the reader returned, unless an allocation failed.
@@ -60,7 +85,8 @@ impl TableText {
         ensures ok { IfOk result (λ t. t ≡ text.items) }
     {
         let reading = reading_of(read_table(alloc, &text))?;
-        Ok(TableText { text, reading })
+        let read = Box::new(alloc, ReadText::of(text, reading))?;
+        Ok(TableText { read })
     }
 
     /// The text, byte for byte.
@@ -68,7 +94,8 @@ impl TableText {
         // The bytes of the text.
         ensures value { result.now ≡ self.now }
     {
-        &self.text
+        let read: &ReadText = &self.read;
+        &read.text
     }
 
     /// The table that the text reads as, or the first of its faults.
@@ -76,7 +103,8 @@ impl TableText {
         // What the text reads as: a table, or the first fault (`table_reading`).
         ensures value { result.now ≡ table_reading self.now }
     {
-        &self.reading
+        let read: &ReadText = &self.read;
+        &read.reading
     }
 
     /// The table that the text reads as, or the first of its faults. The text is dropped.
@@ -84,7 +112,7 @@ impl TableText {
         // What the text reads as: a table, or the first fault (`table_reading`).
         ensures value { result ≡ table_reading self }
     {
-        let TableText { reading, .. } = self;
+        let ReadText { reading, .. } = Box::into_inner(self.read);
         reading
     }
 }

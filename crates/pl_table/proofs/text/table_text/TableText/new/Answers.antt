@@ -10,5 +10,5 @@ same : (kept reading : Result WrittenTable TableFault) → Gives (λ t. t) (retu
 same (Ok t) reading is = sym is
 same (Err fault) reading is = sym is
 
-pub invariant_of-result : goal.invariant_of-result
-invariant_of-result c = same c.in_ok-reading.reading _ (rw (c.in_ok-reading.ensures.ok, c.deref.ensures.value) at c.read_table.ensures.exact)
+pub of-requires : goal.of-requires
+of-requires c = record { reading = same c.in_ok-reading.reading _ (rw (c.in_ok-reading.ensures.ok, c.deref.ensures.value) at c.read_table.ensures.exact) }
