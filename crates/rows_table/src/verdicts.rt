@@ -383,9 +383,9 @@ fn asked_on_both_sides_of_an_end(rt: HostRuntime) -> Result<(), Fail> {
 
 #[test]
 fn reaches_by_cached_verdicts(rt: HostRuntime) -> Result<(), Fail> {
-    let wrong = match reaches::wrong_of_reaches(rt.alloc()) {
+    let wrong = match reaches::wrong_of_reaches(&rt, rt.alloc()) {
         Ok(wrong) => wrong,
-        Err(_) => reaches::wrong_of_reaches(rt.alloc())?,
+        Err(_) => reaches::wrong_of_reaches(&rt, rt.alloc())?,
     };
     assert_eq!(rt; wrong, None);
     Ok(())

@@ -1,9 +1,11 @@
 //! How far the rows allow a pull, by a cached verdict and without one.
 
 use crate::verdicts::ends::{ROWS_THAT_END, decided_at, pull_at, table_around};
+use crate::verdicts::is_refused;
 use pl_decide::Decider;
 use pl_table::{Table, Verdict};
 use std::alloc::{AllocError, Global};
+use std::env::Env;
 
 /// As row 19 of `ROWS_THAT_END`, but that it ends at LSN 4.
 const ROW_TO_FOUR: &str = r#"[[row]]
@@ -67,15 +69,20 @@ fn is_allowed(decider: &mut Decider, table: &Table, partition: u16, lsn: u64) ->
 }
 
 // What is wrong with the reaches by a table whose rows come after 17 others, and then by one in which the
-// first of them ends later.
-fn wrong_of_two(decider: &mut Decider, sooner: &Table, later: &Table) -> Option<&'static str> {
+// first of them ends later. Where memory is refused a verdict may not be cached, and no reach is another.
+fn wrong_of_two(
+    rt: &impl Env,
+    decider: &mut Decider,
+    sooner: &Table,
+    later: &Table,
+) -> Option<&'static str> {
     if !are_reaches(decider, sooner, &BY_ROWS_THAT_END) {
         return Some("a reach that is not cached");
     }
     if !is_allowed(decider, sooner, 0, 1) {
         return Some("a pull");
     }
-    if decider.agrees_with(later) {
+    if decider.agrees_with(later) && !is_refused(rt) {
         return Some("how far a row allows, by the table in which it ends later");
     }
     if !is_allowed(decider, sooner, 1, 2) {
@@ -84,7 +91,7 @@ fn wrong_of_two(decider: &mut Decider, sooner: &Table, later: &Table) -> Option<
     if !are_reaches(decider, sooner, &BY_ROWS_THAT_END) {
         return Some("a reach that is cached");
     }
-    if decider.cached() != 2 {
+    if decider.cached() != 2 && !is_refused(rt) {
         return Some("the number of cached verdicts");
     }
     decider.new_table();
@@ -99,12 +106,12 @@ fn wrong_of_two(decider: &mut Decider, sooner: &Table, later: &Table) -> Option<
 
 // What is wrong where the rows come before 17 others: a pull that one allows which ends is cached, and one
 // that the last of them allows, which does not end, is not.
-fn wrong_of_first(decider: &mut Decider, table: &Table) -> Option<&'static str> {
+fn wrong_of_first(rt: &impl Env, decider: &mut Decider, table: &Table) -> Option<&'static str> {
     decider.new_table();
     if !is_allowed(decider, table, 1, 1) || decider.cached() != 0 {
         return Some("a verdict of a row that does not end");
     }
-    if !is_allowed(decider, table, 0, 1) || decider.cached() != 1 {
+    if !is_allowed(decider, table, 0, 1) || (decider.cached() != 1 && !is_refused(rt)) {
         return Some("a verdict of a row that ends");
     }
     if !are_reaches(decider, table, &BY_ROWS_THAT_END) {
@@ -114,22 +121,26 @@ fn wrong_of_first(decider: &mut Decider, table: &Table) -> Option<&'static str> 
 }
 
 fn wrong_with(
+    rt: &impl Env,
     alloc: Global,
     sooner: &Table,
     later: &Table,
     first: &Table,
 ) -> Result<Option<&'static str>, AllocError> {
     let mut decider = Decider::new(alloc)?;
-    match wrong_of_two(&mut decider, sooner, later) {
-        None => Ok(wrong_of_first(&mut decider, first)),
+    match wrong_of_two(rt, &mut decider, sooner, later) {
+        None => Ok(wrong_of_first(rt, &mut decider, first)),
         wrong => Ok(wrong),
     }
 }
 
 // What is wrong with the reaches of a decider, by tables whose rows end.
-pub(crate) fn wrong_of_reaches(alloc: Global) -> Result<Option<&'static str>, AllocError> {
+pub(crate) fn wrong_of_reaches(
+    rt: &impl Env,
+    alloc: Global,
+) -> Result<Option<&'static str>, AllocError> {
     let sooner = table_around(alloc, "", ROWS_THAT_END)?;
     let later = table_around(alloc, "", ROW_TO_FOUR)?;
     let first = table_around(alloc, ROWS_THAT_END, "")?;
-    wrong_with(alloc, &sooner, &later, &first)
+    wrong_with(rt, alloc, &sooner, &later, &first)
 }
