@@ -37,7 +37,7 @@ pub fn known(table: &Table, head: &Head) -> bool
     }
 }
 
-// Whether the tokens are the same. All bytes are looked at, which takes the same time wherever they differ.
+// Whether the tokens are the same. All bytes are looked at, wherever the first difference is.
 fn is_same_token(one: &[u8; 16], other: &[u8; 16]) -> bool
     ensures value { result ≡ bytes_eq one.now other.now }
 {
