@@ -9,19 +9,20 @@ Three cases, each on a service of its own with one database:
   few bytes, and once where each 256th block makes the whole page (an image);
 - mixed load: 64 connections with one request each at a time: a primary that writes two copies and reports, 20 that pull one
   block, 20 that get a page as it is applied, 20 that get one at its end, exactly, 2 that ask for the status, and one that
-  advances a partition.
+  advances a partition. Services of 64, 4 and 2 workers take it in turns, three rounds each.
 
 The service is crates/pagelog/out/pagelog, which scripts/pagelog proves and builds, or the program that PAGELOG names.
 
 Delays are in microseconds: the 50th, 99th and 99.9th percentile and the longest, as bench/frames.c sees them, a thread each
-connection. Beside those of the mixed load stand those of an echo with as many connections that send as much, in the same
-run: what the machine and the loopback take without a database.
+connection. Of the mixed load they are medians of the rounds, and beside them stand those of an echo with as many connections
+that send as much, in the same run: what the machine and the loopback take without a database.
 """
 
 import os
 import pathlib
 import random
 import socket
+import statistics
 import subprocess
 import tempfile
 import time
@@ -29,6 +30,7 @@ import time
 from serving import IDLE, PROGRAM, SHARE, TABLE, about, build_frames, primary, reader, wire
 
 WINDOW = 64
+WORKERS, ROUNDS = (64, 4, 2), 3
 
 
 def get(page, lsn, exact):
@@ -48,9 +50,9 @@ def in_copies(block, lsn):
 class Service:
     """A service that is ended with this program's leave alone, and a connection to it."""
 
-    def __init__(self):
-        words = [PROGRAM, "serve", "--listen", "127.0.0.1:0", "--table", TABLE, "--primary", 2, "--dbs", 1, "--workers", 64,
-                 "--connections", 4294967295, "--audit", 16777216, *IDLE]
+    def __init__(self, workers=64):
+        words = [PROGRAM, "serve", "--listen", "127.0.0.1:0", "--table", TABLE, "--primary", 2, "--dbs", 1,
+                 "--workers", workers, "--connections", 4294967295, "--audit", 16777216, *IDLE]
         self.process = subprocess.Popen([str(word) for word in words], stdout=subprocess.PIPE, stderr=subprocess.DEVNULL,
                                         text=True)
         self.port = int(self.process.stdout.readline().split()[1].rsplit(":", 1)[1])
@@ -140,24 +142,38 @@ def mixed_load(work, frames):
         path = pathlib.Path(work) / name
         path.write_bytes(b"".join(sent))
         words += [name, connections, path]
-    with Service() as service:
-        service.harden(held, small_block)
-        service.hang_up()
-        ours = delays_of(frames, service.port, len(writes), words)
+    rounds = {workers: [] for workers in WORKERS}
+    plain = []
+    for _ in range(ROUNDS):
+        for workers, found in rounds.items():
+            with Service(workers) as service:
+                service.harden(held, small_block)
+                service.hang_up()
+                found.append(delays_of(frames, service.port, len(writes), words))
+        plain.append(delays_of_echo(frames, len(writes), words))
+    heads = ("replies", "served", "50th", "99th", "99.9th", "longest", "99.9/50")
+    for workers, found in rounds.items():
+        print(f"{f'mixed, {workers} workers':18}" + "".join(f"{head:>10}" for head in heads) + "   echo: 50th, 99th, 99.9th, longest")
+        for own, other in zip(medians(found), medians(plain)):
+            name, *numbers = own
+            cells = "".join(f"{cell:10.0f}" for cell in numbers) + f"{numbers[4] / numbers[2]:10.1f}"
+            print(f"{name:18}{cells}   " + " ".join(f"{it:9.0f}" for it in other[3:]), flush=True)
+
+
+def medians(rounds):
+    """Of each kind of request its name, and the median of each of its numbers."""
+    for lines in zip(*rounds):
+        yield [lines[0][0], *(statistics.median(map(float, column)) for column in list(zip(*lines))[1:])]
+
+
+def delays_of_echo(frames, count, words):
     reply = 4 + 8
     bare = subprocess.Popen([str(frames), "echo", str(reply)], stdout=subprocess.PIPE, text=True)
     try:
-        plain = delays_of(frames, int(bare.stdout.readline()), len(writes), words)
+        return delays_of(frames, int(bare.stdout.readline()), count, words)
     finally:
         bare.terminate()
         bare.wait()
-    heads = ("replies", "served", "50th", "99th", "99.9th", "longest", "99.9/50")
-    print(f"{'mixed load':16}" + "".join(f"{head:>10}" for head in heads) + "   echo: 50th, 99th, 99.9th, longest")
-    for own, other in zip(ours, plain):
-        name, replies, served, *delays = own
-        ratio = float(delays[2]) / float(delays[0])
-        cells = "".join(f"{cell:>10}" for cell in (replies, served, *delays, f"{ratio:.1f}"))
-        print(f"{name:16}{cells}   " + " ".join(f"{it:>9}" for it in other[3:]))
 
 
 def delays_of(frames, port, count, words):

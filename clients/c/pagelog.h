@@ -401,6 +401,9 @@ bool pagelog_append_unwaited(struct pagelog *log, const struct pagelog_blocks *b
  * the connection has ended. It may be called between pagelog_append_unwaited and the append. */
 bool pagelog_append_is_due(struct pagelog *log);
 
+/* The same call, but true where all replies have come and none is a refusal: the append waits for nothing. */
+bool pagelog_append_is_answered(struct pagelog *log);
+
 #ifdef __cplusplus
 }
 #endif

@@ -105,7 +105,7 @@ static enum pagelog_outcome send_writes(struct append *append, size_t index) {
     for (unsigned copy = 0; copy < copies_of(append); copy++) {
         if (marks_of(append, index)->done >> copy & 1) continue;
         request.copy = (uint8_t)copy;
-        enum pagelog_outcome outcome = pagelog_send(append->log, &request);
+        enum pagelog_outcome outcome = pagelog_lend(append->log, &request);
         if (outcome != PAGELOG_DONE) return outcome;
     }
     return PAGELOG_DONE;
@@ -391,10 +391,10 @@ bool pagelog_append_unwaited(struct pagelog *log, const struct pagelog_blocks *b
     if (log->socket < 0 || append.count == 0 || append.count > PAGELOG_WINDOW) return false;
     if (may_append(&append) != PAGELOG_DONE || !queue_ahead(&append)) return false;
     if (log->ahead.reports >> (append.count - 1) & 1) return true;
-    if (send_report(&append, append.count) != PAGELOG_DONE) return false;
-    log->ahead.reports |= UINT64_C(1) << (append.count - 1);
+    bool is_reported = send_report(&append, append.count) == PAGELOG_DONE;
+    if (is_reported) log->ahead.reports |= UINT64_C(1) << (append.count - 1);
     pagelog_push(log);
-    return pagelog_is_pushed(log);
+    return is_reported && pagelog_is_pushed(log);
 }
 
 bool pagelog_append_is_due(struct pagelog *log) {
@@ -402,6 +402,11 @@ bool pagelog_append_is_due(struct pagelog *log) {
     if (log->ahead.blocks == 0) return false;
     log->ahead.done += pagelog_take_done(log, &is_over);
     return is_over;
+}
+
+bool pagelog_append_is_answered(struct pagelog *log) {
+    bool is_refused = pagelog_append_is_due(log);
+    return log->ahead.blocks > 0 && !is_refused && log->asked_count == 0;
 }
 
 enum pagelog_outcome pagelog_append(struct pagelog *log, const struct pagelog_blocks *blocks,

@@ -204,15 +204,16 @@ static uint64_t differing_bytes(const uint8_t *old, const uint8_t *now) {
 }
 
 /* The bits of `now` with each one drawn out over the next PUT_HEAD_BYTES places; `before` has the 64 bits
- * before them. */
+ * before them, of which the last one that is set reaches farthest. */
 static uint64_t drawn_out(uint64_t now, uint64_t before) {
     _Static_assert(PUT_HEAD_BYTES == 1 + 2 + 4 + 2, "the shifts below add up to it");
-    unsigned __int128 bits = (unsigned __int128)now << 64 | before;
-    bits |= bits << 1;
-    bits |= bits << 2;
-    bits |= bits << 4;
-    bits |= bits << 2;
-    return (uint64_t)(bits >> 64);
+    unsigned behind = before ? (unsigned)__builtin_clzll(before) : 64;
+    uint64_t reached = behind < PUT_HEAD_BYTES ? (UINT64_C(1) << (PUT_HEAD_BYTES - behind)) - 1 : 0;
+    now |= now << 1;
+    now |= now << 2;
+    now |= now << 4;
+    now |= now << 2;
+    return now | reached;
 }
 
 /* A bit for each byte tells whether it differs. Drawn out over as many places as a gap may have that is put

@@ -2,8 +2,12 @@
 
 #include <stdlib.h>
 #include <string.h>
+#include <sys/mman.h>
 
-enum { LEAST_CHAINS = 1024, LEAST_PAGES = 16, MOST_SPARE = 64 };
+enum { LEAST_CHAINS = 1024, LEAST_PAGES = 16 };
+
+/* Of a slab: its bytes, which are a huge page's of the system, and the pages behind its head. */
+enum { SLAB_BYTES = 2 << 20, SLAB_PAGES = SLAB_BYTES / PAGELOG_PAGE_BYTES - 1 };
 
 /* Frames from the one used last to the one used longest ago. */
 struct list {
@@ -11,26 +15,85 @@ struct list {
     size_t count;
 };
 
+/* Memory for pages. The system may give it as one huge page: then the first use of a page is no fault of its
+ * own, and all of a slab is one address for the processor to look up. */
+struct slab {
+    struct slab *next, *previous; /* in the list of those with pages that nobody uses */
+    unsigned free_count;          /* such pages */
+    uint8_t free[SLAB_PAGES];     /* their numbers in the slab, from 0 on; the last one was given back last */
+};
+
+_Static_assert(sizeof(struct slab) <= PAGELOG_PAGE_BYTES && SLAB_PAGES <= UINT8_MAX + 1,
+               "a slab has its head");
+
 struct pagelog_cache {
     size_t most;
     struct pagelog_frame **chains;
     size_t chain_count; /* a power of two */
     struct list changed, unchanged;
-    uint8_t *spare[MOST_SPARE]; /* pages of 8,192 bytes that nobody uses */
-    size_t spare_count;
+    struct slab *slabs;    /* those with pages that nobody uses */
+    unsigned unused_slabs; /* how many of them have no others: 0 or 1 */
 };
+
+/* ---- Memory for pages ---- */
+
+static void link_slab(struct pagelog_cache *cache, struct slab *slab) {
+    slab->previous = NULL;
+    slab->next = cache->slabs;
+    if (cache->slabs) cache->slabs->previous = slab;
+    cache->slabs = slab;
+}
+
+static void unlink_slab(struct pagelog_cache *cache, struct slab *slab) {
+    *(slab->previous ? &slab->previous->next : &cache->slabs) = slab->next;
+    if (slab->next) slab->next->previous = slab->previous;
+}
+
+/* A slab of pages that nobody uses, at a multiple of its length; NULL where memory runs out. */
+static struct slab *make_slab(void) {
+    uint8_t *bytes =
+        mmap(NULL, 2 * (size_t)SLAB_BYTES, PROT_READ | PROT_WRITE, MAP_PRIVATE | MAP_ANONYMOUS, -1, 0);
+    if (bytes == MAP_FAILED) return NULL;
+    size_t before = SLAB_BYTES - 1 - ((uintptr_t)bytes + SLAB_BYTES - 1) % SLAB_BYTES;
+    struct slab *slab = (struct slab *)(bytes + before);
+    if (before > 0) munmap(bytes, before);
+    munmap(bytes + before + SLAB_BYTES, SLAB_BYTES - before);
+    madvise(slab, SLAB_BYTES, MADV_HUGEPAGE);
+    slab->free_count = SLAB_PAGES;
+    for (unsigned i = 0; i < SLAB_PAGES; i++)
+        slab->free[i] = (uint8_t)(SLAB_PAGES - 1 - i);
+    return slab;
+}
 
 /* A page of any bytes, or NULL where memory runs out. */
 static uint8_t *take_page(struct pagelog_cache *cache) {
-    return cache->spare_count > 0 ? cache->spare[--cache->spare_count] : malloc(PAGELOG_PAGE_BYTES);
+    struct slab *slab = cache->slabs ? cache->slabs : make_slab();
+    if (!slab) return NULL;
+    if (!cache->slabs)
+        link_slab(cache, slab);
+    else if (slab->free_count == SLAB_PAGES)
+        cache->unused_slabs--;
+    unsigned number = slab->free[--slab->free_count];
+    if (slab->free_count == 0) unlink_slab(cache, slab);
+    return (uint8_t *)slab + (size_t)(number + 1) * PAGELOG_PAGE_BYTES;
 }
 
+/* A slab that is used no more is kept, so that it is not made again for the next page; a second one is not.
+ */
 static void give_back_page(struct pagelog_cache *cache, uint8_t *page) {
-    if (page && cache->spare_count < MOST_SPARE)
-        cache->spare[cache->spare_count++] = page;
-    else
-        free(page);
+    if (!page) return;
+    size_t place = (uintptr_t)page % SLAB_BYTES;
+    struct slab *slab = (struct slab *)(page - place);
+    if (slab->free_count == 0) link_slab(cache, slab);
+    slab->free[slab->free_count++] = (uint8_t)(place / PAGELOG_PAGE_BYTES - 1);
+    if (slab->free_count < SLAB_PAGES) return;
+    if (cache->unused_slabs++ == 0) return;
+    cache->unused_slabs--;
+    unlink_slab(cache, slab);
+    munmap(slab, SLAB_BYTES);
 }
+
+/* ---- Frames ---- */
 
 struct pagelog_cache *pagelog_cache_new(size_t most) {
     struct pagelog_cache *cache = calloc(1, sizeof *cache);
@@ -115,8 +178,11 @@ void pagelog_cache_clear(struct pagelog_cache *cache) {
 void pagelog_cache_free(struct pagelog_cache *cache) {
     if (!cache) return;
     pagelog_cache_clear(cache);
-    while (cache->spare_count > 0)
-        free(take_page(cache));
+    while (cache->slabs) { /* the one that is kept */
+        struct slab *slab = cache->slabs;
+        unlink_slab(cache, slab);
+        munmap(slab, SLAB_BYTES);
+    }
     free(cache->chains);
     free(cache);
 }

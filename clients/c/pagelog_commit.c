@@ -5,6 +5,8 @@
 #include <stdlib.h>
 #include <string.h>
 
+enum { FEW_BLOCKS = 8 };
+
 static const uint8_t zeros[PAGELOG_PAGE_BYTES];
 
 static enum pagelog_outcome out_of_memory(struct pagelog_file *file) {
@@ -267,9 +269,20 @@ static enum pagelog_outcome commit_if_allowed(struct commit *commit) {
     return commit_changes(commit);
 }
 
+/* Takes the replies to commits that nobody waited for, if all have come, so that no later one has to wait
+ * until there is room in the window. It asks the system once for each few blocks. */
+static enum pagelog_outcome settle_if_answered(struct pagelog_file *file) {
+    size_t count = pagelog_blocks_count(file->blocks);
+    if (file->on_their_way == 0) return PAGELOG_DONE;
+    if (count < file->looked) file->looked = 0;
+    if (count - file->looked < FEW_BLOCKS) return PAGELOG_DONE;
+    file->looked = count;
+    return pagelog_append_is_answered(file->log) ? pagelog_file_settle(file) : PAGELOG_DONE;
+}
+
 enum pagelog_outcome pagelog_file_commit(struct pagelog_file *file) {
     struct commit commit = {.file = file};
-    enum pagelog_outcome outcome = PAGELOG_DONE;
+    enum pagelog_outcome outcome;
     if (file->is_over) return pagelog_refuse_until_begin(file);
     file->reason = NULL;
     bool is_resized = file->size != file->mark.size || file->least != file->size;
@@ -280,7 +293,7 @@ enum pagelog_outcome pagelog_file_commit(struct pagelog_file *file) {
     commit.has_bases = true;
     for (size_t i = 0; i < commit.count && commit.has_bases; i++)
         commit.has_bases = !lacks_base(&commit, commit.frames[i]);
-    if (!commit.has_bases) outcome = pagelog_file_settle(file); /* the service is asked for them */
+    outcome = commit.has_bases ? settle_if_answered(file) : pagelog_file_settle(file); /* to ask for them */
     if (outcome == PAGELOG_DONE && has_changes(&commit))
         outcome = commit_if_allowed(&commit);
     else if (outcome == PAGELOG_DONE)

@@ -9,10 +9,13 @@
 #include <stdlib.h>
 #include <string.h>
 #include <sys/socket.h>
+#include <sys/uio.h>
 #include <unistd.h>
 
 enum {
     READ_AT_ONCE = 65536,
+    LEAST_LENT = 4096, /* bytes; fewer are sooner copied */
+    MOST_PIECES = 2 * MOST_LENT + 1,
     MOST_INPUT = 16 << 20, /* bytes that are read ahead while requests are still being sent */
     LEAST_REPLY = 5,       /* bytes of a frame of a reply, at least */
     FEW_REPLIES = 3,       /* so many come at once, mostly */
@@ -46,6 +49,45 @@ static void empty(struct buffer *buffer) {
     buffer->start = buffer->end = 0;
 }
 
+/* ---- What is lent ---- */
+
+static size_t lent_bytes(const struct pagelog *log) {
+    size_t bytes = 0;
+    for (size_t i = 0; i < log->lent_count; i++)
+        bytes += log->lent[i].length;
+    return bytes;
+}
+
+/* The pieces of what is to be sent, in order; how many. */
+static size_t pieces_of(const struct pagelog *log, struct iovec pieces[MOST_PIECES]) {
+    const struct buffer *output = &log->output;
+    size_t count = 0, done = 0;
+    for (size_t i = 0; i <= log->lent_count; i++) {
+        const struct lent *lent = i < log->lent_count ? &log->lent[i] : NULL;
+        size_t until = lent ? lent->at : held(output);
+        if (until > done)
+            pieces[count++] = (struct iovec){output->bytes + output->start + done, until - done};
+        if (lent) pieces[count++] = (struct iovec){(void *)lent->bytes, lent->length};
+        done = until;
+    }
+    return count;
+}
+
+/* Copies what is lent to its place in the output, which has room for it. */
+static void take_over_lent(struct pagelog *log) {
+    struct buffer *output = &log->output;
+    size_t from = output->end, to = from + lent_bytes(log);
+    output->end = to;
+    while (log->lent_count > 0) {
+        const struct lent *lent = &log->lent[--log->lent_count];
+        size_t start = output->start + lent->at, behind = from - start;
+        memmove(output->bytes + to - behind, output->bytes + start, behind);
+        to -= behind + lent->length;
+        memcpy(output->bytes + to, lent->bytes, lent->length);
+        from = start;
+    }
+}
+
 /* ---- The connection ---- */
 
 void pagelog_disconnect(struct pagelog *log) {
@@ -54,6 +96,7 @@ void pagelog_disconnect(struct pagelog *log) {
     log->asked_count = 0;
     log->ahead = (struct ahead){0};
     log->waits = false;
+    log->lent_count = 0;
     empty(&log->output);
     empty(&log->input);
 }
@@ -143,19 +186,36 @@ static bool read_some(struct pagelog *log, int flags) {
     return count > 0;
 }
 
+/* Sends what it can of the output, and of what is lent. */
+static ssize_t send_pieces(struct pagelog *log) {
+    const struct buffer *output = &log->output;
+    const int flags = MSG_NOSIGNAL | MSG_DONTWAIT;
+    if (log->lent_count == 0) return send(log->socket, output->bytes + output->start, held(output), flags);
+    struct iovec pieces[MOST_PIECES];
+    struct msghdr message = {.msg_iov = pieces, .msg_iovlen = pieces_of(log, pieces)};
+    return sendmsg(log->socket, &message, flags);
+}
+
+/* Nothing is lent behind it: what could not be sent is copied. */
 static bool send_some(struct pagelog *log) {
     struct buffer *output = &log->output;
-    ssize_t count =
-        send(log->socket, output->bytes + output->start, held(output), MSG_NOSIGNAL | MSG_DONTWAIT);
-    if (count < 0) return errno == EAGAIN || errno == EWOULDBLOCK || errno == EINTR;
-    output->start += (size_t)count;
-    log->counts.bytes_sent += (uint64_t)count;
-    log->waits = true;
-    return true;
+    size_t lent = lent_bytes(log), all = held(output) + lent;
+    ssize_t count = send_pieces(log);
+    bool goes_on = count >= 0 || errno == EAGAIN || errno == EWOULDBLOCK || errno == EINTR;
+    size_t sent = count > 0 ? (size_t)count : 0;
+    if (sent < all)
+        take_over_lent(log);
+    else
+        log->lent_count = 0;
+    output->start += sent < all ? sent : all - lent;
+    log->counts.bytes_sent += sent;
+    if (count >= 0) log->waits = true;
+    return goes_on;
 }
 
 void pagelog_push(struct pagelog *log) {
     if (log->socket >= 0 && held(&log->output) > 0) send_some(log);
+    take_over_lent(log);
 }
 
 bool pagelog_is_pushed(const struct pagelog *log) {
@@ -256,31 +316,52 @@ static enum pagelog_outcome read_frame(struct pagelog *log, const uint8_t **body
 
 /* ---- Requests in flight ---- */
 
-static enum pagelog_outcome queue(struct pagelog *log, const struct pagelog_request *request) {
+/* Queues a request. The bytes at its end stay where they are if they may be lent; even then the output has
+ * room for them. */
+static enum pagelog_outcome queue(struct pagelog *log, const struct pagelog_request *request, bool may_lend) {
     struct buffer *output = &log->output;
-    size_t most = 64 + request->length;
-    if (log->asked_count == PAGELOG_IN_FLIGHT) return pagelog_fail(log, PAGELOG_MALFORMED);
-    if (!reserve(output, 4 + most)) return pagelog_fail(log, PAGELOG_NO_MEMORY);
-    size_t length = pagelog_encode_request(request, output->bytes + output->end + 4, most);
-    if (length == 0) return pagelog_fail(log, PAGELOG_MALFORMED);
-    pagelog_write_number(output->bytes + output->end, length, 4);
-    output->end += 4 + length;
+    uint8_t front[FRONT_BYTES];
+    size_t length = 0, front_length = pagelog_encode_front(request, front, &length);
+    if (log->asked_count == PAGELOG_IN_FLIGHT || front_length == 0)
+        return pagelog_fail(log, PAGELOG_MALFORMED);
+    if (!reserve(output, lent_bytes(log) + 4 + front_length + length))
+        return pagelog_fail(log, PAGELOG_NO_MEMORY);
+    uint8_t *at = pagelog_write_number(output->bytes + output->end, front_length + length, 4);
+    memcpy(at, front, front_length);
+    output->end += 4 + front_length;
+    if (may_lend && length >= LEAST_LENT && log->lent_count < MOST_LENT) {
+        log->lent[log->lent_count++] = (struct lent){held(output), length, request->bytes};
+    } else {
+        if (length > 0) memcpy(at + front_length, request->bytes, length);
+        output->end += length;
+    }
     log->asked[(log->asked_first + log->asked_count++) % PAGELOG_IN_FLIGHT] = request->operation;
     log->counts.requests++;
     return PAGELOG_DONE;
 }
 
 enum pagelog_outcome pagelog_send_as(struct pagelog *log, const struct pagelog_request *request) {
-    return queue(log, request);
+    return queue(log, request, false);
 }
 
-enum pagelog_outcome pagelog_send(struct pagelog *log, const struct pagelog_request *request) {
+/* The request as this object's principal asks it. */
+static struct pagelog_request own(const struct pagelog *log, const struct pagelog_request *request) {
     struct pagelog_request whole = *request;
     whole.principal = log->options.principal;
     memcpy(whole.token, log->options.token, PAGELOG_TOKEN_BYTES);
     whole.database = log->options.database;
     whole.epoch = request->role == PAGELOG_PRIMARY ? log->writing_epoch : log->epoch;
-    return queue(log, &whole);
+    return whole;
+}
+
+enum pagelog_outcome pagelog_send(struct pagelog *log, const struct pagelog_request *request) {
+    struct pagelog_request whole = own(log, request);
+    return queue(log, &whole, false);
+}
+
+enum pagelog_outcome pagelog_lend(struct pagelog *log, const struct pagelog_request *request) {
+    struct pagelog_request whole = own(log, request);
+    return queue(log, &whole, true);
 }
 
 /* Whether a reply of this kind may come to that operation. */

@@ -28,6 +28,7 @@ struct pagelog_file {
     struct mark mark;      /* of the transaction that is read */
     unsigned on_their_way; /* commits that nobody waited for; their blocks are the first of `blocks` */
     struct mark settled;   /* of the last transaction before these */
+    size_t looked;         /* how many blocks there were when their replies were looked for last */
     uint64_t sent;         /* when the last of them was sent */
     bool is_over;          /* some of them were lost, and there was no begin since */
     uint64_t losses;       /* how often some were */

@@ -3,7 +3,7 @@
 
 #include <string.h>
 
-enum { HEAD_BYTES = 30, FAULT_OF_BLOCK = 6 };
+enum { FAULT_OF_BLOCK = 6 };
 
 /* ---- Blocks ---- */
 
@@ -184,10 +184,10 @@ static uint8_t *write_arguments(uint8_t *to, const struct pagelog_request *r) {
     return to;
 }
 
-size_t pagelog_encode_request(const struct pagelog_request *request, uint8_t *body, size_t room) {
-    uint8_t head[HEAD_BYTES + 16];
+size_t pagelog_encode_front(const struct pagelog_request *request, uint8_t front[FRONT_BYTES],
+                            size_t *length) {
     if (!in_range(request)) return 0;
-    uint8_t *at = pagelog_write_number(head, request->principal, 4);
+    uint8_t *at = pagelog_write_number(front, request->principal, 4);
     memcpy(at, request->token, PAGELOG_TOKEN_BYTES);
     at = pagelog_write_number(at + PAGELOG_TOKEN_BYTES, request->role, 1);
     at = pagelog_write_number(at, request->database, 4);
@@ -196,11 +196,17 @@ size_t pagelog_encode_request(const struct pagelog_request *request, uint8_t *bo
     at = write_arguments(at, request);
     bool has_bytes = request->operation == PAGELOG_WRITE || request->operation == PAGELOG_OFFER ||
                      request->operation == PAGELOG_SET_TABLE;
-    size_t head_length = (size_t)(at - head), length = has_bytes ? request->length : 0;
-    if (head_length + length > room) return 0;
-    memcpy(body, head, head_length);
-    if (length > 0) memcpy(body + head_length, request->bytes, length);
-    return head_length + length;
+    *length = has_bytes ? request->length : 0;
+    return (size_t)(at - front);
+}
+
+size_t pagelog_encode_request(const struct pagelog_request *request, uint8_t *body, size_t room) {
+    uint8_t front[FRONT_BYTES];
+    size_t length = 0, front_length = pagelog_encode_front(request, front, &length);
+    if (front_length == 0 || front_length + length > room) return 0;
+    memcpy(body, front, front_length);
+    if (length > 0) memcpy(body + front_length, request->bytes, length);
+    return front_length + length;
 }
 
 /* ---- Replies ---- */

@@ -23,11 +23,23 @@ enum {
 };
 enum { REPLY_EMPTY = 1, REPLY_ROLE, REPLY_KIND, REPLY_CUT, REPLY_TRAILING, REPLY_RANGE };
 
+/* Of the body of a request: its head, and all but the bytes of a block or a text, at most. */
+enum { HEAD_BYTES = 30, FRONT_BYTES = HEAD_BYTES + 16 };
+
 /* A buffer that grows. What is in it stands from `start` to `end`. */
 struct buffer {
     uint8_t *bytes;
     size_t start, end, room;
 };
+
+/* Bytes that are sent from where they stand: behind the first `at` bytes that the output holds. */
+struct lent {
+    size_t at, length;
+    const uint8_t *bytes;
+};
+
+/* So many pieces are lent at once. */
+enum { MOST_LENT = 8 };
 
 /* What of the append to come is in flight: the writes of its first blocks, and behind some of them a report.
  */
@@ -40,8 +52,10 @@ struct ahead {
 struct pagelog {
     char *host, *port;
     struct pagelog_options options;
-    int socket;                       /* -1: not connected */
-    struct buffer output, input;      /* requests that were not sent yet; replies not read yet */
+    int socket;                  /* -1: not connected */
+    struct buffer output, input; /* requests that were not sent yet; replies not read yet */
+    struct lent lent[MOST_LENT]; /* bytes of these requests that are not in the buffer; none of them empty */
+    size_t lent_count;
     uint8_t asked[PAGELOG_IN_FLIGHT]; /* a ring: the operations of the requests in flight, the oldest first */
     size_t asked_first, asked_count;
     uint32_t epoch;               /* the newest that was heard of; 0: none yet */
@@ -65,9 +79,17 @@ struct pagelog {
 /* Enters an outcome that has no reply behind it, and returns it. */
 enum pagelog_outcome pagelog_fail(struct pagelog *log, enum pagelog_outcome outcome);
 
+/* As pagelog_send, but the bytes of a long block are sent from where they stand: they have to stand there
+ * until pagelog_push, or a receive. */
+enum pagelog_outcome pagelog_lend(struct pagelog *log, const struct pagelog_request *request);
+
 /* Sends as much of what is queued as goes at once, if there is a connection. An error is met again by who
- * sends the rest. */
+ * sends the rest. What was lent is free again. */
 void pagelog_push(struct pagelog *log);
+
+/* As pagelog_encode_request, but without the bytes at the end of the body; there are `*length` of them. */
+size_t pagelog_encode_front(const struct pagelog_request *request, uint8_t front[FRONT_BYTES],
+                            size_t *length);
 
 /* Whether all that was queued has left this process. */
 bool pagelog_is_pushed(const struct pagelog *log);

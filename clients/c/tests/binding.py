@@ -116,6 +116,7 @@ declare("pagelog_append", c_uint, c_void_p, c_void_p, c_uint)
 declare("pagelog_append_ahead", None, c_void_p, c_void_p, c_uint)
 declare("pagelog_append_unwaited", c_bool, c_void_p, c_void_p, c_uint)
 declare("pagelog_append_is_due", c_bool, c_void_p)
+declare("pagelog_append_is_answered", c_bool, c_void_p)
 declare("pagelog_disconnect", None, c_void_p)
 declare("pagelog_free", None, c_void_p)
 
@@ -267,6 +268,9 @@ class Log:
 
     def is_due(self):
         return lib.pagelog_append_is_due(self.made)
+
+    def is_answered(self):
+        return lib.pagelog_append_is_answered(self.made)
 
     def disconnect(self):
         lib.pagelog_disconnect(self.made)

@@ -561,6 +561,13 @@ def test_unwaited_commits():
         same("then small", (DONE, DONE, DONE), (file.begin(), file.write(0, b"y"), file.commit()))
         same("settled", (DONE, 0), (file.settle(), file.state.on_their_way))
         same("reader", (DONE, b"y" + b"x" * 4999999), (reader.begin(), reader.whole()))
+        before, blocks = file.state.wire.round_trips, file.state.blocks_written
+        for number in range(20):
+            same("some blocks", (DONE, DONE, DONE), (file.begin(), file.write(0, b"%02d" % number * 100000), file.commit()))
+            while file.state.wire.replies < file.state.wire.requests:
+                same("its replies", DONE, file.begin())
+        same("more than a window, and no wait", (True, before),
+             (file.state.blocks_written - blocks > 64, file.state.wire.round_trips))
     with Service() as service:
         wanted = random.Random(3).randbytes(800000)
         with opened(service.address) as file:

@@ -231,7 +231,7 @@ def test_commits_that_nobody_waits_for():
         connection = connect(service.address, check=3600000, unwaited=30)
         connection.execute("create table t(a)")
         for synchronous, unwaited, least, most in (("full", 30, 100, 100), ("normal", 30, 100, 100), ("off", 0, 100, 100),
-                                                   ("off", 30, 1, 10)):
+                                                   ("off", 30, 0, 10)):
             connection.execute(f"pragma synchronous = {synchronous}")
             same("unwaited", str(unwaited), one(connection, f"pragma pagelog_unwaited = {unwaited}"))
             before = number_of(connection, "round_trips")

@@ -440,6 +440,7 @@ def test_appends_that_nobody_waits_for():
             same("in the log, and nobody asked", wanted + blocks.all(), pulled(reader, len(wanted) + count))
             while log.in_flight() > 0:
                 same("all is well", False, log.is_due())
+            true("all have come", log.is_answered())
             same("once more", (True, 0), (log.append_unwaited(blocks), log.in_flight()))
             wanted += blocks.all()
             same("append", (DONE, len(wanted)), (log.append(blocks), log.end))
@@ -508,7 +509,7 @@ def test_appends_that_nobody_waits_for_and_an_epoch_that_ends():
                 true("sent", log.append_unwaited(blocks))
             if ends < 10:
                 while not log.is_due():
-                    pass
+                    same("a refusal is no answer", False, log.is_answered())
             kept = min((ends - 1) // 3 + (ends % 3 == 0), 3)
             wanted = (DONE, 3) if kept == 3 else (FENCED, "A2")
             outcome = log.append(blocks)
