@@ -9,7 +9,7 @@ use Rattle.std.specs.declared.cmp.Ordering.TheVariants.{Less, Equal, Greater}
 use Rattle.std.proofs.lemmas.Cmp.{nat_cmp_total, eq_by_cmp_equiv}
 use Rattle.std.specs.FinMap as maps
 use Rattle.pl_arena.specs.Arena.{Arena, frame_bytes, with_frame, without_frame}
-use Rattle.pl_arena.specs.Free.{held, put, gathered, arena_of}
+use Rattle.pl_arena.specs.Free.{held, put, map_below, arena_of}
 
 -- a number is told from itself, and from another
 pub same_number : (q k : ℕ) → q ≡ k → eq_by_cmp nat_cmp q k ≡ true
@@ -52,26 +52,26 @@ put_here : (m : Frames) (k : ℕ) (o : Option (List ℕ)) → maps.get m k ≡ N
 put_here m k None e = e
 put_here m k (Some w) e = insert_here m k w k refl
 
-pub past_gathered : (n : ℕ) (f : ℕ → Option (List ℕ)) (q : ℕ) → n ≤ q → maps.get (gathered n f) q ≡ None
-unfolding gathered
-past_gathered zero f q past = maps.get-empty nat_cmp q
-past_gathered (suc n) f q past = put_other (gathered n f) n q (f n) (λ e. absurd (omega (arith, e, past))) ∙ past_gathered n f q (omega (arith, past))
+pub past_map_below : (n : ℕ) (f : ℕ → Option (List ℕ)) (q : ℕ) → n ≤ q → maps.get (map_below n f) q ≡ None
+unfolding map_below
+past_map_below zero f q past = maps.get-empty nat_cmp q
+past_map_below (suc n) f q past = put_other (map_below n f) n q (f n) (λ e. absurd (omega (arith, e, past))) ∙ past_map_below n f q (omega (arith, past))
 
-pub in_gathered : (n : ℕ) (f : ℕ → Option (List ℕ)) (q : ℕ) → q < n → maps.get (gathered n f) q ≡ f q
-unfolding gathered
-in_gathered zero f q within = absurd (omega (arith, within))
-in_gathered (suc n) f q within =
+pub in_map_below : (n : ℕ) (f : ℕ → Option (List ℕ)) (q : ℕ) → q < n → maps.get (map_below n f) q ≡ f q
+unfolding map_below
+in_map_below zero f q within = absurd (omega (arith, within))
+in_map_below (suc n) f q within =
     elim (cases_eq q n) [
-      | inl e ↦ ap (λ k. maps.get (put (gathered n f) n (f n)) k) e ∙ put_here (gathered n f) n (f n) (past_gathered n f n (omega arith)) ∙ ap f (sym e)
-      | inr d ↦ put_other (gathered n f) n q (f n) d ∙ in_gathered n f q (omega (arith, within, d))
+      | inl e ↦ ap (λ k. maps.get (put (map_below n f) n (f n)) k) e ∙ put_here (map_below n f) n (f n) (past_map_below n f n (omega arith)) ∙ ap f (sym e)
+      | inr d ↦ put_other (map_below n f) n q (f n) d ∙ in_map_below n f q (omega (arith, within, d))
     ]
 
 -- what an arena has under a number
 pub frame_is : (frames : List (List ℕ)) (outs : List Bool) (max q : ℕ) → frame_bytes (arena_of frames outs max) q ≡ held frames outs q
 frame_is frames outs max q =
     elim (cases_lt q (length outs)) [
-      | inl lt ↦ in_gathered (length outs) (held frames outs) q lt
-      | inr ge ↦ past_gathered (length outs) (held frames outs) q ge ∙ sym (ap (λ b. cond b (Some (get_or frames q [])) None) (get_or_past outs q false ge))
+      | inl lt ↦ in_map_below (length outs) (held frames outs) q lt
+      | inr ge ↦ past_map_below (length outs) (held frames outs) q ge ∙ sym (ap (λ b. cond b (Some (get_or frames q [])) None) (get_or_past outs q false ge))
     ]
 
 -- an arena after a change of one frame

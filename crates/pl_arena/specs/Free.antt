@@ -58,10 +58,10 @@ put m id None = m
 put m id (Some bytes) = maps.insert m id bytes
 
 -- the map of what is at the numbers below n
-unfoldable pub gathered : ℕ → (ℕ → Option (List ℕ)) → maps.FinMap nat_cmp (List ℕ)
-gathered zero f = maps.empty
-gathered (suc n) f = put (gathered n f) n (f n)
+unfoldable pub map_below : ℕ → (ℕ → Option (List ℕ)) → maps.FinMap nat_cmp (List ℕ)
+map_below zero f = maps.empty
+map_below (suc n) f = put (map_below n f) n (f n)
 
 -- the arena that these make
 abbrev pub arena_of : List (List ℕ) → List Bool → ℕ → Arena
-arena_of frames outs max_chunks = record { max_chunks = max_chunks; out = gathered (length outs) (held frames outs) }
+arena_of frames outs max_chunks = record { max_chunks = max_chunks; out = map_below (length outs) (held frames outs) }

@@ -131,7 +131,8 @@ impl VersionArena {
         Ok(FrameId { number })
     }
 
-    /// Takes back a frame that is out. Its memory is kept for the next that is taken.
+    /// Takes back a frame that is out. Its memory is kept for the next that is taken. The service never gives a frame back: a
+    /// version that takes the place of another one takes its frame.
     pub fn give(&mut self, id: FrameId)
         // The frame is out.
         requires out { IsOut self.old id }

@@ -1,54 +1,17 @@
 //! What each conversation does: it answers the whole frames of some bytes, and writes the replies.
 
-ghost use Rattle.std.specs.Prelude.{◌≡◌, ◌+◌, ◌<◌, ◌≤◌, IfNone, IfSome, IsTrue, length, take};
+ghost use Rattle.std.specs.Prelude.{◌≡◌, ◌+◌, ◌≤◌, IfNone, IfSome, length, take};
 ghost use Rattle.std.specs.Io.KnownBytes.{Appends};
 ghost use Rattle.pl_core.specs.Reply.{FitsReply};
-ghost use Rattle.pl_wire.specs.FrameReading.{IsCut};
-ghost use Rattle.pl_wire.specs.Frames.{frame, longest_request};
 ghost use Rattle.pl_conn.specs.Gathering.{AnswersRead, Gathers, MayGather};
 
 use crate::gate::Gate;
 use crate::outbox::Outbox;
-use bytes::Buf;
 use pl_core::Reply;
 use pl_table::Request;
-use pl_wire::{BodyFault, LONGEST_REQUEST, decode_request};
+use pl_wire::{BodyFault, LENGTH_BYTES, body_in, decode_request};
 use std::alloc::Global;
 use std::io::{self, ErrorKind, Write};
-
-/// The bytes of a frame's length.
-const LENGTH_BYTES: usize = 4;
-
-// The body of the frame that the bytes begin with, where all of it is there.
-pub(crate) fn body_in(bytes: &[u8]) -> Option<&[u8]>
-    ensures whole { IfSome result (λ body. (4 + length body.now ≤ length bytes.now)
-        × (take (4 + length body.now) bytes.now ≡ frame body.now)) }
-    ensures short { IfSome result (λ body. length body.now ≤ longest_request) }
-{
-    if bytes.len() < LENGTH_BYTES {
-        return None;
-    }
-    let (mut head, rest) = bytes.split_at(LENGTH_BYTES);
-    let len = head.get_u32();
-    if len > LONGEST_REQUEST || rest.len() < len as usize {
-        return None;
-    }
-    let (body, _) = rest.split_at(len as usize);
-    Some(body)
-}
-
-// Whether the bytes are less than a frame, and more may make them one.
-pub(crate) fn is_cut(bytes: &[u8]) -> bool
-    ensures cut { IsTrue result → IsCut longest_request bytes.now }
-    ensures short { IsTrue result → length bytes.now < 65540 }
-{
-    if bytes.len() < LENGTH_BYTES {
-        return true;
-    }
-    let (mut head, rest) = bytes.split_at(LENGTH_BYTES);
-    let wanted = head.get_u32();
-    wanted <= LONGEST_REQUEST && rest.len() < wanted as usize
-}
 
 // The reply to what a body spells.
 pub(crate) fn answer<G: Gate>(

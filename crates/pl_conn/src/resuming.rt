@@ -7,11 +7,12 @@ ghost use Rattle.pl_wire.specs.Frames.{longest_request};
 ghost use Rattle.pl_conn.specs.Conversation.{scene};
 ghost use Rattle.pl_conn.specs.Resting.{Hears, Rests, Speaks, Tells, TurnsJoin, middle};
 
-use crate::answering::{answer_whole, body_in, is_cut, write_ready};
+use crate::answering::{answer_whole, write_ready};
 use crate::cause::Cause;
 use crate::gate::Gate;
 use crate::inbox::{Inbox, LONGEST_FRAME};
 use crate::outbox::Outbox;
+use pl_wire::{body_in, is_cut};
 use std::alloc::{AllocError, Global};
 use std::io::{self, ErrorKind, Read, Write};
 use std::marker::Model;

@@ -56,6 +56,40 @@ struct Staff {
 }
 
 impl Staff {
+    fn with_room(alloc: Global, count: usize) -> Result<Staff, AllocError> {
+        Ok(Staff {
+            workers: Vec::with_capacity(alloc, count)?,
+            posts: Vec::with_capacity(alloc, count)?,
+            channels: Vec::with_capacity(alloc, count)?,
+        })
+    }
+
+    fn push(
+        &mut self,
+        worker: Worker,
+        post: Post,
+        channel: Sender<TcpStream>,
+    ) -> Result<(), AllocError> {
+        self.workers.push(worker)?;
+        self.posts.push(post)?;
+        self.channels.push(channel)?;
+        Ok(())
+    }
+
+    // One worker more, if there is memory for it, and descriptors.
+    fn add<R: Net>(&mut self, rt: &R, alloc: Global, idle_polls: u32) -> Result<bool, AllocError> {
+        let Ok((channel, sockets)) = crossbeam_channel::bounded(alloc, WAITING) else {
+            return Ok(false);
+        };
+        match Worker::new(rt, alloc, sockets, idle_polls) {
+            Some((worker, post)) => {
+                self.push(worker, post, channel)?;
+                Ok(true)
+            }
+            None => Ok(false),
+        }
+    }
+
     // This many, or as many as there is memory for, and descriptors.
     fn hire<R: Net>(
         rt: &R,
@@ -63,21 +97,11 @@ impl Staff {
         count: usize,
         idle_polls: u32,
     ) -> Result<Staff, AllocError> {
-        let mut staff = Staff {
-            workers: Vec::with_capacity(alloc, count)?,
-            posts: Vec::with_capacity(alloc, count)?,
-            channels: Vec::with_capacity(alloc, count)?,
-        };
+        let mut staff = Staff::with_room(alloc, count)?;
         for _ in 0..count {
-            let Ok((channel, sockets)) = crossbeam_channel::bounded(alloc, WAITING) else {
+            if !staff.add(rt, alloc, idle_polls)? {
                 break;
-            };
-            let Some((worker, post)) = Worker::new(rt, alloc, sockets, idle_polls) else {
-                break;
-            };
-            staff.workers.push(worker)?;
-            staff.posts.push(post)?;
-            staff.channels.push(channel)?;
+            }
         }
         Ok(staff)
     }

@@ -125,6 +125,15 @@ fn turn<G: Gate>(
 }
 
 impl Lines {
+    // No connections, and the room of some.
+    fn new(alloc: Global) -> Option<Lines> {
+        Some(Lines {
+            items: Slab::with_capacity(alloc, LINES).ok()?,
+            due: Vec::with_capacity(alloc, LINES).ok()?,
+            faults: 0,
+        })
+    }
+
     // Takes a socket in, which does not wait from now on. Returns whether it could.
     fn open(&mut self, alloc: Global, poll: &Poll, socket: TcpStream) -> bool {
         // Small replies are not held back where the system lets that be set.
@@ -286,7 +295,27 @@ fn take_new<R: Wait>(rt: &R, alloc: Global, post: &Post, poll: &Poll, lines: &mu
     unreachable!()
 }
 
+// The room for what a poll tells, and for the turns of connections.
+fn events_and_room(alloc: Global) -> Option<(Events, Room)> {
+    let events = Events::with_capacity(alloc, EVENTS).ok()?;
+    let room = Room::new(alloc).ok()?;
+    Some((events, room))
+}
+
 impl Worker {
+    // A worker without a connection, over this poll, with all the memory that it needs.
+    fn over(alloc: Global, poll: Poll, idle_polls: u32) -> Option<Worker> {
+        let lines = Lines::new(alloc)?;
+        let (events, room) = events_and_room(alloc)?;
+        Some(Worker {
+            poll,
+            events,
+            lines,
+            room,
+            idle_polls,
+        })
+    }
+
     /// A worker for the sockets that come here, which polls this often before it sleeps, with all that it needs, and what
     /// the accepting thread shares with it. `None` where there was no memory, or no descriptor.
     pub(crate) fn new<R: Net>(
@@ -297,18 +326,7 @@ impl Worker {
     ) -> Option<(Worker, Post)> {
         let poll = Poll::new(rt).ok()?;
         let bell = Waker::new(poll.registry(), BELL).ok()?;
-        let lines = Lines {
-            items: Slab::with_capacity(alloc, LINES).ok()?,
-            due: Vec::with_capacity(alloc, LINES).ok()?,
-            faults: 0,
-        };
-        let worker = Worker {
-            poll,
-            events: Events::with_capacity(alloc, EVENTS).ok()?,
-            lines,
-            room: Room::new(alloc).ok()?,
-            idle_polls,
-        };
+        let worker = Worker::over(alloc, poll, idle_polls)?;
         let post = Post {
             sockets,
             bell,

@@ -14,7 +14,7 @@ use Rattle.pl_desk.specs.declared.rule.Stage.TheVariants.{Waiting, InTurn, Gone}
 use Rattle.pl_desk.specs.declared.rule.View.{View}
 use Rattle.pl_desk.specs.Growth.{GoesOn, own_entries}
 use Rattle.pl_desk.specs.Rule.{asks_at, holds_at, HasTicket, Stands, GoesOnFrom, IsAhead, AreApart, DeskInvariant}
-use Rattle.pl_desk.specs.Steps.{HeldSlot, at_stage, ticket_of, looks_then, counted, counts_then, found_or, served, serves_then}
+use Rattle.pl_desk.specs.Steps.{HeldSlot, at_stage, ticket_of, looks_then, counted, counts_then, found_or, turn_passed, serves_then}
 use Rattle.pl_desk.proofs.Histories.{goes_on-refl, goes_on-trans, goes_on-more, goes_on-grown, own-without}
 use Rattle.pl_desk.proofs.Views.{total-part}
 use Rattle.pl_desk.proofs.Updates.{Table, NobodyInTurn, update, view-on}
@@ -211,11 +211,11 @@ counts terms slots id me t h g e turn own is legal fits s r size at small =
 serves-at : (terms : Terms) (s : Table) (r : DeskInvariant terms s) (id : ℕ) (v : View) (ws : List ℕ) (t : ℕ) (h : History)
     → get_elem? s.views id ≡ maybe.some v → v.stage ≡ InTurn t h
     → length ws ≡ 3 → get_or ws 0 0 ≡ get_or s.words 0 0 → get_or ws 1 0 ≡ get_or s.words 1 0 → get_or ws 2 0 ≡ get_or s.words 2 0 + 1
-    → DeskInvariant terms record { words = ws; homes = set s.homes 0 (maybe.some (Some h)); views = set s.views id (served v) }
+    → DeskInvariant terms record { words = ws; homes = set s.homes 0 (maybe.some (Some h)); views = set s.views id (turn_passed v) }
 serves-at terms s r id v ws t h at turn size zeroth first second =
     let live = in_turn-live v.stage t h turn in
     let mine = r.views id v at live in
-    let w = served v in
+    let w = turn_passed v in
     let n = length s.views in
     let asked = ap asks_at turn in
     let held = ap holds_at turn in
@@ -266,7 +266,7 @@ serves terms slots id me t h turn has s r size at small =
     let seats = r.seats in
     let bound = r.bound in
     let whole : new ≡ serving + 1 = omega (arith, held, part, tickets, room, seats, bound) in
-    let after = served me.0 in (
+    let after = turn_passed me.0 in (
       after,
       gives,
       tt,

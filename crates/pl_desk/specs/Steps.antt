@@ -82,12 +82,12 @@ found_or seen (Met first second other) = seen
 found_or seen Gone = seen
 
 -- the view that has given its turn on
-abbrev pub served : View → View
-served v = record v { seen = found_or v.seen v.stage; stage = Idle }
+abbrev pub turn_passed : View → View
+turn_passed v = record v { seen = found_or v.seen v.stage; stage = Idle }
 
 -- the slot is home again
 abbrev pub serves_then : Step (Option History) → HeldSlot → ℕ → HeldSlot → Type 0
-serves_then st me found after = after ≡ (served me.0, rest me.1)
+serves_then st me found after = after ≡ (turn_passed me.0, rest me.1)
 
 -- ---- 9: deal out one more pass
 

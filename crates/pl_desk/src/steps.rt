@@ -4,7 +4,7 @@ ghost use Rattle.std.specs.Prelude.{◌≡◌, ◌≢◌, ◌<◌, ◌≤◌, �
 ghost use Rattle.pl_core.specs.History.{History};
 ghost use Rattle.pl_desk.specs.declared.rule.Stage.TheVariants.{Idle, Asking, Waiting, InTurn, Met};
 ghost use Rattle.pl_desk.specs.Rule.{GoesOnFrom, IsAhead, HasBoth};
-ghost use Rattle.pl_desk.specs.Steps.{at_stage, asked, AddsOne, counted, served, dealing, dealt, meeting};
+ghost use Rattle.pl_desk.specs.Steps.{at_stage, asked, AddsOne, counted, turn_passed, dealing, dealt, meeting};
 
 use crate::boxed::BoxedDb;
 use crate::plays::{Asks, Counts, Deals, Draws, Joins, Looks, Meets, Serves, Told};
@@ -95,7 +95,7 @@ pub(crate) fn serve(board: &Board, chair: &mut Chair)
     requires turn { (t : ℕ) × (h : History) × (chair.old.me.0.stage ≡ InTurn t h) ×
         (chair.old.me.1 ≡ (0, Some h) ∷ []) }
     ensures same { (chair.new.table_id ≡ chair.old.table_id) × (chair.new.id ≡ chair.old.id) }
-    ensures served { chair.new.me ≡ (served chair.old.me.0, []) }
+    ensures served { chair.new.me ≡ (turn_passed chair.old.me.0, []) }
 {
     board.fetch_add::<Serves>(chair, SERVING, 1);
 }

@@ -11,7 +11,7 @@ use Rattle.std.specs.FinMap as maps
 use Rattle.pl_arena.specs.Arena as frames
 use Rattle.pl_arena.specs.Arena.{Arena, IsOut, frame_bytes, with_frame}
 use Rattle.pl_block.specs.Block.{Content}
-use Rattle.pl_pages.specs.Page.{zeros, after_block}
+use Rattle.pl_pages.specs.Page.{empty_page, after_block}
 use Rattle.pl_pages.specs.State.{Version, IsVersion, AreVersions}
 use Rattle.pl_pages.specs.Kept.{AreKept, VersionsState, frame_ids, StayInPlace, StayTrue, with_block, versions_in, version_in, version_at}
 use Rattle.pl_pages.specs.declared.versions.Kept.{Kept}
@@ -269,18 +269,18 @@ frame_zeros : frames.zeros ≡ replicate 8192 0
 unfolding frames.zeros
 frame_zeros = refl
 
-page_zeros : zeros ≡ replicate 8192 0
-unfolding zeros
-page_zeros = refl
+page_empty : empty_page ≡ replicate 8192 0
+unfolding empty_page
+page_empty = refl
 
 -- what a frame is taken for
 abbrev pub taken_with : ℕ → Kept
 taken_with id = record { page = 0; lsn = 0; frame = id }
 
-pub cleared : (old : List ℕ) → length old ≡ 8192 → replicate (length old) 0 ≡ zeros
-cleared old len = ap (λ (n : ℕ). replicate n 0) len ∙ sym page_zeros
+pub cleared : (old : List ℕ) → length old ≡ 8192 → replicate (length old) 0 ≡ empty_page
+cleared old len = ap (λ (n : ℕ). replicate n 0) len ∙ sym page_empty
 
-pub blank_true : (log : List Content) (page : ℕ) (bytes : List ℕ) → bytes ≡ zeros → IsVersion log (record { page = page; lsn = 0; bytes = bytes })
+pub blank_true : (log : List Content) (page : ℕ) (bytes : List ℕ) → bytes ≡ empty_page → IsVersion log (record { page = page; lsn = 0; bytes = bytes })
 blank_true log page bytes is = record { within = omega arith; bytes = is }
 
 module _ (a : Arena) (ks : List Kept) (oldest : ℕ) (kept : AreKept a (frame_ids ks) oldest) (seen : VersionsState) (view : ◌≡◌ {A = VersionsState} (record { versions = versions_in a ks; chunks = a.max_chunks }) seen) (to : Kept) (fresh : frame_bytes a to.frame ≡ None) (start : to.lsn ≡ 0) where
@@ -289,7 +289,7 @@ module _ (a : Arena) (ks : List Kept) (oldest : ℕ) (kept : AreKept a (frame_id
     first_version = record { page = to.page; lsn = to.lsn; bytes = frames.zeros }
 
     new_true : (log : List Content) → IsVersion log first_version
-    new_true log = subst (λ (n : ℕ). IsVersion log (record { page = to.page; lsn = n; bytes = frames.zeros })) (sym start) (blank_true log to.page frames.zeros (frame_zeros ∙ sym page_zeros))
+    new_true log = subst (λ (n : ℕ). IsVersion log (record { page = to.page; lsn = n; bytes = frames.zeros })) (sym start) (blank_true log to.page frames.zeros (frame_zeros ∙ sym page_empty))
 
     pub taken_kept : AreKept b (frame_ids ls) oldest
     taken_kept =

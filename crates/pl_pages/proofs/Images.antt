@@ -10,11 +10,11 @@ use Rattle.pl_block.specs.Bounds.{page_size}
 use Rattle.pl_block.specs.Spelling.{IsBlock}
 use Rattle.pl_block.specs.declared.record.Record.{Record}
 use Rattle.pl_block.specs.declared.record.Record.TheVariants.{Put, Zero}
-use Rattle.pl_pages.specs.Page.{zeros, changed, makes_page, is_image, after_record, after_block, page_of}
+use Rattle.pl_pages.specs.Page.{empty_page, changed, makes_page, is_image, after_record, after_block, page_of}
 use Rattle.pl_pages.specs.State.{Version, AreVersions}
 use Rattle.pl_pages.specs.Kept.{IsAt, version_at, with_block}
 use Rattle.pl_pages.specs.Laws.{ImagesAreWhole}
-use Rattle.pl_pages.proofs.Sizes.{IsPage, length-zeros, one_sized, page_sized}
+use Rattle.pl_pages.proofs.Sizes.{IsPage, length-empty_page, one_sized, page_sized}
 use Rattle.pl_pages.proofs.Replays.{block_more}
 use Rattle.pl_pages.proofs.Frames.{replaced_true, with_block_stands, block_made}
 
@@ -64,7 +64,7 @@ module _ (vs : List Version) (place page n : ℕ) (log : List Content) (blocks :
   abbrev v : Version
   v = version_at vs place
 
-  blank : v.bytes ≡ zeros
+  blank : v.bytes ≡ empty_page
   blank = (all place _ at.within).bytes ∙ ap (λ k. page_of v.page (take k log)) at.lsn
 
   end : n - 1 + 1 ≡ block.lsn
@@ -73,9 +73,9 @@ module _ (vs : List Version) (place page n : ℕ) (log : List Content) (blocks :
   made : after_block v.page v.bytes block ≡ page_of v.page (take block.lsn log)
   made =
       ap (λ bytes. after_block v.page bytes block) blank
-      ∙ ap (λ p. after_block p zeros block) at.page
-      ∙ images_are_whole page block zeros (page_of page (take (n - 1) log)) is image length-zeros (page_sized page (take (n - 1) log) (first_blocks (n - 1) log blocks))
-      ∙ block_more page zeros log (n - 1) block here
+      ∙ ap (λ p. after_block p empty_page block) at.page
+      ∙ images_are_whole page block empty_page (page_of page (take (n - 1) log)) is image length-empty_page (page_sized page (take (n - 1) log) (first_blocks (n - 1) log blocks))
+      ∙ block_more page empty_page log (n - 1) block here
       ∙ ap (λ k. page_of page (take k log)) end
       ∙ ap (λ p. page_of p (take block.lsn log)) (sym at.page)
 

@@ -8,7 +8,7 @@ use Rattle.std.specs.List.{AllByRecursion}
 use Rattle.std.proofs.lemmas.List.{take-append-le}
 use Rattle.pl_block.specs.Block.{Content}
 use Rattle.pl_block.specs.Spelling.{IsBlock}
-use Rattle.pl_pages.specs.Page.{after_blocks, page_of, after_block, zeros}
+use Rattle.pl_pages.specs.Page.{after_blocks, page_of, after_block, empty_page}
 use Rattle.pl_pages.specs.State.{Version, PagesState, IsVersion, FitsLog, indexed_at, lsns_of}
 use Rattle.pl_pages.specs.Laws.{AnswersReach}
 
@@ -76,6 +76,6 @@ block_true log v k block is at here numbered = record {
   within = omega (arith, numbered, slice_get_within log k block here);
   bytes =
       ap (λ bytes. after_block v.page bytes block) (is.bytes ∙ ap (λ n. page_of v.page (take n log)) at)
-      ∙ block_more v.page zeros log k block here
+      ∙ block_more v.page empty_page log k block here
       ∙ ap (λ n. page_of v.page (take n log)) (sym numbered);
 }

@@ -7,14 +7,14 @@ use Rattle.pl_block.specs.Bounds.{page_size}
 use Rattle.pl_block.specs.Spelling.{IsBlock}
 use Rattle.pl_block.specs.declared.record.Record.{Record}
 use Rattle.pl_block.specs.declared.record.Record.TheVariants.{Put, Zero}
-use Rattle.pl_pages.specs.Page.{zeros, changed, after_record, after_block, after_blocks, page_of}
+use Rattle.pl_pages.specs.Page.{empty_page, changed, after_record, after_block, after_blocks, page_of}
 
 abbrev pub IsPage : List ℕ → Type 0
 IsPage bytes = length bytes ≡ page_size
 
-pub length-zeros : IsPage zeros
-unfolding zeros
-length-zeros = let none : ℕ = 0 in length-replicate page_size none
+pub length-empty_page : IsPage empty_page
+unfolding empty_page
+length-empty_page = let none : ℕ = 0 in length-replicate page_size none
 
 -- bytes that are replaced within a page
 put_sized : (offset : ℕ) (bytes old : List ℕ) → offset + length bytes ≤ page_size → IsPage old → IsPage ((take offset old ++ bytes) ++ drop (offset + length bytes) old)
@@ -44,4 +44,4 @@ blocks_sized page (b ∷ bs) old each sized =
     blocks_sized page bs (after_block page old b) each.1 (records_sized page b.records old each.0.each sized)
 
 pub page_sized : (page : ℕ) (blocks : List Content) → AllByRecursion IsBlock blocks → IsPage (page_of page blocks)
-page_sized page blocks each = blocks_sized page blocks zeros each length-zeros
+page_sized page blocks each = blocks_sized page blocks empty_page each length-empty_page

@@ -10,7 +10,7 @@ use Rattle.pl_block.specs.Block.{Content, changed_page}
 use Rattle.pl_block.specs.declared.record.Record.{Record}
 use Rattle.pl_block.specs.Numbered.{AreNumbered}
 use Rattle.pl_block.specs.Spelling.{IsBlock}
-use Rattle.pl_pages.specs.Page.{changed, after_record, after_block, page_of, zeros}
+use Rattle.pl_pages.specs.Page.{changed, after_record, after_block, page_of, empty_page}
 use Rattle.pl_pages.specs.State.{Version, IsVersion, AreVersions, changes_page, lsns_of}
 use Rattle.pl_pages.specs.Kept.{IsAt, version_at, with_block}
 use Rattle.pl_pages.specs.Index.{IndexState, IsIndex, HasBlock, IsAfterChanges, count_before}
@@ -64,7 +64,7 @@ module _ (page : ℕ) (log : List Content) where
       by_case block is true e = inl (ap length (lsns_more k block is ∙ ap (λ b. cond b (lsns_of page (take k log) ++ block.lsn ∷ []) (lsns_of page (take k log))) e) ∙ length-append (lsns_of page (take k log)) (block.lsn ∷ []))
       by_case block is false e = inr (
         ap length (lsns_more k block is ∙ ap (λ b. cond b (lsns_of page (take k log) ++ block.lsn ∷ []) (lsns_of page (take k log))) e),
-        sym (block_more page zeros log k block is) ∙ block_past page (page_of page (take k log)) block e,
+        sym (block_more page empty_page log k block is) ∙ block_past page (page_of page (take k log)) block e,
       )
 
   counts_rise : (a d : ℕ) → a + d ≤ length log → count_before page log a ≤ count_before page log (a + d)

@@ -7,8 +7,8 @@ use Rattle.pl_block.specs.declared.record.Record.{Record}
 use Rattle.pl_block.specs.declared.record.Record.TheVariants.{Put, Zero}
 
 -- a page that nothing changed
-unfoldable pub zeros : List ℕ
-zeros = replicate page_size 0
+unfoldable pub empty_page : List ℕ
+empty_page = replicate page_size 0
 
 -- its page after a record: a Put replaces the bytes from its offset on, a Zero makes each byte 0
 abbrev pub changed : Record → List ℕ → List ℕ
@@ -43,4 +43,4 @@ after_blocks page old blocks = fold (after_block page) old blocks
 
 -- the page of blocks: zeros, changed by each of their records of the page, in order
 abbrev pub page_of : ℕ → List Content → List ℕ
-page_of page blocks = after_blocks page zeros blocks
+page_of page blocks = after_blocks page empty_page blocks

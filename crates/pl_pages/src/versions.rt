@@ -3,7 +3,7 @@
 ghost use Rattle.std.specs.Prelude.{◌≡◌, ◌<◌, ◌≤◌, [], length, slice_set, IfOk, IfSome};
 ghost use Rattle.pl_block.specs.Bounds.{page_size};
 ghost use Rattle.pl_pages.specs.Kept.{IsAt, StayInPlace, StayTrue, version_at, with_block};
-ghost use Rattle.pl_pages.specs.Page.{zeros};
+ghost use Rattle.pl_pages.specs.Page.{empty_page};
 
 use crate::changes::{clear, redo_block};
 use crate::newest::Newest;
@@ -242,7 +242,7 @@ impl Versions {
     fn put_blank(&mut self, place: usize, page: u32)
         requires within { place < length self.old.versions }
         ensures versions { self.new.versions ≡
-            slice_set self.old.versions place (record { page = page; lsn = 0; bytes = zeros }) }
+            slice_set self.old.versions place (record { page = page; lsn = 0; bytes = empty_page }) }
         ensures chunks { self.new.chunks ≡ self.old.chunks }
     {
         let frame = self.kept[place].frame;

@@ -16,7 +16,7 @@ use Rattle.pl_program.specs.Paging.{HasPaged}
 use Rattle.pl_program.specs.declared.pager.Pager.{Pager}
 use Rattle.pl_program.specs.declared.run_fault.RunFault.{RunFault}
 use Rattle.pl_program.specs.declared.run_fault.RunFault.TheVariants as faults
-use Rattle.pl_program.specs.declared.serving.Tally.{Tally}
+use Rattle.pl_program.specs.declared.tally.Tally.{Tally}
 
 -- the token that a table lists for a principal, or that it lists none
 abbrev pub listed_token : Option (List ℕ) → Result (List ℕ) StartFault
@@ -29,8 +29,8 @@ read_token (Err fault) principal = Err (starts.Table fault)
 read_token (Ok table) principal = listed_token (token_of principal table.principals)
 
 -- the token of a principal, of the text of a table, or the first fault
-abbrev pub token_in : List ℕ → ℕ → Result (List ℕ) StartFault
-token_in text principal = read_token (table_reading text) principal
+abbrev pub token_for : List ℕ → ℕ → Result (List ℕ) StartFault
+token_for text principal = read_token (table_reading text) principal
 
 -- the page server of these numbers, with its token
 abbrev pub pager_with : Result (List ℕ) StartFault → ServeNumbers → Result (Option Pager) StartFault
@@ -45,7 +45,7 @@ pager_with (Ok token) numbers = Ok (Some (record {
 -- the page server of a service with the table of this text: none of no rounds
 abbrev pub pager_in : List ℕ → ServeNumbers → Result (Option Pager) StartFault
 pager_in text numbers =
-    if numbers.rounds == 0 then Ok None else pager_with (token_in text numbers.pager) numbers
+    if numbers.rounds == 0 then Ok None else pager_with (token_for text numbers.pager) numbers
 
 -- Each database got a desk, with a seat for each worker and one for the page server. The passes that come
 -- back are those of workers, each after a list of calls; and the page server, where there is one, made its

@@ -9,20 +9,20 @@
 
 mod asking;
 mod ending;
+mod opening;
 mod pager;
 mod run_fault;
 mod running;
 mod service;
-mod serving;
+mod tally;
 mod telling;
 
 pub use asking::{credentials_of, exchange, file_of};
 pub use ending::{Ending, Failure};
+pub use opening::{Opening, databases_of, opening_of, pager_of, token_of};
 pub use pager::Pager;
 pub use run_fault::RunFault;
 pub use running::run;
 pub use service::serve_databases;
-pub use serving::{
-    Opening, Tally, databases_of, opening_of, pager_of, result_of, tally_of, token_of,
-};
+pub use tally::{Tally, result_of, tally_of};
 pub use telling::Crew;

@@ -5,9 +5,10 @@ ghost use Rattle.std.specs.Prelude.{◌≤◌, vec_len};
 
 use crate::asking::{credentials_of, exchange, file_of};
 use crate::ending::{Ending, Failure};
+use crate::opening::{Opening, opening_of};
 use crate::run_fault::RunFault;
 use crate::service::serve_databases;
-use crate::serving::{Opening, opening_of, tally_of};
+use crate::tally::{Tally, tally_of};
 use crate::telling::Teller;
 use pl_command::{CommandLine, ServeNumbers, arguments_of, asked};
 use pl_core::{Db, Reply};
@@ -114,9 +115,27 @@ where
     R: Files + Input + Print + AllocGlobal,
 {
     let text = text_of_file(rt, table)?;
-    let mut db = start_play(rt.alloc(), text.as_slice(), primary)?;
-    play_all(rt, &mut db)?;
-    Ok(Ending::Done)
+    play_by(rt, text.as_slice(), primary)
+}
+
+/// The same by a database with the table of this text.
+fn play_by(
+    rt: &(impl Input + Print + AllocGlobal),
+    table: &[u8],
+    primary: u32,
+) -> Result<Ending, Failure> {
+    match start_play(rt.alloc(), table, primary) {
+        Ok(mut db) => end_of(play_all(rt, &mut db)),
+        Err(fault) => Err(Failure::from(fault)),
+    }
+}
+
+/// How the program ends where `play` ended so.
+fn end_of(played: Result<u64, PlayFault>) -> Result<Ending, Failure> {
+    match played {
+        Ok(_) => Ok(Ending::Done),
+        Err(fault) => Err(Failure::from(fault)),
+    }
 }
 
 /// Answers the lines of the standard input on the standard output.
@@ -154,24 +173,16 @@ where
     requires audit { 1 ≤ numbers.audit }
 {
     let text = text_of_file(rt, table)?;
-    let opening = opening_of(rt.alloc(), text.as_slice(), numbers)?;
-    serve_all(rt, listen, opening, numbers)?;
-    Ok(Ending::Done)
+    match opening_of(rt.alloc(), text.as_slice(), numbers) {
+        Ok(opening) => serve_all(rt, listen, opening, numbers),
+        Err(fault) => Err(Failure::from(fault)),
+    }
 }
 
-/// Serves the databases at the address until as many connections were accepted as the numbers say.
-fn serve_all<R>(
-    rt: &R,
-    listen: &str,
-    opening: Opening,
-    numbers: ServeNumbers,
-) -> Result<(), RunFault>
+/// Listens at the address, and writes the address that it is.
+fn listen_at<R>(rt: &R, listen: &str) -> Result<TcpListener, RunFault>
 where
-    R: Print + Eprint + AllocGlobal + Threads + Wait + Sync + Copy + Drop,
-    R: Net<Listener = TcpListener, Stream = TcpStream>,
-    requires some { 1 ≤ vec_len opening.dbs }
-    requires few { vec_len opening.dbs ≤ 16 }
-    requires workers { numbers.workers ≤ 64 }
+    R: Print + Net<Listener = TcpListener, Stream = TcpStream>,
 {
     let listener = match TcpListener::bind(rt, listen) {
         Ok(listener) => listener,
@@ -180,22 +191,89 @@ where
     let Ok(address) = listener.local_addr() else {
         return Err(RunFault::Address);
     };
-    println!(rt; "listening {address}").map_err(|_| RunFault::Write)?;
+    match println!(rt; "listening {address}") {
+        Ok(()) => Ok(listener),
+        Err(_) => Err(RunFault::Write),
+    }
+}
+
+/// Writes the last line of a service, or returns the fault of its stop.
+fn tell(rt: &impl Print, tally: Result<Tally, RunFault>) -> Result<Ending, Failure> {
+    show(rt, &tally?)?;
+    Ok(Ending::Done)
+}
+
+/// Serves the databases to this listener until as many connections were accepted as the numbers say, and writes how many
+/// were.
+fn serve_at<R>(
+    rt: &R,
+    listener: &TcpListener,
+    opening: Opening,
+    numbers: ServeNumbers,
+) -> Result<Ending, Failure>
+where
+    R: Print + Eprint + AllocGlobal + Threads + Wait + Sync + Copy + Drop,
+    R: Net<Listener = TcpListener, Stream = TcpStream>,
+    requires some { 1 ≤ vec_len opening.dbs }
+    requires few { vec_len opening.dbs ≤ 16 }
+    requires workers { numbers.workers ≤ 64 }
+{
     let Opening { dbs, pager } = opening;
-    let alloc = rt.alloc();
     let watch = Teller { rt };
     let served = serve_databases(
         rt,
-        alloc,
-        &listener,
+        rt.alloc(),
+        listener,
         dbs,
         numbers.workers,
         numbers.connections,
         pager,
         numbers.idle_polls,
         &watch,
-    )?;
-    show(rt, &tally_of(&served)?)
+    );
+    match served {
+        Ok(served) => tell(rt, tally_of(&served)),
+        Err(fault) => Err(Failure::from(fault)),
+    }
+}
+
+/// Serves the databases at the address.
+fn serve_all<R>(
+    rt: &R,
+    listen: &str,
+    opening: Opening,
+    numbers: ServeNumbers,
+) -> Result<Ending, Failure>
+where
+    R: Print + Eprint + AllocGlobal + Threads + Wait + Sync + Copy + Drop,
+    R: Net<Listener = TcpListener, Stream = TcpStream>,
+    requires some { 1 ≤ vec_len opening.dbs }
+    requires few { vec_len opening.dbs ≤ 16 }
+    requires workers { numbers.workers ≤ 64 }
+{
+    match listen_at(rt, listen) {
+        Ok(listener) => serve_at(rt, &listener, opening, numbers),
+        Err(fault) => Err(Failure::from(fault)),
+    }
+}
+
+/// The request that the words ask for.
+fn request_of<R>(rt: &R, credentials: Credentials, words: &[String]) -> Result<Request, Failure>
+where
+    R: Files + AllocGlobal,
+{
+    let text = match file_of(words) {
+        Some(file) => Some(text_of_file(rt, file)?),
+        None => None,
+    };
+    Ok(admin(rt.alloc(), credentials, words, text).map_err(RunFault::from)?)
+}
+
+/// Shows the reply, and how the program ends by it.
+fn show_reply(rt: &(impl Print + AllocGlobal), reply: &Reply) -> Result<Ending, Failure> {
+    let text = answer_text(rt.alloc(), reply).map_err(RunFault::from)?;
+    show(rt, &text)?;
+    Ok(Ending::of_reply(reply))
 }
 
 /// Sends the request that the words ask for, and shows the reply.
@@ -203,16 +281,9 @@ fn ask<R>(rt: &R, to: &str, credentials: Credentials, words: &[String]) -> Resul
 where
     R: Files + Print + AllocGlobal + Net<Stream = TcpStream>,
 {
-    let alloc = rt.alloc();
-    let text = match file_of(words) {
-        Some(file) => Some(text_of_file(rt, file)?),
-        None => None,
-    };
-    let request = admin(alloc, credentials, words, text).map_err(RunFault::from)?;
+    let request = request_of(rt, credentials, words)?;
     let reply = ask_at(rt, to, &request)?;
-    let text = answer_text(alloc, &reply).map_err(RunFault::from)?;
-    show(rt, &text)?;
-    Ok(Ending::of_reply(&reply))
+    show_reply(rt, &reply)
 }
 
 /// Sends the request to this address, and reads the reply.

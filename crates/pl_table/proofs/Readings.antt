@@ -12,7 +12,7 @@ use Rattle.pl_table.specs.Setting.{somebody_sets}
 use Rattle.pl_table.specs.Table.{WrittenTable, IsTable, IsRowOf}
 use Rattle.pl_table.specs.Tree.{tree_of, is_row}
 use Rattle.pl_table.specs.Part.{principal_of, has_words, has_numbers, row_of}
-use Rattle.pl_table.specs.TableText.{Listed, listed_in_tree, counts_of, principals_of, rows_of, setter_of, table_of, table_reading}
+use Rattle.pl_table.specs.TableText.{Listed, listed_in_tree, counts_of, principals_of, rows_of, setter_of, listed_table, table_reading}
 use Rattle.pl_table.proofs.Listings.{length-principals, length-filter_map, IsDistinct-own_ids}
 use Rattle.pl_table.proofs.Rows.{All-IsRowOf}
 
@@ -75,8 +75,8 @@ set_if false o u is e = absurd cc
 set_by : (ps : List Principal) (rows : List Row) (u : Unit {0}) → setter_of ps rows ≡ Ok u → somebody_sets ps rows ≡ true
 set_by ps rows u e = set_if (somebody_sets ps rows) (setter_of ps rows) u refl e
 
-of_lists : (l : Listed) → IfOk (table_of l) IsTable
-unfolding table_of
+of_lists : (l : Listed) → IfOk (listed_table l) IsTable
+unfolding listed_table
 of_lists l =
     next (counts_of (length l.principals) (length l.rows)) _ IsTable (λ u c.
     next (principals_of l.principals) _ IsTable (λ ps p.

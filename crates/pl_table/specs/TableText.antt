@@ -64,8 +64,8 @@ abbrev pub setter_of : List Principal → List Row → Result (Unit {0}) TableFa
 setter_of ps rows = if somebody_sets ps rows then Ok tt else Err NoOperator
 
 -- the table of its two lists and its zone
-unfoldable pub table_of : Listed → Result WrittenTable TableFault
-table_of listed = do
+unfoldable pub listed_table : Listed → Result WrittenTable TableFault
+listed_table listed = do
   counts ← counts_of (length listed.principals) (length listed.rows)
   principals ← principals_of listed.principals
   rows ← rows_of principals listed.rows
@@ -78,4 +78,4 @@ unfoldable pub table_reading : List ℕ → Result WrittenTable TableFault
 table_reading text = do
   tree ← tree_of text
   listed ← listed_in_tree tree
-  table_of listed
+  listed_table listed

@@ -1,6 +1,6 @@
 -- What was read of a frame, and why there is no more of it.
-use Rattle.std.specs.Prelude.{◌≡◌, ℕ, ◌^◌, ◌<◌, ◌≤◌, ◌⊎◌, List, [], ◌++◌, length, Option, Ok, Err}
-use Rattle.std.specs.Int.{w32, to_be_bytes}
+use Rattle.std.specs.Prelude.{◌≡◌, ℕ, ◌+◌, ◌^◌, ◌<◌, ◌≤◌, ◌⊎◌, List, [], ◌++◌, length, take, Option, Ok, Err}
+use Rattle.std.specs.Int.{w32, to_be_bytes, from_be_bytes}
 use Rattle.std.specs.Io.KnownBytes.{Consumes, IsAtEnd}
 use Rattle.pl_block.specs.declared.fault.Failed.{Failed}
 use Rattle.pl_block.specs.declared.fault.Failed.TheVariants.{Malformed, NoMemory}
@@ -15,6 +15,19 @@ use Rattle.pl_wire.specs.ReplyReading.{reply_reading, ReplyMayLackMemory}
 -- a beginning of a frame that is not whole: less than a length, or a length within the limit and less than its body
 abbrev pub IsCut : ℕ → List ℕ → Type 0
 IsCut limit bytes = (length bytes < 4) ⊎ ((len : ℕ) × (part : List ℕ) × (len ≤ limit) × (length part < len) × (bytes ≡ to_be_bytes w32 len ++ part))
+
+-- the length that some bytes begin with, of four bytes or more
+abbrev pub length_at : List ℕ → ℕ
+length_at bytes = from_be_bytes w32 (take 4 bytes)
+
+-- The bytes do not begin with a whole frame within the limit: they are less than a length, or the length is above the limit,
+-- or its body is not all there.
+abbrev pub LacksFrame : ℕ → List ℕ → Type 0
+LacksFrame limit bytes = (length bytes < 4) ⊎ ((limit < length_at bytes) ⊎ (length bytes < 4 + length_at bytes))
+
+-- More bytes after these make no other frame of them: the length is there, and is above the limit, or its body is all there.
+abbrev pub IsDecided : ℕ → List ℕ → Type 0
+IsDecided limit bytes = (4 ≤ length bytes) × ((limit < length_at bytes) ⊎ (4 + length_at bytes ≤ length bytes))
 
 -- a length above the limit was read, and nothing after it
 abbrev pub ReadsTooLong : ℕ → Option (List ℕ) → Option (List ℕ) → Type 0

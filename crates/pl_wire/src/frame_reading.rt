@@ -24,8 +24,8 @@ pub const LONGEST_REQUEST: u32 = 65_536;
 /// The most bytes of a reply's body.
 pub const LONGEST_REPLY: u32 = 1_048_576;
 
-/// The bytes of a length.
-const LENGTH_BYTES: usize = 4;
+/// The bytes of a frame's length.
+pub const LENGTH_BYTES: usize = 4;
 
 /// Why no frame was read.
 #[derive(Clone, Copy, Debug, PartialEq, Eq)]

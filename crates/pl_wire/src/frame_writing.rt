@@ -7,6 +7,7 @@ ghost use Rattle.pl_core.specs.Reply.{FitsReply};
 ghost use Rattle.pl_wire.specs.FrameWriting.{WritesText, largest_reply_frame, reply_frame, request_frame};
 ghost use Rattle.pl_wire.specs.Replies.{reply_spelling};
 
+use crate::frame_reading::LENGTH_BYTES;
 use crate::reply_writing::{put_body, reply_len};
 use crate::request_writing::{put_request, request_len};
 use bytes::BufMut;
@@ -26,9 +27,6 @@ pub enum WriteFault {
 
 /// The most bytes of the frame of a reply: of one with 16 blocks of 32,768 bytes.
 pub const LARGEST_REPLY_FRAME: usize = 524_367;
-
-/// The bytes of a length.
-const LENGTH_BYTES: usize = 4;
 
 /// Writes all of the bytes, in one write where the writer takes them at once.
 ///

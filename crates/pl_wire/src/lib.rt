@@ -4,11 +4,12 @@
 //! of its spelling. Of bytes that spell no request the fault of the least code is reported; of bytes
 //! that spell no reply, the fault that is met first. A frame is a length in four bytes, the high one
 //! first, and a body of this many bytes: [`read_frame`] and [`read_reply`] take one from a reader,
-//! [`write_request`] and [`write_reply`] write one.
+//! [`body_in`] finds one where it lies, [`write_request`] and [`write_reply`] write one.
 #![tactic(auto)]
 
 mod fault;
 mod fields;
+mod frame_in_place;
 mod frame_reading;
 mod frame_writing;
 mod kind;
@@ -20,9 +21,10 @@ mod request_writing;
 mod seen;
 
 pub use fault::{BodyFault, WireFault};
+pub use frame_in_place::{body_in, is_cut};
 pub use frame_reading::{
-    FrameFault, LONGEST_REPLY, LONGEST_REQUEST, ReplyFault, read_body, read_frame, read_head,
-    read_reply,
+    FrameFault, LENGTH_BYTES, LONGEST_REPLY, LONGEST_REQUEST, ReplyFault, read_body, read_frame,
+    read_head, read_reply,
 };
 pub use frame_writing::{
     LARGEST_REPLY_FRAME, WriteFault, put_reply, write_bytes, write_reply, write_request,

@@ -218,9 +218,13 @@ fn has_versions(served: &mut Served, count: u8) -> Result<bool, AllocError> {
 }
 
 // Whether each of 200 versions is right, of which 64 have a frame at a time; and the first again.
+fn has_200_versions(served: &mut Served) -> Result<bool, AllocError> {
+    Ok(has_versions(served, 200)? && served.gives(0, 1, true, 1)?)
+}
+
 fn outgrows_arena(alloc: Global) -> Result<bool, AllocError> {
     let mut served = open(alloc, 1)?;
-    Ok(has_versions(&mut served, 200)? && served.gives(0, 1, true, 1)?)
+    has_200_versions(&mut served)
 }
 
 #[test]
@@ -270,13 +274,17 @@ fn gives_all(served: &mut Served, gets: &[Get]) -> Result<bool, AllocError> {
 }
 
 // Whether each get is right, of 20 blocks that change two pages, of which 18 are applied.
-fn gives_each(alloc: Global, gets: &[Get]) -> Result<bool, AllocError> {
-    let mut served = open(alloc, 1)?;
-    if !harden_two_pages(&mut served)? {
+fn hardens_and_gives(served: &mut Served, gets: &[Get]) -> Result<bool, AllocError> {
+    if !harden_two_pages(served)? {
         return Ok(false);
     }
     served.advance(18)?;
-    gives_all(&mut served, gets)
+    gives_all(served, gets)
+}
+
+fn gives_each(alloc: Global, gets: &[Get]) -> Result<bool, AllocError> {
+    let mut served = open(alloc, 1)?;
+    hardens_and_gives(&mut served, gets)
 }
 
 #[test]
@@ -327,9 +335,13 @@ fn get_in_turn(served: &mut Served) -> Result<bool, AllocError> {
     Ok(true)
 }
 
+fn hardens_and_gets(served: &mut Served) -> Result<bool, AllocError> {
+    Ok(harden_in_turn(served)? && fill_frames(served)? && get_in_turn(served)?)
+}
+
 fn keeps_two_pages(alloc: Global) -> Result<bool, AllocError> {
     let mut served = open(alloc, 1)?;
-    Ok(harden_in_turn(&mut served)? && fill_frames(&mut served)? && get_in_turn(&mut served)?)
+    hardens_and_gets(&mut served)
 }
 
 /// Two pages of 3,000 changes each are got in turn, 300,000 times, where each frame had a version

@@ -75,17 +75,21 @@ fn get_all(served: &mut Served, first: u32, end: u32) -> Result<(), Stop> {
     Ok(())
 }
 
-// By how many pages of 4,096 bytes the program grows with 500,000 versions that replace others.
-fn growth_of_versions(files: &impl Files, alloc: Global) -> Result<u64, Stop> {
-    let mut served = open(alloc, 1)?;
-    get_all(&mut served, 0, 1_000)?;
+// By how many pages of 4,096 bytes the program grows with 500,000 versions that replace others, of these pages.
+fn growth_over(files: &impl Files, alloc: Global, served: &mut Served) -> Result<u64, Stop> {
+    get_all(served, 0, 1_000)?;
     let (addresses, before) = pages_in_use(files, alloc)?;
     if is_checked(addresses) {
         return Ok(0);
     }
-    get_all(&mut served, 1_000, 501_000)?;
+    get_all(served, 1_000, 501_000)?;
     let (_, after) = pages_in_use(files, alloc)?;
     Ok(after.saturating_sub(before))
+}
+
+fn growth_of_versions(files: &impl Files, alloc: Global) -> Result<u64, Stop> {
+    let mut served = open(alloc, 1)?;
+    growth_over(files, alloc, &mut served)
 }
 
 /// Half a million versions over an arena of 64 frames take no more than 4 MB: one that was replaced leaves

@@ -1,7 +1,9 @@
 //! Requests of an operator, from their words to the text of the reply.
 
+use crate::plays::{db_of, plays_all};
 use pl_core::Db;
-use pl_play::{AdminFault, Credentials, admin, answer_text, play, start_db};
+use pl_play::{AdminFault, Credentials, admin, answer_text};
+use pl_table::Request;
 use pl_wire::{decode_request, encode_request};
 use std::alloc::{AllocError, Global};
 use std::test::Fail;
@@ -31,7 +33,7 @@ const WRITE_AND_REPORT: &[u8] = b"\
 ";
 
 fn fresh(alloc: Global) -> Option<Db> {
-    start_db(alloc, TABLE.as_bytes(), 2, 65_536).ok()
+    db_of(alloc, TABLE).ok()
 }
 
 fn words_of(alloc: Global, words: &str) -> Result<Vec<String>, AllocError> {
@@ -49,14 +51,23 @@ fn bytes_of(alloc: Global, text: Option<&str>) -> Result<Option<Vec<u8>>, AllocE
     }
 }
 
-// The text of the reply to an operator. The request goes through its bytes.
-fn answer(alloc: Global, db: &mut Db, words: &str, text: Option<&str>) -> Option<String> {
+// The request of an operator's words.
+fn asked(alloc: Global, words: &str, text: Option<&str>) -> Option<Request> {
     let words = words_of(alloc, words).ok()?;
     let text = bytes_of(alloc, text).ok()?;
-    let request = admin(alloc, OPERATOR, &words, text).ok()?;
-    let body = encode_request(alloc, &request).ok()?;
-    let request = decode_request(alloc, &body).ok()?;
-    let reply = db.step(1, request);
+    admin(alloc, OPERATOR, &words, text).ok()
+}
+
+// The request, as it is read again from its bytes.
+fn through_bytes(alloc: Global, request: &Request) -> Option<Request> {
+    let body = encode_request(alloc, request).ok()?;
+    decode_request(alloc, &body).ok()
+}
+
+// The text of the reply to an operator. The request goes through its bytes.
+fn answer(alloc: Global, db: &mut Db, words: &str, text: Option<&str>) -> Option<String> {
+    let request = asked(alloc, words, text)?;
+    let reply = db.step(1, through_bytes(alloc, &request)?);
     answer_text(alloc, &reply).ok()
 }
 
@@ -81,14 +92,19 @@ const ANSWERS: &[(&str, Option<&str>, &str)] = &[
     ("status", None, "denied A2 value 2\n"),
 ];
 
-fn answers_each(alloc: Global) -> Option<bool> {
-    let mut db = fresh(alloc)?;
+// Whether each of them is answered so.
+fn answers_by(alloc: Global, db: &mut Db) -> Option<bool> {
     for (words, text, expected) in ANSWERS {
-        if answer(alloc, &mut db, words, *text)?.as_str() != *expected {
+        if answer(alloc, db, words, *text)?.as_str() != *expected {
             return Some(false);
         }
     }
     Some(true)
+}
+
+fn answers_each(alloc: Global) -> Option<bool> {
+    let mut db = fresh(alloc)?;
+    answers_by(alloc, &mut db)
 }
 
 // Words that name no request.
@@ -120,11 +136,17 @@ fn long_text(alloc: Global, words: &str) -> Result<Option<Vec<u8>>, AllocError> 
     Ok(Some(vec![in alloc; b' '; 65_507]?))
 }
 
+// Whether the words are refused.
+fn is_refused(alloc: Global, words: &str) -> Option<bool> {
+    let text = long_text(alloc, words).ok()?;
+    let words = words_of(alloc, words).ok()?;
+    let request = admin(alloc, OPERATOR, &words, text);
+    Some(matches!(request, Err(AdminFault::Words)))
+}
+
 fn refuses_each(alloc: Global) -> Option<bool> {
     for words in NO_REQUESTS {
-        let text = long_text(alloc, words).ok()?;
-        let words = words_of(alloc, words).ok()?;
-        if !matches!(admin(alloc, OPERATOR, &words, text), Err(AdminFault::Words)) {
+        if !is_refused(alloc, words)? {
             return Some(false);
         }
     }
@@ -149,24 +171,28 @@ const LINES: &str = "\
 ";
 
 fn write_and_report(alloc: Global, db: &mut Db) -> Option<u64> {
-    let mut lines = WRITE_AND_REPORT;
-    let mut output = Vec::new(alloc);
-    play(alloc, &mut lines, &mut output, db).ok()
+    plays_all(alloc, WRITE_AND_REPORT, &mut Vec::new(alloc), db).ok()
 }
 
-// Whether the list of the database has just those, and the tidy after them its entry.
+// Whether the list of the database has just those.
 fn lists(alloc: Global, db: &mut Db) -> Option<bool> {
-    let audited = answer(alloc, db, "audit 1 10", None)?;
-    let tidied = answer(alloc, db, "tidy", None)?;
-    Some(audited.as_str() == LINES && tidied.as_str() == "done\n" && db.audit_len() == 4)
+    Some(answer(alloc, db, "audit 1 10", None)?.as_str() == LINES)
+}
+
+// Whether the tidy after them has its entry.
+fn tidies(alloc: Global, db: &mut Db) -> Option<bool> {
+    let tidied = answer(alloc, db, "tidy", None)?.as_str() == "done\n";
+    Some(tidied && db.audit_len() == 4)
+}
+
+fn lists_and_tidies(alloc: Global, db: &mut Db) -> Option<bool> {
+    write_and_report(alloc, db)?;
+    Some(lists(alloc, db)? && tidies(alloc, db)?)
 }
 
 fn lists_two(alloc: Global) -> Option<bool> {
     let mut db = fresh(alloc)?;
-    match write_and_report(alloc, &mut db) {
-        Some(_) => lists(alloc, &mut db),
-        None => None,
-    }
+    lists_and_tidies(alloc, &mut db)
 }
 
 #[test]

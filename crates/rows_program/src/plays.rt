@@ -3,6 +3,7 @@
 use pl_core::Db;
 use pl_play::{PlayFault, StartFault, play, start_db};
 use std::alloc::{AllocError, Global};
+use std::io::Write;
 use std::test::Fail;
 
 // Principal 2 may do what its role has.
@@ -13,19 +14,35 @@ token = \"22222222222222222222222222222222\"
 verdict = \"allow\"
 ";
 
+/// A database with the table of this text, and with primary 2.
+pub(crate) fn db_of(alloc: Global, table: &str) -> Result<Db, StartFault> {
+    start_db(alloc, table.as_bytes(), 2, 65_536)
+}
+
+/// Plays the lines, and returns how many were answered.
+pub(crate) fn plays_all(
+    alloc: Global,
+    lines: &[u8],
+    output: &mut impl Write,
+    db: &mut Db,
+) -> Result<u64, PlayFault> {
+    let mut left = lines;
+    play(alloc, &mut left, output, db)
+}
+
 // A database of which nothing was asked, with primary 2.
 fn fresh(alloc: Global) -> Result<Db, StartFault> {
-    start_db(alloc, TABLE.as_bytes(), 2, 65_536)
+    db_of(alloc, TABLE)
 }
 
 /// A database of which nothing was asked, with primary 2. It is made again where memory is refused, unless it was before.
-pub(crate) fn fresh_on(alloc: Global, refused: &mut bool) -> Result<Db, StartFault> {
-    let db = fresh(alloc);
-    if *refused || !matches!(db, Err(StartFault::NoMemory)) {
-        return db;
+pub(crate) fn fresh_on(alloc: Global, refused: &mut bool) -> Option<Db> {
+    match fresh(alloc) {
+        Ok(db) => return Some(db),
+        Err(StartFault::NoMemory) if !*refused => *refused = true,
+        Err(_) => return None,
     }
-    *refused = true;
-    fresh(alloc)
+    fresh(alloc).ok()
 }
 
 /// An output with room for this many bytes, so that no write of `play` is refused memory: it would not tell that from a
@@ -62,8 +79,8 @@ fn play_after(
     output: &mut Vec<u8>,
     db: &mut Db,
 ) -> Result<u64, PlayFault> {
-    let (_, mut left) = LINES.split_at(lines.min(LINES.len()));
-    play(alloc, &mut left, output, db)
+    let (_, left) = LINES.split_at(lines.min(LINES.len()));
+    plays_all(alloc, left, output, db)
 }
 
 // Whether memory was refused to it: it ended so, or the last reply says so.
@@ -75,25 +92,34 @@ fn are_answers(output: &[u8]) -> bool {
     *output == *b"0a01\n00\n".as_slice()
 }
 
-// Plays both lines. Where memory is refused, those that were not answered are played then, on the same database. The
-// report may have two entries then, since its step may have been taken where its answer was not written.
-fn answers_all(alloc: Global) -> Result<bool, Fail> {
+// Plays the lines after those that were answered, on the same database. The report may have two entries then, since its
+// step may have been taken where its answer was not written.
+fn answers_rest(alloc: Global, output: &mut Vec<u8>, db: &mut Db) -> bool {
+    let before = answered(output).min(1);
+    output.truncate(if before == 0 { 0 } else { ANSWER });
+    let end = play_after(alloc, before, output, db);
+    let lines = if before == 0 { 2 } else { 1 };
+    end == Ok(lines) && are_answers(output) && matches!(db.audit_len(), 1 | 2)
+}
+
+// Plays both lines on the database. Where memory is refused, those that were not answered are played then.
+fn answers_both(alloc: Global, db: &mut Db, refused: &mut bool) -> Option<bool> {
+    let mut output = room_on(alloc, 100, refused).ok()?;
+    let end = play_after(alloc, 0, &mut output, db);
+    if *refused || !is_refused(&end, &output) {
+        return Some(end == Ok(2) && are_answers(&output) && db.audit_len() == 1);
+    }
+    Some(answers_rest(alloc, &mut output, db))
+}
+
+fn answers_all(alloc: Global) -> Option<bool> {
     let mut refused = false;
     let mut db = fresh_on(alloc, &mut refused)?;
-    let mut output = room_on(alloc, 100, &mut refused)?;
-    let end = play_after(alloc, 0, &mut output, &mut db);
-    if refused || !is_refused(&end, &output) {
-        return Ok(end == Ok(2) && are_answers(&output) && db.audit_len() == 1);
-    }
-    let before = answered(&output).min(1);
-    output.truncate(if before == 0 { 0 } else { ANSWER });
-    let end = play_after(alloc, before, &mut output, &mut db);
-    let lines = if before == 0 { 2 } else { 1 };
-    Ok(end == Ok(lines) && are_answers(&output) && matches!(db.audit_len(), 1 | 2))
+    answers_both(alloc, &mut db, &mut refused)
 }
 
 #[test]
 fn one_failed_allocation(rt: HostRuntime) -> Result<(), Fail> {
-    assert!(rt; answers_all(rt.alloc())?);
+    assert!(rt; answers_all(rt.alloc()) == Some(true));
     Ok(())
 }

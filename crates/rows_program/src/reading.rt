@@ -1,6 +1,6 @@
 //! Reads that fail, and input that is not read to its end.
 
-use crate::plays::{answered, fresh_on, room_on};
+use crate::plays::{answered, fresh_on, plays_all, room_on};
 use pl_core::Db;
 use pl_play::{FileFault, PlayFault, play, read_text};
 use std::alloc::{AllocError, Global};
@@ -74,6 +74,28 @@ fn play_on(
     (play_given(alloc, left, output, db), left.lines)
 }
 
+// What ends the input after this many lines: a read that fails, or the line of the digits, if it is too long.
+fn ended_by(lines: usize, is_long: bool) -> PlayFault {
+    if is_long {
+        PlayFault::Long((lines as u64).saturating_add(1))
+    } else {
+        PlayFault::Read
+    }
+}
+
+// Plays the input on a fresh database. Whether it ended as it has to.
+fn ends_as(
+    alloc: Global,
+    given: Given,
+    is_long: bool,
+    output: &mut Vec<u8>,
+    refused: &mut bool,
+) -> Option<bool> {
+    let mut db = fresh_on(alloc, refused)?;
+    let (end, left) = play_on(alloc, given, output, &mut db, refused);
+    Some(end == Err(ended_by(left, is_long)))
+}
+
 // This many empty lines and this many digits are read before a read fails, or the line of the digits is too long.
 fn stops_at(
     rt: &impl Abort,
@@ -87,17 +109,11 @@ fn stops_at(
         digits,
     };
     let mut refused = false;
-    let mut db = fresh_on(alloc, &mut refused)?;
-    let mut output = room_on(alloc, 5 * usize::from(lines), &mut refused)?;
-    let (end, left) = play_on(alloc, given, &mut output, &mut db, &mut refused);
-    let fault = if is_long {
-        PlayFault::Long((left as u64).saturating_add(1))
-    } else {
-        PlayFault::Read
-    };
-    assert!(rt; end == Err(fault), "{lines} lines and {digits} digits");
+    let mut output = room_on(alloc, 5 * given.lines, &mut refused)?;
+    let is_right = ends_as(alloc, given, is_long, &mut output, &mut refused);
+    assert!(rt; is_right == Some(true), "{lines} lines and {digits} digits");
     assert!(rt;
-        output.len() == 5 * usize::from(lines),
+        output.len() == 5 * given.lines,
         "{lines} lines and {digits} digits"
     );
     Ok(())
@@ -149,22 +165,39 @@ fn feeds_on(alloc: Global, lines: usize, refused: &mut bool) -> Result<Vec<u8>, 
     feeds(alloc, lines)
 }
 
+// Plays the lines on the database. What was not answered is played after a refusal. Whether all were answered.
+fn answers_lines(
+    alloc: Global,
+    lines: &[u8],
+    output: &mut Vec<u8>,
+    db: &mut Db,
+    refused: bool,
+) -> bool {
+    let end = plays_all(alloc, lines, output, db);
+    if refused || end != Err(PlayFault::NoMemory) {
+        return end == Ok(lines.len() as u64);
+    }
+    let (_, left) = lines.split_at(answered(output).min(lines.len()));
+    plays_all(alloc, left, output, db) == Ok(left.len() as u64)
+}
+
+fn answers_more(
+    alloc: Global,
+    lines: &[u8],
+    output: &mut Vec<u8>,
+    refused: &mut bool,
+) -> Option<bool> {
+    let mut db = fresh_on(alloc, refused)?;
+    Some(answers_lines(alloc, lines, output, &mut db, *refused))
+}
+
 #[test]
 fn more_lines_than_the_audit_list_holds(rt: HostRuntime) -> Result<(), Fail> {
     let mut refused = false;
     let feeds = feeds_on(rt.alloc(), 65_537, &mut refused)?;
-    let mut db = fresh_on(rt.alloc(), &mut refused)?;
     let mut output = room_on(rt.alloc(), 327_685, &mut refused)?;
-    let mut lines = feeds.as_slice();
-    let mut end = play(rt.alloc(), &mut lines, &mut output, &mut db);
-    let mut wanted = 65_537;
-    // What was not answered is played after a refusal.
-    if end == Err(PlayFault::NoMemory) && !refused {
-        let (_, mut left) = feeds.split_at(answered(&output).min(feeds.len()));
-        wanted = left.len() as u64;
-        end = play(rt.alloc(), &mut left, &mut output, &mut db);
-    }
-    assert!(rt; end == Ok(wanted));
+    let are_answered = answers_more(rt.alloc(), &feeds, &mut output, &mut refused);
+    assert!(rt; are_answered == Some(true));
     assert!(rt; output.len() == 327_685);
     Ok(())
 }

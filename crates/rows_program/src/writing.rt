@@ -1,7 +1,8 @@
 //! Writes that fail or take a part.
 
-use crate::plays::{answered, fresh_on};
-use pl_play::{PlayFault, play};
+use crate::plays::{answered, fresh_on, plays_all};
+use pl_core::Db;
+use pl_play::PlayFault;
 use std::alloc::Global;
 use std::io::{self, ErrorKind, Write};
 use std::process::Abort;
@@ -54,19 +55,27 @@ impl Write for Pipe {
 
 const LINES: &[u8] = b"\n\n";
 
-// Plays the two empty lines. Where memory is refused, those that were not answered are played then, on the same database.
-// How it ended, and how many lines it was to answer.
-fn play_on(alloc: Global, pipe: &mut Pipe) -> Result<(Result<u64, PlayFault>, u64), Fail> {
+// Plays the two empty lines on the database. Where memory is refused, those that were not answered are played then. How it
+// ended, and how many lines it was to answer.
+fn play_both(
+    alloc: Global,
+    pipe: &mut Pipe,
+    db: &mut Db,
+    refused: bool,
+) -> (Result<u64, PlayFault>, u64) {
+    let end = plays_all(alloc, LINES, pipe, db);
+    if refused || end != Err(PlayFault::NoMemory) {
+        return (end, 2);
+    }
+    let (_, left) = LINES.split_at(answered(pipe.held()).min(LINES.len()));
+    (plays_all(alloc, left, pipe, db), left.len() as u64)
+}
+
+// The same on a fresh database.
+fn play_on(alloc: Global, pipe: &mut Pipe) -> Option<(Result<u64, PlayFault>, u64)> {
     let mut refused = false;
     let mut db = fresh_on(alloc, &mut refused)?;
-    let mut lines = LINES;
-    let end = play(alloc, &mut lines, pipe, &mut db);
-    if refused || end != Err(PlayFault::NoMemory) {
-        return Ok((end, 2));
-    }
-    let (_, mut left) = LINES.split_at(answered(pipe.held()).min(LINES.len()));
-    let count = left.len() as u64;
-    Ok((play(alloc, &mut left, pipe, &mut db), count))
+    Some(play_both(alloc, pipe, &mut db, refused))
 }
 
 // Two empty lines are answered by ten bytes: this many of them are held in the end.
@@ -83,7 +92,9 @@ fn holds(
         at_once,
         before: Some(before),
     };
-    let (result, count) = play_on(alloc, &mut pipe)?;
+    let Some((result, count)) = play_on(alloc, &mut pipe) else {
+        return Err(Fail::new("no database"));
+    };
     let ended = if held == 10 {
         Ok(count)
     } else {

@@ -237,11 +237,19 @@ fn lists_writes(alloc: Global, reply: &Reply, allowed: u64) -> Result<bool, Stop
     }
 }
 
+// The reply to an audit of 65 lines.
+fn audited(alloc: Global, db: &mut Db) -> Result<Reply, Stop> {
+    let words = ["1", "11", "operator", "2", "audit", "1", "65"];
+    match request_of(alloc, 0, &words)? {
+        Some(request) => Ok(db.step(1, request)),
+        None => Err(Stop::Unread),
+    }
+}
+
 // Whether the first 65 lines of the audit list are those.
 fn has_writes(alloc: Global, db: &mut Db, allowed: u64) -> Result<bool, Stop> {
-    let words = ["1", "11", "operator", "2", "audit", "1", "65"];
-    let request = request_of(alloc, 0, &words)?.ok_or(Stop::Unread)?;
-    lists_writes(alloc, &db.step(1, request), allowed)
+    let reply = audited(alloc, db)?;
+    lists_writes(alloc, &reply, allowed)
 }
 
 // The same, and once more where memory is refused: the lines of the audits come after these.
@@ -259,18 +267,26 @@ fn has_writes_on(
     has_writes(alloc, db, allowed)
 }
 
-// Whether the audit list is as it has to be, and how many entries it has.
+// Whether the audit list is as it has to be, and how many entries it had.
+fn has_writes_and_len(
+    alloc: Global,
+    db: &mut Db,
+    allowed: u64,
+    refused: &mut bool,
+) -> Result<(bool, u64), Stop> {
+    let entries = db.audit_len();
+    let has = has_writes_on(alloc, db, allowed, refused)?;
+    Ok((has, entries))
+}
+
+// The same of a database after a failover beneath writes.
 fn fail_over_beneath_writes<R: Threads + Wait + Abort + Sync>(
     rt: &R,
     alloc: Global,
 ) -> Result<(bool, u64), Stop> {
     let mut refused = false;
     let (allowed, _, mut db) = play_two(rt, alloc, FAILOVER_BENEATH_WRITES, &mut refused)?;
-    let entries = db.audit_len();
-    Ok((
-        has_writes_on(alloc, &mut db, allowed, &mut refused)?,
-        entries,
-    ))
+    has_writes_and_len(alloc, &mut db, allowed, &mut refused)
 }
 
 #[test]

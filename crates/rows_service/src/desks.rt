@@ -53,8 +53,30 @@ fn desk_again(alloc: Global, db: Db, seats: u32, turns: u64) -> Result<(Desk, Ve
     }
 }
 
-/// A desk of a database with this limit, with this many passes and turns. Where memory is refused to the
-/// desk, the database comes back, and a desk of it is opened.
+// A desk of the database. Where memory is refused to it, the database comes back, and another desk is opened.
+fn desk_over(
+    alloc: Global,
+    db: Db,
+    seats: u32,
+    turns: u64,
+    refused: &mut bool,
+) -> Result<(Desk, Vec<Pass>), Stop>
+    requires seats { 1 ≤ seats }
+    requires some { 1 ≤ turns }
+    requires few { turns ≤ 2 ^ 62 }
+    ensures of { IfOk result (λ opened. All (IsOf opened.0) opened.1.items) }
+{
+    match Desk::new(alloc, db, seats, turns) {
+        Ok(opened) => Ok(opened),
+        Err(_) if *refused => Err(Stop::NoMemory),
+        Err(back) => {
+            *refused = true;
+            desk_again(alloc, back, seats, turns)
+        }
+    }
+}
+
+/// A desk of a database with this limit, with this many passes and turns. What memory is refused to is made again, once.
 pub(crate) fn desk_of(
     alloc: Global,
     audit: u64,
@@ -68,14 +90,7 @@ pub(crate) fn desk_of(
     ensures of { IfOk result (λ opened. All (IsOf opened.0) opened.1.items) }
 {
     let db = open_on(alloc, audit, refused)?;
-    match Desk::new(alloc, db, seats, turns) {
-        Ok(opened) => Ok(opened),
-        Err(_) if *refused => Err(Stop::NoMemory),
-        Err(back) => {
-            *refused = true;
-            desk_again(alloc, back, seats, turns)
-        }
-    }
+    desk_over(alloc, db, seats, turns, refused)
 }
 
 // The reply to the request of the line. An error is that memory was refused.
@@ -198,8 +213,33 @@ fn play_last<R: Wait + Abort>(
     Ok((number, pass))
 }
 
-// Plays a row of the pass of the last of this many seats, and returns its number and how many entries
-// there are in the end.
+/// Closes the desk. How many entries its database has.
+pub(crate) fn entries_of(desk: Desk, pass: Pass) -> Result<u64, Stop>
+    requires of { IsOf desk pass }
+{
+    match desk.close(pass) {
+        Some(db) => Ok(db.audit_len()),
+        None => Err(Stop::Unread),
+    }
+}
+
+// Plays a row of the last pass of the desk. Its number, and how many entries there are in the end.
+fn ends_at<R: Wait + Abort>(
+    rt: &R,
+    alloc: Global,
+    desk: Desk,
+    passes: Vec<Pass>,
+    row: &str,
+    refused: &mut bool,
+) -> Result<(u64, u64), Stop>
+    requires of { All (IsOf desk) passes.items }
+{
+    let (number, pass) = play_last(rt, alloc, &desk, passes, row, refused)?;
+    let entries = entries_of(desk, pass)?;
+    Ok((number, entries))
+}
+
+// The same of a desk of this many seats.
 fn ends_of<R: Wait + Abort>(
     rt: &R,
     alloc: Global,
@@ -210,9 +250,7 @@ fn ends_of<R: Wait + Abort>(
     requires seats { 1 ≤ seats }
 {
     let (desk, passes) = desk_of(alloc, 65_536, seats, TURNS, refused)?;
-    let (number, pass) = play_last(rt, alloc, &desk, passes, row, refused)?;
-    let db = desk.close(pass).ok_or(Stop::Unread)?;
-    Ok((number, db.audit_len()))
+    ends_at(rt, alloc, desk, passes, row, refused)
 }
 
 const DESK_OF_ONE_SEAT: &str = "\
@@ -331,7 +369,7 @@ fn play_passes<R: Wait + Abort>(
 fn play_three<R: Wait + Abort>(rt: &R, alloc: Global, refused: &mut bool) -> Result<u64, Stop> {
     let (desk, passes) = desk_of(alloc, 65_536, 3, TURNS, refused)?;
     let pass = play_passes(rt, alloc, &desk, passes, refused)?;
-    Ok(desk.close(pass).ok_or(Stop::Unread)?.audit_len())
+    entries_of(desk, pass)
 }
 
 #[test]
@@ -340,21 +378,37 @@ fn passes_that_meet(rt: HostRuntime) {
     assert!(&rt; matches!(entries, Ok(6)));
 }
 
+// Closes the desk by the last of the passes.
+fn close_by_last(desk: Desk, mut passes: Vec<Pass>) -> Option<Db>
+    requires of { All (IsOf desk) passes.items }
+{
+    match passes.pop() {
+        Some(pass) => desk.close(pass),
+        None => None,
+    }
+}
+
 // Opens a desk of the database, and closes it again. Where memory is refused, it comes back.
 fn through_a_desk(alloc: Global, db: Db) -> Result<Option<Db>, Db> {
-    let (desk, mut passes) = Desk::new(alloc, db, 2, TURNS)?;
-    match passes.pop() {
-        Some(pass) => Ok(desk.close(pass)),
-        None => Ok(None),
+    match Desk::new(alloc, db, 2, TURNS) {
+        Ok((desk, passes)) => Ok(close_by_last(desk, passes)),
+        Err(back) => Err(back),
+    }
+}
+
+// What the reply to a status comes to.
+fn status_end(reply: &Reply) -> Result<(), Stop> {
+    match reply {
+        Reply::Status { .. } => Ok(()),
+        Reply::NoMemory => Err(Stop::NoMemory),
+        _ => Err(Stop::Changed),
     }
 }
 
 fn enter_status(alloc: Global, db: &mut Db) -> Result<(), Stop> {
-    let request = request_of(alloc, 0, &["2", "22", "primary", "1", "status"])?;
-    match db.step(1, request.ok_or(Stop::Unread)?) {
-        Reply::Status { .. } => Ok(()),
-        Reply::NoMemory => Err(Stop::NoMemory),
-        _ => Err(Stop::Changed),
+    match request_of(alloc, 0, &["2", "22", "primary", "1", "status"])? {
+        Some(request) => status_end(&db.step(1, request)),
+        None => Err(Stop::Unread),
     }
 }
 
@@ -368,12 +422,9 @@ fn enter_status_on(alloc: Global, db: &mut Db, refused: &mut bool) -> Result<(),
     enter_status(alloc, db)
 }
 
-// How many entries a database of one entry has after it went through a desk. Where memory is refused to the
-// desk, it goes through another one.
-fn entries_after_a_desk(alloc: Global) -> Result<u64, Stop> {
-    let mut refused = false;
-    let mut db = open_on(alloc, 65_536, &mut refused)?;
-    enter_status_on(alloc, &mut db, &mut refused)?;
+// How many entries the database has after it went through a desk. Where memory is refused to the desk, it goes through
+// another one.
+fn entries_through_a_desk(alloc: Global, db: Db) -> Result<u64, Stop> {
     let closed = match through_a_desk(alloc, db) {
         Ok(closed) => closed,
         Err(back) => through_a_desk(alloc, back).map_err(|_| Stop::NoMemory)?,
@@ -382,6 +433,14 @@ fn entries_after_a_desk(alloc: Global) -> Result<u64, Stop> {
         Some(db) => Ok(db.audit_len()),
         None => Err(Stop::Unread),
     }
+}
+
+// The same of a database of one entry.
+fn entries_after_a_desk(alloc: Global) -> Result<u64, Stop> {
+    let mut refused = false;
+    let mut db = open_on(alloc, 65_536, &mut refused)?;
+    enter_status_on(alloc, &mut db, &mut refused)?;
+    entries_through_a_desk(alloc, db)
 }
 
 #[test]

@@ -4,7 +4,7 @@ ghost use Rattle.std.specs.Prelude.{IfOk};
 ghost use Rattle.std.specs.List.{All};
 ghost use Rattle.pl_desk.specs.Passes.{IsOf};
 
-use crate::desks::{desk_of, last_of};
+use crate::desks::{desk_of, entries_of, last_of};
 use pl_core::Reply;
 use pl_desk::{Desk, Pass};
 use pl_table::{Act, Request};
@@ -96,8 +96,8 @@ fn spend_two(rt: &impl Wait, alloc: Global) -> Result<(Calls, u64), Stop> {
     let mut refused = false;
     let (desk, passes) = desk_of(alloc, 65_536, 1, 2, &mut refused)?;
     let (calls, pass) = call_by_last(rt, &desk, passes, 3, &mut refused)?;
-    let db = desk.close(pass).ok_or(Stop::Unread)?;
-    Ok((calls, db.audit_len()))
+    let entries = entries_of(desk, pass)?;
+    Ok((calls, entries))
 }
 
 // Two calls have a turn, and the third has none. An entry is what was answered.
@@ -152,8 +152,8 @@ fn spend_ten<R: Threads + Wait + Sync>(rt: &R, alloc: Global) -> Result<(Calls, 
     let mut refused = false;
     let (desk, passes) = desk_of(alloc, 65_536, 2, 10, &mut refused)?;
     let (first, second, pass) = call_by_two(rt, &desk, passes, refused)?;
-    let db = desk.close(pass).ok_or(Stop::Unread)?;
-    Ok((first, second, db.audit_len()))
+    let entries = entries_of(desk, pass)?;
+    Ok((first, second, entries))
 }
 
 // Ten or eleven calls have a turn, and the others have none. An entry is what was answered.

@@ -9,7 +9,7 @@ ghost use Rattle.pl_block.specs.Faults.{Gives};
 ghost use Rattle.pl_table.specs.Part.{id_under, token_under, principal_of, has_words, has_numbers, row_of};
 ghost use Rattle.pl_table.specs.Tree.{is_principal, is_row};
 ghost use Rattle.pl_table.specs.Table.{IsRowOf};
-ghost use Rattle.pl_table.specs.TableText.{listed_of, listed_in_tree, counts_of, have_own_ids, principals_of, rows_of, table_of, table_reading};
+ghost use Rattle.pl_table.specs.TableText.{listed_of, listed_in_tree, counts_of, have_own_ids, principals_of, rows_of, listed_table, table_reading};
 ghost use Rattle.pl_table.specs.Setting.{speaks_of_setting, allows, somebody_sets};
 
 use crate::fault::{ReadFault, TableFault};
@@ -239,7 +239,7 @@ fn check_counts(principals: usize, rows: usize) -> Result<(), TableFault>
 }
 
 // The table of the two lists and the zone.
-#[tactic(auto, unfolding(crate::specs::TableText::table_of))]
+#[tactic(auto, unfolding(crate::specs::TableText::listed_table))]
 fn read_lists(
     alloc: Global,
     principals: &[Value],
@@ -247,7 +247,7 @@ fn read_lists(
     zone: Option<Zone>,
 ) -> Result<Table, ReadFault>
     ensures exact { Gives (λ t. t) result
-        (table_of (listed_of (map view principals.now) (map view rows.now) zone)) }
+        (listed_table (listed_of (map view principals.now) (map view rows.now) zone)) }
 {
     check_counts(principals.len(), rows.len())?;
     let principals = read_principals(alloc, principals)?;

@@ -1,19 +1,16 @@
-//! What `serve` begins with and ends in; the threads are those of [`crate::service`].
+//! What `serve` begins with: its databases, and its page server.
 
-ghost use Rattle.std.specs.Prelude.{◌≡◌, ◌≤◌, ◌⊎◌, Err, Ok, Some, IfErr, IfOk, vec_len};
+ghost use Rattle.std.specs.Prelude.{◌≡◌, ◌≤◌, ◌⊎◌, Err, Ok, IfErr, IfOk, vec_len};
 ghost use Rattle.std.specs.List.{All};
 ghost use Rattle.pl_play.specs.Start.{start_of};
-ghost use Rattle.pl_program.specs.Serving.{pager_in, result_of_stop, tally_at, tally_text, token_in};
+ghost use Rattle.pl_program.specs.Serving.{pager_in, token_for};
 
 use crate::pager::Pager;
-use crate::run_fault::RunFault;
 use pl_command::ServeNumbers;
-use pl_conn::{Passes, Served, Stop};
 use pl_core::Db;
 use pl_play::{StartFault, start_db};
 use pl_table::read_table;
 use std::alloc::Global;
-use std::fmt;
 
 // A database with the table that the text writes down.
 fn begin(alloc: Global, text: &[u8], primary: u32, audit: u32) -> Result<Db, StartFault>
@@ -59,7 +56,7 @@ pub fn databases_of(
 pub fn token_of(alloc: Global, text: &[u8], principal: u32) -> Result<[u8; 16], StartFault>
     // The token that the table of the text lists for the principal, or the first fault, or
     // `NoMemory`.
-    ensures value { (result ≡ Err StartFault.NoMemory) ⊎ (result ≡ token_in text.now principal) }
+    ensures value { (result ≡ Err StartFault.NoMemory) ⊎ (result ≡ token_for text.now principal) }
 {
     read_table(alloc, text)?
         .token(principal)
@@ -123,50 +120,4 @@ pub fn opening_of(alloc: Global, text: &[u8], numbers: ServeNumbers) -> Result<O
     let dbs = databases_of(alloc, text, primary, audit, dbs)?;
     let pager = pager_of(alloc, text, numbers)?;
     Ok(Opening { dbs, pager })
-}
-
-/// Whether a stop of the service is a fault: all is done where all connections were accepted.
-pub fn result_of(stop: Stop) -> Result<(), RunFault>
-    // The stop of the service as a fault: none where all connections were accepted.
-    ensures value { result ≡ result_of_stop stop }
-{
-    match stop {
-        Stop::Limit => Ok(()),
-        Stop::Accept => Err(RunFault::Read),
-        Stop::Start => Err(RunFault::Threads),
-        Stop::NoMemory => Err(RunFault::NoMemory),
-    }
-}
-
-/// The last line of `serve`.
-#[derive(Clone, Copy)]
-pub struct Tally {
-    /// How many connections were accepted.
-    pub connections: u32,
-    /// How many of them ended in a fault.
-    pub faults: u64,
-}
-
-/// The last line of a service that ended so, or the fault of its stop.
-pub fn tally_of(served: &Served<Passes>) -> Result<Tally, RunFault>
-    // The numbers of the last line where all connections were accepted, else the fault of the stop.
-    ensures value { result ≡ tally_at served.now.stop served.now.accepted served.now.faults }
-{
-    result_of(served.stop)?;
-    Ok(Tally {
-        connections: served.accepted,
-        faults: served.faults,
-    })
-}
-
-impl fmt::Display for Tally {
-    ghost output = { λ tally. Some (tally_text tally.connections tally.faults) };
-
-    fn fmt<W: fmt::Write>(&self, f: &mut fmt::Formatter<W>) -> fmt::Result {
-        let Tally {
-            connections,
-            faults,
-        } = *self;
-        writeln!(f, "connections {connections} faults {faults}")
-    }
 }

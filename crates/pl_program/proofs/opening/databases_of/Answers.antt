@@ -3,7 +3,7 @@ use Rattle.std.proofs.lemmas.List.Elements.{All-push}
 use Rattle.std.specs.List.{All}
 use Rattle.pl_core.specs.History.{History}
 use Rattle.pl_play.specs.Start.{start_of}
-use Rattle.pl_program.proofs.serving.databases_of.Goals as goal
+use Rattle.pl_program.proofs.opening.databases_of.Goals as goal
 
 pub loop-preserved : goal.loop-preserved
 loop-preserved c = (

@@ -1,7 +1,7 @@
 use Rattle.std.proofs.Common.{◌≡◌, Ok, vec_len}
 use Rattle.std.specs.List.{All}
 use Rattle.pl_play.specs.Start.{start_of}
-use Rattle.pl_program.proofs.serving.databases_of.Given as goal
+use Rattle.pl_program.proofs.opening.databases_of.Given as goal
 
 -- this many databases so far, each as it is begun
 abbrev pub invariant-loop : goal.invariant-loop
