@@ -5,7 +5,7 @@ ghost use Rattle.pl_conn.specs.Desks.{ArePassesOf};
 
 use crate::connections::{Started, check_served, connect, listen, stop_of, unserved};
 use crate::conversations::{FRAMES, REPLIES, REPLY_ENDS, one_db};
-use crate::memory::may_be_refused;
+use crate::memory::{bytes_of_digits, may_be_refused};
 use crate::talking::TURNS;
 use pl_conn::{Desks, Passes, Served, Solo, SoloPass, Stop as Stopped, serve};
 use std::alloc::Global;
@@ -247,7 +247,10 @@ fn serve_at_desk<R>(
 where
     R: Net<Listener = TcpListener, Stream = TcpStream> + Threads + Wait + Sync + Copy + Drop,
 {
-    let (frames, replies) = (hex::decode(alloc, FRAMES)?, hex::decode(alloc, REPLIES)?);
+    let (frames, replies) = (
+        bytes_of_digits(alloc, FRAMES)?,
+        bytes_of_digits(alloc, REPLIES)?,
+    );
     let (desks, passes) = Desks::new(alloc, *rt, one_db(alloc)?, 1, TURNS)?;
     let asked = Asked {
         frames: &frames,

@@ -154,12 +154,19 @@ impl Gate for Holds {
     }
 }
 
+// The frame of a report up to the LSN.
+const REPORT: &str = "00000026000000022222222222222222222222222222222201000000000000000103";
+
+// Puts the bytes of the digits there.
+fn put_digits(digits: &str, room: &mut [u8]) -> Option<()> {
+    hex::decode_to_slice(digits, room).ok()
+}
+
 /// The frame of a report of the LSN.
 pub(crate) fn report(lsn: u8) -> Option<[u8; 42]> {
     let mut frame = [0; 42];
-    let text = "00000026000000022222222222222222222222222222222201000000000000000103";
     let (front, back) = frame.split_at_mut(34);
-    hex::decode_to_slice(text, front).ok()?;
+    put_digits(REPORT, front)?;
     let last = back.last_mut()?;
     *last = lsn;
     Some(frame)

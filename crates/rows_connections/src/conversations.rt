@@ -4,7 +4,7 @@ ghost use Rattle.std.specs.Prelude.{◌≡◌, IfOk, vec_len};
 ghost use Rattle.pl_conn.specs.Solo.{HasDatabases};
 
 use crate::connections::stop_of;
-use crate::memory::{Input, Output, Telling, check, ended_in_refusal};
+use crate::memory::{Input, Output, Telling, bytes_of_digits, check, ended_in_refusal};
 use pl_conn::{Cause, ConnFault, SoloPass, Source, converse};
 use pl_core::{Db, Limits};
 use std::alloc::Global;
@@ -82,21 +82,39 @@ struct Talked {
     entries: u64,
 }
 
-// A conversation with a fresh database, over these bytes. An error is that memory was refused.
-fn talk(alloc: Global, input: Input<'_>, at_once: usize, room: usize) -> Result<Talked, Stop> {
-    let mut pass = one_pass(alloc)?;
+// A conversation of the pass, over these bytes. An error is that memory was refused.
+fn talk_by(
+    alloc: Global,
+    input: Input<'_>,
+    output: &mut Output,
+    pass: &mut SoloPass,
+) -> Result<Result<u64, ConnFault>, Stop>
+    requires has { HasDatabases pass.old }
+{
     let mut reader = input;
-    let mut output = Output::new(alloc, at_once, room);
     let gate = Telling::new();
-    let end = converse(alloc, &mut reader, &mut output, &gate, &mut pass);
+    let end = converse(alloc, &mut reader, output, &gate, pass);
     if ended_in_refusal(&end) || gate.tells_refusal() || output.tells_refusal(alloc) {
         return Err(Stop::NoMemory);
     }
+    Ok(end)
+}
+
+// How many entries the last database of the pass has.
+fn entries_of(pass: SoloPass) -> Result<u64, Stop> {
     let db = pass.into_dbs().pop().ok_or(Stop::Unread)?;
+    Ok(db.audit_len())
+}
+
+// The same with a fresh database.
+fn talk(alloc: Global, input: Input<'_>, at_once: usize, room: usize) -> Result<Talked, Stop> {
+    let mut pass = one_pass(alloc)?;
+    let mut output = Output::new(alloc, at_once, room);
+    let end = talk_by(alloc, input, &mut output, &mut pass)?;
     Ok(Talked {
         end,
         output,
-        entries: db.audit_len(),
+        entries: entries_of(pass)?,
     })
 }
 
@@ -139,7 +157,7 @@ fn broken_frames(alloc: Global) -> Result<(), Stop> {
         answered: 0,
     };
     ends_at_once(alloc, &[0, 1, 0, 1, 0, 0, 0, 0], too_long)?;
-    let frame = hex::decode(alloc, WRONG_PARTITION)?;
+    let frame = bytes_of_digits(alloc, WRONG_PARTITION)?;
     let input = Input {
         left: &frame,
         at_once: 1_000,
@@ -260,8 +278,8 @@ fn buffered_bytes_are_taken(rt: HostRuntime) {
 
 // However few bytes come at once, and however many the reader holds, the replies are the same.
 fn any_cut(alloc: Global) -> Result<(), Stop> {
-    let frames = hex::decode(alloc, FRAMES)?;
-    let replies = hex::decode(alloc, REPLIES)?;
+    let frames = bytes_of_digits(alloc, FRAMES)?;
+    let replies = bytes_of_digits(alloc, REPLIES)?;
     for at_once in 1..=208 {
         let input = Input {
             left: &frames,
@@ -314,8 +332,8 @@ fn cut_input(
 }
 
 fn cut_inputs(alloc: Global) -> Result<(), Stop> {
-    let frames = hex::decode(alloc, FRAMES)?;
-    let replies = hex::decode(alloc, REPLIES)?;
+    let frames = bytes_of_digits(alloc, FRAMES)?;
+    let replies = bytes_of_digits(alloc, REPLIES)?;
     for len in 0..=208 {
         for way in [(1, false), (1, true), (50, false), (50, true)] {
             cut_input(alloc, &frames, &replies, len, way)?;
@@ -368,8 +386,8 @@ fn cut_output(
 // one step was taken after those that are answered; or all at once, so that the replies go out
 // together, after all of the steps.
 fn cut_outputs(alloc: Global) -> Result<(), Stop> {
-    let frames = hex::decode(alloc, FRAMES)?;
-    let replies = hex::decode(alloc, REPLIES)?;
+    let frames = bytes_of_digits(alloc, FRAMES)?;
+    let replies = bytes_of_digits(alloc, REPLIES)?;
     for room in 0..58 {
         cut_output(alloc, &frames, &replies, room, 1)?;
         cut_output(alloc, &frames, &replies, room, 208)?;
@@ -392,7 +410,7 @@ const OF_DATABASE_1: &str = "\
 0000000107";
 
 fn asks_no_database(alloc: Global) -> Result<(), Stop> {
-    let frame = hex::decode(alloc, OF_DATABASE_1)?;
+    let frame = bytes_of_digits(alloc, OF_DATABASE_1)?;
     let input = Input {
         left: &frame,
         at_once: 1_000,

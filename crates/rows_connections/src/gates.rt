@@ -10,7 +10,7 @@ use bytes::Bytes;
 use pl_block::{Block, Record};
 use pl_conn::{Desks, Gate, Passes, SoloPass, Worked, materialise};
 use pl_core::{Db, Limits, Reply};
-use pl_table::{Act, Head, ReadFault, Request, Role, Section, read_table};
+use pl_table::{Act, Head, ReadFault, Request, Role, Section, Table, read_table};
 use std::alloc::{AllocError, AllocFailed, Global};
 use std::process::Abort;
 use std::sync::Wait;
@@ -95,13 +95,18 @@ impl<T: Drop> From<AllocFailed<T>> for Stop {
     }
 }
 
+// The table of the text.
+fn table_of(alloc: Global, text: &str) -> Result<Table, Stop> {
+    match read_table(alloc, text.as_bytes()) {
+        Ok(table) => Ok(table),
+        Err(ReadFault::NoMemory) => Err(Stop::NoMemory),
+        Err(ReadFault::Malformed(_)) => Err(Stop::Refused),
+    }
+}
+
 // A database with primary 2.
 fn open(alloc: Global) -> Result<Db, Stop> {
-    let table = match read_table(alloc, TABLE.as_bytes()) {
-        Ok(table) => table,
-        Err(ReadFault::NoMemory) => return Err(Stop::NoMemory),
-        Err(ReadFault::Malformed(_)) => return Err(Stop::Refused),
-    };
+    let table = table_of(alloc, TABLE)?;
     let limits = Limits {
         audit: 65_536,
         chunks: 16,

@@ -6,7 +6,7 @@ ghost use Rattle.std.specs.List.{All};
 ghost use Rattle.pl_conn.specs.Desks.{ArePassesOf};
 
 use crate::conversations::{FRAMES, REPLIES, one_db, one_pass};
-use crate::memory::{Input, check};
+use crate::memory::{Input, bytes_of_digits, check};
 use crate::talking::{TURNS, last_of};
 use pl_conn::{Cause, ConnFault, Desks, Gate, Passes, Solo, SoloPass, converse};
 use pl_core::Db;
@@ -251,7 +251,10 @@ fn goes_on_at_desk<R: Wait + Drop>(rt: R, alloc: Global, run: Run<'_>) -> Result
 
 // Both, over frames that come this many bytes at once. How many of them met a refusal.
 fn goes_on_twice<R: Wait + Drop>(rt: R, alloc: Global, at_once: usize) -> Result<u64, Stop> {
-    let (frames, replies) = (hex::decode(alloc, FRAMES)?, hex::decode(alloc, REPLIES)?);
+    let (frames, replies) = (
+        bytes_of_digits(alloc, FRAMES)?,
+        bytes_of_digits(alloc, REPLIES)?,
+    );
     let run = Run {
         frames: &frames,
         replies: &replies,

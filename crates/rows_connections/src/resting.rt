@@ -3,7 +3,7 @@
 ghost use Rattle.pl_conn.specs.Solo.{HasDatabases};
 
 use crate::conversations::{ENDS, FRAMES, REPLIES, REPLY_ENDS, one_pass, whole};
-use crate::memory::{Telling, check, has_refusal};
+use crate::memory::{Telling, bytes_of_digits, check, has_refusal};
 use pl_conn::{Cause, Conversation, Rest, Room, SoloPass};
 use std::alloc::Global;
 use std::io::{self, ErrorKind, Read, Write};
@@ -192,6 +192,38 @@ fn cut_at(
 }
 
 // The writer takes this many bytes at each turn. While a reply waits, no more is read.
+fn in_turns_of(
+    alloc: Global,
+    replies: &[u8],
+    talk: &mut Conversation,
+    reader: &mut Coming<'_>,
+    writer: &mut Filling,
+    pass: &mut SoloPass,
+    room: &mut Room,
+    at_once: usize,
+) -> Result<(), Stop>
+    requires has { HasDatabases pass.old }
+    ensures has { HasDatabases pass.new }
+{
+    reader.come(160);
+    let rest = turns(alloc, talk, reader, writer, pass, room)?;
+    check(rest == Rest::Output && reader.left.len() == 48 && writer.text.is_empty())?;
+    reader.come(usize::MAX);
+    for _ in 0..replies.len() {
+        writer.room = at_once;
+        let rest = turns(alloc, talk, reader, writer, pass, room)?;
+        check(Some(&*writer.text) == replies.get(..writer.text.len()))?;
+        check((reader.left.len() == 48) == (writer.text.len() < 15))?;
+        if rest == Rest::Input {
+            return check(writer.text.as_slice() == replies);
+        }
+        check(rest == Rest::Output && writer.room == 0)?;
+    }
+    Err(Stop::Changed)
+}
+
+// The frames are there, and the writer takes this many bytes at each turn. Where that goes wrong, what still waits is
+// taken as well: it may say that a body found no memory.
 fn taken_in_pieces(
     alloc: Global,
     frames: &[u8],
@@ -203,27 +235,27 @@ fn taken_in_pieces(
     let mut pass = one_pass(alloc)?;
     let mut talk = Conversation::new(alloc);
     let mut reader = Coming::of(frames);
-    reader.come(160);
-    let rest = turns(alloc, &mut talk, &mut reader, writer, &mut pass, room)?;
-    check(rest == Rest::Output && reader.left.len() == 48 && writer.text.is_empty())?;
-    reader.come(usize::MAX);
-    for _ in 0..replies.len() {
-        writer.room = at_once;
-        let rest = turns(alloc, &mut talk, &mut reader, writer, &mut pass, room)?;
-        check(Some(&*writer.text) == replies.get(..writer.text.len()))?;
-        check((reader.left.len() == 48) == (writer.text.len() < 15))?;
-        if rest == Rest::Input {
-            return check(writer.text.as_slice() == replies);
-        }
-        check(rest == Rest::Output && writer.room == 0)?;
+    let done = in_turns_of(
+        alloc,
+        replies,
+        &mut talk,
+        &mut reader,
+        writer,
+        &mut pass,
+        room,
+        at_once,
+    );
+    if matches!(done, Err(Stop::Changed)) {
+        writer.room = usize::MAX;
+        turns(alloc, &mut talk, &mut reader, writer, &mut pass, room)?;
     }
-    Err(Stop::Changed)
+    done
 }
 
 // All cuts of the stored run, with one room for all conversations.
 fn any_pieces(alloc: Global) -> Result<(), Stop> {
-    let frames = hex::decode(alloc, FRAMES)?;
-    let replies = hex::decode(alloc, REPLIES)?;
+    let frames = bytes_of_digits(alloc, FRAMES)?;
+    let replies = bytes_of_digits(alloc, REPLIES)?;
     let mut room = Room::new(alloc)?;
     for piece in 1..=208 {
         let mut writer = Filling::new(alloc, usize::MAX);

@@ -6,7 +6,7 @@ ghost use Rattle.pl_conn.specs.Desks.{ArePassesOf};
 
 use crate::connections::{Started, check_served, connect, listen, report, stop_of, unserved};
 use crate::conversations::{FRAMES, one_db};
-use crate::memory::{check, is_refused, may_be_refused};
+use crate::memory::{bytes_of_digits, check, is_refused, may_be_refused};
 use crate::talking::{TURNS, push_frame};
 use pl_conn::{Desks, Gate, Passes, Served, serve};
 use pl_core::Reply;
@@ -180,7 +180,7 @@ const PAGE_REPLY: usize = 4 + 1 + 8 + 8_192;
 
 // The frames of a block on page 0, hardened, and then of this many gets of it.
 fn gets_of_page(alloc: Global) -> Result<Vec<u8>, Stop> {
-    let run = hex::decode(alloc, FRAMES)?;
+    let run = bytes_of_digits(alloc, FRAMES)?;
     let mut frames = Vec::new(alloc);
     frames.extend_from_slice(run.get(..160).ok_or(Stop::Unread)?)?;
     let words = ["3", "33", "secondary", "1", "get", "0", "1"];

@@ -1,5 +1,5 @@
 use Rattle.pl_conn.specs.Solo.{HasDatabases}
-use Rattle.rows_connections.proofs.resting.taken_in_pieces.Given as goal
+use Rattle.rows_connections.proofs.resting.in_turns_of.Given as goal
 
 -- the pass has its databases
 abbrev pub invariant-loop : goal.invariant-loop
