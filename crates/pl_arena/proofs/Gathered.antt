@@ -11,7 +11,7 @@ use Rattle.std.specs.FinMap as maps
 use Rattle.pl_arena.specs.Arena.{Arena, frame_bytes, with_frame, without_frame}
 use Rattle.pl_arena.specs.Free.{held, put, map_below, arena_of}
 
--- a number is told from itself, and from another
+-- equal numbers compare as equal, and different ones do not
 pub same_number : (q k : ℕ) → q ≡ k → eq_by_cmp nat_cmp q k ≡ true
 same_number q k e = ap (eq_by_cmp nat_cmp q) (sym e) ∙ (eq_by_cmp_equiv nat_cmp_total).refl q
 

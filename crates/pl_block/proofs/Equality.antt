@@ -57,7 +57,7 @@ pointwise-agree test is [] (y ∷ ys) = refl
 pointwise-agree test is (x ∷ xs) [] = refl
 pointwise-agree test is (x ∷ xs) (y ∷ ys) = rw (is, pointwise-agree test is xs ys) refl
 
--- a test that is told of each two variants agrees on records
+-- a test that is right for each pair of variants agrees with `same_record` on all records
 pub same_record-agree : (test : Record → Record → Bool)
     → ((p o q u : ℕ) (b c : List ℕ) → test (Put p o b) (Put q u c) ≡ (eqb p q && (eqb o u && bytes_eq b c))) → ((p q : ℕ) → test (Zero p) (Zero q) ≡ eqb p q)
     → ((p o q : ℕ) (b : List ℕ) → test (Put p o b) (Zero q) ≡ false) → ((p q u : ℕ) (c : List ℕ) → test (Zero p) (Put q u c) ≡ false)

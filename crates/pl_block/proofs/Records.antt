@@ -17,7 +17,7 @@ use Rattle.pl_block.specs.Faults.{◌>>=◌}
 use Rattle.pl_block.specs.Reading.{number_at, put_fault, put_at, zero_at, record_at, records_at}
 use Rattle.pl_block.proofs.Fields.{AreBytes-drop, bind_ok, guard_ok, ok_is, IsFront, IsFront-then, wide16, wide32, number_takes, number_again}
 
--- what the test of a Put tells
+-- a Put that passes its test has at least one byte, and ends within the page
 pub put_fault-ok : (offset len : ℕ) (u : Unit {0}) → put_fault offset len ≡ Ok u → (0 < len) × (offset + len ≤ 8192)
 put_fault-ok offset len u e =
     let some = guard_ok (eqb len 0) EmptyPut (cond (ltb 8192 (offset + len)) (Err PutPastPage) (Ok tt)) u e in

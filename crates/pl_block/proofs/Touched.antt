@@ -210,7 +210,7 @@ touched_from_members records ps rises members =
     (λ x i. In-from_Contains x (touched records) ((touched_members x records).1 ((members x).0 (Contains-from_In x ps i))))
     (λ x i. In-from_Contains x ps ((members x).1 ((touched_members x records).0 (Contains-from_In x (touched records) i))))
 
--- what a search in a rising list tells
+-- a search in a rising list finds a number exactly if the list has it
 Contains-from_search : (xs : List ℕ) (x : ℕ) (r : Result ℕ ℕ) → MatchResult r (λ i. (i < length xs) × (get_or xs i 0 ≡ x)) (λ i. (i ≤ length xs) × ((k : ℕ) → k < i → get_or xs k 0 < x) × ((k : ℕ) → i ≤ k → k < length xs → x < get_or xs k 0)) → Decides (is_ok r) (Contains xs x)
 Contains-from_search xs x (Ok i) h = (λ _. (i, h.0, get_or_default xs i x 0 h.0 ∙ h.1), λ _. refl)
 Contains-from_search xs x (Err i) h = (

@@ -8,7 +8,7 @@ use Rattle.pl_block.specs.Reading.{block_reading}
 abbrev pub AreBytes : List ℕ → Type 0
 AreBytes bytes = (i : ℕ) → slice_index bytes i < 256
 
--- a block and its spelling tell one another
+-- a block and its spelling determine one another
 pub record OneSpelling : Type 0 where
   -- a block is read again from its spelling
   pub again : (b : Content) → IsBlock b → block_reading (block_spelling b) ≡ Ok b

@@ -1,4 +1,4 @@
-//! Why bytes are no block, and why an LSN and records make none.
+//! Why bytes are not a block, and why an LSN and records do not make one.
 
 ghost use Rattle.std.specs.Prelude.{◌≡◌, ◌≤◌};
 ghost use Rattle.pl_block.specs.declared.fault.Fault.TheVariants.{EndsInField};

@@ -176,7 +176,7 @@ module _ (s : Shape) (Q : List Row → Type 0) where
         let p = both (turn_passes s names w word) _ e in
         walk_keeps names (walked c names w word) rest p.1 (turn_keeps names w.stopped w word p.0 q)
 
--- ---- `help` is no subcommand that a walk stops at
+-- ---- `help` is not a subcommand that a walk stops at
 
 abbrev pub NoHelp : Text → Type 0
 NoHelp name = bytes_eq name (codes "help") ≡ false

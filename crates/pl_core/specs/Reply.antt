@@ -4,8 +4,8 @@ use Rattle.pl_block.specs.Bounds.{page_size}
 use Rattle.pl_core.specs.declared.reply.Reply.{Reply}
 use Rattle.pl_core.specs.declared.reply.Reply.TheVariants as replies
 
--- at most 16 blocks are served, a page has 8192 bytes, at most 1024 lines are told, and a code is
--- 1 to 15
+-- at most 16 blocks are served, a page has 8192 bytes, at most 1024 lines are reported, and a code
+-- is 1 to 15
 abbrev pub FitsReply : Reply → Type 0
 FitsReply replies.Done = Unit {0}
 FitsReply (replies.Blocks next blocks) = length blocks ≤ 16

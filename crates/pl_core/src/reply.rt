@@ -186,7 +186,7 @@ pub enum Reply {
     Spent,
     /// There is no such database. Never from a step of the database.
     NoDatabase,
-    /// The body is no request, by this code, 1 to 15. Never from a step of the database.
+    /// The body is not a request, by this code, 1 to 15. Never from a step of the database.
     Malformed {
         code: u8,
     },

@@ -124,7 +124,7 @@ same-itself : (a : Option (ℕ × Bool)) → same_found a a ≡ true
 same-itself None = refl
 same-itself (Some x) = rw ((unsigned_Decides x.0 x.0).1 refl, (booleans_Decides x.1 x.1).1 refl) refl
 
--- the comparison tells whether this is found
+-- the comparison reports whether this is found
 pub tells-found : (x first found : Option (ℕ × Bool)) (r : Bool) → r ≡ same_found x found → x ≡ first → IsTrue r ↔ (first ≡ found)
 tells-found x first found r is same = (
   λ yes. sym same ∙ found-same x found (sym is ∙ yes),

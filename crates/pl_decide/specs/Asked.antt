@@ -95,7 +95,7 @@ text_in_act (acts.SetTable text) = Some text
 text_in_act (acts.Audit first max) = None
 text_in_act acts.Tidy = None
 
--- the number of the fault for which a text is no table, or 0
+-- the number of the fault for which a text is not a table, or 0
 abbrev pub fault_code : Result WrittenTable TableFault → ℕ
 fault_code (Ok table) = 0
 fault_code (Err fault) = fault_number fault

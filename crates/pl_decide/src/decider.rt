@@ -197,7 +197,7 @@ impl Decider {
     pub fn reach(&self, table: &Table, hard: u64, request: &Request) -> u64
         // The decider agrees with the table (`AgreesWith`).
         requires agrees { AgreesWith self.now table.now }
-        // The rows allow the request, as `Table::first_match` tells.
+        // The rows allow the request, as `Table::first_match` reports.
         requires allowed { rows_allow table.now.rows (asked_in request.now) ≡ true }
         // An LSN up to `hard`.
         ensures within { result ≤ hard }
@@ -218,7 +218,7 @@ impl Decider {
     pub fn allows_at(&self, table: &Table, request: &Request, lsn: u64) -> bool
         // The decider agrees with the table (`AgreesWith`).
         requires agrees { AgreesWith self.now table.now }
-        // The rows allow the request, as `Table::first_match` tells.
+        // The rows allow the request, as `Table::first_match` reports.
         requires allowed { rows_allow table.now.rows (asked_in request.now) ≡ true }
         // Whether the rows allow the request at this LSN.
         ensures value { result ≡ rows_allow table.now.rows (asked_at (asked_in request.now) lsn) }

@@ -34,7 +34,7 @@ pub enum Rule {
     NoSuchCopy,
     /// C6: a report is of an LSN that cannot be hardened yet; the hardened end is reported.
     BelowQuorum,
-    /// C7: the text of a set_table is no table; the code of its first fault is reported.
+    /// C7: the text of a set_table is not a table; the code of its first fault is reported.
     NoTable,
     /// C8: the table does not list the primary that a failover names.
     UnlistedPrimary,

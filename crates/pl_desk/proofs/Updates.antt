@@ -91,7 +91,7 @@ ticket-held next serving now v (Met first second other) t is has = absurd has
 ticket-held next serving now v Gone t is has = absurd has
 
 -- what a stage says of the words and of the history still holds where tickets are drawn, those that
--- are held are not passed over, and nothing changes for who has the turn
+-- are held are not skipped, and nothing changes for who has the turn
 pub stands-on : (next serving next' serving' : ℕ) (now now' : History) (v : View) (st : Stage) → next ≤ next'
     → ((t : ℕ) → HasTicket st t → serving ≤ t → serving' ≤ t) → ((t : ℕ) (h : History) → st ≡ InTurn t h → (serving ≡ serving') × (now ≡ now'))
     → Stands next serving now v st → Stands next' serving' now' v st
@@ -104,7 +104,7 @@ stands-on next serving next' serving' now now' v (InTurn t h) le keeps turn is =
 stands-on next serving next' serving' now now' v (Met first second other) le keeps turn is = is
 stands-on next serving next' serving' now now' v Gone le keeps turn is = tt
 
--- what is so of a view is still so, where its stage still stands and the history has gone on without it
+-- what is so of a view is still so, where its stage still holds and the history has gone on without it
 pub view-on : (terms : Terms) (n next serving next' serving' : ℕ) (now now' : History) (v : View) → next ≤ next'
     → ((t : ℕ) → HasTicket v.stage t → serving ≤ t → serving' ≤ t) → ((t : ℕ) (h : History) → v.stage ≡ InTurn t h → (serving ≡ serving') × (now ≡ now'))
     → (IsAhead v.terms v.number v.seen now → IsAhead v.terms v.number v.seen now') → IsView terms n next serving now v → IsView terms n next' serving' now' v

@@ -43,7 +43,7 @@ total-spare f few (x ∷ xs) (suc i) v at none =
     let rest = total-spare f few xs i v at none in
     omega (arith, one, rest)
 
--- what a view counts is no more than the whole count
+-- what a view counts is at most the whole count
 pub total-part : (f : Stage → ℕ) (vs : List View) (i : ℕ) (v : View) → get_elem? vs i ≡ some v → f v.stage ≤ total f vs
 total-part f [] i v at = absurd (some-ne-none v (sym at))
 total-part f (x ∷ xs) zero v at = let same = ap (λ (u : View). f u.stage) (some-injective x v at) in omega (arith, same)

@@ -1,4 +1,4 @@
--- The atomic steps of a desk: what each tells the pass that makes it, and the view that it leaves.
+-- The atomic steps of a desk: what each reports to its pass, and the view that it leaves.
 use Rattle.std.specs.Prelude.{◌≡◌, ◌≢◌, ℕ, ◌+◌, ◌<◌, ◌≤◌, Bool, true, false, nat_lt, [], ◌∷◌, length, Option, Some, if◌then◌else◌}
 use Rattle.atomic_table.specs.Table.{Step, Me, rest}
 use Rattle.pl_table.specs.declared.zone.Zone.TheVariants.{Three}

@@ -1,4 +1,4 @@
-//! What each atomic step tells the pass that makes it.
+//! What each atomic step reports to the pass that makes it.
 
 ghost use Rattle.pl_core.specs.History.{History};
 

@@ -126,7 +126,7 @@ pub(crate) fn join(board: &Board, chair: &mut Chair, other: Chair)
     board.join_seat::<Joins>(chair, other);
 }
 
-/// Loads the count of entries: it tells that what both passes had seen has been seen now.
+/// Loads the count of entries: it shows that what both passes had seen has been seen now.
 pub(crate) fn compare(board: &Board, chair: &mut Chair)
     requires board { (chair.old.table_id ≡ board.now.table_id) × (board.now.table_id.words ≡ 3) }
     requires met { (chair.old.me.1 ≡ []) × ((first second : History) × (other : ℕ) ×

@@ -1,4 +1,4 @@
--- The codes by which proofs tell states of pages apart: a record is coded as the tuple of its fields.
+-- The codes by which proofs distinguish states of pages: a record is coded as the tuple of its fields.
 use Rattle.std.specs.Prelude.{ℕ, List, refl}
 use Rattle.std.specs.Coded.{Coded, code_by, coded×, coded_ℕ, coded_list}
 use Rattle.std.specs.Ordering.{nat_cmp}

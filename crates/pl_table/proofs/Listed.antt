@@ -226,7 +226,7 @@ place-none names id i past =
       | inr le ↦ omega (arith, past.2 w.0 le w.1, get_or_default names w.0 id 0 w.1, w.2)
     ])))
 
--- what a search in rising names tells
+-- a search in rising names finds the place of the id, or the place where it would be
 pub searched-names : (names : List ℕ) (id : ℕ) (r : Result ℕ ℕ) → IsStrictlyIncreasing names → IsBinarySearchResult (λ y. nat_cmp y id) names r → MatchResult r (λ i. (i < length names) × (get_or names i 0 ≡ id)) (λ i. (i ≤ length names) × ((k : ℕ) → k < i → get_or names k 0 < id) × ((k : ℕ) → i ≤ k → k < length names → id < get_or names k 0))
 searched-names names id r rise h = searched names id r h (λ i j le lt. non_decreasing_from_sorted names (sorted_from_strictly_increasing names rise) i j 0 le lt)
 

@@ -12,7 +12,7 @@ use Rattle.pl_table.specs.Part.{id_under, token_under, principal_of, has_words, 
 use Rattle.pl_table.specs.TableText.{have_own_ids, principals_of, rows_of}
 use Rattle.pl_table.proofs.Trees.{all_data, read_data}
 
--- the principals of some values, told of the values themselves
+-- the principals of some values, in terms of the values themselves
 pub principals_of-view : (vs : List Value) → principals_of (map view vs) ≡ (
     if not (list_all (λ v. is_principal (view v)) vs) then Err PrincipalKeys
     else if not (list_all (λ v. is_some (id_under (view v))) vs) then Err PrincipalId
@@ -22,7 +22,7 @@ pub principals_of-view : (vs : List Value) → principals_of (map view vs) ≡ (
 unfolding principals_of
 principals_of-view vs = rw (all_data is_principal vs, all_data (λ p. is_some (id_under p)) vs, all_data (λ p. is_some (token_under p)) vs, read_data principal_of vs) refl
 
--- the rows of some values, told of the values themselves
+-- the rows of some values, in terms of the values themselves
 pub rows_of-view : (ps : List Principal) (vs : List Value) → rows_of ps (map view vs) ≡ (
     if not (list_all (λ v. is_row (view v)) vs) then Err RowKeys
     else if not (list_all (λ v. has_words (view v)) vs) then Err RowWord

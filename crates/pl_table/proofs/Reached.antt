@@ -12,7 +12,7 @@ use Rattle.pl_table.specs.Reach.{any_ends, matches_at, Narrows}
 use Rattle.pl_table.proofs.Listed.{IsLeft, IsLeft-next, IsLeft-none, listed-next, found-next, missed-next}
 use Rattle.pl_table.proofs.Ends.{with_number, own_asked, none_asked, row_at, lower_lsns, no_ends}
 
--- Up to low the rows allow the request, above high they do not; the places of the list tell of the LSNs between.
+-- Up to low the rows allow the request, above high they do not; the places of the list decide the LSNs between.
 pub record IsReached (rows : List Row) (q : Asked) (most low high : ℕ) (list : List ℕ) : Type 0 where
   pub order : (low ≤ high) × (high ≤ most)
   pub allowed : (n : ℕ) → n ≤ low → rows_allow rows (asked_at q n) ≡ true
@@ -37,7 +37,7 @@ reached-start rows q most list h are = record {
   left = λ n gt le. all_left rows q list n are;
 }
 
--- the next row, told by one of the LSNs between
+-- the next row of the list is there, and can match: one of the LSNs between shows it
 pub record IsHere (rows : List Row) (q : Asked) (p : ℕ) : Type 0 where
   pub within : p < length rows
   pub listed : (row : Row) → row ≡ get_or rows p row → can_match q row ≡ true
@@ -60,7 +60,7 @@ reached-here rows q most low high list p ps reached apart is =
 misses : (row : Row) (q : Asked) (n : ℕ) → is_about row q ≡ false → row_matches row (asked_at q n) ≡ false
 misses row q n e = rw e refl
 
--- a row that is not about the request tells nothing
+-- a row that is not about the request decides nothing
 pub reached-missed : (rows : List Row) (q : Asked) (most low high : ℕ) (list : List ℕ) (p : ℕ) (ps : List ℕ) (row : Row) → IsReached rows q most low high list → list ≡ p ∷ ps → row ≡ get_or rows p row → is_about row q ≡ false → IsReached rows q most low high ps
 reached-missed rows q most low high list p ps row reached is here e = record {
   order = reached.order;
@@ -69,7 +69,7 @@ reached-missed rows q most low high list p ps row reached is here e = record {
   left = λ n gt le. missed-next rows (asked_at q n) p ps row (IsLeft-next rows (asked_at q n) list p ps is (reached.left n gt le)) here (misses row q n e);
 }
 
--- what the next row tells of one of the LSNs between
+-- the next row decides one of the LSNs between, where it matches there
 found_here : (rows : List Row) (q : Asked) (list : List ℕ) (p : ℕ) (ps : List ℕ) (row : Row) (own n : ℕ) (b : Bool) → q.lsn ≡ Some own → IsLeft rows (asked_at q n) list → list ≡ p ∷ ps → row ≡ get_or rows p row → is_about row q ≡ true → matches_at row n ≡ true → row.allows ≡ b → rows_allow rows (asked_at q n) ≡ b
 found_here rows q list p ps row own n b some left is here about matches allows =
     let next = IsLeft-next rows (asked_at q n) list p ps is left in

@@ -1,4 +1,4 @@
--- Setting the table, told by rows and by the requests that they match.
+-- Setting the table, in terms of rows and of the requests that they match.
 use Rattle.std.proofs.Common.{◌≡◌, ℕ, ◌+◌, Bool, true, false, List, [], ◌∷◌, find, Option, Some, None, IsTrue, IsSomeAnd, refl, sym, ◌∙◌}
 use Rattle.std.specs.List.{Any}
 use Rattle.std.proofs.Math.Bool.{and-true}

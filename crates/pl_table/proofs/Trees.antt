@@ -15,7 +15,7 @@ use Rattle.pl_table.specs.declared.fault.TableFault.TheVariants.{NoDocument}
 use Rattle.pl_table.specs.Tree.{tree_of, keys_of, list_of, is_one_of, has_only, is_table, tables_in}
 use Rattle.pl_table.specs.Part.{op_in, ops_in}
 
--- bytes that are no UTF-8 have no tree
+-- bytes that are not UTF-8 have no tree
 pub tree_of-other : (text : List ℕ) → ¬ (IsUtf8 text) → tree_of text ≡ Err NoDocument
 unfolding tree_of
 tree_of-other text h = elim (is_utf8 text) as (λ b. is_utf8 text ≡ b → (if b then ok_or (parse_document text) NoDocument else Err NoDocument) ≡ Err NoDocument) [

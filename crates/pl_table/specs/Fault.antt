@@ -1,4 +1,4 @@
--- Why a text is no table: the code of each fault.
+-- Why a text is not a table: the code of each fault.
 use Rattle.std.specs.Prelude.{ℕ, Result, Ok, Err}
 use Rattle.pl_block.specs.declared.fault.Failed.{Failed}
 use Rattle.pl_block.specs.declared.fault.Failed.TheVariants.{Malformed}

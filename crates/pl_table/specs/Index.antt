@@ -10,7 +10,7 @@ use Rattle.pl_table.specs.Ops.{lists_op, all_ops}
 use Rattle.pl_table.specs.Absent.{part_matches}
 use Rattle.pl_table.specs.Asking.{Asked}
 
--- the askers that the index tells apart: each id that rows name, and one that none names
+-- the askers that the index distinguishes: each id that rows name, and one that none names
 abbrev pub askers : List ℕ → List (Option ℕ)
 askers [] = None ∷ []
 askers (name ∷ names) = Some name ∷ askers names

@@ -185,7 +185,7 @@ impl Table {
 
     /// How far the rows allow a request that they allow: the greatest LSN up to `most` at which they
     /// do. They allow it at each lower LSN too. Where no row ends, and where the request names no LSN,
-    /// that is `most`. [`Table::first_match`] tells whether they allow it. Nothing is allocated.
+    /// that is `most`. [`Table::first_match`] reports whether they allow it. Nothing is allocated.
     pub fn reach(&self, request: &Request, most: u64) -> u64
         // The rows allow the request.
         requires allowed { rows_allow self.now.rows (asked_in request.now) ≡ true }

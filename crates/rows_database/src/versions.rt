@@ -202,7 +202,7 @@ fn pages_outgrow_arena(rt: HostRuntime) -> Result<(), Fail> {
     plays::<Database>(rt.alloc(), PAGES_OUTGROW_ARENA)
 }
 
-// Hardens this many blocks of page 0, and tells whether each version is right.
+// Hardens this many blocks of page 0, and returns whether each version is right.
 fn has_versions(served: &mut Served, count: u8) -> Result<bool, AllocError> {
     for byte in 1..=count {
         if !served.harden(0, byte)? {

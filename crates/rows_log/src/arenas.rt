@@ -50,7 +50,7 @@ fn name_of(names: &mut Vec<FrameId>, id: FrameId) -> Result<u64, Stop> {
     }
 }
 
-// Takes this many frames, and tells how many there were.
+// Takes this many frames, and returns how many there were.
 fn take_all(
     arena: &mut VersionArena,
     names: &mut Vec<FrameId>,

@@ -169,7 +169,7 @@ impl Driven {
         Ok(self.log.tidy()?)
     }
 
-    // Ends the epoch, begins the next with the zone, and tells how many numbers were hardened.
+    // Ends the epoch, begins the next with the zone, and returns how many numbers were hardened.
     fn recover(&mut self, zone: Zone, refused: &mut bool) -> Result<u64, Stop> {
         failovers_harden_the_longest_run();
         let Zone { copies, quorum } = zone;

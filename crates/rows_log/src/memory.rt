@@ -1,4 +1,4 @@
-//! Memory that is given back, by what Linux tells of the test program.
+//! Memory that is given back, by what Linux reports of the test program.
 
 use crate::arenas::ends;
 use crate::pages::{Served, open};
@@ -92,8 +92,8 @@ fn growth_of_versions(files: &impl Files, alloc: Global) -> Result<u64, Stop> {
     growth_over(files, alloc, &mut served)
 }
 
-/// Half a million versions over an arena of 64 frames take no more than 4 MB: one that was replaced leaves
-/// nothing behind.
+/// Half a million versions, made in an arena of 64 frames, take no more than 4 MB: one that was
+/// replaced leaves nothing behind.
 #[test]
 fn replaced_versions_leave_nothing(rt: HostRuntime) {
     let mut growth = growth_of_versions(&rt, rt.alloc());

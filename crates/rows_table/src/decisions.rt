@@ -65,7 +65,7 @@ fn last_epoch(rt: HostRuntime) -> Result<(), Fail> {
     plays::<Rules>(rt.alloc(), LAST_EPOCH)
 }
 
-// A view tells how many blocks are hardened, whether a write agrees with the content of its number,
+// A view gives how many blocks are hardened, whether a write agrees with the content of its number,
 // how many copies there are, and whether a report may harden.
 const ROWS_OF_SECTION_C: &str = "\
 table start                            = Ok

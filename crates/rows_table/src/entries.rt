@@ -22,7 +22,7 @@ fn open(alloc: Global, limit: u64) -> Result<Audit, Stop> {
     Ok(Audit::new(alloc, limit))
 }
 
-// Enters the line, with the table where one is named, and tells whether there was a place.
+// Enters the line, with the table where one is named, and reports whether there was a place.
 fn enter(audit: &mut Audit, entry: Entry, refused: &mut bool) -> Result<&'static str, Stop> {
     let mut place = audit.reserve_one();
     if matches!(place, Err(AuditFault::NoMemory)) && !*refused {

@@ -203,7 +203,7 @@ impl Rules {
         }
     }
 
-    // Sets what the words tell.
+    // Sets what the words say.
     fn set(&mut self, words: &[&str]) -> Result<(), Stop> {
         match words {
             ["epochs", words @ ..] => self.epochs = epochs_of(words)?,
@@ -238,7 +238,7 @@ fn view_of(words: &[&str]) -> Result<View, Stop> {
     })
 }
 
-// The fault that the text keeps, if it is no table.
+// The fault that the text keeps, if it is not a table.
 fn fault_in(text: &TableText) -> Option<TableFault> {
     match text.reading() {
         Ok(_) => None,

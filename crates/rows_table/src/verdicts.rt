@@ -300,7 +300,7 @@ fn decides_each(decider: &mut Decider, table: &Table, pulls: &[(u16, Verdict)]) 
     true
 }
 
-// Whether an allocation was refused to this run of the test, as scripts/refuse-memory tells.
+// Whether an allocation was refused to this run of the test, as scripts/refuse-memory reports.
 fn is_refused(rt: &impl Env) -> bool {
     let mut word = [0; 20];
     rt.var("REFUSE_MET", &mut word).is_ok() && word[0] == b'1'

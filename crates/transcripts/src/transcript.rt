@@ -170,8 +170,8 @@ impl<S: Subject> Player<S> {
     }
 }
 
-/// Plays the transcript of a subject, up to the first line that does not hold, which it tells with its
-/// answer.
+/// Plays the transcript of a subject, up to the first line that does not hold, which it reports with
+/// its answer.
 ///
 /// A test may meet one refused allocation and no more. The line that meets it is asked again in its
 /// place, and those after it go on from there. Only a run in which one step was refused has answers of

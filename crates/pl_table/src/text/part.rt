@@ -117,7 +117,7 @@ pub(crate) fn verdict_under(row: &Value) -> Option<bool>
     }
 }
 
-// The role of the row, which may be absent. `None` where it is there and is no role.
+// The role of the row, which may be absent. `None` where it is there and is not a role.
 #[tactic(auto, unfolding(crate::specs::Part::role_under, crate::specs::Part::if_there))]
 pub(crate) fn role_under(row: &Value) -> Option<Option<Role>>
     ensures value { result ≡ role_under (view row.now) }
@@ -242,7 +242,7 @@ fn range_between(from: &Value, to: &Value) -> Option<PartitionRange>
     }
 }
 
-// The range of the row, which may be absent. `None` where only one end is there, or an end is no
+// The range of the row, which may be absent. `None` where only one end is there, or an end is not a
 // partition, or the first is above the last.
 #[tactic(auto, unfolding(crate::specs::Part::range_under, crate::specs::Part::range_from))]
 pub(crate) fn range_under(row: &Value) -> Option<Option<PartitionRange>>
@@ -255,7 +255,7 @@ pub(crate) fn range_under(row: &Value) -> Option<Option<PartitionRange>>
     }
 }
 
-// The LSN that the row ends at, which may be absent. `None` where it is there and is no LSN.
+// The LSN that the row ends at, which may be absent. `None` where it is there and is not an LSN.
 #[tactic(auto, unfolding(crate::specs::Part::through_under, crate::specs::Part::if_there))]
 pub(crate) fn through_under(row: &Value) -> Option<Option<u64>>
     ensures value { result ≡ through_under (view row.now) }
