@@ -15,9 +15,9 @@ use Rattle.pl_wire.specs.FrameWriting.{reply_frame}
 use Rattle.pl_wire.specs.Reading.{MayLackMemory, request_reading}
 use Rattle.pl_wire.specs.declared.fault.WireFault.{WireFault}
 use Rattle.pl_wire.specs.declared.frame_reading.FrameFault.{FrameFault}
-use Rattle.pl_wire.specs.Answering.{AnswersBody, Calls}
+use Rattle.pl_wire.specs.Answering.{AnswersBody, AnswersRead, Calls}
 use Rattle.pl_conn.specs.Conversation.{cause_of, replies_text}
-use Rattle.pl_conn.specs.Gathering.{AnswersRead, Box, Gathers, HoldsReplies, MayGather, TakesFrame, emptied, gathered}
+use Rattle.pl_conn.specs.Gathering.{Box, Gathers, HoldsReplies, MayGather, TakesFrame, emptied, gathered}
 use Rattle.pl_conn.specs.Resting.{Replies, middle}
 use Rattle.pl_conn.proofs.Reading.{answers_body}
 use Rattle.pl_conn.proofs.Talking.{all_but_last, all_then, answered_then, joined, map_more}

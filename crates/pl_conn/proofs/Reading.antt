@@ -8,10 +8,9 @@ use Rattle.pl_block.specs.declared.fault.Failed.{Failed}
 use Rattle.pl_block.specs.declared.fault.Failed.TheVariants.{Malformed, NoMemory}
 use Rattle.pl_table.specs.Request.{Query}
 use Rattle.pl_core.specs.declared.reply.Reply.{Reply}
-use Rattle.pl_wire.specs.Answering.{AnswersBody, AnswersReading, Calls}
+use Rattle.pl_wire.specs.Answering.{AnswersBody, AnswersRead, AnswersReading, Calls}
 use Rattle.pl_wire.specs.Reading.{MayLackMemory, request_reading}
 use Rattle.pl_wire.specs.declared.fault.WireFault.{WireFault}
-use Rattle.pl_conn.specs.Gathering.{AnswersRead}
 
 -- a reply to what was read of a body is a reply to the body
 pub answers_body : {P : Type 0} (calls : Calls P) (body : List ℕ) (read : Result Query (Failed WireFault)) (before after : P) (reply : Reply)

@@ -2,18 +2,12 @@
 use Rattle.std.specs.Prelude.{◌≡◌, ℕ, zero, suc, ◌+◌, ◌-◌, ◌<◌, ◌≤◌, Bool, true, false, List, [], ◌∷◌, ◌++◌, length, map, Option, Result, Ok, Err, nat_lt, if◌then◌else◌}
 use Rattle.std.specs.Io.KnownBytes.{Consumes, IsAtEnd}
 use Rattle.std.specs.List.{AllByRecursion}
-use Rattle.pl_block.specs.declared.fault.Failed.{Failed}
-use Rattle.pl_block.specs.declared.fault.Failed.TheVariants.{Malformed, NoMemory}
-use Rattle.pl_table.specs.Request.{Query}
 use Rattle.pl_core.specs.declared.reply.Reply.{Reply}
-use Rattle.pl_core.specs.declared.reply.Reply.TheVariants as replies
 use Rattle.pl_core.specs.Reply.{FitsReply}
 use Rattle.pl_wire.specs.Answering.{Answered, AnswersBody, Calls}
-use Rattle.pl_wire.specs.Codes.{body_fault_code}
 use Rattle.pl_wire.specs.FrameReading.{StopsFrame}
 use Rattle.pl_wire.specs.Frames.{frames_of, longest_request}
 use Rattle.pl_wire.specs.FrameWriting.{reply_frame}
-use Rattle.pl_wire.specs.declared.fault.WireFault.{WireFault}
 use Rattle.pl_wire.specs.declared.frame_reading.FrameFault.{FrameFault}
 use Rattle.pl_conn.specs.Conversation.{Converses, MayWait, Scene, Talk, Talks, cause_of, replies_text}
 use Rattle.pl_conn.specs.declared.cause.Cause.{Cause}
@@ -46,12 +40,6 @@ pub record HoldsReplies (box : Box) (replies : List Reply) : Type 0 where
   pub text : box.text ≡ replies_text replies
   pub lens : box.lens ≡ map (λ reply. length (reply_frame reply)) replies
   pub few : MayWait replies
-
--- a request is called; a fault, or that there was no memory, is replied without a call
-abbrev pub AnswersRead : {P : Type 0} → Calls P → Result Query (Failed WireFault) → P → Reply → P → Type 0
-AnswersRead calls (Ok request) before reply after = calls before request reply after
-AnswersRead calls (Err (Malformed fault)) before reply after = (reply ≡ replies.Malformed (body_fault_code fault)) × (after ≡ before)
-AnswersRead calls (Err NoMemory) before reply after = (reply ≡ replies.NoMemory) × (after ≡ before)
 
 -- The bytes are frames, which are answered, in order, a chain of calls; their replies wait after those that waited.
 pub record Gathers {P : Type 0} (calls : Calls P) (before : P) (bytes : List ℕ) (box : Box) (after : P) (left : Box) : Type 0 where

@@ -2,34 +2,12 @@
 
 ghost use Rattle.std.specs.Prelude.{◌≡◌, ◌+◌, ◌≤◌, IfNone, IfSome, length, take};
 ghost use Rattle.std.specs.Io.KnownBytes.{Appends};
-ghost use Rattle.pl_core.specs.Reply.{FitsReply};
-ghost use Rattle.pl_conn.specs.Gathering.{AnswersRead, Gathers, MayGather};
+ghost use Rattle.pl_conn.specs.Gathering.{Gathers, MayGather};
 
-use crate::gate::Gate;
 use crate::outbox::Outbox;
-use pl_core::Reply;
-use pl_table::Request;
-use pl_wire::{BodyFault, LENGTH_BYTES, body_in, decode_request};
+use pl_wire::{Gate, LENGTH_BYTES, answer, body_in, decode_request};
 use std::alloc::Global;
 use std::io::{self, ErrorKind, Write};
-
-// The reply to what a body spells.
-pub(crate) fn answer<G: Gate>(
-    read: Result<Request, BodyFault>,
-    gate: &G,
-    pass: &mut G::Pass,
-) -> Reply
-    requires own { G.owns gate.now pass.old }
-    ensures own { G.owns gate.now pass.new }
-    ensures fits { FitsReply result }
-    ensures answers { AnswersRead (G.calls gate.now) read pass.old result pass.new }
-{
-    match read {
-        Ok(request) => gate.call(pass, request),
-        Err(BodyFault::Malformed(fault)) => Reply::Malformed { code: fault.code() },
-        Err(BodyFault::NoMemory) => Reply::NoMemory,
-    }
-}
 
 // Answers the frame that the bytes begin with, where they hold all of it, and returns its length.
 pub(crate) fn answer_first<G: Gate>(

@@ -7,14 +7,15 @@ ghost use Rattle.pl_wire.specs.Reading.{MayLackMemory, request_reading};
 ghost use Rattle.pl_conn.specs.Conversation.{Converses, scene};
 ghost use Rattle.pl_conn.specs.Gathering.{MayGather, TakesFrame, Turns};
 
-use crate::answering::{answer, answer_first, answer_whole, write_ready};
+use crate::answering::{answer_first, answer_whole, write_ready};
 use crate::cause::{Cause, ConnFault, cause_of};
-use crate::gate::Gate;
 use crate::outbox::Outbox;
 use crate::source::Source;
 use bytes::Bytes;
 use pl_table::Request;
-use pl_wire::{BodyFault, LONGEST_REQUEST, decode_request, decode_request_shared, read_frame};
+use pl_wire::{
+    BodyFault, Gate, LONGEST_REQUEST, answer, decode_request, decode_request_shared, read_frame,
+};
 use std::alloc::Global;
 use std::io::Write;
 

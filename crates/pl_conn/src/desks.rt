@@ -4,10 +4,10 @@ ghost use Rattle.std.specs.Prelude.{◌≡◌, ◌≤◌, ◌^◌, ◌++◌, ◌
 ghost use Rattle.std.specs.List.{All};
 ghost use Rattle.pl_conn.specs.Desks.{ArePassesOf, DesksCall, HaveMet, dealt_into, terms_of_each, all_fresh};
 
-use crate::gate::Gate;
 use pl_core::{Db, Reply};
 use pl_desk::{Desk, Pass};
 use pl_table::Request;
+use pl_wire::Gate;
 use std::alloc::{AllocError, Global};
 use std::marker::Model;
 use std::sync::Wait;

@@ -3,10 +3,10 @@
 ghost use Rattle.std.specs.Prelude.{◌≡◌, ◌+◌, ◌-◌, ◌^◌, ◌<◌, unwrap_or, if◌then◌else◌};
 ghost use Rattle.pl_conn.specs.Materialising.{advance_at, is_done, is_older_epoch, told_epoch, goes_on, Round, Works};
 
-use crate::gate::Gate;
 use pl_core::Reply;
 use pl_decide::Rule;
 use pl_table::{Act, Head, Request, Role, Section};
+use pl_wire::Gate;
 
 /// By how many blocks a round advances the partition.
 const STEPS: u16 = 16;

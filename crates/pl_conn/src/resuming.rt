@@ -9,10 +9,9 @@ ghost use Rattle.pl_conn.specs.Resting.{Hears, Rests, Speaks, Tells, TurnsJoin, 
 
 use crate::answering::{answer_whole, write_ready};
 use crate::cause::Cause;
-use crate::gate::Gate;
 use crate::inbox::{Inbox, LONGEST_FRAME};
 use crate::outbox::Outbox;
-use pl_wire::{body_in, is_cut};
+use pl_wire::{Gate, body_in, is_cut};
 use std::alloc::{AllocError, Global};
 use std::io::{self, ErrorKind, Read, Write};
 use std::marker::Model;

@@ -6,10 +6,10 @@ ghost use Rattle.pl_conn.specs.Serving.{Reaches, Returned, ServesConnections};
 ghost use Rattle.pl_conn.specs.Workers.{AllOf, each_of};
 
 use crate::accepting::accept_all;
-use crate::gate::Gate;
 use crate::watch::{Unwatched, Watch};
 use crate::worker::{Outcome, Post, Worker};
 use crossbeam_channel::Sender;
+use pl_wire::Gate;
 use std::alloc::{AllocError, Global};
 use std::net::{Net, TcpListener, TcpStream};
 use std::snapshot::Snapshot;

@@ -5,9 +5,9 @@ ghost use Rattle.pl_core.specs.Reply.{FitsReply};
 ghost use Rattle.pl_core.specs.Step.{IsStep};
 ghost use Rattle.pl_conn.specs.Solo.{HasDatabases, SoloCall};
 
-use crate::gate::Gate;
 use pl_core::{Db, Reply};
 use pl_table::Request;
+use pl_wire::Gate;
 use std::marker::Model;
 
 /// Databases, numbered from 0, and the number under which they are asked.

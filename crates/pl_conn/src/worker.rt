@@ -3,11 +3,11 @@
 ghost use Rattle.pl_conn.specs.Serving.{Reaches};
 
 use crate::cause::Cause;
-use crate::gate::Gate;
 use crate::resuming::{Conversation, Rest, Room};
 use crossbeam_channel::{Receiver, TryRecvError};
 use mio::event::Event;
 use mio::{Events, Interest, Poll, Token, Waker};
+use pl_wire::Gate;
 use slab::Slab;
 use std::alloc::Global;
 use std::io;

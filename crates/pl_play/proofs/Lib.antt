@@ -1,4 +1,5 @@
 mod Feeds
 mod Pieces
+mod Read
 mod Turns
 mod Words

@@ -1,6 +1,7 @@
 //! The answer to one body.
 
-ghost use Rattle.std.specs.Prelude.{◌≡◌, ◌↔◌, IfOk, IsTrue, OnErr, OnOk};
+ghost use Rattle.std.specs.Prelude.{◌≡◌, ◌↔◌, Err, IfOk, IsTrue, OnErr, OnOk};
+ghost use Rattle.pl_block.specs.declared.fault.Failed.TheVariants.{NoMemory};
 ghost use Rattle.pl_core.specs.Reply.{FitsReply};
 ghost use Rattle.pl_wire.specs.Answering.{AnswersAsRead};
 ghost use Rattle.pl_wire.specs.Replies.{reply_spelling};
@@ -9,19 +10,25 @@ ghost use Rattle.pl_play.specs.Played.{WritesReply};
 ghost use Rattle.pl_play.specs.Text.{line_text};
 
 use crate::fault::PlayFault;
+use crate::one_database::OneDatabase;
 use crate::text::line_of_bytes;
 use crate::writing::write_whole;
 use bytes::Bytes;
 use pl_core::{Db, Reply};
-use pl_wire::{BodyFault, decode_request_shared, encode_reply};
+use pl_table::Request;
+use pl_wire::{BodyFault, answer, decode_request_shared, encode_reply};
 use std::alloc::{AllocError, Global};
 use std::io::Write;
 
-/// The pass under which each request is handed in.
-const PASS: u64 = 1;
-
 /// The line of [`Reply::NoMemory`].
 const NO_MEMORY: &[u8] = b"06\n";
+
+/// Whether there was no memory for what the body keeps.
+fn finds_no_memory(read: &Result<Request, BodyFault>) -> bool
+    ensures value { IsTrue result ↔ read.now ≡ Err NoMemory }
+{
+    matches!(read, Err(BodyFault::NoMemory))
+}
 
 /// Replies to one body: by a step of the database, or by the fault that makes the body no request.
 ///
@@ -37,11 +44,11 @@ pub(crate) fn reply_to(alloc: Global, body: Bytes, db: &mut Db) -> Result<Reply,
     // `AllocError` comes only of a write, an offer or a set_table.
     ensures copied { OnErr result (IsCopied body) }
 {
-    match decode_request_shared(alloc, body) {
-        Ok(request) => Ok(db.step(PASS, request)),
-        Err(BodyFault::Malformed(fault)) => Ok(Reply::Malformed { code: fault.code() }),
-        Err(BodyFault::NoMemory) => Err(AllocError),
+    let read = decode_request_shared(alloc, body);
+    if finds_no_memory(&read) {
+        return Err(AllocError);
     }
+    Ok(answer(read, &OneDatabase, db))
 }
 
 /// A reply as a line.

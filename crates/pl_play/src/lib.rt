@@ -9,6 +9,7 @@
 mod answering;
 mod fault;
 mod lines;
+mod one_database;
 mod operator_words;
 mod player;
 mod reply_text;

@@ -1,5 +1,7 @@
 -- What answers to bodies are: calls of the requests that they spell, or faults.
 use Rattle.std.specs.Prelude.{◌≡◌, ℕ, ◌⊎◌, List, [], ◌∷◌, Result, Ok, Err}
+use Rattle.pl_block.specs.declared.fault.Failed.{Failed}
+use Rattle.pl_block.specs.declared.fault.Failed.TheVariants.{Malformed, NoMemory}
 use Rattle.pl_table.specs.Request.{Query}
 use Rattle.pl_core.specs.declared.reply.Reply.{Reply}
 use Rattle.pl_core.specs.declared.reply.Reply.TheVariants as replies
@@ -19,6 +21,12 @@ Answers P = P → List ℕ → Reply → P → Type 0
 abbrev pub AnswersReading : {P : Type 0} → Calls P → Result Query WireFault → P → Reply → P → Type 0
 AnswersReading calls (Ok request) before reply after = calls before request reply after
 AnswersReading calls (Err fault) before reply after = (reply ≡ replies.Malformed (body_fault_code fault)) × (after ≡ before)
+
+-- what a decoder read of a body is answered: a request is called; a fault, or that there was no memory, is replied without a call
+abbrev pub AnswersRead : {P : Type 0} → Calls P → Result Query (Failed WireFault) → P → Reply → P → Type 0
+AnswersRead calls (Ok request) before reply after = calls before request reply after
+AnswersRead calls (Err (Malformed fault)) before reply after = (reply ≡ replies.Malformed (body_fault_code fault)) × (after ≡ before)
+AnswersRead calls (Err NoMemory) before reply after = (reply ≡ replies.NoMemory) × (after ≡ before)
 
 -- a body is answered as what it reads as
 abbrev pub AnswersAsRead : {P : Type 0} → Calls P → P → List ℕ → Reply → P → Type 0

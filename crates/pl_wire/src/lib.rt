@@ -4,14 +4,17 @@
 //! of its spelling. Of bytes that spell no request the fault of the least code is reported; of bytes
 //! that spell no reply, the fault that is met first. A frame is a length in four bytes, the high one
 //! first, and a body of this many bytes: [`read_frame`] and [`read_reply`] take one from a reader,
-//! [`body_in`] finds one where it lies, [`write_request`] and [`write_reply`] write one.
+//! [`body_in`] finds one where it lies, [`write_request`] and [`write_reply`] write one. [`answer`] is the reply of a
+//! [`Gate`] to what was read of a body.
 #![tactic(auto)]
 
+mod answering;
 mod fault;
 mod fields;
 mod frame_in_place;
 mod frame_reading;
 mod frame_writing;
+mod gate;
 mod kind;
 pub mod laws;
 mod reply_reading;
@@ -20,6 +23,7 @@ mod request_reading;
 mod request_writing;
 mod seen;
 
+pub use answering::answer;
 pub use fault::{BodyFault, WireFault};
 pub use frame_in_place::{body_in, is_cut};
 pub use frame_reading::{
@@ -29,6 +33,7 @@ pub use frame_reading::{
 pub use frame_writing::{
     LARGEST_REPLY_FRAME, WriteFault, put_reply, write_bytes, write_reply, write_request,
 };
+pub use gate::Gate;
 pub use kind::ReplyKind;
 pub use reply_reading::decode_reply;
 pub use reply_writing::encode_reply;
