@@ -158,11 +158,17 @@ def functions_of(crate):
 
 
 @functools.lru_cache(maxsize=None)
+def traits_in(crate):
+    """The names of the crate's public traits."""
+    return {trait for file in (crate / "src").rglob("*.rt") for trait, _, _ in traits_of(without_comments(file.read_text()))}
+
+
+@functools.lru_cache(maxsize=None)
 def impls_with_words(crate):
-    """The impls of the crate's public traits whose parts have words: the name, and the parts as clauses."""
+    """The crate's impls of public traits, its own and those of crates below, whose parts have words: the name, and the parts as clauses."""
     files = sorted(set((crate / "src").rglob("*.rt")) - set(test_files(crate)))
     texts = [(file.read_text(), without_tests(without_comments(file.read_text()))) for file in files]
-    public = {trait for _, text in texts for trait, _, _ in traits_of(text)}
+    public = {trait for each in crate.parent.iterdir() for trait in traits_in(each)}
     found = []
     for source, text in texts:
         for owner, trait, first, last in impls_of(text):

@@ -37,7 +37,7 @@ module _ {M : Type 1} {𝓤 : Ura M} (𝓛 : Logic 𝓤) (l : Lft) (R : RattleTy
   Lends-items (block_ptr b o) xs n =
       let small = is_small R xs n in
       let row = cells (mem R) xs b o in
-      let behind = froom (places R n) b (length xs * type_size R + o) in
-      Lends-both 𝓛 small (fsep row behind) (said small) (elements_shared R xs b o) l (Lends-said 𝓛 small tt l)
-      (Lends-first 𝓛 row behind (elements_shared R xs b o) l (each xs b o))
+      let past = froom (places R n) b (length xs * type_size R + o) in
+      Lends-both 𝓛 small (fsep row past) (said small) (elements_shared R xs b o) l (Lends-said 𝓛 small tt l)
+      (Lends-first 𝓛 row past (elements_shared R xs b o) l (each xs b o))
   Lends-items null_ptr xs n = Lends-false 𝓛 (said ffalse) l

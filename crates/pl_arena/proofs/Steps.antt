@@ -125,8 +125,8 @@ pub part_fits : (i c s : ℕ) → i ≤ c → c * s < 2 ^ 63 → i * s < 2 ^ 64
 part_fits i c s within small = block_fits (i * s) (rows.times_below i c s (2 ^ 63) within small)
 
 -- where the room begins after n items, and after one more
-pub behind : (len n k s o : ℕ) → len ≡ n → k ≡ n + 1 → len * s + o + s ≡ k * s + o
-behind len n k s o e more = omega (arith, ap (λ (j : ℕ). j * s) e, ap (λ (j : ℕ). j * s) more ∙ rows.next n s)
+pub past : (len n k s o : ℕ) → len ≡ n → k ≡ n + 1 → len * s + o + s ≡ k * s + o
+past len n k s o e more = omega (arith, ap (λ (j : ℕ). j * s) e, ap (λ (j : ℕ). j * s) more ∙ rows.next n s)
 
 lone_value : (E : El) (vs : List Val) → Typed (elτ E ∷ []) vs → (v : Val) × ((vs ≡ v ∷ []) × Good (elτ E) v)
 lone_value E [] is = absurd is

@@ -90,15 +90,15 @@ read_annotations lo hi b h =
     let ps = touched b.records in
     let texts = flat_map (to_be_bytes w16) ps in
     let tail = to_be_bytes w16 (length b.records) ++ flat_map record_spelling b.records in
-    let behind : drop 8 (block_spelling b) ≡ annotations ps ++ tail = drop_at (to_be_bytes w64 b.lsn) (annotations ps ++ tail) 8 refl in
+    let later : drop 8 (block_spelling b) ≡ annotations ps ++ tail = drop_at (to_be_bytes w64 b.lsn) (annotations ps ++ tail) 8 refl in
     let regrouped : annotations ps ++ tail ≡ to_be_bytes w16 (length ps) ++ (texts ++ tail) = append_assoc (to_be_bytes w16 (length ps)) texts tail in
-    ap (λ (bytes : List ℕ). any_at lo hi (from_be_bytes w16 (take 2 bytes)) (drop 2 bytes)) (behind ∙ regrouped)
+    ap (λ (bytes : List ℕ). any_at lo hi (from_be_bytes w16 (take 2 bytes)) (drop 2 bytes)) (later ∙ regrouped)
     ∙ read_count lo hi (to_be_bytes w16 (length ps)) (texts ++ tail) (length ps) refl (wide16.again (length ps) (counts b h).0)
     ∙ any_again lo hi ps tail (touched_small b.records h.each)
 
 -- the same, as a call reads them
-pub asked : (lo hi : ℕ) (b : Content) (bytes behind after : List ℕ) (count : ℕ) (answer : Bool) → IsBlock b → bytes ≡ block_spelling b → behind ≡ drop 8 bytes → count ≡ from_be_bytes w16 (take 2 behind) → after ≡ drop 2 behind
+pub asked : (lo hi : ℕ) (b : Content) (bytes later after : List ℕ) (count : ℕ) (answer : Bool) → IsBlock b → bytes ≡ block_spelling b → later ≡ drop 8 bytes → count ≡ from_be_bytes w16 (take 2 later) → after ≡ drop 2 later
     → answer ≡ any_at lo hi count after → answer ≡ touches_between lo hi b
-asked lo hi b bytes behind after count answer h spelled behind-is count-is after-is given =
-    let read : any_at lo hi count after ≡ any_at lo hi (from_be_bytes w16 (take 2 behind)) (drop 2 behind) = rw (count-is, after-is) refl in
-    given ∙ read ∙ ap (λ (front : List ℕ). any_at lo hi (from_be_bytes w16 (take 2 front)) (drop 2 front)) (behind-is ∙ ap (drop 8) spelled) ∙ read_annotations lo hi b h
+asked lo hi b bytes later after count answer h spelled later-is count-is after-is given =
+    let read : any_at lo hi count after ≡ any_at lo hi (from_be_bytes w16 (take 2 later)) (drop 2 later) = rw (count-is, after-is) refl in
+    given ∙ read ∙ ap (λ (front : List ℕ). any_at lo hi (from_be_bytes w16 (take 2 front)) (drop 2 front)) (later-is ∙ ap (drop 8) spelled) ∙ read_annotations lo hi b h

@@ -20,13 +20,13 @@ use Rattle.pl_conn.specs.declared.cause.Cause.{Cause}
 use Rattle.pl_conn.specs.declared.cause.Cause.TheVariants as causes
 use Rattle.pl_conn.specs.declared.cause.ConnFault.{ConnFault}
 use Rattle.pl_conn.proofs.Gathered.{gathers_then, holds_none}
-use Rattle.pl_conn.proofs.Talking.{all_then, answered_then, cut_text, fewer_behind}
+use Rattle.pl_conn.proofs.Talking.{all_then, answered_then, cut_text, fewer_after}
 
 -- the talk, and these bodies and replies before it
-abbrev behind : List (List ℕ) → List Reply → Talk → Talk
-behind bodies replies talk = record { bodies = bodies ++ talk.bodies; whole = replies ++ talk.whole; others = talk.others; part = talk.part; cut = talk.cut }
+abbrev later : List (List ℕ) → List Reply → Talk → Talk
+later bodies replies talk = record { bodies = bodies ++ talk.bodies; whole = replies ++ talk.whole; others = talk.others; part = talk.part; cut = talk.cut }
 
-same_end : (cause : Cause) (bodies : List (List ℕ)) (replies : List Reply) (talk : Talk) (left : Option (List ℕ)) → Ends cause talk left → Ends cause (behind bodies replies talk) left
+same_end : (cause : Cause) (bodies : List (List ℕ)) (replies : List Reply) (talk : Talk) (left : Option (List ℕ)) → Ends cause talk left → Ends cause (later bodies replies talk) left
 same_end causes.Short bodies replies talk left end = end
 same_end causes.TooLong bodies replies talk left end = end
 same_end causes.Read bodies replies talk left end = end
@@ -53,9 +53,9 @@ module _ {P : Type 0} (calls : Calls P) where
   )
 
   -- what is told goes on
-  talks_behind : (before now after : Scene P) (bodies : List (List ℕ)) (replies : List Reply) (talk : Talk)
-      → Talks calls before now (told_talk bodies replies) → Talks calls now after talk → Talks calls before after (behind bodies replies talk)
-  talks_behind before now after bodies replies talk s t =
+  talks_after : (before now after : Scene P) (bodies : List (List ℕ)) (replies : List Reply) (talk : Talk)
+      → Talks calls before now (told_talk bodies replies) → Talks calls now after talk → Talks calls before after (later bodies replies talk)
+  talks_after before now after bodies replies talk s t =
       let read = rw (append-nil (frames_of bodies)) at s.read in
       let chain = rw (append-nil replies) at s.chain in
       let fits = rw (append-nil replies) at s.fits in
@@ -80,7 +80,7 @@ module _ {P : Type 0} (calls : Calls P) where
   told_more before now after n m s t = record {
     bodies = s.bodies ++ t.bodies;
     replies = s.replies ++ t.replies;
-    talks = talks_behind before now after s.bodies s.replies (told_talk t.bodies t.replies) s.talks t.talks;
+    talks = talks_after before now after s.bodies s.replies (told_talk t.bodies t.replies) s.talks t.talks;
     number = counted s.replies t.replies n m s.number t.number;
   }
 
@@ -88,8 +88,8 @@ module _ {P : Type 0} (calls : Calls P) where
   pub told_then : (before now after : Scene P) (n : ℕ) (fault : ConnFault) → Told calls before now n → Converses calls now after (Err fault)
       → Converses calls before after (Err (record { cause = fault.cause; answered = n + fault.answered }))
   told_then before now after n fault s t = (
-    behind s.bodies s.replies t.0,
-    talks_behind before now after s.bodies s.replies t.0 s.talks t.1,
+    later s.bodies s.replies t.0,
+    talks_after before now after s.bodies s.replies t.0 s.talks t.1,
     counted s.replies t.0.whole n fault.answered s.number t.2,
     same_end fault.cause s.bodies s.replies t.0 after.input t.3,
   )
@@ -151,7 +151,7 @@ module _ {P : Type 0} (calls : Calls P) where
             written = subst (λ (l : List ℕ). Appends output out l) (ap (take n) h.text ∙ c.text) writes;
           },
           c.number ∙ ap (λ (l : List ℕ). whole_in l n) (sym h.lens),
-          ((c.next, c.more, c.k, refl, c.less, refl, fewer_behind c.whole (c.next ∷ c.more) (subst MayWait c.parts h.few)), inl (inl (omega arith))),
+          ((c.next, c.more, c.k, refl, c.less, refl, fewer_after c.whole (c.next ∷ c.more) (subst MayWait c.parts h.few)), inl (inl (omega arith))),
         )
 
   -- a turn at whose start there is no frame

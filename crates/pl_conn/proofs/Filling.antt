@@ -16,8 +16,8 @@ take_split a b old new h front =
     ap (λ l. l ++ slice_range new a b) (sym front) ∙ sym (take-add a (b - a) new) ∙ ap (λ n. take n new) same
 
 -- what waits, and after it what was read
-pub behind : (at k n : ℕ) (xs ys : List ℕ) → at ≤ length xs → n ≤ length ys → take at xs ++ take n ys ≡ take (at + n) (put_mid at k xs ys)
-behind at k n xs ys within fits =
+pub later : (at k n : ℕ) (xs ys : List ℕ) → at ≤ length xs → n ≤ length ys → take at xs ++ take n ys ≡ take (at + n) (put_mid at k xs ys)
+later at k n xs ys within fits =
     let front = take-put_mid_below _ _ _ _ _ (le_refl _) within in
     ap (λ l. take at xs ++ l) (sym (slice_range-put_mid at k n xs ys within fits)) ∙ take_split at (at + n) xs (put_mid at k xs ys) (omega arith) front
 

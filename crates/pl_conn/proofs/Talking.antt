@@ -40,9 +40,9 @@ all_but_last xs x =
     ap (λ (n : ℕ). take n (xs ++ x ∷ [])) count ∙ take-append_seam xs (x ∷ [])
 
 -- those after some that may wait may wait
-pub fewer_behind : (front back : List Reply) → MayWait (front ++ back) → MayWait back
-fewer_behind front [] few = omega arith
-fewer_behind front (r ∷ rs) few =
+pub fewer_after : (front back : List Reply) → MayWait (front ++ back) → MayWait back
+fewer_after front [] few = omega arith
+fewer_after front (r ∷ rs) few =
     let count : length (front ++ (r ∷ rs)) - 1 ≡ length front + length rs = omega (arith, length-append front (r ∷ rs)) in
     let all : replies_text (take (length (front ++ (r ∷ rs)) - 1) (front ++ (r ∷ rs))) ≡ replies_text front ++ replies_text (take (length rs) (r ∷ rs)) =
     ap (λ (n : ℕ). replies_text (take n (front ++ (r ∷ rs)))) count ∙ (ap replies_text (take-append-add front (r ∷ rs) (length rs))

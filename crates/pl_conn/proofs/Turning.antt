@@ -18,14 +18,14 @@ use Rattle.pl_conn.specs.declared.cause.Cause.TheVariants as causes
 use Rattle.pl_wire.specs.FrameReading.{IsCut}
 use Rattle.pl_conn.specs.declared.resuming.Rest.{Rest}
 use Rattle.pl_conn.specs.declared.resuming.Rest.TheVariants as rests
-use Rattle.pl_conn.proofs.Filling.{behind}
+use Rattle.pl_conn.proofs.Filling.{later}
 use Rattle.pl_conn.proofs.Reaching.{by_answers}
 use Rattle.pl_conn.proofs.Talking.{all_then, answered_then}
 
 -- a read puts bytes after those that wait
-pub heard_behind : (a b : Option (List ℕ)) (at k n : ℕ) (xs ys : List ℕ) → at ≤ length xs → n ≤ length ys → Consumes a b (take n ys)
+pub heard_after : (a b : Option (List ℕ)) (at k n : ℕ) (xs ys : List ℕ) → at ≤ length xs → n ≤ length ys → Consumes a b (take n ys)
     → Hears a (take at xs) b (take (at + n) (put_mid at k xs ys))
-heard_behind a b at k n xs ys within fits reads = (take n ys, reads, sym (behind at k n xs ys within fits))
+heard_after a b at k n xs ys within fits reads = (take n ys, reads, sym (later at k n xs ys within fits))
 
 kept_of : (a b : Option (List ℕ)) → Keeps a b → Consumes a b []
 kept_of a b kept = Consumes-kept a a b [] (Consumes-nil a) kept
@@ -72,9 +72,9 @@ module _ {P : Type 0} (calls : Calls P) where
   }
 
   -- the same after what waited
-  replies_behind : (p q : P) (bytes rest waits text : List ℕ) → Replies calls p (middle bytes []) q (middle rest text)
+  replies_after : (p q : P) (bytes rest waits text : List ℕ) → Replies calls p (middle bytes []) q (middle rest text)
       → Replies calls p (middle bytes waits) q (middle rest (waits ++ text))
-  replies_behind p q bytes rest waits text r = record {
+  replies_after p q bytes rest waits text r = record {
     bodies = r.bodies;
     replies = r.replies;
     short = r.short;
@@ -97,7 +97,7 @@ module _ {P : Type 0} (calls : Calls P) where
       let all : s.said ++ text ≡ (s.said ++ take k text) ++ drop k text =
       ap (λ l. s.said ++ l) (sym (take-append-drop k text)) ∙ sym (append_assoc s.said (take k text) (drop k text)) in
       let first = subst (λ (l : List ℕ). Replies calls p (middle bytes []) q (middle (drop n bytes) l)) (append-nil s.said) s.replies in
-      let both = replies_then p q r (middle bytes []) (middle (drop n bytes) s.said) _ first (replies_behind q r (drop n bytes) (drop m (drop n bytes)) s.said text rest) in
+      let both = replies_then p q r (middle bytes []) (middle (drop n bytes) s.said) _ first (replies_after q r (drop n bytes) (drop m (drop n bytes)) s.said text rest) in
       record {
         said = s.said ++ take k text;
         output = Appends-trans a b c s.said (take k text) s.output writes;

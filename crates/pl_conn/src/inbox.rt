@@ -41,11 +41,11 @@ fn put_front(room: &mut [u8], bytes: &[u8])
 }
 
 // Reads once, into the room after this many bytes that wait.
-#[tactic(auto, using(crate::proofs::Turning::heard_behind))]
+#[tactic(auto, using(crate::proofs::Turning::heard_after))]
 fn read_after<R: Read>(from: &mut R, room: &mut [u8], count: usize) -> io::Result<usize>
     requires within { count ≤ length room.old }
     ensures len { length room.new ≡ length room.old }
-    ensures bound { IfOk result (λ more. count + more ≤ length room.new) }
+    ensures few { IfOk result (λ more. count + more ≤ length room.new) }
     ensures hears { IfOk result (λ more. Hears (R.remaining from.old) (take count room.old)
         (R.remaining from.new) (take (count + more) room.new)) }
     ensures end { IfOk result (λ more. more ≡ 0 → count < length room.old → IsAtEnd (R.remaining from.new)) }

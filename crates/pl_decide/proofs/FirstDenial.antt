@@ -47,13 +47,13 @@ pub allowed_exactly : AllowedExactly
 allowed_exactly order q t e v = (none_stands order q t e v, allowed_of order q t e v)
 
 -- a rule in front that does not stand leaves the first that does
-behind_one : (rule : Rule) (order : List Rule) (q : Query) (t : WrittenTable) (e : Epochs) (v : View) (verdict : Verdict) → stands_against rule q t e v ≡ false → IsFirstDenial verdict order q t e v → IsFirstDenial verdict (rule ∷ order) q t e v
-behind_one rule order q t e v verdict passed found =
+after_one : (rule : Rule) (order : List Rule) (q : Query) (t : WrittenTable) (e : Epochs) (v : View) (verdict : Verdict) → stands_against rule q t e v ≡ false → IsFirstDenial verdict order q t e v → IsFirstDenial verdict (rule ∷ order) q t e v
+after_one rule order q t e v verdict passed found =
     let first = found.1 in (
       found.0,
       record {
         before = rule ∷ first.before;
-        behind = first.behind;
+        after = first.after;
         place = ap (λ (rs : List Rule). rule ∷ rs) first.place;
         stands = first.stands;
         none_before = All-cons (λ (r : Rule). stands_against r q t e v ≡ false) rule first.before passed first.none_before;
@@ -65,10 +65,10 @@ pub denied_by_the_first : DeniedByTheFirst
 denied_by_the_first [] q t e v denied = absurd (denied refl)
 denied_by_the_first (rule ∷ order) q t e v denied =
     elim (cases_Bool (stands_against rule q t e v)) [
-      | inl stands ↦ rw stands (rule, record { before = []; behind = order; place = refl; stands = stands; none_before = All-nil (λ (r : Rule). stands_against r q t e v ≡ false) }, refl)
+      | inl stands ↦ rw stands (rule, record { before = []; after = order; place = refl; stands = stands; none_before = All-nil (λ (r : Rule). stands_against r q t e v ≡ false) }, refl)
       | inr passed ↦
           let same : first_denial (rule ∷ order) q t e v ≡ first_denial order q t e v = rw passed refl in
-          rw passed (behind_one rule order q t e v (first_denial order q t e v) passed (denied_by_the_first order q t e v (λ h. denied (same ∙ h))))
+          rw passed (after_one rule order q t e v (first_denial order q t e v) passed (denied_by_the_first order q t e v (λ h. denied (same ∙ h))))
     ]
 
 -- ---- of a verdict that is the first denial

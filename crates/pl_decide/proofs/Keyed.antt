@@ -73,10 +73,10 @@ about_between true at_low at_n at_high here same = here same
 
 -- a row in front of others, of which none is found under its number
 step : (k : ℕ) (allows at_low at_n at_high : Bool) (low n high : Option (ℕ × Bool)) → (at_high ≡ at_low → at_n ≡ at_low) → (high ≡ low → n ≡ low) → (low ≡ Some (k, allows) → ⊥) → (high ≡ Some (k, allows) → ⊥) → (if at_high then Some (k, allows) else high) ≡ (if at_low then Some (k, allows) else low) → (if at_n then Some (k, allows) else n) ≡ (if at_low then Some (k, allows) else low)
-step k allows true at_n true low n high here behind low_apart high_apart same = rw (here refl) refl
-step k allows false at_n false low n high here behind low_apart high_apart same = rw (here refl) (behind same)
-step k allows false at_n true low n high here behind low_apart high_apart same = absurd (low_apart (sym same))
-step k allows true at_n false low n high here behind low_apart high_apart same = absurd (high_apart same)
+step k allows true at_n true low n high here after low_apart high_apart same = rw (here refl) refl
+step k allows false at_n false low n high here after low_apart high_apart same = rw (here refl) (after same)
+step k allows false at_n true low n high here after low_apart high_apart same = absurd (low_apart (sym same))
+step k allows true at_n false low n high here after low_apart high_apart same = absurd (high_apart same)
 
 apart : (k : ℕ) (allows : Bool) (rows : List Row) (a : Asked) → first_match_from (k + 1) rows a ≡ Some (k, allows) → ⊥
 apart k allows rows a is = let within = first_match-within (k + 1) rows a k allows is in omega (arith, within.0)

@@ -65,8 +65,8 @@ same_rows k (suc n) q t e v w same =
     ap (λ (d : Verdict). cond (stands_against (rules.TableRow k) q t e v) (denial (rules.TableRow k) q.act e v) d) (same_rows (k + 1) n q t e v w same)
 
 -- section A in front of a verdict
-abbrev behind_a : Query → WrittenTable → Epochs → View → Verdict → Verdict
-behind_a q t e v d =
+abbrev after_a : Query → WrittenTable → Epochs → View → Verdict → Verdict
+after_a q t e v d =
     cond (stands_against rules.UnknownPrincipal q t e v) (denial rules.UnknownPrincipal q.act e v)
     (cond (stands_against rules.OlderEpoch q t e v) (denial rules.OlderEpoch q.act e v)
     (cond (stands_against rules.NewerEpoch q t e v) (denial rules.NewerEpoch q.act e v)
@@ -78,7 +78,7 @@ same_here q t e v w alike =
     let moved = seen w.hard w.copies v.agrees v.can_harden in
     ap (λ (n : ℕ). decision q t e (seen n v.copies v.agrees v.can_harden)) alike.hard
     ∙ ap (λ (n : ℕ). decision q t e (seen w.hard n v.agrees v.can_harden)) alike.copies
-    ∙ ap (behind_a q t e moved) (same_rows 1 (length t.rows) q t e moved w
+    ∙ ap (after_a q t e moved) (same_rows 1 (length t.rows) q t e moved w
     (same_log q.head q.act t e w.hard w.copies v.agrees w.agrees v.can_harden w.can_harden alike.agrees alike.can_harden))
 
 pub decide_alike : ViewsDecideAlike

@@ -51,8 +51,8 @@ NoneStands order q t e v = All (λ rule. stands_against rule q t e v ≡ false) 
 pub record IsFirst (rule : Rule) (order : List Rule) (q : Query) (t : WrittenTable) (e : Epochs)
     (v : View) : Type 0 where
   pub before : List Rule
-  pub behind : List Rule
-  pub place : order ≡ before ++ rule ∷ behind
+  pub after : List Rule
+  pub place : order ≡ before ++ rule ∷ after
   pub stands : stands_against rule q t e v ≡ true
   pub none_before : NoneStands before q t e v
 

@@ -47,7 +47,7 @@ pub(crate) fn keep(
     key: VerdictKey,
     verdict: RowVerdict,
 )
-    ensures kept { (e : CachedVerdict) → Contains verdicts.new.entries e →
+    ensures only { (e : CachedVerdict) → Contains verdicts.new.entries e →
         Contains verdicts.old.entries e ⊎ (e ≡ (key, verdict)) }
     ensures most { verdicts.new.cap ≡ verdicts.old.cap }
 {

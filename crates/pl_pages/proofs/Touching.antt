@@ -208,8 +208,8 @@ module _ (page : ℕ) (log : List Content) (numbered : AreNumbered 1 log) where
         (λ less. subst (λ (l : List ℕ). n < get_or l p 0) are (above (omega (arith, less, ap length are))))
 
 -- a version at an LSN has as many changes as there are of its page up to that
-pub behind_at : (vs : List Version) (place page p n i : ℕ) (log : List Content) → IsAt vs place p n → p ≡ page → count_before page log n ≡ i → IsAfterChanges vs place page log i
-behind_at vs place page p n i log at own count = record {
+pub after_at : (vs : List Version) (place page p n i : ℕ) (log : List Content) → IsAt vs place p n → p ≡ page → count_before page log n ≡ i → IsAfterChanges vs place page log i
+after_at vs place page p n i log at own count = record {
   within = at.within;
   page = at.page ∙ own;
   count = ap (count_before page log) at.lsn ∙ count;
@@ -236,45 +236,45 @@ index_more log old new block is here has = record {
 
 -- ---- the version at a place, with the next block that changes its page
 
-module _ (vs : List Version) (place page : ℕ) (log : List Content) (i : ℕ) (all : AreVersions vs log) (behind : IsAfterChanges vs place page log i) (b : ℕ) (block : Content) (here : slice_get log (b - 1) ≡ Some block) (own : block.lsn ≡ b) (some : 1 ≤ b) (below : count_before page log (b - 1) ≡ i) (with_own : count_before page log b ≡ i + 1) where
+module _ (vs : List Version) (place page : ℕ) (log : List Content) (i : ℕ) (all : AreVersions vs log) (after : IsAfterChanges vs place page log i) (b : ℕ) (block : Content) (here : slice_get log (b - 1) ≡ Some block) (own : block.lsn ≡ b) (some : 1 ≤ b) (below : count_before page log (b - 1) ≡ i) (with_own : count_before page log b ≡ i + 1) where
   abbrev v : Version
   v = version_at vs place
 
   is : IsVersion log v
-  is = all place _ behind.within
+  is = all place _ after.within
 
   before_block : v.lsn ≤ b - 1
   before_block =
       elim (cases_lt v.lsn b) [
         | inl lt ↦ omega (arith, lt)
-        | inr ge ↦ absurd (omega (arith, behind.count, with_own, rise page log b v.lsn ge is.within))
+        | inr ge ↦ absurd (omega (arith, after.count, with_own, rise page log b v.lsn ge is.within))
       ]
 
   -- it is the page up to the block, too
   up_to_block : IsVersion log (record { page = v.page; lsn = b - 1; bytes = v.bytes })
   up_to_block = record {
     within = omega (arith, slice_get_within log (b - 1) block here);
-    bytes = is.bytes ∙ ap (λ p. page_of p (take v.lsn log)) behind.page
-        ∙ same_page page log v.lsn (b - 1) is.within (omega (arith, slice_get_within log (b - 1) block here)) (behind.count ∙ sym below)
-        ∙ ap (λ p. page_of p (take (b - 1) log)) (sym behind.page);
+    bytes = is.bytes ∙ ap (λ p. page_of p (take v.lsn log)) after.page
+        ∙ same_page page log v.lsn (b - 1) is.within (omega (arith, slice_get_within log (b - 1) block here)) (after.count ∙ sym below)
+        ∙ ap (λ p. page_of p (take (b - 1) log)) (sym after.page);
   }
 
   pub block_redone : AreVersions (with_block vs place block) log
   block_redone = replaced_true log vs _ (block_true log (record { page = v.page; lsn = b - 1; bytes = v.bytes }) (b - 1) block up_to_block refl here (omega (arith, own, some))) all place
 
-  pub behind_block : IsAfterChanges (with_block vs place block) place page log (i + 1)
-  behind_block =
-      let stands = with_block_stands vs place block behind.within in
+  pub later_block : IsAfterChanges (with_block vs place block) place page log (i + 1)
+  later_block =
+      let stands = with_block_stands vs place block after.within in
       record {
-        within = omega (arith, behind.within, length-set vs place (block_made (version_at vs place) block));
-        page = ap (λ w. w.page) stands ∙ behind.page;
+        within = omega (arith, after.within, length-set vs place (block_made (version_at vs place) block));
+        page = ap (λ w. w.page) stands ∙ after.page;
         count = ap (λ w. count_before page log w.lsn) stands ∙ ap (count_before page log) own ∙ with_own;
       }
 
 -- ---- the version with all changes of the page up to an LSN is the page at it
 
 pub given_at : (vs : List Version) (place page lsn : ℕ) (log : List Content) → AreVersions vs log → lsn ≤ length log → IsAfterChanges vs place page log (count_before page log lsn) → (version_at vs place).bytes ≡ page_of page (take lsn log)
-given_at vs place page lsn log all hard behind =
+given_at vs place page lsn log all hard after =
     let v = version_at vs place in
-    let is = all place _ behind.within in
-    is.bytes ∙ ap (λ p. page_of p (take v.lsn log)) behind.page ∙ same_page page log v.lsn lsn is.within hard behind.count
+    let is = all place _ after.within in
+    is.bytes ∙ ap (λ p. page_of p (take v.lsn log)) after.page ∙ same_page page log v.lsn lsn is.within hard after.count

@@ -284,13 +284,13 @@ fn bring_up(
     requires numbered { AreNumbered 1 log.old.hardened }
     requires lsns { lsns.now ≡ lsns_of page log.old.hardened }
     requires truth { AreVersions versions.old.versions log.old.hardened }
-    requires behind { IsAfterChanges versions.old.versions place page log.old.hardened from }
+    requires after { IsAfterChanges versions.old.versions place page log.old.hardened from }
     requires rising { from ≤ to }
     requires within { to ≤ length lsns.now }
     ensures log { log.new ≡ log.old }
     ensures truth { AreVersions versions.new.versions log.old.hardened }
     ensures chunks { versions.new.chunks ≡ versions.old.chunks }
-    ensures behind { OnOk result (IsAfterChanges versions.new.versions place page log.old.hardened to) }
+    ensures after { OnOk result (IsAfterChanges versions.new.versions place page log.old.hardened to) }
 {
     for i in from..to {
         let block = log.read(lsns[i])?;
@@ -379,7 +379,7 @@ fn show(
     ensures log { log.new ≡ log.old }
     ensures truth { AreVersions versions.new.versions log.old.hardened }
     ensures chunks { versions.new.chunks ≡ versions.old.chunks }
-    ensures behind { IfOk result (λ place. IsAfterChanges versions.new.versions place page
+    ensures after { IfOk result (λ place. IsAfterChanges versions.new.versions place page
         log.old.hardened (count_before page log.old.hardened lsn)) }
 {
     let to = count_up_to(lsns, lsn);

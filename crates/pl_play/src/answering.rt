@@ -42,7 +42,7 @@ pub(crate) fn reply_to(alloc: Global, body: Bytes, db: &mut Db) -> Result<Reply,
     // `AllocError` changes nothing.
     ensures same { OnErr result (db.new ≡ db.old) }
     // `AllocError` comes only of a write, an offer or a set_table.
-    ensures copied { OnErr result (IsCopied body) }
+    ensures no_memory { OnErr result (IsCopied body) }
 {
     let read = decode_request_shared(alloc, body);
     if finds_no_memory(&read) {

@@ -86,7 +86,7 @@ fn serve_in<'s, E, R: Threads + Wait + Net + Sync + Drop, W: Watch>(
 fn take_last<R>(desks: &Desks<R>, passes: &mut Vec<Passes>) -> Passes
     requires some { 1 ≤ vec_len passes.old }
     requires of { All (ArePassesOf desks.now) passes.old.items }
-    ensures parts { passes.old.items ≡ passes.new.items ++ result ∷ [] }
+    ensures value { passes.old.items ≡ passes.new.items ++ result ∷ [] }
     ensures rest { All (ArePassesOf desks.now) passes.new.items }
     ensures last { ArePassesOf desks.now result }
 {

@@ -73,7 +73,7 @@ pub record IsNext (all : List Row) (q : Asked) (p : ℕ) (ps : List ℕ) : Type 
   pub row : Row
   pub here : slice_get all p ≡ Some row
   pub listed : can_match q row ≡ true
-  pub behind : ps ≡ places_from (p + 1) (can_match q) (drop (p + 1) all)
+  pub after : ps ≡ places_from (p + 1) (can_match q) (drop (p + 1) all)
   pub first : (if row_matches row q then Some (p + 1, row.allows) else first_match_from (p + 1 + 1) (drop (p + 1) all) q) ≡ first_match_from 1 all q
 
 next : (all : List Row) (q : Asked) (k : ℕ) (rest : List Row) (p : ℕ) (ps : List ℕ) → drop k all ≡ rest → p ∷ ps ≡ places_from k (can_match q) rest → first_match_from (k + 1) rest q ≡ first_match_from 1 all q → IsNext all q p ps
@@ -88,7 +88,7 @@ next all q k (row ∷ rest) p ps here are first =
             row = row;
             here = at.0;
             listed = holds;
-            behind = ap (λ l. drop 1 l) both ∙ ap (places_from (k + 1) (can_match q)) (sym at.1);
+            after = ap (λ l. drop 1 l) both ∙ ap (places_from (k + 1) (can_match q)) (sym at.1);
             first = rw at.1 first;
           })
       | inr fails ↦ next all q (k + 1) rest p ps at.1 (rw fails at are) (rw (unlisted row q fails) at first)
@@ -114,7 +114,7 @@ pub missed-next : (all : List Row) (q : Asked) (p : ℕ) (ps : List ℕ) (row : 
 missed-next all q p ps row next is misses =
     let same = row_next all q p ps row next is in
     let fails : row_matches next.row q ≡ false = ap (λ (r : Row). row_matches r q) (sym same) ∙ misses in
-    (p + 1, next.behind, rw fails at next.first)
+    (p + 1, next.after, rw fails at next.first)
 
 nothing : (k : ℕ) (rest : List Row) (q : Asked) → [] ≡ places_from k (can_match q) rest → first_match_from (k + 1) rest q ≡ None
 nothing k [] q are = refl

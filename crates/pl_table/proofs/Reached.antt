@@ -77,31 +77,31 @@ found_here rows q list p ps row own n b some left is here about matches allows =
     ap found_allows (sym found) ∙ allows
 
 -- a row that is about the request
-pub reached-behind : (rows : List Row) (q : Asked) (most low high : ℕ) (list : List ℕ) (p : ℕ) (ps : List ℕ) (row : Row) (own new_low new_high : ℕ) → q.lsn ≡ Some own → IsReached rows q most low high list → list ≡ p ∷ ps → row ≡ get_or rows p row → is_about row q ≡ true → Narrows row low high new_low new_high → IsReached rows q most new_low new_high ps
-reached-behind rows q most low high list p ps row own new_low new_high some reached is here about behind = record {
-  order = (behind.order.1, omega (arith, behind.order, reached.order));
+pub reached-after : (rows : List Row) (q : Asked) (most low high : ℕ) (list : List ℕ) (p : ℕ) (ps : List ℕ) (row : Row) (own new_low new_high : ℕ) → q.lsn ≡ Some own → IsReached rows q most low high list → list ≡ p ∷ ps → row ≡ get_or rows p row → is_about row q ≡ true → Narrows row low high new_low new_high → IsReached rows q most new_low new_high ps
+reached-after rows q most low high list p ps row own new_low new_high some reached is here about after = record {
+  order = (after.order.1, omega (arith, after.order, reached.order));
   allowed = λ n le. elim (cases_lt low n) [
     | inl lt ↦
-        let at = behind.allowed n lt le in
-        found_here rows q list p ps row own n true some (reached.left n lt (omega (arith, behind.order))) is here about at.1 at.0
+        let at = after.allowed n lt le in
+        found_here rows q list p ps row own n true some (reached.left n lt (omega (arith, after.order))) is here about at.1 at.0
     | inr low_le ↦ reached.allowed n low_le
   ];
   denied = λ n gt le. elim (cases_lt high n) [
     | inl lt ↦ reached.denied n lt le
     | inr high_le ↦
-        let at = behind.denied n gt high_le in
-        found_here rows q list p ps row own n false some (reached.left n (omega (arith, behind.order)) high_le) is here about at.1 at.0
+        let at = after.denied n gt high_le in
+        found_here rows q list p ps row own n false some (reached.left n (omega (arith, after.order)) high_le) is here about at.1 at.0
   ];
   left = λ n gt le.
-      let next = IsLeft-next rows (asked_at q n) list p ps is (reached.left n (omega (arith, behind.order)) (omega (arith, behind.order))) in
-      missed-next rows (asked_at q n) p ps row next here (row_at row q own n some ∙ rw (about, behind.between n gt le) refl);
+      let next = IsLeft-next rows (asked_at q n) list p ps is (reached.left n (omega (arith, after.order)) (omega (arith, after.order))) in
+      missed-next rows (asked_at q n) p ps row next here (row_at row q own n some ∙ rw (about, after.between n gt le) refl);
 }
 
 pub reached-about : (rows : List Row) (q : Asked) (most low high : ℕ) (list : List ℕ) (p : ℕ) (ps : List ℕ) (row : Row) (new_low new_high : ℕ) → IsSome q.lsn → IsReached rows q most low high list → list ≡ p ∷ ps → row ≡ get_or rows p row → is_about row q ≡ true → Narrows row low high new_low new_high → IsReached rows q most new_low new_high ps
-reached-about rows q most low high list p ps row new_low new_high names reached is here about behind =
+reached-about rows q most low high list p ps row new_low new_high names reached is here about after =
     with_number q.lsn (IsReached rows q most new_low new_high ps)
     (λ none. absurd (let clash : false ≡ true = rw none at names in cc))
-    (λ own some. reached-behind rows q most low high list p ps row own new_low new_high some reached is here about behind)
+    (λ own some. reached-after rows q most low high list p ps row own new_low new_high some reached is here about after)
 
 -- where nothing is left between, low is how far the rows allow
 pub reached-end : (rows : List Row) (q : Asked) (most low high : ℕ) (list : List ℕ) → IsReached rows q most low high list → ((n : ℕ) → low < n → n ≤ high → length list ≡ 0) → (lsn : ℕ) → lsn ≤ most → rows_allow rows (asked_at q lsn) ≡ nat_le lsn low

@@ -66,9 +66,9 @@ struct Reach {
 
 impl Reach {
     // The same, with one row more, which is about the request.
-    fn behind(self, row: &Row) -> Reach
+    fn after(self, row: &Row) -> Reach
         requires order { self.low ≤ self.high }
-        ensures behind { Narrows row.now self.low self.high result.low result.high }
+        ensures after { Narrows row.now self.low self.high result.low result.high }
     {
         let open = if row.allows { self.high } else { self.low };
         let end = row.through.unwrap_or(open).max(self.low).min(self.high);
@@ -104,7 +104,7 @@ pub(crate) fn listed_reach(list: &[u8], rows: &[Row], asking: &Asking<'_>, most:
         }
         let row = &rows[usize::from(*place)];
         if row.is_about(asking) {
-            reach = reach.behind(row);
+            reach = reach.after(row);
         }
         rest = others;
     }

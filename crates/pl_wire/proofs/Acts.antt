@@ -60,18 +60,18 @@ set_table_takes bytes act e = subst (IsRead ops.SetTable bytes) (ok_is (SetTable
 -- ---- arguments of one size
 
 -- nothing comes after the last of this many bytes
-nothing_behind : (n : ℕ) (bytes : List ℕ) → length bytes ≡ n → drop n bytes ≡ []
-nothing_behind n bytes len = nil_from_length (drop n bytes) (omega (arith, length-drop n bytes))
+nothing_after : (n : ℕ) (bytes : List ℕ) → length bytes ≡ n → drop n bytes ≡ []
+nothing_after n bytes len = nil_from_length (drop n bytes) (omega (arith, length-drop n bytes))
 
 -- the last number of this many bytes
 last_number : (w : Width) (limit : ℕ) → IsWide w limit → (at : ℕ) (bytes : List ℕ) → AreBytes bytes → length bytes ≡ at + byte_len w → drop at bytes ≡ to_be_bytes w (number_in w at bytes)
 last_number w limit wide at bytes fits len =
-    number_cut w limit wide at bytes fits (omega (arith, len)) ∙ ap (λ (t : List ℕ). to_be_bytes w (number_in w at bytes) ++ t) (nothing_behind (at + byte_len w) bytes len) ∙ append-nil (to_be_bytes w (number_in w at bytes))
+    number_cut w limit wide at bytes fits (omega (arith, len)) ∙ ap (λ (t : List ℕ). to_be_bytes w (number_in w at bytes) ++ t) (nothing_after (at + byte_len w) bytes len) ∙ append-nil (to_be_bytes w (number_in w at bytes))
 
 -- a number before what comes after it
 number_before : (w : Width) (limit : ℕ) → IsWide w limit → (at : ℕ) (bytes rest : List ℕ) → AreBytes bytes → at + byte_len w ≤ length bytes → drop (at + byte_len w) bytes ≡ rest → drop at bytes ≡ to_be_bytes w (number_in w at bytes) ++ rest
-number_before w limit wide at bytes rest fits long behind =
-    number_cut w limit wide at bytes fits long ∙ ap (λ (t : List ℕ). to_be_bytes w (number_in w at bytes) ++ t) behind
+number_before w limit wide at bytes rest fits long later =
+    number_cut w limit wide at bytes fits long ∙ ap (λ (t : List ℕ). to_be_bytes w (number_in w at bytes) ++ t) later
 
 report_takes : (bytes : List ℕ) (act : Act) → AreBytes bytes → report_reading bytes ≡ Ok act → IsRead ops.Report bytes act
 report_takes bytes act fits e =
@@ -89,7 +89,7 @@ get_takes bytes act fits e =
     bound (ok_or flag OutOfRange) _ act e1 (λ exact known made.
     let s = sized_ok 13 bytes (flag_of_number (get_or bytes 12 0)) flag is_sized in
     let told : get_or bytes 12 0 ≡ flag_number exact = flag_told (get_or bytes 12 0) exact (s.1 ∙ ok_or-some flag OutOfRange exact known) in
-    let three : drop 12 bytes ≡ flag_number exact ∷ [] = byte_cut 12 bytes (omega (arith, s.0)) ∙ ap (λ (n : ℕ). n ∷ drop 13 bytes) told ∙ ap (λ (t : List ℕ). flag_number exact ∷ t) (nothing_behind 13 bytes s.0) in
+    let three : drop 12 bytes ≡ flag_number exact ∷ [] = byte_cut 12 bytes (omega (arith, s.0)) ∙ ap (λ (n : ℕ). n ∷ drop 13 bytes) told ∙ ap (λ (t : List ℕ). flag_number exact ∷ t) (nothing_after 13 bytes s.0) in
     let two : drop 4 bytes ≡ to_be_bytes w64 (number_in w64 4 bytes) ++ (flag_number exact ∷ []) = number_before w64 (2 ^ 64) wide64 4 bytes (flag_number exact ∷ []) fits (omega (arith, s.0)) three in
     let whole = number_before w32 (2 ^ 32) wide32 0 bytes (to_be_bytes w64 (number_in w64 4 bytes) ++ (flag_number exact ∷ [])) fits (omega (arith, s.0)) two in
     subst (IsRead ops.Get bytes) (ok_is (Get (number_in w32 0 bytes) (number_in w64 4 bytes) exact) act made) (record { of_op = refl; fields = (number_below w32 (2 ^ 32) wide32 0 bytes fits, number_below w64 (2 ^ 64) wide64 4 bytes fits); spelled = whole })))

@@ -46,30 +46,30 @@ head_takes role body fits long e =
     number_cut w32 (2 ^ 32) wide32 0 body fits (omega arith) ∙ ap (λ (x : List ℕ). p ++ x) token
 
 -- what comes after a token
-behind_token : (token rest : List ℕ) (n : ℕ) → length token ≡ 16 → drop (16 + n) (token ++ rest) ≡ drop n rest
-behind_token token rest n len = subst (λ (k : ℕ). drop (k + n) (token ++ rest) ≡ drop n rest) len (drop-append-add token rest n)
+after_token : (token rest : List ℕ) (n : ℕ) → length token ≡ 16 → drop (16 + n) (token ++ rest) ≡ drop n rest
+after_token token rest n len = subst (λ (k : ℕ). drop (k + n) (token ++ rest) ≡ drop n rest) len (drop-append-add token rest n)
 
-behind_head : (h : Head) (rest : List ℕ) → IsHead h → drop 29 (headed h rest) ≡ rest
-behind_head h rest is = behind_token h.token (role_number h.role ∷ (to_be_bytes w32 h.database ++ (to_be_bytes w32 h.epoch ++ rest))) 9 is.token
+after_head : (h : Head) (rest : List ℕ) → IsHead h → drop 29 (headed h rest) ≡ rest
+after_head h rest is = after_token h.token (role_number h.role ∷ (to_be_bytes w32 h.database ++ (to_be_bytes w32 h.epoch ++ rest))) 9 is.token
 
 pub arguments_in : (h : Head) (op : ℕ) (rest : List ℕ) → IsHead h → drop 30 (headed h (op ∷ rest)) ≡ rest
-arguments_in h op rest is = behind_token h.token (role_number h.role ∷ (to_be_bytes w32 h.database ++ (to_be_bytes w32 h.epoch ++ (op ∷ rest)))) 10 is.token
+arguments_in h op rest is = after_token h.token (role_number h.role ∷ (to_be_bytes w32 h.database ++ (to_be_bytes w32 h.epoch ++ (op ∷ rest)))) 10 is.token
 
 pub role_in : (h : Head) (rest : List ℕ) → IsHead h → get_or (headed h rest) 20 0 ≡ role_number h.role
 role_in h rest is =
-    let behind : List ℕ = role_number h.role ∷ (to_be_bytes w32 h.database ++ (to_be_bytes w32 h.epoch ++ rest)) in
-    sym (get_or-drop 16 (h.token ++ behind) 0 0) ∙ ap (λ (x : List ℕ). get_or x 0 0) (behind_token h.token behind 0 is.token)
+    let later : List ℕ = role_number h.role ∷ (to_be_bytes w32 h.database ++ (to_be_bytes w32 h.epoch ++ rest)) in
+    sym (get_or-drop 16 (h.token ++ later) 0 0) ∙ ap (λ (x : List ℕ). get_or x 0 0) (after_token h.token later 0 is.token)
 
 pub op_in : (h : Head) (op : ℕ) (rest : List ℕ) → IsHead h → get_or (headed h (op ∷ rest)) 29 0 ≡ op
-op_in h op rest is = sym (get_or-drop 29 (headed h (op ∷ rest)) 0 0) ∙ ap (λ (x : List ℕ). get_or x 0 0) (behind_head h (op ∷ rest) is)
+op_in h op rest is = sym (get_or-drop 29 (headed h (op ∷ rest)) 0 0) ∙ ap (λ (x : List ℕ). get_or x 0 0) (after_head h (op ∷ rest) is)
 
 pub head_again : (h : Head) (rest : List ℕ) → IsHead h → head_in h.role (headed h rest) ≡ h
 head_again h rest is =
-    let behind : List ℕ = role_number h.role ∷ (to_be_bytes w32 h.database ++ (to_be_bytes w32 h.epoch ++ rest)) in
+    let later : List ℕ = role_number h.role ∷ (to_be_bytes w32 h.database ++ (to_be_bytes w32 h.epoch ++ rest)) in
     let principal : number_in w32 0 (headed h rest) ≡ h.principal = from_be_bytes-to_be_bytes_4 h.principal is.principal in
-    let token : take 16 (drop 4 (headed h rest)) ≡ h.token = take_at h.token behind 16 is.token in
-    let database : number_in w32 21 (headed h rest) ≡ h.database = ap (λ (x : List ℕ). from_be_bytes w32 (take 4 x)) (behind_token h.token behind 1 is.token) ∙ from_be_bytes-to_be_bytes_4 h.database is.database in
-    let epoch : number_in w32 25 (headed h rest) ≡ h.epoch = ap (λ (x : List ℕ). from_be_bytes w32 (take 4 x)) (behind_token h.token behind 5 is.token) ∙ from_be_bytes-to_be_bytes_4 h.epoch is.epoch in
+    let token : take 16 (drop 4 (headed h rest)) ≡ h.token = take_at h.token later 16 is.token in
+    let database : number_in w32 21 (headed h rest) ≡ h.database = ap (λ (x : List ℕ). from_be_bytes w32 (take 4 x)) (after_token h.token later 1 is.token) ∙ from_be_bytes-to_be_bytes_4 h.database is.database in
+    let epoch : number_in w32 25 (headed h rest) ≡ h.epoch = ap (λ (x : List ℕ). from_be_bytes w32 (take 4 x)) (after_token h.token later 5 is.token) ∙ from_be_bytes-to_be_bytes_4 h.epoch is.epoch in
     let made : ℕ → List ℕ → ℕ → ℕ → Head = λ p t d f. record { principal = p; token = t; role = h.role; database = d; epoch = f } in
     ap (λ (x : ℕ). made x (take 16 (drop 4 (headed h rest))) (number_in w32 21 (headed h rest)) (number_in w32 25 (headed h rest))) principal
     ∙ ap (λ (x : List ℕ). made h.principal x (number_in w32 21 (headed h rest)) (number_in w32 25 (headed h rest))) token

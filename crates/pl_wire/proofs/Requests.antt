@@ -35,9 +35,9 @@ record IsOpened (body : List ℕ) (opening : Head × Op) : Type 0 where
 opening_ok : (body : List ℕ) (opening : Head × Op) → opening_reading body ≡ Ok opening → IsOpened body opening
 unfolding opening_reading
 opening_ok body opening e =
-    let behind = λ (role : Role). ok_or (op_of_number (get_or body 29 0)) UnknownKind >>= λ op. done (head_in role body, op) in
-    let g = guard_ok (ltb (length body) 30) TooShort (ok_or (role_of_number (get_or body 20 0)) UnknownRole >>= behind) opening e in
-    let r = bind_ok (ok_or (role_of_number (get_or body 20 0)) UnknownRole) behind opening g.1 in
+    let later = λ (role : Role). ok_or (op_of_number (get_or body 29 0)) UnknownKind >>= λ op. done (head_in role body, op) in
+    let g = guard_ok (ltb (length body) 30) TooShort (ok_or (role_of_number (get_or body 20 0)) UnknownRole >>= later) opening e in
+    let r = bind_ok (ok_or (role_of_number (get_or body 20 0)) UnknownRole) later opening g.1 in
     let o = bind_ok (ok_or (op_of_number (get_or body 29 0)) UnknownKind) (λ op. done (head_in r.value body, op)) opening r.next in
     let is = ok_is (head_in r.value body, o.value) opening o.next in
     record {
@@ -73,12 +73,12 @@ opening_again q is =
     let body = spelled_out q in
     let rest : List ℕ = op_number (op_of q.act) ∷ act_spelling q.act in
     let long : ltb (length body) 30 ≡ false = le-ltb _ _ (simp length-append (omega (arith, is.head.token))) in
-    let behind = λ (role : Role). ok_or (op_of_number (get_or body 29 0)) UnknownKind >>= λ op. done (head_in role body, op) in
+    let later = λ (role : Role). ok_or (op_of_number (get_or body 29 0)) UnknownKind >>= λ op. done (head_in role body, op) in
     let role : role_of_number (get_or body 20 0) ≡ Some q.head.role = ap role_of_number (role_in q.head rest is.head) ∙ roles_numbered.found q.head.role in
     let op : op_of_number (get_or body 29 0) ≡ Some (op_of q.act) = ap op_of_number (op_in q.head (op_number (op_of q.act)) (act_spelling q.act) is.head) ∙ ops_numbered.found (op_of q.act) in
     let head : head_in q.head.role body ≡ q.head = head_again q.head rest is.head in
-    ap (λ (b : Bool). cond b (Err TooShort) (ok_or (role_of_number (get_or body 20 0)) UnknownRole >>= behind)) long
-    ∙ ap (λ (r : Option Role). ok_or r UnknownRole >>= behind) role
+    ap (λ (b : Bool). cond b (Err TooShort) (ok_or (role_of_number (get_or body 20 0)) UnknownRole >>= later)) long
+    ∙ ap (λ (r : Option Role). ok_or r UnknownRole >>= later) role
     ∙ ap (λ (o : Option Op). ok_or o UnknownKind >>= λ op. done (head_in q.head.role body, op)) op
     ∙ ap (λ (h : Head). done (h, op_of q.act)) head
 

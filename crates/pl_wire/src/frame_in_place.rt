@@ -16,7 +16,7 @@ pub fn body_in(bytes: &[u8]) -> Option<&[u8]>
     ensures whole { IfSome result (λ body. (4 + length body.now ≤ length bytes.now)
         × (take (4 + length body.now) bytes.now ≡ frame body.now)) }
     // The body has at most 65,536 bytes.
-    ensures short { IfSome result (λ body. length body.now ≤ longest_request) }
+    ensures fits { IfSome result (λ body. length body.now ≤ longest_request) }
     // The bytes are less than a length, or the length is above 65,536, or its body is not all there.
     ensures none { IfNone result (LacksFrame longest_request bytes.now) }
 {
@@ -37,7 +37,7 @@ pub fn is_cut(bytes: &[u8]) -> bool
     // They are the beginning of a frame within the limit.
     ensures cut { IsTrue result → IsCut longest_request bytes.now }
     // They are fewer than the longest frame has.
-    ensures short { IsTrue result → length bytes.now < 65540 }
+    ensures fits { IsTrue result → length bytes.now < 65540 }
     // Otherwise the length is there, and it is above the limit or its body is all there.
     ensures whole { result ≡ false → IsDecided longest_request bytes.now }
 {

@@ -54,7 +54,7 @@ pub fn write_bytes<W: Write>(writer: &mut W, bytes: &[u8]) -> Result<(), usize>
 fn put_frame(out: &mut Vec<u8>, len: usize, reply: &Reply) -> Result<(), AllocError>
     requires fits { FitsReply reply.now }
     requires len { len ≡ length (reply_spelling reply.now) }
-    requires small { len ≤ 2 ^ 20 }
+    requires few { len ≤ 2 ^ 20 }
     ensures ok { OnOk result (out.new.items ≡ out.old.items ++ reply_frame reply.now) }
     ensures spare { UsesSpare result out.old out.new (4 + len) }
 {

@@ -181,10 +181,10 @@ fn again_from(answered: u64, told: &[u8], run: Run<'_>) -> Result<Again, Stop> {
 
 // The frames that are asked once more.
 fn frames_again(alloc: Global, run: Run<'_>, again: Frames) -> Result<Vec<u8>, Stop> {
-    let (from, to, behind) = again;
+    let (from, to, after) = again;
     let mut frames = Vec::with_capacity(alloc, 208)?;
     frames.extend_from_slice(run.frames.get(from..to).ok_or(Stop::Unread)?)?;
-    frames.extend_from_slice(run.frames.get(behind..).ok_or(Stop::Unread)?)?;
+    frames.extend_from_slice(run.frames.get(after..).ok_or(Stop::Unread)?)?;
     Ok(frames)
 }
 

@@ -1,7 +1,7 @@
 use Rattle.std.proofs.Common.{◌≡◌, ◌+◌, ◌-◌, Some, get_or, length, slice_get, sym, ap, subst, ◌∙◌, arith}
 use Rattle.pl_pages.specs.Index.{IsAfterChanges}
 use Rattle.pl_pages.specs.State.{AreVersions}
-use Rattle.pl_pages.proofs.Touching.{next_listed, block_redone, behind_block}
+use Rattle.pl_pages.proofs.Touching.{next_listed, block_redone, later_block}
 use Rattle.pl_pages.proofs.pages.bring_up.Goals as goal
 
 pub read-requires-clause-first : goal.read-requires-clause-first
@@ -29,7 +29,7 @@ loop-i-preserved c =
       log = c.read.ensures.same ∙ inv.log;
       chunks = c.redo.ensures.chunks ∙ inv.chunks;
       truth = subst (λ new. AreVersions new log) (sym c.redo.ensures.versions)
-          (block_redone vs place page log i inv.truth inv.behind b block here c.in_ok-block.ensures.number listed.some listed.below listed.here);
-      behind = subst (λ new. IsAfterChanges new place page log (i + 1)) (sym c.redo.ensures.versions)
-          (behind_block vs place page log i inv.truth inv.behind b block here c.in_ok-block.ensures.number listed.some listed.below listed.here);
+          (block_redone vs place page log i inv.truth inv.after b block here c.in_ok-block.ensures.number listed.some listed.below listed.here);
+      after = subst (λ new. IsAfterChanges new place page log (i + 1)) (sym c.redo.ensures.versions)
+          (later_block vs place page log i inv.truth inv.after b block here c.in_ok-block.ensures.number listed.some listed.below listed.here);
     }

@@ -9,5 +9,5 @@ invariant-loop-i l = record {
   log : l.log ≡ l.fn.log;
   chunks : l.versions.chunks ≡ l.fn.versions.chunks;
   truth : AreVersions l.versions.versions l.fn.log.hardened;
-  behind : IsAfterChanges l.versions.versions l.place l.page l.fn.log.hardened l.i;
+  after : IsAfterChanges l.versions.versions l.place l.page l.fn.log.hardened l.i;
 }

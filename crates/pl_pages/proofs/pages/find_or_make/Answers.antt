@@ -29,5 +29,5 @@ pub returns-clause-page : goal.returns-clause-page
 returns-clause-page c =
     let same = c.in_ok-catch_up.ensures.log in
     let hard : c.args.lsn ≤ length c.catch_up.new.log.hardened = omega (arith, c.requires.hard, ap (λ l. length l.hardened) same) in
-    given_at c.show.new.versions.versions c.in_ok-place.place c.args.page c.args.lsn c.catch_up.new.log.hardened c.in_ok-place.ensures.truth hard c.in_ok-place.ensures.behind
+    given_at c.show.new.versions.versions c.in_ok-place.place c.args.page c.args.lsn c.catch_up.new.log.hardened c.in_ok-place.ensures.truth hard c.in_ok-place.ensures.after
     ∙ ap (λ l. page_of c.args.page (take c.args.lsn l.hardened)) same

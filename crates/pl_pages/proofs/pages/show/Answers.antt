@@ -1,6 +1,6 @@
 use Rattle.std.proofs.Common.{refl, sym, subst, ◌∙◌, arith}
 use Rattle.pl_pages.specs.Index.{IsAfterChanges, count_before}
-use Rattle.pl_pages.proofs.Touching.{rising, counted, rise, behind_at}
+use Rattle.pl_pages.proofs.Touching.{rising, counted, rise, after_at}
 use Rattle.pl_pages.proofs.pages.show.Goals as goal
 
 pub count_up_to-to-requires : goal.count_up_to-to-requires
@@ -12,8 +12,8 @@ count_up_to-requires c = record { rising = rising c.args.page c.args.log.now.har
 pub count_up_to-from-requires : goal.count_up_to-from-requires
 count_up_to-from-requires c = record { rising = rising c.args.page c.args.log.now.hardened c.requires.numbered c.args.lsns.now c.requires.lsns }
 
-pub returns-then-count_up_to-to-clause-behind : goal.returns-then-count_up_to-to-clause-behind
-returns-then-count_up_to-to-clause-behind c =
+pub returns-then-count_up_to-to-clause-after : goal.returns-then-count_up_to-to-clause-after
+returns-then-count_up_to-to-clause-after c =
     let page = c.args.page in
     let log = c.args.log.now.hardened in
     let found = c.in-Some.found in
@@ -21,17 +21,17 @@ returns-then-count_up_to-to-clause-behind c =
     let to = c.count_up_to-to.ensures in
     let one = counted page log c.requires.numbered c.args.lsns.now c.requires.lsns _ found.lsn (omega (arith, c.in-Some.ensures.below, c.requires.hard)) from.within from.below from.above in
     let other = counted page log c.requires.numbered c.args.lsns.now c.requires.lsns _ c.args.lsn c.requires.hard to.within to.below to.above in
-    behind_at c.args.versions.now.versions found.place page page found.lsn _ log c.in-Some.ensures.at refl (one ∙ c.if-count_up_to-to.true ∙ sym other)
+    after_at c.args.versions.now.versions found.place page page found.lsn _ log c.in-Some.ensures.at refl (one ∙ c.if-count_up_to-to.true ∙ sym other)
 
-pub bring_up-requires-clause-behind : goal.bring_up-requires-clause-behind
-bring_up-requires-clause-behind c =
+pub bring_up-requires-clause-after : goal.bring_up-requires-clause-after
+bring_up-requires-clause-after c =
     let page = c.args.page in
     let log = c.args.log.now.hardened in
     let begun = c.in_ok-begun.begun in
     let from = c.count_up_to-from.ensures in
     let one = counted page log c.requires.numbered c.args.lsns.now c.requires.lsns _ begun.lsn (omega (arith, c.in_ok-begun.ensures.below, c.requires.hard)) from.within from.below from.above in
     subst (λ l. IsAfterChanges c.begin.new.versions.versions begun.place page l.hardened c.count_up_to-from.result) (sym c.in_ok-begun.ensures.log)
-    (behind_at c.begin.new.versions.versions begun.place page page begun.lsn _ log c.in_ok-begun.ensures.at refl one)
+    (after_at c.begin.new.versions.versions begun.place page page begun.lsn _ log c.in_ok-begun.ensures.at refl one)
 
 pub bring_up-requires-clause-rising : goal.bring_up-requires-clause-rising
 bring_up-requires-clause-rising c =
@@ -44,8 +44,8 @@ bring_up-requires-clause-rising c =
     let other = counted page log c.requires.numbered c.args.lsns.now c.requires.lsns _ c.args.lsn c.requires.hard to.within to.below to.above in
     omega (arith, one, other, rise page log begun.lsn c.args.lsn c.in_ok-begun.ensures.below c.requires.hard)
 
-pub returns-clause-behind : goal.returns-clause-behind
-returns-clause-behind c =
+pub returns-clause-after : goal.returns-clause-after
+returns-clause-after c =
     let page = c.args.page in
     let log = c.args.log.now.hardened in
     let place = c.in_ok-begun.begun.place in
@@ -53,4 +53,4 @@ returns-clause-behind c =
     let other = counted page log c.requires.numbered c.args.lsns.now c.requires.lsns _ c.args.lsn c.requires.hard to.within to.below to.above in
     subst (λ v. IsAfterChanges v.versions place page log (count_before page log c.args.lsn)) (sym c.enter.ensures.same)
     (subst (λ k. IsAfterChanges c.bring_up.new.versions.versions place page log k) (sym other)
-    (subst (λ l. IsAfterChanges c.bring_up.new.versions.versions place page l.hardened c.count_up_to-to.result) c.in_ok-begun.ensures.log c.in_ok-bring_up.ensures.behind))
+    (subst (λ l. IsAfterChanges c.bring_up.new.versions.versions place page l.hardened c.count_up_to-to.result) c.in_ok-begun.ensures.log c.in_ok-bring_up.ensures.after))

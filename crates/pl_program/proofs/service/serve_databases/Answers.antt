@@ -15,7 +15,7 @@ returns-in-Some-serve_over-clause-serves g c =
     let all : all_fresh desks (workers + 1) ≡ all_fresh desks workers ++ last ∷ [] =
     map-range_with_len_more (fresh_at desks) 1 workers (workers + 1) (omega arith) in
     let ends = ends_of c.take_last-last.new.passes.items (all_fresh desks workers) c.take_last-last.result last
-    (sym c.take_last-last.ensures.parts ∙ c.in_ok-desks.ensures.passes ∙ all) in
+    (sym c.take_last-last.ensures.value ∙ c.in_ok-desks.ensures.passes ∙ all) in
     let served = c.in-Some-serve_over.served in
     record {
       desks = desks;

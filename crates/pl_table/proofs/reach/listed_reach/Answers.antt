@@ -18,7 +18,7 @@ is_about-requires c =
 
 pub loop-place-preserved-then-is_about : goal.loop-place-preserved-then-is_about
 loop-place-preserved-then-is_about c =
-    reached-about c.args.rows.now (asked_by c.args.asking.now) c.args.most c.loop-place.reach.low c.loop-place.reach.high c.loop-place.rest.now c.in-Some.place.now c.in-Some.others.now c.index-rows-from.result c.behind-reach.result.low c.behind-reach.result.high c.requires.number c.loop-place.invariant c.in-Some.ensures.cases.0 (rw c.from.ensures at c.index-rows-from.is) (sym c.is_about.ensures.value ∙ c.if-is_about.true) c.behind-reach.ensures.behind
+    reached-about c.args.rows.now (asked_by c.args.asking.now) c.args.most c.loop-place.reach.low c.loop-place.reach.high c.loop-place.rest.now c.in-Some.place.now c.in-Some.others.now c.index-rows-from.result c.after-reach.result.low c.after-reach.result.high c.requires.number c.loop-place.invariant c.in-Some.ensures.cases.0 (rw c.from.ensures at c.index-rows-from.is) (sym c.is_about.ensures.value ∙ c.if-is_about.true) c.after-reach.ensures.after
 
 pub loop-place-preserved : goal.loop-place-preserved
 loop-place-preserved c =

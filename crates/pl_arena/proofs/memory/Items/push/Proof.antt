@@ -1,5 +1,5 @@
 -- `push` writes into the first place of the room. Assumes `Logic`.
-use Rattle.pl_arena.proofs.Steps.{◌≡◌, refl, sym, ap, subst, ◌∙◌, ℕ, suc, ◌+◌, ◌-◌, ◌*◌, ◌<◌, ◌^◌, arith, List, [], ◌∷◌, ◌++◌, length, length-append, Ura, full_share, SProp, ent, never, id⊢, Lft, GName, Share, ftrue, fat, froom, flft, fobs, fbor, Fn, named, w64, ty_array, inst_fn, Val, vptr, vint, vunit, Env, Calls, Loops, WpFn, Tables, Logic, fact, tables, tables_of, WpFn-mono, Item, ⋆, ‵, ◌⊛◌, at_ret, ◌$◌, ◌∵◌, !, qed, by, move, keep, use1, use2, split, join, rewrite, fsplit, fsplit3, fjoin, fjoin3, feq_i, feq_l, flt_l, flt_i, suffices, frame, done, whole, sub, stop, fld, of_opd, unit_lit, bin, size_lit, init, assigns_last, first, blocks, exec, returns, enter, alloc_all, pass_all, free_all, look_at, get, get_in, through, take_at, give_at, sets, env, yes, no, owns, mem, part_at, layout, Ptr, in_a_block, usize, unit, plain, nothing, opens, closes, spared, Clauses, Ended, closing, on_entry, Meets, triple_of, entered, run_framed, says, needs, Stays, stay_dropped, stay_ref, walk_of, ends_at, Goes-dropped, Goes-ref, walk_Meets, El, R, args, elτ, after, Good, word, word-Good, as_raw, as_written, Its, Sta, sz, start_told, item_told, behind, item_fits, part_fits, Row, item_in, longer, first_place}
+use Rattle.pl_arena.proofs.Steps.{◌≡◌, refl, sym, ap, subst, ◌∙◌, ℕ, suc, ◌+◌, ◌-◌, ◌*◌, ◌<◌, ◌^◌, arith, List, [], ◌∷◌, ◌++◌, length, length-append, Ura, full_share, SProp, ent, never, id⊢, Lft, GName, Share, ftrue, fat, froom, flft, fobs, fbor, Fn, named, w64, ty_array, inst_fn, Val, vptr, vint, vunit, Env, Calls, Loops, WpFn, Tables, Logic, fact, tables, tables_of, WpFn-mono, Item, ⋆, ‵, ◌⊛◌, at_ret, ◌$◌, ◌∵◌, !, qed, by, move, keep, use1, use2, split, join, rewrite, fsplit, fsplit3, fjoin, fjoin3, feq_i, feq_l, flt_l, flt_i, suffices, frame, done, whole, sub, stop, fld, of_opd, unit_lit, bin, size_lit, init, assigns_last, first, blocks, exec, returns, enter, alloc_all, pass_all, free_all, look_at, get, get_in, through, take_at, give_at, sets, env, yes, no, owns, mem, part_at, layout, Ptr, in_a_block, usize, unit, plain, nothing, opens, closes, spared, Clauses, Ended, closing, on_entry, Meets, triple_of, entered, run_framed, says, needs, Stays, stay_dropped, stay_ref, walk_of, ends_at, Goes-dropped, Goes-ref, walk_Meets, El, R, args, elτ, after, Good, word, word-Good, as_raw, as_written, Its, Sta, sz, start_told, item_told, past, item_fits, part_fits, Row, item_in, longer, first_place}
 use types.SemTy.{Body as Borrowed}
 use denote.Ref.{MutBor, MutRef}
 use denote.Builtin.{RefMutOf}
@@ -96,7 +96,7 @@ module _ (E : El) {M : Type 1} {𝓤 : Ura M} (𝓛 : Logic 𝓤) (C : Calls �
       move ! (0 ∷ 8 ∷ []) $ use2 𝓛 (‵ (part_at (R E) full_share item b at)) (item_in E 𝓛 b item at v) $
       move ! (2 ∷ 0 ∷ []) $ use2 𝓛 (‵ (Row E 𝓛 b o new.items)) (longer E 𝓛 b d.items item o at (ap (λ (k : ℕ). k * s + o) asked.1)) $
       move ! (1 ∷ []) $ as_raw ! (ty_array (elτ E) m) b (at + s) $
-      rewrite ! 0 (λ (k : ℕ). ‵ (froom (places (R E) m) b k)) (behind len n (length new.items) s o asked.1 longer_by) refl $ move ! (1 ∷ 0 ∷ []) $ fjoin ! $
+      rewrite ! 0 (λ (k : ℕ). ‵ (froom (places (R E) m) b k)) (past len n (length new.items) s o asked.1 longer_by) refl $ move ! (1 ∷ 0 ∷ []) $ fjoin ! $
       flt_i ! ((length new.items + m) * s) (2 ^ 63) (subst (λ (k : ℕ). k * s < 2 ^ 63) as_long small) $ fjoin ! $
       rewrite ! 0 (λ (p : Ptr). ‵ (items_own (R E) p new.items m)) (sym e) refl $ move ! (1 ∷ 0 ∷ []) $ fjoin ! $ move ! (1 ∷ 0 ∷ []) $ closes ! tt (Its E) new vs rb ro $
       returns ! (look_at ! 0 refl) $ free_all ! refl $ keep ! (0 ∷ 1 ∷ 2 ∷ []) $ feq_i ! (List Val) (vunit ∷ []) (vunit ∷ []) refl $ move ! (1 ∷ 2 ∷ 3 ∷ 0 ∷ []) $
