@@ -52,7 +52,7 @@ module _ {P : Type 0} (calls : Calls P) where
     ((refl, refl), inl (omega arith)),
   )
 
-  -- what is told goes on
+  -- what was said goes on
   talks_after : (before now after : Scene P) (bodies : List (List ℕ)) (replies : List Reply) (talk : Talk)
       → Talks calls before now (told_talk bodies replies) → Talks calls now after talk → Talks calls before after (later bodies replies talk)
   talks_after before now after bodies replies talk s t =

@@ -39,17 +39,17 @@ told_epoch (replies.Denied section row now) =
     if is_older_epoch section row && nat_lt now (2 ^ 32) then Some now else None
 told_epoch _ = None
 
--- whether another round may follow: the partition was advanced, or the current epoch is told
+-- whether another round may follow: the partition was advanced, or the current epoch is reported
 abbrev pub goes_on : Reply → Bool
 goes_on reply = is_done reply || is_some (told_epoch reply)
 
--- the epoch that was told last, where the newest reply is first; 1 where none was told
+-- the epoch that was reported last, where the newest reply is first; 1 where none was
 abbrev pub last_told_epoch : List Reply → ℕ
 last_told_epoch [] = 1
 last_told_epoch (reply ∷ earlier) = unwrap_or (told_epoch reply) (last_told_epoch earlier)
 
 -- calls with these replies, the newest first, lead from one pass to the other; each call makes the
--- request at the epoch that had been told before it
+-- request at the epoch that had been reported before it
 abbrev pub Asks : {P : Type 0} → Calls P → (ℕ → Query) → P → List Reply → P → Type 0
 Asks calls request before [] after = after ≡ before
 Asks calls request before (reply ∷ earlier) after =
@@ -57,7 +57,7 @@ Asks calls request before (reply ∷ earlier) after =
 
 -- At most this many calls are made. Only the last reply may be one after which no round follows, and
 -- fewer calls are made only after such a reply. The replies of Done are counted, and the epoch is the
--- one that was told last.
+-- one that was reported last.
 pub record Works {P : Type 0} (calls : Calls P) (request : ℕ → Query) (rounds : ℕ) (before : P) (worked : Worked) (after : P) : Type 0 where
   pub replies : List Reply
   pub asks : Asks calls request before replies after

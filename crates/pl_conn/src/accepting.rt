@@ -31,7 +31,7 @@ fn passes(error: &io::Error) -> bool {
 }
 
 // The next connection. After a failure that passes the listener rests, and accepts again: the connections
-// that wait at it are kept by the system meanwhile. The first such failure is told. An error is one of the
+// that wait at it are kept by the system meanwhile. The first such failure is reported. An error is one of the
 // listener itself.
 fn accept<R: Wait, W: Watch>(
     rt: &R,

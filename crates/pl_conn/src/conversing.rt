@@ -109,7 +109,7 @@ fn turn<R: Source, W: Write, G: Gate>(
 /// Reads frames until the end of input, or 2^32 of them, hands each body that is a request to the gate
 /// once, and writes the frames of the replies in the same order. It returns how many frames it answered.
 ///
-/// A body that is no request is answered `Malformed` with its code, and one whose block or text finds
+/// A body that is not a request is answered `Malformed` with its code, and one whose block or text finds
 /// no memory `NoMemory`, both without the gate; the conversation goes on. What is answered is written
 /// before the next wait for bytes, and before the conversation ends, whatever ends it. Replies to frames
 /// that are buffered are written together, in one write where the writer takes it at once.

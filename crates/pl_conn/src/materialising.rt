@@ -16,7 +16,7 @@ const STEPS: u16 = 16;
 pub struct Worked {
     /// How many rounds were answered `Done`.
     pub done: u32,
-    /// The epoch that was told last; 1 where none was told.
+    /// The epoch that was reported last; 1 where none was.
     pub epoch: u32,
 }
 
@@ -100,7 +100,7 @@ fn round<G: Gate>(gate: &G, pass: &mut G::Pass, errand: &Errand, worked: &mut Wo
 }
 
 /// Advances a partition by 16 blocks in each of this many rounds, as page server, first at epoch 1. Where
-/// a round is denied for its older epoch, the next one asks at the epoch that the denial tells. Any
+/// a round is denied for its older epoch, the next one asks at the epoch that the denial reports. Any
 /// other reply than `Done` and such a denial ends it.
 ///
 /// It makes one call of the gate a round, and no allocation of its own.
@@ -118,9 +118,9 @@ pub fn materialise<G: Gate>(
     // The pass stays the gate's.
     ensures own { G.owns gate.now pass.new }
     // At most the given number of calls, each the advance of the partition by 16 as page server, at
-    // the epoch that was told last, 1 at first. Only the last reply may be other than Done and a
-    // denial that tells the current epoch, and fewer calls are made only after such a reply. `done`
-    // counts the replies of Done, and `epoch` is the one told last (`Works`).
+    // the epoch that was reported last, 1 at first. Only the last reply may be other than Done and a
+    // denial that reports the current epoch, and fewer calls are made only after such a reply. `done`
+    // counts the replies of Done, and `epoch` is the one reported last (`Works`).
     ensures works { Works (G.calls gate.now) (advance_at principal token database partition) rounds
         pass.old result pass.new }
 {

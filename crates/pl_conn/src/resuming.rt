@@ -32,7 +32,7 @@ const WRITES_A_TURN: u32 = 4;
 pub enum Rest {
     /// For nothing: more of the input may be there, and a turn is due. This one heard a byte of it, or answered a frame.
     Again,
-    /// For input. All replies are written, and what was read after the last frame is no whole frame.
+    /// For input. All replies are written, and what was read after the last frame is not a whole frame.
     Input,
     /// For its writer, which did not take all replies. Until it has, no more is read.
     Output,
@@ -274,7 +274,7 @@ impl Conversation {
     /// One turn: writes the replies that wait; where the writer took them all, reads once, unless a whole frame
     /// is there already, answers the frames that are whole, and writes their replies. It never waits where its reader
     /// and its writer do not: one that would wait fails with `WouldBlock`, and that is where the conversation rests.
-    /// It tells what it waits for. A turn answers what one read brought, at most 65,540 bytes of frames, and writes
+    /// It returns what it waits for. A turn answers what one read brought, at most 65,540 bytes of frames, and writes
     /// at most four times the replies that may wait together: less than 256 KiB and one reply more.
     ///
     /// What was read after the last frame that was answered, and the replies that the writer did not take, are

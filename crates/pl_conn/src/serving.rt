@@ -343,7 +343,7 @@ where
     )
 }
 
-/// Serves as [`serve`] does, and tells the watch what it cannot do meanwhile. A worker that has nothing to do first polls
+/// Serves as [`serve`] does, and reports to the watch what it cannot do meanwhile. A worker that has nothing to do first polls
 /// its sockets `idle_polls` times more, awake, and then sleeps; with 0, as `serve` has it, it sleeps at once.
 pub fn serve_watched<R: Threads + Wait + Net + Sync, G: Gate + Sync, W: Watch>(
     rt: &R,

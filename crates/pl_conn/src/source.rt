@@ -1,4 +1,4 @@
-//! Readers that tell what they have buffered.
+//! Readers that show what they have buffered.
 
 ghost use Rattle.std.specs.Prelude.{◌≡◌, ◌≤◌, ℕ, List, IfSome, length, take};
 ghost use Rattle.std.specs.Io.{StartsWith};
@@ -8,9 +8,9 @@ ghost use Rattle.std.specs.Io.KnownBytes.{Consumes};
 use std::alloc::Allocator;
 use std::io::{BufRead, BufReader, Read};
 
-/// A reader that tells which bytes can be read without waiting, and lends them.
+/// A reader that says which bytes can be read without waiting, and lends them.
 ///
-/// No promise rests on how many it tells, but that replies are written before a wait.
+/// No promise rests on how many it shows, but that replies are written before a wait.
 pub trait Source: Read {
     // The bytes that are buffered.
     ghost hand: { Self → List ℕ };

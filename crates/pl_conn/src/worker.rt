@@ -295,7 +295,7 @@ fn take_new<R: Wait>(rt: &R, alloc: Global, post: &Post, poll: &Poll, lines: &mu
     unreachable!()
 }
 
-// The room for what a poll tells, and for the turns of connections.
+// The room for what a poll reports, and for the turns of connections.
 fn events_and_room(alloc: Global) -> Option<(Events, Room)> {
     let events = Events::with_capacity(alloc, EVENTS).ok()?;
     let room = Room::new(alloc).ok()?;

@@ -3,7 +3,7 @@ use Rattle.std.proofs.Common.{◌≡◌, ◌≢◌, ℕ, ◌<◌, ◌≤◌, Lis
 use Rattle.std.proofs.lemmas.List.Elements.{All-head, All-tail}
 use Rattle.pl_play.specs.Lines.{text_lines, push_front, HasNoFeed, IsLong, OnFirst}
 
--- a byte that is no line feed is the first byte of the first line
+-- a byte that is not a line feed is the first byte of the first line
 pub lines_of-byte : (b : ℕ) (bs : List ℕ) → b ≢ 10 → text_lines (b ∷ bs) ≡ push_front b (text_lines bs)
 lines_of-byte b bs other = ap (λ t. cond t ([] ∷ text_lines bs) (push_front b (text_lines bs))) (ne_eqb b 10 other)
 

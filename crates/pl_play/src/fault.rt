@@ -17,7 +17,7 @@ pub enum PlayFault {
     Write,
     /// An allocation failed, but not in a step of the database: that is a reply.
     NoMemory,
-    /// The line of this number has an odd number of digits, or a byte that is no digit.
+    /// The line of this number has an odd number of digits, or a byte that is not a digit.
     Text(u64),
     /// The line of this number has more than 131,072 bytes before its line feed or the end.
     Long(u64),

@@ -84,7 +84,7 @@ pub(crate) fn take_line<R: BufRead>(
     }
 }
 
-/// Whether the input is known to end here: it is looked at once, and a read that fails is no end.
+/// Whether the input is known to end here: it is looked at once, and a read that fails is not an end.
 pub(crate) fn is_at_end<R: BufRead>(reader: &mut R) -> bool
     // Where it is true, the input has no other line.
     ensures end { IsTrue result → HasNoLine (R.remaining reader.old) }

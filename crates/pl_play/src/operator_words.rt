@@ -126,9 +126,9 @@ fn act_of(alloc: Global, words: &[String], text: Option<Vec<u8>>) -> Result<Opti
 /// The request that an operator's words ask for: `status`, `tidy`, `audit FIRST MAX`, `failover ID`
 /// or `set_table FILE`, where `text` is what the file has.
 ///
-/// `Words` comes where the words are none of these, a number is no decimal number of its width or is
+/// `Words` comes where the words are none of these, a number is not a decimal number of its width or is
 /// out of its range, the text of `set_table` is missing or has more than 65,506 bytes. A text that
-/// is no table is asked for all the same: the database denies it.
+/// is not a table is asked for all the same: the database denies it.
 pub fn admin(
     alloc: Global,
     credentials: Credentials,

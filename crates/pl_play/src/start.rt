@@ -26,7 +26,7 @@ const CHUNKS: usize = 16;
 pub enum StartFault {
     /// The file cannot be read, or has more than 65,506 bytes, whatever they are.
     File,
-    /// The text is no table.
+    /// The text is not a table.
     Table(TableFault),
     /// The table does not list the primary.
     NotListed,
@@ -110,7 +110,7 @@ pub fn file_fault_of(error: &io::Error) -> FileFault
     FileFault::Read
 }
 
-// What was read, or why it is no text.
+// What was read, or why it is not a text.
 fn text_of(read: io::Result<usize>, text: Vec<u8>) -> Result<Vec<u8>, FileFault>
     ensures ok { IfOk result (λ whole. (whole ≡ text) × (length text.items ≤ longest_table_text)) }
     ensures read { OnOk result (IsOk read) }

@@ -11,7 +11,7 @@ use std::alloc::{AllocError, Global};
 /// Why a line gives no body.
 #[derive(Clone, Copy, Debug, PartialEq, Eq)]
 pub(crate) enum HexFault {
-    /// An odd number of digits, or a byte that is no digit.
+    /// An odd number of digits, or a byte that is not a digit.
     Text,
     /// An allocation failed.
     NoMemory,

@@ -1,4 +1,4 @@
--- What `serve` tells on standard error while it goes on.
+-- What `serve` reports on standard error while it goes on.
 use Rattle.std.specs.Prelude.{ℕ, List, ◌++◌, codes, decimal}
 
 -- the line of a service with fewer workers than were asked for

@@ -81,7 +81,7 @@ impl From<RunFault> for Failure {
 pub enum Ending {
     /// All is done, which has no text.
     Done,
-    /// `ask` was answered, and its reply is no Done, Status or Entries. It has no text here either.
+    /// `ask` was answered, and its reply is not Done, Status or Entries. It has no text here either.
     Refused,
     /// Something failed, and the text says what.
     Failed(Failure),

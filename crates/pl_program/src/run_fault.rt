@@ -14,13 +14,13 @@ use thiserror::Error;
 pub enum RunFault {
     /// The token is not 32 hexadecimal digits, or the words ask for no request of an operator.
     Words,
-    /// It is no address, it could not be listened at, or nobody answers there.
+    /// It is not an address, it could not be listened at, or nobody answers there.
     Address,
     /// A read failed, whatever the cause, or a connection could not be accepted.
     Read,
     /// A write failed, whatever the cause.
     Write,
-    /// What came back is no reply.
+    /// What came back is not a reply.
     Reply,
     /// A thread could not be started.
     Threads,

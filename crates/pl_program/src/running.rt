@@ -25,23 +25,23 @@ use std::sync::Wait;
 use std::thread::Threads;
 use std::{fmt, fs};
 
-/// Does what the arguments of the process ask for, and tells how the program ends. Help is written;
+/// Does what the arguments of the process ask for, and returns how the program ends. Help is written;
 /// `play` answers the lines of the standard input on the standard output; `serve` writes its address,
 /// answers connections until this many were accepted, and writes how many; where it has fewer workers than asked
-/// for, or a connection has to wait to be accepted, it tells that on the standard error and goes on; `ask` sends one request and
+/// for, or a connection has to wait to be accepted, it reports that on the standard error and goes on; `ask` sends one request and
 /// writes the text of the reply.
 ///
-/// `Refused` comes where the reply to `ask`, which is written too, is no Done, Status or Entries. Where
+/// `Refused` comes where the reply to `ask`, which is written too, is not Done, Status or Entries. Where
 /// all else is done, `Done` comes.
 ///
 /// - `Command`: the arguments name nothing to do, or memory ran out while they were read.
-/// - `Start`: a file could not be read or is too long, its text is no table, the table does not list the
+/// - `Start`: a file could not be read or is too long, its text is not a table, the table does not list the
 ///   primary or the page server, or memory ran out. Until then nothing was read from the standard input,
 ///   written, listened at or sent.
 /// - `Play`: `play` stopped before the end of its input. The answers to the lines before stay written.
 /// - `Run`: a text could not be written; an address could not be listened at or reached; a connection
 ///   could not be accepted, or a thread not be started; the token or the words of `ask` are none; what
-///   came back is no reply; or memory ran out. What was answered or sent until then stays so.
+///   came back is not a reply; or memory ran out. What was answered or sent until then stays so.
 pub fn run<R>(rt: &R) -> Result<Ending, Failure>
 where
     R: Env + Files + Input + Print + Eprint + AllocGlobal + Threads + Wait + Sync + Copy + Drop,

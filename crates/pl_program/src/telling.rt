@@ -1,4 +1,4 @@
-//! What `serve` tells on standard error while it goes on.
+//! What `serve` reports on standard error while it goes on.
 
 ghost use Rattle.std.specs.Prelude.{Some};
 ghost use Rattle.pl_program.specs.Telling.{crew_text};
@@ -24,7 +24,7 @@ impl fmt::Display for Crew {
     }
 }
 
-/// Tells on the standard error of the process. Where that is closed, nothing is told.
+/// Reports on the standard error of the process. Where that is closed, nothing is reported.
 #[derive(Clone, Copy)]
 pub(crate) struct Teller<'a, R> {
     pub(crate) rt: &'a R,

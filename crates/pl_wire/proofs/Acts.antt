@@ -22,7 +22,7 @@ use Rattle.pl_wire.specs.Reading.{number_in, sized, block_or_fault, write_readin
 use Rattle.pl_wire.proofs.Steps.{bound, done, ok_is, ok_or-some, guard_ok}
 use Rattle.pl_wire.proofs.Places.{IsWide, wide16, wide32, wide64, number_cut, number_below, byte_cut}
 
--- what a value of sized bytes tells
+-- what a value of sized bytes says
 sized_ok : {X : Type 0} (size : ℕ) (bytes : List ℕ) (x y : X) → sized size bytes x ≡ Ok y → (length bytes ≡ size) × (x ≡ y)
 sized_ok size bytes x y e =
     let a = guard_ok (ltb (length bytes) size) EndsInField (cond (ltb size (length bytes)) (Err BytesAfterEnd) (Ok x)) y e in

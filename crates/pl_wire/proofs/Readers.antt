@@ -24,7 +24,7 @@ pub record IsFront (bytes text rest : List ℕ) : Type 0 where
 pub two : {bytes a after b rest : List ℕ} → IsFront bytes a after → IsFront after b rest → IsFront bytes (a ++ b) rest
 two {a = a} {b = b} {rest = rest} p q = record { parts = p.parts ∙ ap (λ (t : List ℕ). a ++ t) q.parts ∙ sym (append_assoc a b rest); rest_fits = q.rest_fits }
 
--- a reader and a spelling tell one another
+-- a reader and a spelling determine one another
 pub record Tells {X : Type 0} (read : List ℕ → Result (X × List ℕ) WireFault) (spell : X → List ℕ) (Fits : X → Type 0) : Type 0 where
   pub takes : (bytes : List ℕ) (x : X × List ℕ) → AreBytes bytes → read bytes ≡ Ok x → IsFront bytes (spell x.0) x.1 × Fits x.0
   pub again : (x : X) (rest : List ℕ) → Fits x → read (spell x ++ rest) ≡ Ok (x, rest)

@@ -31,6 +31,6 @@ pub record OneReplySpelling : Type 0 where
 abbrev pub FramesEndThemselves : Type 0
 FramesEndThemselves = (a b x y : List ℕ) → length a < 2 ^ 32 → length b < 2 ^ 32 → frame a ++ x ≡ frame b ++ y → (a ≡ b) × (x ≡ y)
 
--- frames in a row are told apart: where bytes begin with the frames of this many bodies, they begin with those of no others
+-- frames in a row are distinguished: where bytes begin with the frames of this many bodies, they begin with those of no others
 abbrev pub FramesOfOneInput : Type 0
 FramesOfOneInput = (a b : List (List ℕ)) (x y : List ℕ) → All IsShort a → All IsShort b → length a ≡ length b → frames_of a ++ x ≡ frames_of b ++ y → (a ≡ b) × (x ≡ y)

@@ -1,4 +1,4 @@
-//! Why a body is no request, or no reply.
+//! Why a body is not a request, or not a reply.
 
 ghost use Rattle.std.specs.Prelude.{◌≡◌, ◌≤◌};
 ghost use Rattle.pl_block.specs.declared.fault.Failed.TheVariants.{Malformed};

@@ -48,7 +48,7 @@ pub enum ReplyFault {
     Ended,
     /// No frame was read.
     Frame(FrameFault),
-    /// A frame was read, and its body is no reply, or there is no memory for the reply.
+    /// A frame was read, and its body is not a reply, or there is no memory for the reply.
     Body(BodyFault),
 }
 
@@ -167,14 +167,14 @@ pub fn read_frame<R: Read>(
 /// Reads a frame, and the reply that its body spells. What follows the frame is left unread.
 ///
 /// `Ended` at the end of input before the frame's first byte, `Frame` where no frame was read, and
-/// `Body` where a whole frame was read whose body is no reply, or whose reply finds no memory. Memory
+/// `Body` where a whole frame was read whose body is not a reply, or whose reply finds no memory. Memory
 /// is asked for the body, and for what the reply keeps.
 pub fn read_reply<R: Read>(alloc: Global, reader: &mut R) -> Result<Reply, ReplyFault>
     // The reply whose frame was read, and nothing after it was read.
     ensures ok { IfOk result (λ reply. IsReply reply
         × Consumes (R.remaining reader.old) (R.remaining reader.new) (reply_frame reply)) }
     // `Ended` at the end of input before a frame; `Frame` as `read_frame` with a limit of 2^20
-    // bytes; `Body` where the body of a whole frame is no reply, or its reply asks for memory
+    // bytes; `Body` where the body of a whole frame is not a reply, or its reply asks for memory
     // (`StopsReply`).
     ensures err { IfErr result (λ fault.
         StopsReply (R.remaining reader.old) (R.remaining reader.new) fault) }

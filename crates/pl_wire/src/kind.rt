@@ -1,4 +1,4 @@
-//! What a reply is, as its first byte tells.
+//! What a reply is, as its first byte says.
 
 ghost use Rattle.std.specs.Prelude.{◌≡◌};
 ghost use Rattle.pl_wire.specs.Replies.{kind_number, kind_of, kind_of_number};

@@ -5,7 +5,7 @@ ghost use Rattle.pl_wire.specs.Laws.{FramesEndThemselves, FramesOfOneInput, OneR
 
 use pl_block::laws::one_spelling;
 
-/// No frame is the beginning of another, so that frames in a row can be told apart.
+/// No frame is the beginning of another, so that frames in a row can be distinguished.
 pub fn frames_end_themselves()
     // No frame is the beginning of another, so a frame that was written is read again, whatever
     // follows.

@@ -68,7 +68,7 @@ impl Asked<'_> {
     }
 }
 
-/// Whether the clients were told what they want, and whether one of them went on after a refusal.
+/// Whether the clients got what they want, and whether one of them went on after a refusal.
 #[derive(Drop)]
 struct Told {
     end: Result<(), Stop>,
@@ -93,7 +93,7 @@ fn next_reply<'a>(stream: &mut TcpStream, bytes: &'a mut [u8; 64]) -> Result<&'a
         .ok_or(Stop::Changed)
 }
 
-// Reads these replies, each of which has to be that of the run, up to one that tells a refusal: its number. Those after
+// Reads these replies, each of which has to be that of the run, up to one that shows a refusal: its number. Those after
 // it are read too.
 fn first_refused(
     stream: &mut TcpStream,
@@ -205,7 +205,7 @@ fn ask_as<R: Net<Stream = TcpStream>>(
     Told { end, went_on }
 }
 
-// Serves the clients over the desks, and whether they were told what they want.
+// Serves the clients over the desks, and whether they got what they want.
 fn serve_clients<R>(
     rt: &R,
     alloc: Global,
@@ -261,7 +261,7 @@ where
     serve_clients(rt, alloc, &desks, passes, &asked)
 }
 
-// The same, and each client is told what it wants. Where a client was told of a refusal, and went on, all else has to be
+// The same, and each client gets what it wants. Where a client heard of a refusal, and went on, all else has to be
 // as if there had been none.
 fn serve_in_turn<R>(
     rt: &R,

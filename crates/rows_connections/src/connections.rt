@@ -48,7 +48,7 @@ pub(crate) fn listen<R: Net<Listener = TcpListener, Stream = TcpStream>>(
 }
 
 /// This many connections were accepted, and this many ended in a fault, with a pass of each worker. A stop
-/// that tells a refusal is one; and so are more faults, or fewer passes, since these tell no cause: who
+/// that shows a refusal is one; and so are more faults, or fewer passes, since these show no cause: who
 /// asks plays the test once more for them only where memory may be refused.
 pub(crate) fn check_served<P>(
     served: &Served<P>,

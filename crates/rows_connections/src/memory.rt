@@ -1,4 +1,4 @@
-//! Readers and writers over memory, and a gate that tells whether memory was refused.
+//! Readers and writers over memory, and a gate that reports whether memory was refused.
 
 ghost use Rattle.std.specs.Prelude.{take};
 ghost use Rattle.pl_conn.specs.Solo.{HasDatabases, SoloCall};
@@ -24,7 +24,7 @@ pub(crate) fn bytes_of_digits(alloc: Global, digits: &str) -> Result<Vec<u8>, St
 }
 
 /// Whether the test runs under scripts/refuse-memory. Elsewhere nothing is taken for a refusal that is
-/// not told as one.
+/// not reported as one.
 pub(crate) fn may_be_refused(rt: &impl Env) -> bool {
     let mut word = [0; 20];
     rt.var("REFUSE_AT", &mut word).is_ok() || rt.var("REFUSE_THREAD", &mut word).is_ok()
@@ -162,7 +162,7 @@ pub(crate) fn ended_in_refusal(end: &Result<u64, ConnFault>) -> bool {
     )
 }
 
-/// The gate of one caller, which tells in the end whether it replied NoMemory.
+/// The gate of one caller, which reports in the end whether it replied NoMemory.
 #[derive(Drop)]
 pub(crate) struct Telling {
     refusals: AtomicU64,

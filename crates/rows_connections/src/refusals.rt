@@ -102,7 +102,7 @@ const ENDED: [Again; 5] = [
     ((208, 208, 208), 58, (4, 4)),
 ];
 
-// A conversation over these frames. How it ended, and what was told.
+// A conversation over these frames. How it ended, and what was reported.
 fn asks<G: Gate>(
     alloc: Global,
     frames: &[u8],
@@ -141,7 +141,7 @@ fn are_bytes(bytes: &[u8], words: &str) -> bool {
     left.is_empty()
 }
 
-// What is asked once more, by how the conversation ended and what was told.
+// What is asked once more, by how the conversation ended and what was reported.
 fn again_of(
     end: &Result<u64, ConnFault>,
     told: &[u8],

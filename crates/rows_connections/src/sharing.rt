@@ -21,7 +21,7 @@ use std::thread::Threads;
 use transcripts::asking::request_of;
 use transcripts::transcript::Stop;
 
-/// A gate that tells the LSN of a report as the hardened end.
+/// A gate that replies with the LSN of a report as the hardened end.
 #[derive(Drop)]
 struct Echoes;
 

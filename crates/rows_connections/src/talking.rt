@@ -44,7 +44,7 @@ fn line_for(alloc: Global, line: &str, number: u64) -> Result<String, Stop> {
     Ok(line.replace(alloc, "LARGE", &large)?)
 }
 
-// The numbers that a line stands for, and the line after them. `FIRST..LAST | LINE` stands for one
+// The numbers that a line is for, and the line after them. `FIRST..LAST | LINE` is for one
 // line of each number.
 fn numbers_of(line: &str) -> Result<(u64, u64, &str), Stop> {
     let Some((numbers, line)) = line.split_once('|') else {

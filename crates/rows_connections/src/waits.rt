@@ -23,7 +23,7 @@ const REPLY_BYTES: u64 = 37;
 /// How many of these replies wait at most: 256 KiB and one reply more.
 const MOST_WAITING: u64 = 7_085;
 
-/// What a gate, a reader and a writer tell each other.
+/// What a gate, a reader and a writer exchange.
 #[derive(Drop)]
 struct Tally {
     /// How many requests were handed to the gate.

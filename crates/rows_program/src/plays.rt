@@ -45,7 +45,7 @@ pub(crate) fn fresh_on(alloc: Global, refused: &mut bool) -> Option<Db> {
     fresh(alloc).ok()
 }
 
-/// An output with room for this many bytes, so that no write of `play` is refused memory: it would not tell that from a
+/// An output with room for this many bytes, so that no write of `play` is refused memory: it would not distinguish that from a
 /// write that fails.
 pub(crate) fn room_on(
     alloc: Global,
