@@ -2,12 +2,12 @@
 
 Usage: python3 bench/arena.py
 
-Builds bench/arena, a program over pl_arena, and runs it. It prints the time of
+Builds bench/arena, a program that calls pl_arena, and runs it. It prints the time of
 - a look whether a frame is out, and of a frame that is lent, to be read and to be written,
 - a copy of a frame within a chunk, between chunks, and over 12,800 frames,
 - a frame that is taken and given back, and of each of 12,800 that are taken for the first time, given back and taken again,
 - the end of an arena of 12,800 frames, for each frame,
-- a thousand arenas of 640 frames, one behind the other, for each arena,
+- a thousand arenas of 640 frames, one after the other, for each arena,
 
 and the peak of memory. It fails where that is above 250 MB: then an arena that ended has kept its memory.
 """

@@ -2,20 +2,20 @@
  *
  *   frames echo REPLY [gather]
  *     Listens at a free port of the loopback and prints it. Each frame that comes, a length of four bytes, the high one
- *     first, and so many bytes, is answered by a frame with a body of REPLY bytes, in a write of its own. With `gather`
+ *     first, and that many bytes, is answered by a frame with a body of REPLY bytes, in a write of its own. With `gather`
  *     the answers to all frames that one read gave go out together. One thread a connection.
  *
  *   frames ask PORT CONNECTIONS FLIGHT COUNT REPLY FILE
- *     Opens so many connections, a thread each. Each sends COUNT requests, the bytes of FILE each, with up to FLIGHT of
+ *     Opens CONNECTIONS connections, a thread each. Each sends COUNT requests, the bytes of FILE each, with up to FLIGHT of
  *     them unanswered. A reply has REPLY bytes; where REPLY is `+N` it ends at its N-th line feed. Prints the seconds that
  *     all took together, and the first bytes of what the first connection was replied, in hexadecimal.
  *
  *   frames silent PORT CONNECTIONS REPLY FILE
- *     Opens so many connections, one after the other. Each sends the bytes of FILE once and takes the reply, as above; then
+ *     Opens CONNECTIONS connections, one after the other. Each sends the bytes of FILE once and takes the reply, as above; then
  *     it is silent. Prints how many there are, and holds them until its input ends. It fails where a reply takes ten seconds.
  *
  *   frames delays PORT COUNT KIND CONNECTIONS FILE [KIND CONNECTIONS FILE ..]
- *     Opens so many connections of each kind, a thread each. Each sends the frames of its file one after the other, again
+ *     Opens CONNECTIONS connections of each kind, a thread each. Each sends the frames of its file one after the other, again
  *     and again, each once the reply to the one before has come, until the connections of the first kind have had COUNT
  *     replies each. Prints for each kind how many replies came, how many of them were served, no denials or faults, and
  *     the 50th, 99th and 99.9th percentile of the delay and the longest one, in microseconds.

@@ -3,7 +3,7 @@
 Usage: python3 bench/log.py [BLOCKS..]                  (1000 100000 1000000 where none are given)
        python3 bench/log.py --zones [FOLDER]
 
-Builds bench/log, a program over pl_log, and drives it. For each number of hardened blocks of 100 bytes, and for 10,000 of
+Builds bench/log, a program that calls pl_log, and drives it. For each number of hardened blocks of 100 bytes, and for 10,000 of
 16 KiB, it prints the time of
 - a write to one copy, a report of one and of 64,
 - a pull of 16 blocks: the newest, out of the broker, out of the segments where nothing is cached and where all is, and of a
@@ -16,8 +16,8 @@ Writes and reports are in nanoseconds of the processor, all else in those of a c
 
 With --zones it prints the time of a write of a block of 100 bytes to the first copy, of one to another copy, which compares
 it with what is there, and of a report of 64, in a zone of three copies and of six, the median of 15 rounds; and what a place
-of an open window takes in both. FOLDER is another checkout, of an older commit say: the same program is built over its crates
-and driven in the same rounds, and the ratios of the times of one round stand beside: the median, and in brackets the half of
+of an open window takes in both. FOLDER is another checkout, of an older commit say: the same program is built with its crates
+and driven in the same rounds, and the ratios of the times of one round are beside it: the median, and in brackets the half of
 the rounds around it. The crates before zones of six have three copies alone.
 """
 

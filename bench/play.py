@@ -2,10 +2,10 @@
 
 Usage: python3 bench/play.py [LINES] [BYTES ...]     (100000 lines; blocks of 100 and of 16384 bytes)
 
-- blocks: for each block of so many bytes a write to copy 0, a write to copy 1, a report and a pull of that block; and
-  the same with a failover behind each twenty blocks, over a window of eight numbers that are each in one copy. A
+- blocks: for each block of BYTES bytes a write to copy 0, a write to copy 1, a report and a pull of that block; and
+  the same with a failover after each twenty blocks, above which a window of eight numbers is in one copy each. A
   database of `play` holds 65,536 entries; the lines after them are answered `07`.
-- pages: gets of four pages in turn, exact and at what is applied, with an advance before each sixteen, over logs of
+- pages: gets of four pages in turn, exact and at what is applied, with an advance before each sixteen, on logs of
   several lengths; beside a program that copies as many pages and writes them as lines, and `cat` of the same output.
 - audit: the last 1,024 lines of an audit list as long as LINES, asked for again and again, and the memory of an entry.
   It is run on the program of crates/trial, which may have longer lists and writes them shorter, beside the same two.
@@ -36,7 +36,7 @@ HEX_LINES = (
     "for line in sys.stdin.buffer:\n"
     "    out.write(binascii.hexlify(binascii.unhexlify(line.rstrip())) + b'\\n')\n"
 )
-# Writes so many bytes of a longer list as a line, so many times, each time as a copy.
+# Writes `size` bytes of a longer list as a line, `count` times, each time as a copy.
 COPIES = (
     "import sys, binascii\n"
     "size, count, out = int(sys.argv[1]), int(sys.argv[2]), sys.stdout.buffer\n"
@@ -71,7 +71,7 @@ def failover(lsn, size, epoch):
 
 
 def bodies(size, rounds):
-    """Without end; a failover behind each so many rounds, if any."""
+    """Without end; a failover after each `rounds` rounds, if any."""
     number, epoch = 0, 1
     while True:
         number += 1
@@ -82,7 +82,7 @@ def bodies(size, rounds):
 
 
 def log_of(count):
-    """So many blocks, each of a Put of 100 bytes on one of four pages."""
+    """`count` blocks, each of a Put of 100 bytes on one of four pages."""
     for lsn in range(1, count + 1):
         yield from hardened(lsn, [(lsn % 4, lsn % 80 * 100, bytes([lsn % 251]) * 100)])
 

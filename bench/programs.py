@@ -1,4 +1,4 @@
-"""Builds the programs of bench/: each is a crate over those of crates/, whose files have the ending `.txt` here, so that
+"""Builds the programs of bench/: each is a crate on top of those of crates/, whose files have the ending `.txt` here, so that
 the gate does not take them for its own.
 
 A program is proved before it runs, as `rt run` does, in a repository of its own under bench/work. What earlier checks of
@@ -23,7 +23,7 @@ def pagelog():
 
 
 def below(names, lines):
-    """The crates of these names and those that they stand on."""
+    """The crates of these names and those that they depend on."""
     found = set()
     wanted = [name for name in names if name in lines]
     while wanted:
@@ -44,7 +44,7 @@ def files_of(folder, is_older):
 
 
 def program(name, libraries, root=ROOT, is_older=False):
-    """The program of bench/NAME, built over these crates of a checkout, which may be one before they had all that it calls."""
+    """The program of bench/NAME, built with these crates of a checkout, which may be one before they had all that it calls."""
     lines = {}
     work = ROOT / "bench" / "work" / ("" if root == ROOT else f"beside-{root.resolve().name}")
     work.mkdir(parents=True, exist_ok=True)

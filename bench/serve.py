@@ -6,16 +6,16 @@ For each of a 100-byte write (the same block again and again), a report, a pull 
 a second of services of 2, 4 and 64 workers: at 1, 8 and 64 connections with one request each at a time; at 64 of 1,000 and of
 10,000 connections, of which the others asked once and are silent since (fewer where the limit of open files is lower); and
 with 64 requests in flight on one connection. All are asked by the same client, bench/frames.c, and so is the echo, which has
-a thread for each connection and answers each frame by one as long as the service's, in a write of its own. Beside it stands,
+a thread for each connection and answers each frame by one as long as the service's, in a write of its own. Beside it is,
 with requests in flight, an echo that gathers what it answers as the service does: it reads and writes whole batches and looks
 at nothing. Redis is asked for XADD of 100 bytes, XRANGE of one entry and GET of 8,192 bytes.
 
 Each number is the best of 25 short rounds, in each of which all are asked in turn: where the machine is shared with others
-some rounds are disturbed, and a long one is rarely spared. Behind each other server's number stands what the service's best
-round is of its best, and the median of what the service's round is of the other's. Behind them come the processor time that
+some rounds are disturbed, and a long one is rarely spared. After each other server's number comes what the service's best
+round is of its best, and the median of what the service's round is of the other's. After them come the processor time that
 the service took for a request, over all rounds, and the most memory that it held until then, which grows with its audit list.
 With silent connections there follow what the best round is of the one with 64 connections alone, and the memory that the
-service holds for each silent one. A server that does not serve so many has no number.
+service holds for each silent one. A server that does not serve that many has no number.
 
 Last come the delays of one request at a time on 64 connections, in microseconds: the 50th, 99th and 99.9th percentile and the
 longest, alone and beside silent connections.
@@ -165,14 +165,14 @@ def seconds(port, shape, request, reply):
 
 
 def delays(port, count, request):
-    """The 50th, 99th and 99.9th percentile and the longest of the delays on 64 connections, which have so many replies each."""
+    """The 50th, 99th and 99.9th percentile and the longest of the delays on 64 connections, which have `count` replies each."""
     with written(request) as file:
         return client("delays", port, count, "all", 64, file)[3:]
 
 
 @contextlib.contextmanager
 def silent(port, count, request, reply):
-    """Has so many connections ask once, and keeps them. Whether the server served all of them."""
+    """Has `count` connections ask once, and keeps them. Whether the server served all of them."""
     with written(request) as file:
         words = [str(word) for word in (FRAMES, "silent", port, count, reply, file)]
         holder = subprocess.Popen(words, stdin=subprocess.PIPE, stdout=subprocess.PIPE, stderr=subprocess.DEVNULL, text=True)

@@ -6,7 +6,7 @@ minute or two)
 The service is crates/pagelog/out/pagelog, or the program that PAGELOG names; its workers poll before they sleep as often as
 --idle-polls says, and 0 times if it is not given. The client is built by `make -C clients/c`.
 Everything is measured in this one run, by the same statements, in this one process, round after round in turns: a table with
-a text of a hundred bytes and an index on a random number. Plain SQLite has its file in bench/work. Beside each rate stands its
+a text of a hundred bytes and an index on a random number. Plain SQLite has its file in bench/work. Beside each rate is its
 share of that of plain SQLite in WAL with synchronous=off. Both are medians of all rounds; who comes first in a round is drawn.
 
     inserts     transactions of one row a second
@@ -21,9 +21,9 @@ share of that of plain SQLite in WAL with synchronous=off. Both are medians of a
 is older than 50 ms. Their commits wait for the service. `unwaited` is as `check 50`, with synchronous=off and unwaited=64, so that
 its commits wait for nothing, as those of plain SQLite with synchronous=off do. A follower is a reader; its lag is from the
 moment that a commit was acknowledged to the end of the transaction in which the follower saw it, asked again and again. The
-service keeps its log in memory, and synchronous=full waits for a disk: the two are no equal promises.
+service keeps its log in memory, and synchronous=full waits for a disk: the two promises are not equal.
 
-Behind it stand what a transaction sends, what an insert takes of this process' time and of its processor time where its wait
+After it come what a transaction sends, what an insert takes of this process' time and of its processor time where its wait
 looks for the reply first and where it sleeps at once, and speedtest1 of SQLite's sources, if SPEEDTEST1 names the
 program, as built by
 
@@ -146,7 +146,7 @@ class System:
         self.warm = None
 
     def once(self, column, number):
-        """One round of a column: so many a second, or None where this is a reader, or has no such column."""
+        """One round of a column: how many a second, or None where this is a reader, or has no such column."""
         if column not in self.columns:
             return None
         if column in WRITES:
@@ -169,7 +169,7 @@ class System:
 
 
 def measure(systems):
-    """Each column in so many rounds, and in each round of every system, so that what else the machine does falls on all."""
+    """Each column in ROUNDS rounds, and in each round of every system, so that what else the machine does falls on all."""
     for column, most in COLUMNS.items():
         for number in range(ROUNDS):
             for system in random.Random(number).sample(systems, len(systems)):
@@ -314,7 +314,7 @@ def speedtest(program, opened):
 
 
 def systems_of(first, second, third):
-    """The systems that are compared, over three services: plain SQLite with synchronous=off is the last one."""
+    """The systems that are compared, with three services: plain SQLite with synchronous=off is the last one."""
     from database import connect, reader
 
     def opened_unwaited():

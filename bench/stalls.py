@@ -14,7 +14,7 @@ Three cases, each on a service of its own with one database:
 The service is crates/pagelog/out/pagelog, which scripts/pagelog proves and builds, or the program that PAGELOG names.
 
 Delays are in microseconds: the 50th, 99th and 99.9th percentile and the longest, as bench/frames.c sees them, a thread each
-connection. Of the mixed load they are medians of the rounds, and beside them stand those of an echo with as many connections
+connection. Of the mixed load they are medians of the rounds, and beside them are those of an echo with as many connections
 that send as much, in the same run: what the machine and the loopback take without a database.
 """
 
@@ -79,7 +79,7 @@ class Service:
         return [self.file.read(int.from_bytes(self.file.read(4), "big")) for _ in frames]
 
     def harden(self, count, block):
-        """Hardens so many blocks, a window with each report."""
+        """Hardens `count` blocks, a window with each report."""
         for first in range(1, count + 1, WINDOW):
             last = min(first + WINDOW - 1, count)
             frames = [frame for lsn in range(first, last + 1) for frame in in_copies(block, lsn)]

@@ -2,24 +2,24 @@
 
 Usage: python3 bench/verdicts.py [ROUNDS] [FOLDER]     (21 rounds)
 
-Builds bench/verdicts, a program over pl_table and pl_decide. It times tables of 1, 16 and 256 rows for 64 principals,
+Builds bench/verdicts, a program that calls pl_table and pl_decide. It times tables of 1, 16 and 256 rows for 64 principals,
 where each row names a principal and where none does, for a request that the first row, the last or no row matches, and
 a small table of six rows for five principals; each with rows that end at LSNs, and with rows that do not:
 
 - walk: each row is looked at, up to the first that matches;
 - index: `Table::first_match`;
-- miss: `Decider::decide` behind a `new_table`, so that no verdict is cached; a long walk's verdict is cached then;
+- miss: `Decider::decide` after a `new_table`, so that no verdict is cached; a long walk's verdict is cached then;
 - again: `Decider::decide` on the same request, whose verdict is cached where `kept` is 1;
 - along: `Decider::decide` on pulls at 20,000 LSNs that follow one another, as a reader asks who follows the end of the log,
   with what it costs to make them; the rows that end do so at each thousandth LSN;
 - reach: `Decider::reach`, where the rows allow the request and the hardened end is above the ends of all rows, after a decision
-  on the request, by whose verdict it is told where that is cached;
+  on the request, whose verdict has it where that is cached;
 - near: the same with a hardened end below the ends of all rows.
 
 Prints nanoseconds of the processor, the median of the rounds, and ratios of times of one round: the median, and in brackets
 the half of the rounds around it. `hits` is how many of 1,000 pulls of `along` find their verdict cached, by the LSNs at which
 the rows say the same, where a verdict is kept at all. FOLDER is another checkout, of an older commit say: the same program is
-built over its crates, is asked of each table in turn with this one, and its times are beside those of this checkout. Of the
+built with its crates, is asked of each table in turn with this one, and its times are beside those of this checkout. Of the
 crates before `Asking` no reach is timed, and those before rows had ends read no table whose rows end.
 """
 

@@ -16,7 +16,7 @@ def same(what, wanted, found):
 
 
 class Service:
-    """A running service, by its words. Its first line tells where it listens. It does not outlive the script."""
+    """A running service, by its words. Its first line says where it listens. It does not outlive the script."""
 
     def __init__(self, words, **how):
         self.process = subprocess.Popen([str(word) for word in words], stdout=subprocess.PIPE, text=True, **how)
@@ -45,7 +45,7 @@ class Service:
 
 
 def exactly(client, count):
-    """So many bytes, or fewer at the end of what comes."""
+    """`count` bytes, or fewer at the end of what comes."""
     parts = b""
     while len(parts) < count:
         part = client.recv(count - len(parts))

@@ -60,7 +60,7 @@ def without_comments(text):
 
 
 def end_of(text, at, opening, closing):
-    """The place behind the bracket that closes the one at `at`."""
+    """The place after the bracket that closes the one at `at`."""
     depth = 0
     for place in range(at, len(text)):
         if text[place] == opening:

@@ -7,7 +7,7 @@
  * the mark at that moment, and nothing but a wake ends it. A thread that sleeps for ever shows as a state in which nobody can
  * go on, though not all have stopped.
  *
- * Behind each step stands the line of the code that it is for, under the name of its function. scripts/waiting compares these
+ * After each step comes the line of the code that it is for, under the name of its function. scripts/waiting compares these
  * lines with the source, so that whoever changes such a function has to look at this model.
  *
  * Left out: the step of the database, as who has the turn neither waits nor touches these words meanwhile; and all looks
@@ -183,7 +183,7 @@ inline goes_in() {
     fi
 }
 
-/* Nothing stands for these looks: the last one is that of goes_in. */
+/* The model has no step for these looks: the last one is that of goes_in. */
 // door.rt: pause
                     // for _ in 0..PAUSES { hint::spin_loop(); }
 // door.rt: Door::looks

@@ -1,7 +1,7 @@
 """Blocks, requests, replies and frames as fields by name, as the vectors of docs/FORMATS.md have them, and as bytes.
 
 Bytes are texts of hexadecimal digits, and roles, operations and kinds of replies their words. What reads a request or a
-block is the model's, what writes it is wire.py; both ways of a reply and a frame stand here.
+block is the model's, what writes it is wire.py; both ways of a reply and a frame are here.
 """
 
 import wire
@@ -43,7 +43,7 @@ def block_fields(data):
     return {"lsn": block.lsn, "partitions": sorted(block.touched), "records": records}
 
 
-# Requests. The fields of each operation behind those of the head, in the order of the wire.
+# Requests. The fields of each operation after those of the head, in the order of the wire.
 
 ARGUMENTS = {
     "write": ("copy", "block"), "offer": ("block",), "report": ("lsn",), "get": ("page", "lsn", "exact"),

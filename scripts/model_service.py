@@ -3,7 +3,7 @@
 Usage: scripts/model serve --listen ADDRESS --table FILE --primary N [--dbs N] [--audit N] [--workers N] [--connections N]
                            [--idle-polls N]
 
-It answers the request frames of any number of connections over 1 to 16 databases, as docs/FORMATS.md says, until it is
+It answers the request frames of any number of connections for 1 to 16 databases, as docs/FORMATS.md says, until it is
 ended. The pass in an entry of the audit list is the number of its connection. It never replies NoMemory or Spent, takes all
 the time and memory that Python takes, and nothing is proved of it. It has a thread for each connection, and no limit of them.
 """

@@ -92,7 +92,7 @@ def principal(key, value):
 
 
 def row(text):
-    """A row of these lines behind a good principal and a good row."""
+    """A row of these lines after a good principal and a good row."""
     return OPERATOR + "[[row]]\n" + text
 
 

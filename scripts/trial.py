@@ -1,6 +1,6 @@
 """Plays generated request bodies, and compares each reply with that of a model.
 
-Usage: python3 scripts/trial.py [LINES] [SEED]   plays so many lines (20000, seed 1) on the built pagelog; where the seed
+Usage: python3 scripts/trial.py [LINES] [SEED]   plays this many lines (20000, seed 1) on the built pagelog; where the seed
                                                  is a multiple of three, the database begins with six copies
        python3 scripts/trial.py --write          writes stdin, stdout and the tables in data/ of crates/trial
        python3 scripts/trial.py --check          compares these with what --write would write

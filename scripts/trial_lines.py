@@ -93,7 +93,7 @@ class Trial:
         return self.play(self.body(1, OPERATOR, TIDY))
 
     def sweep(self):
-        """Asks for the lines behind those that were asked for last, as many as one reply may have."""
+        """Asks for the lines after those that were asked for last, as many as one reply may have."""
         there = len(self.model.lines)
         if self.audit(self.swept + 1, 1024) == "audit":
             self.swept = min(there, self.swept + 1024)

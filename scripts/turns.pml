@@ -4,7 +4,7 @@
  *
  * A peer sends the frames of requests part by part, as many as it likes, and stops inside a frame if it likes. Then it is
  * silent for ever, or says that it sends no more, or is gone. It reads the replies when it likes, late or soon. The system
- * tells of a connection where something changed (an edge), once, with all that is so at that moment; it tells that there is
+ * reports a connection where something changed (an edge), once, with all that is so at that moment; it reports that there is
  * room to write only after a write that found none, and only once there is enough. Each read, each write and each poll is a
  * step by itself. What a turn does besides concerns the worker alone.
  *
@@ -13,7 +13,7 @@
  * so, once each; no more than GATHERS replies wait; a connection is closed only where its peer sends no more, and not before
  * its last reply is written; and a turn that found nothing to do leaves none due, so that no worker runs in circles.
  *
- * Behind each step stands the line of the code that it is for, under the name of its function; two dots stand for lines that
+ * After each step comes the line of the code that it is for, under the name of its function; two dots stand for lines that
  * the model leaves out. scripts/waiting compares these lines with the source.
  *
  * Left out: memory that is refused, and frames that are too long. New sockets come last in a round, so no event and no due
@@ -43,14 +43,14 @@
 #endif
 
 #define PARTS 2              /* the parts of a frame */
-#define ENOUGH (OUTS / 2)    /* with so many replies or fewer in it, a socket is reported to have room */
+#define ENOUGH (OUTS / 2)    /* with this many replies or fewer in it, a socket is reported to have room */
 
 /* Of the sockets. */
 byte in[LINES];              /* the parts that wait to be read */
 byte out[LINES];             /* the replies that wait for the peer */
 byte sent[LINES], got[LINES]; /* what the peer has sent and got in all */
 bit shut[LINES], gone[LINES];
-bit edge[LINES] = true;      /* whether something changed since a poll told so: at first, that it is registered */
+bit edge[LINES] = true;      /* whether something changed since a poll reported it: at first, that it is registered */
 bit no_room[LINES];          /* whether a write found no room */
 
 /* Of the worker. */
@@ -80,7 +80,7 @@ chan turns = [0] of { mtype };
 
 #define IS_READY(at) (in[at] > 0 || shut[at] || gone[at] || out[at] <= ENOUGH)
 
-/* Tells of a connection, if something changed and it is ready for something now. */
+/* Reports a connection, if something changed and it is ready for something now. */
 inline tell_of(at) {
     if
     :: is_open[at] && edge[at] ->
@@ -348,7 +348,7 @@ inline resume() {
     fi
 }
 
-/* A process of its own, so that the steps of a turn stand here once. The worker waits until it has ended. */
+/* A process of its own, so that the steps of a turn are here once. The worker waits until it has ended. */
 active proctype Turn() {
     byte held, replies, writes, taken, heard;
     bit failed;

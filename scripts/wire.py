@@ -9,7 +9,7 @@ LONGEST_BLOCK = 32768
 
 
 def number(value, size):
-    """The value in so many bytes."""
+    """The value in `size` bytes."""
     return value.to_bytes(size, "big")
 
 

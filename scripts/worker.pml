@@ -5,12 +5,12 @@
  * The accepting thread hands over as many sockets as it likes, and rests for ever when it likes, as a listener does at which
  * nobody comes, or ends. The peers of a worker's connections act as often as they like, and may be silent for ever. A turn of
  * a connection leaves it at rest, or due, or closed: turns.pml has what happens in one. Each step of a channel, of a bell and
- * of a poll is a step by itself. A poll with no time returns at once, and another one sleeps until something is to be told.
- * Before a worker sleeps it polls with no time, up to IDLE_POLLS times, until one tells of something. Once nobody can go on,
- * no socket lies in a channel, and no connection has an event, one that a worker was told of too, or a turn due; a worker whose
+ * of a poll is a step by itself. A poll with no time returns at once, and another one sleeps until there is something to report.
+ * Before a worker sleeps it polls with no time, up to IDLE_POLLS times, until one reports something. Once nobody can go on,
+ * no socket lies in a channel, and no connection has an event, not even a reported one, or a turn due; a worker whose
  * channel is closed, and that has no connection, has ended.
  *
- * Behind each step stands the line of the code that it is for, under the name of its function; two dots stand for lines that
+ * After each step comes the line of the code that it is for, under the name of its function; two dots stand for lines that
  * the model leaves out. scripts/waiting compares these lines with the source.
  *
  * Left out: which worker has the fewest connections, since any of them may; memory that is refused; an error of a poll.
@@ -34,11 +34,11 @@
 
 byte lying[WORKERS];   /* the sockets in the channel of a worker */
 bit dropped[WORKERS];  /* whether its sender is dropped */
-bit rung[WORKERS];     /* whether its bell has rung since a poll told so */
-byte resting[WORKERS]; /* its connections of which there is nothing to tell */
-byte ready[WORKERS];   /* those of which the next poll tells */
+bit rung[WORKERS];     /* whether its bell has rung since a poll reported it */
+byte resting[WORKERS]; /* its connections that have nothing to report */
+byte ready[WORKERS];   /* those that the next poll reports */
 byte due[WORKERS];     /* those whose turn is due */
-byte events[WORKERS];  /* those of which its last poll told, and that had no turn since */
+byte events[WORKERS];  /* those that its last poll reported, and that had no turn since */
 bit ended[WORKERS];
 
 #define IS_EMPTY (resting[me] == 0 && ready[me] == 0 && due[me] == 0)
@@ -217,7 +217,7 @@ inline turn_due() {
     od
 }
 
-/* A poll tells at once of what is registered. */
+/* A poll reports at once what is registered. */
 // worker.rt: Lines::open
 inline open() {
                                                            // ..

@@ -66,7 +66,7 @@ def frames(head: Head, acts: Iterable[Act]) -> list[bytes]:
 
 
 def bare(address: str, asked: Sequence[bytes], in_flight: int = 64) -> int:
-    """Sends the frames with so many in flight, and counts the frames that come back."""
+    """Sends the frames with at most `in_flight` of them in flight, and counts the frames that come back."""
     host, port = address.rsplit(":", 1)
     with socket.create_connection((host, int(port))) as connection:
         connection.setsockopt(socket.IPPROTO_TCP, socket.TCP_NODELAY, 1)

@@ -27,7 +27,7 @@ def programs() -> Path:
 
 
 class Postgres:
-    """A running server behind a socket of its own."""
+    """A running server with a socket of its own."""
 
     def __init__(self) -> None:
         self.folder = Path(tempfile.mkdtemp(prefix="pagelog-postgres-"))

@@ -18,7 +18,7 @@ from pathlib import Path
 sys.path.insert(0, str(Path(__file__).resolve().parent.parent / "src"))
 
 PATIENCE = 3600 if os.environ.get("PAGELOG_TEST_LONG") else 600
-"""So many seconds a test may take before it is taken to hang. Most take less than one where the machine is idle."""
+"""How many seconds a test may take before it is taken to hang. Most take less than one where the machine is idle."""
 PARTS = {
     "test_bytes": "blocks, requests and replies against the stored trial and the pages",
     "test_replies": "every reply, rule and fault of the service",
@@ -74,7 +74,7 @@ def play(module: str, words: str, only: str | None) -> tuple[int, int]:
     except Exception as error:  # a module that cannot be imported is a failed test
         texts.append((module, f"{type(error).__name__}: {error}"))
         result.testsRun += 1
-    # A test whose cases fail one by one stands here once for each of them.
+    # A test whose cases fail one by one is listed here once for each of them.
     texts += [(str(test), text) for test, text in result.failures + result.errors]
     failed = min(len(texts), result.testsRun)
     passed = result.testsRun - failed - len(result.skipped)

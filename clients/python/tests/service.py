@@ -1,4 +1,4 @@
-"""What the tests stand on: the real program, started on a free port, and a proxy that cuts connections."""
+"""What the tests use: the real program, started on a free port, and a proxy that cuts connections."""
 
 from __future__ import annotations
 
@@ -24,7 +24,7 @@ import pagelog  # noqa: E402
 PROGRAM = os.environ.get("PAGELOG") or str(TOP / "crates" / "pagelog" / "out" / "pagelog")
 TABLE = TOP / "crates" / "pagelog" / "data" / "t0.toml"
 PATIENCE = 300.0
-"""So many seconds a test waits for what has to come: on a machine with much else to do anything may take its time."""
+"""How many seconds a test waits for what has to come: on a machine with much else to do anything may take its time."""
 IS_LONG = os.environ.get("PAGELOG_TEST_LONG") == "1"
 
 # The start table with rights that a restore, a move and a new primary need: principal 2 is a secondary as well.
@@ -80,7 +80,7 @@ class Service:
         shutil.rmtree(self.folder, ignore_errors=True)
 
     def limit_memory(self, more: int) -> None:
-        """From now on it gets so many bytes more of memory that may be written at most."""
+        """From now on it gets at most `more` further bytes of memory that may be written."""
         text = Path(f"/proc/{self.process.pid}/status").read_text()
         most = 1024 * int(text.split("VmData:")[1].split()[0]) + more
         resource.prlimit(self.process.pid, resource.RLIMIT_DATA, (most, resource.RLIM_INFINITY))
@@ -122,7 +122,7 @@ def put(page: int, text: bytes, offset: int = 0) -> pagelog.Put:
 
 
 def fill(primary: pagelog.Primary, count: int, *, seed: int = 1, empties: bool = True) -> None:
-    """So many blocks of a few records each, some of them large, and some without records."""
+    """Writes `count` blocks of a few records each, some of them large, and some without records."""
     chance = random.Random(seed)
 
     def transactions():  # type: ignore[no-untyped-def]
@@ -152,7 +152,7 @@ def all_that_is_drawn(main: int) -> str:
 
 
 class CuttingProxy:
-    """Passes bytes on to a service, and cuts each connection behind a number of bytes, drawn from a seed."""
+    """Passes bytes on to a service, and cuts each connection after a number of bytes, drawn from a seed."""
 
     def __init__(self, address: str, *, least: int = 50, most: int = 5000, seed: int = 1) -> None:
         self.target = pagelog.Address.parse(address)

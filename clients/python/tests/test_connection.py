@@ -102,7 +102,7 @@ class Cuts(unittest.TestCase):
 
     def test_a_failover_whose_reply_is_lost_is_in_doubt_and_not_repeated(self) -> None:
         with Service() as service, service.operator() as direct:
-            for size in (20, 40):  # cut in the request, and behind it in the reply
+            for size in (20, 40):  # cut in the request, and after it in the reply
                 before = direct.status().epoch
                 with CuttingProxy(service.address, least=size, most=size + 1) as proxy, proxy.connection() as connection:
                     head = Head(1, OPERATOR.token, Role.OPERATOR, 0, before)

@@ -1,4 +1,4 @@
-"""A primary: commits, windows, epochs that end, and what is told of blocks whose replies were lost."""
+"""A primary: commits, windows, epochs that end, and what is reported of blocks whose replies were lost."""
 
 from __future__ import annotations
 
@@ -186,7 +186,7 @@ class Epochs(unittest.TestCase):
             self.primary.append(put(0, b"no"))
 
     def test_before_a_commit_has_shown_the_quorum_the_log_is_asked(self) -> None:
-        """Whatever the primary was told of the quorum: a block in two or three copies may be in the log, or not."""
+        """Whatever quorum the primary was given: a block in two or three copies may be in the log, or not."""
         for options in ({}, {"copies": (0, 1, 2)}, {"quorum": 4}):
             for witness in (None, self.reader):
                 with Service(table=WIDE_TABLE) as service, service.operator() as operator:
@@ -205,7 +205,7 @@ class Epochs(unittest.TestCase):
                             self.assertEqual(primary.durable, 1)
 
     def fail_over_before_the_third_copy(self, primary: Primary, operator: pagelog.Operator) -> None:
-        """The epoch ends as soon as a block stands in the copies 0 and 1."""
+        """The epoch ends as soon as a block is in the copies 0 and 1."""
         requests = primary._requests
 
         def with_a_failover(*arguments):  # type: ignore[no-untyped-def]
@@ -262,7 +262,7 @@ def count_of_writes(operator: pagelog.Operator) -> int:
 
 
 class Doubts(unittest.TestCase):
-    """The connection is cut behind the writes, and what happened to them is found out."""
+    """The connection is cut after the writes, and what happened to them is found out."""
 
     def setUp(self) -> None:
         self.service = self.enterContext(Service(table=WIDE_TABLE))

@@ -77,7 +77,7 @@ class Reading(unittest.TestCase):
             self.service.reader().span(8)
 
     def test_following_waits_at_the_end_and_behind_an_empty_pull(self) -> None:
-        """Blocks of another partition make the pulls empty; the iterator goes on behind them."""
+        """Blocks of another partition make the pulls empty; the iterator goes on after them."""
         found: list[int] = []
         done = threading.Event()
         reader = self.enterContext(self.service.reader())

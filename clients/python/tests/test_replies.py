@@ -193,7 +193,7 @@ class OutOfMemory(unittest.TestCase):
             self.assertEqual({page.data[:5] for page in reader.pages(range(20), 400)}, {b"first"})
 
     def leaves_no_trace(self, service: Service) -> None:
-        """Where nothing stands at an LSN, any block may be written there; where one does, no other may."""
+        """Where an LSN has no block, any may be written there; where it has one, no other may."""
         head = Head(2, bytes.fromhex(token(2)), Role.PRIMARY, 0, 1)
         with service.connection(1) as connection, service.primary() as primary:
             list(primary.stream([put(0, b"first")] for _ in range(20)))

@@ -75,7 +75,7 @@ class Restoring(Pair):
         self.archived(200)
         with self.target.primary() as primary, self.target.connection() as connection:
             list(primary.harden(self.archive.blocks(1, 70)))
-            # And a part of the next window stands in one copy, without a report.
+            # And a part of the next window is in one copy, without a report.
             head = pagelog.request.Head(2, bytes.fromhex(token(2)), pagelog.Role.PRIMARY, 0, 1)
             writes = [pagelog.request.Request(head, pagelog.request.Write(0, block)) for block in self.archive.blocks(71, 90)]
             self.assertEqual(set(connection.exchange(writes)), {pagelog.reply.Done()})

@@ -84,7 +84,7 @@ class Block:
         """The block with this LSN and these records.
 
         Raises `LsnOutOfRange`; then `EmptyPut` or `PutPastPage` for the first faulty Put; then `BlockTooLong`.
-        A page or an offset that is no number of its size is a `ValueError`.
+        A page or an offset that is not a number of its size is a `ValueError`.
         """
         _check_lsn(lsn)
         listed = list(records)
@@ -125,7 +125,7 @@ class Block:
 
 
 def encode_record(record: Record) -> bytes:
-    """The bytes of a record as they stand in a block. The record is not checked."""
+    """The bytes of a record as they are in a block. The record is not checked."""
     if isinstance(record, Put):
         return _PUT.pack(_PUT_KIND, record.page, record.offset, len(record.data)) + record.data
     return _ZERO.pack(_ZERO_KIND, record.page)

@@ -28,7 +28,7 @@ def told_epoch(reply: Reply) -> int | None:
 class Client:
     """Asks as one principal, in one role, of one database.
 
-    It takes over the epoch that a denial A2 or A3 tells, and asks again; a primary does not, see `Primary`. The epoch
+    It takes over the epoch that a denial A2 or A3 reports, and asks again; a primary does not, see `Primary`. The epoch
     and the hardened end of one log only rise: where either is below what was seen, `LogWentBack` is raised.
 
     Every call raises what the connection raises, and a `Refusal` for a reply that refuses.
@@ -42,7 +42,7 @@ class Client:
         self.database = database
         self.epoch = FIRST_EPOCH
         self.hard_seen = 0
-        """The highest hardened end that a reply told."""
+        """The highest hardened end that a reply reported."""
         self._head: Head | None = None
 
     @classmethod
@@ -102,7 +102,7 @@ class Client:
         return reply
 
     def _ask_all(self, acts: Sequence[Act], in_flight: int = 64) -> list[Reply]:
-        """The replies, in order. Those that were denied for an older epoch are asked again in the one that was told."""
+        """The replies, in order. Those that were denied for an older epoch are asked again in the one that was reported."""
         replies: list[Reply | None] = [None] * len(acts)
         while True:
             left = [at for at, reply in enumerate(replies) if reply is None]

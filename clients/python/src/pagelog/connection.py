@@ -112,7 +112,7 @@ class Connection:
         return reply
 
     def exchange(self, requests: Iterable[Request], in_flight: int = 64) -> Iterator[Reply]:
-        """The replies to the requests, in order, with at most so many in flight.
+        """The replies to the requests, in order, with at most `in_flight` requests in flight.
 
         The next request is taken from `requests` when there is room for it. An iterator that is left before its end
         closes the connection, since replies would still come.
@@ -123,7 +123,7 @@ class Connection:
             yield answer.reply
 
     def answers(self, requests: Iterable[Request], in_flight: int = 64) -> Iterator[Answer]:
-        """As `exchange`, and tells of each reply whether its request was repeated."""
+        """As `exchange`, and says of each reply whether its request was repeated."""
         if self._in_use:
             raise RuntimeError("the connection is in use: end the exchange that was begun on it first")
         self._in_use = True

@@ -63,7 +63,7 @@ class Account:
 class Accounts:
     """The accounts of a file and of the environment, by role, and what else the file says.
 
-    `archive_url` is the `url` of the section `archive`. The section `service` says what no reply of a service tells:
+    `archive_url` is the `url` of the section `archive`. The section `service` says what no reply of a service reports:
     `audit_limit` is its `audit`, how many entries an audit list holds, and `quorum` its `quorum`, 2 or 4.
     """
 
@@ -81,7 +81,7 @@ class Accounts:
 
 
 def load(file: str | Path | None = None, environment: Mapping[str, str] | None = None) -> Accounts:
-    """The accounts of the file, or of the one that the environment names, and over them those of the environment.
+    """The accounts of the file, or of the one that the environment names. Those of the environment override them.
 
     Raises `CredentialsError` where the file cannot be read, is malformed, or others may read it.
     """

@@ -4,7 +4,7 @@
         Unreachable            nobody answers at the address
         ConnectionLost         the connection ended, and what was asked may not be asked again
             TimedOut           no byte came or went for as long as the connection waits
-        InDoubt                whether a change was made cannot be told
+        InDoubt                it is not known whether a change was made
         LogWentBack            the service has less than was seen of it: it was started anew
         UnexpectedReply        a reply of a kind that does not answer the request
         CredentialsError       credentials are missing, malformed, or others may read their file
@@ -48,7 +48,7 @@ class TimedOut(ConnectionLost):
 
 
 class InDoubt(PagelogError):
-    """The connection was lost behind a request that must not be sent twice, or an epoch ended before its reply.
+    """The connection was lost after a request that must not be sent twice, or an epoch ended before its reply.
 
     Whether the change was made has to be looked up: in the audit list, or by pulling the block.
     """
@@ -59,7 +59,7 @@ class LogWentBack(PagelogError):
 
 
 class UnexpectedReply(PagelogError):
-    """A reply of a kind that does not answer the request: whatever listens there is no pagelog service."""
+    """A reply of a kind that does not answer the request: whatever listens there is not a pagelog service."""
 
 
 class CredentialsError(PagelogError):

@@ -55,7 +55,7 @@ class EmptyPut(BlockFault):
 
 
 class PutPastPage(BlockFault):
-    """A Put ends behind its page of 8,192 bytes."""
+    """A Put ends past its page of 8,192 bytes."""
 
     code = 6
 
@@ -158,7 +158,7 @@ def request_fault(code: int) -> RequestFault:
 
 
 class MalformedRequest(Refusal):
-    """Malformed: the service found the body to be no request. `code` is 1 to 15, and `fault` the fault it stands for."""
+    """Malformed: the service found that the body is not a request. `code` is 1 to 15, and `fault` the fault of that code."""
 
     def __init__(self, code: int) -> None:
         self.code = code

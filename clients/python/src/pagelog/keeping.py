@@ -17,7 +17,7 @@ from pagelog.reply import Page
 from pagelog.request import Get
 
 Progress = Callable[[int, int], None]
-"""Told how far a piece of work is, and how far it goes, in LSNs."""
+"""Called with how far a piece of work is, and how far it goes, in LSNs."""
 PULLS = 16
 """Pulls of one batch: at most 256 blocks, 8 MiB."""
 _SAMPLES = 32
@@ -36,7 +36,7 @@ class NotFenced(ArchiveError):
 
 
 def no_progress(_: int, __: int) -> None:
-    """Tells nobody."""
+    """Reports nothing."""
 
 
 def whole(span: Span) -> list[Block]:
@@ -94,7 +94,7 @@ class Archiver:
         return blocks
 
     def _check_log(self) -> None:
-        """Looks at the service behind the pulls of a batch. A connection that is made meanwhile is looked at next time."""
+        """Looks at the service after the pulls of a batch. A connection that is made meanwhile is looked at next time."""
         connects = self.reader.connection.connects
         hard = self.reader.status().hard
         if hard < self.archived:
@@ -105,7 +105,7 @@ class Archiver:
         self._checked_connects = connects
 
     def resume(self) -> None:
-        """Takes up the archived LSN from the archive, behind an error that leaves open whether a batch was kept."""
+        """Takes up the archived LSN from the archive, after an error that leaves open whether a batch was kept."""
         self.archived = self.archive.archived
         self._checked_connects = 0
 
@@ -143,7 +143,7 @@ def compare(found: Iterable[Block], wanted: Iterable[Block], *, told: Progress =
 
 @dataclass(frozen=True)
 class Verified:
-    """What a comparison looked at: so many blocks, all alike, and pages, of which some may not be read by this table.
+    """What a comparison looked at: `blocks`, all alike, and `pages`; `denied_pages` more may not be read by this table.
 
     `archived` is the archived LSN and `hard` the hardened end of the service, which may be above it.
     """
@@ -261,7 +261,7 @@ def fill(archive: Archive, primary: Primary, reader: Reader, *, told: Progress =
 
 @dataclass(frozen=True)
 class Moved:
-    """How a move ended: both logs have so many blocks, all alike; the source was fenced `behind` blocks before its end.
+    """How a move ended: both logs have `hard` blocks, all alike; the source was fenced `behind` blocks before its end.
 
     `epoch` is the epoch of the source that nobody writes in, and `pause` the seconds from the fence to the end.
     """

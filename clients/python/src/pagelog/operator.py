@@ -19,7 +19,7 @@ class Operator(Client):
         """Ends the epoch and makes principal `to` the primary of the next one, whose number it returns.
 
         Without `epoch` the current one is ended, whichever it is. With it that very one: raises `OlderEpoch` where it
-        is over already. Raises `UnlistedPrimary`, `LastEpoch`, and `InDoubt` where the connection was lost behind it.
+        is over already. Raises `UnlistedPrimary`, `LastEpoch`, and `InDoubt` where the connection was lost before the reply.
         """
         if epoch is None:
             epoch = self.status().epoch

@@ -61,5 +61,5 @@ class PageServer(Client):
 
 
 def _steps(moved: int) -> list[int]:
-    """So many LSNs in steps of at most 1,024."""
+    """`moved` LSNs in steps of at most 1,024."""
     return [min(STEPS_MAX, moved - done) for done in range(0, moved, STEPS_MAX)]

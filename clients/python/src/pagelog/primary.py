@@ -21,7 +21,7 @@ from pagelog.rules import (
 )  # fmt: skip
 
 WINDOW = 64
-"""So many LSNs above the hardened end may be written."""
+"""How many LSNs above the hardened end may be written."""
 _MOST_RECORDS = 65535
 
 
@@ -47,7 +47,7 @@ class Packer:
 
 @dataclass(slots=True)
 class _Sent:
-    """A block that is not known to be hardened: in which copies it stands, and whether it may stand in others too.
+    """A block that is not known to be hardened: which copies it is in, and whether it may be in others too.
 
     `copies` has for each copy over which connection, counted from 1, the service said so.
     """
@@ -57,7 +57,7 @@ class _Sent:
     attempts: int = 0
 
     def stands(self, connection: int, quorum: int) -> bool:
-        """Whether it stands in so many copies of the service that this connection leads to. Another may be a new one."""
+        """Whether it is in `quorum` copies of the service that this connection leads to. Another may be a new one."""
         return sum(1 for told in self.copies.values() if told == connection) >= quorum
 
 
@@ -80,15 +80,15 @@ class Primary(PageClient):
     that are there.
 
     An epoch belongs to a principal and not to a process. Two processes that write as one principal in one epoch mix
-    their blocks, so begin with `take_over`, unless nobody else has the credentials. Where a connection is lost, the
-    writes behind it are repeated; to tell one's own block from another's then needs an epoch of one's own, or a
+    their blocks, so begin with `take_over`, unless nobody else has the credentials. Where a connection is lost, its
+    writes without a reply are repeated; to tell one's own block from another's then needs an epoch of one's own, or a
     `witness` that may pull. Without either it is `InDoubt`.
 
-    No reply tells how many copies there are and what their quorum is: three and two, unless the table that was in force
+    No reply says how many copies there are and what their quorum is: three and two, unless the table that was in force
     when the epoch began says `copies = 6` and `quorum = 4`. Say `quorum=4` then. Where that is wrong the first commit
     is denied: `NoSuchCopy` for a quorum that is too large (what was hardened all the same is `durable`), `BelowQuorum`
-    for one that is too small. A commit that succeeded has shown that it is right; where a failover comes before the
-    first one has, what stood in some copies is looked up by the witness, and else `InDoubt`.
+    for one that is too small. A commit that succeeded has shown that it is right. Where a failover comes before the
+    first one has, what was in some copies is looked up by the witness; without a witness it is `InDoubt`.
     """
 
     role = Role.PRIMARY
@@ -107,8 +107,8 @@ class Primary(PageClient):
     ) -> None:
         """`epoch` is the one to write in, by default that of the first request. `alone` says that nobody else does.
 
-        `quorum` is 2 or 4. `copies` are those that are written, by default the first `quorum`: at least so many, of
-        0 to 2 with quorum 2 and of 0 to 5 with quorum 4; a `ValueError` otherwise.
+        `quorum` is 2 or 4. `copies` are those that are written, by default the first `quorum`. They are at
+        least `quorum`, of 0 to 2 with quorum 2 and of 0 to 5 with quorum 4; a `ValueError` otherwise.
         """
         super().__init__(connection, credentials, database)
         self.quorum = quorum
@@ -180,7 +180,7 @@ class Primary(PageClient):
     def commit(self) -> int:
         """Writes what was appended, and returns the LSN up to which the log of the service is hardened.
 
-        Up to 64 blocks are written with one report behind them. More than 64 are hardened group by group, so a reader
+        Up to 64 blocks are written with one report after them. More than 64 are hardened group by group, so a reader
         can see a part of them.
         """
         self._prepare()
@@ -191,8 +191,8 @@ class Primary(PageClient):
         return self.durable
 
     def stream(self, transactions: Iterable[Sequence[Record]], *, in_flight: int = 64) -> Iterator[int]:
-        """Commits each transaction as a block of its own, with so many requests in flight, and yields its LSN once it
-        is hardened.
+        """Commits each transaction as a block of its own, with `in_flight` requests in flight at most, and yields its LSN
+        once it is hardened.
 
         A request is made for each copy, and one more. Raises `BlockTooLong` for one that does not fit into a block:
         those before it were sent. What was appended before is committed first.
@@ -201,7 +201,7 @@ class Primary(PageClient):
         return self._harden(([block] for block in self._blocks_of(transactions)), in_flight)
 
     def harden(self, blocks: Iterable[Block], *, group: int = WINDOW, in_flight: int = 2 * WINDOW) -> Iterator[int]:
-        """Writes blocks that have their LSNs, which follow on the log's end, with a report behind each `group`, 1 to 64.
+        """Writes blocks that have their LSNs, which follow on the log's end, with a report after each `group`, 1 to 64.
 
         Yields the LSN of each group's last block once it is hardened. A `ValueError` for an LSN that is not the next.
         """
@@ -245,7 +245,7 @@ class Primary(PageClient):
             step = plan.popleft()
             refusal = self._refusal(step, answer)
             if refusal is not None:
-                # Nothing more is sent. What is in flight is read, so that it is known where each block stands.
+                # Nothing more is sent. What is in flight is read, so that it is known which copies each block is in.
                 told.append((refusal, answer.repeated))
                 if step.copy is None:
                     reports.append(step.sent.block.lsn)
@@ -265,7 +265,7 @@ class Primary(PageClient):
     def _requests(
         self, groups: Iterable[Sequence[Block]], plan: deque[_Step], told: Sequence[object]
     ) -> Iterator[Request]:
-        """A write for each block and copy, and a report for each group, until a refusal was told."""
+        """A write for each block and copy, and a report for each group, until a refusal has come."""
         known = {sent.block.lsn: sent for sent in self._unhardened}
         for group in groups:
             if told:
@@ -291,7 +291,7 @@ class Primary(PageClient):
         return lsn
 
     def _refusal(self, step: _Step, answer: Answer) -> Refusal | None:
-        """Why the step was not done, if it was not. That a repeated write finds its own block hardened is no refusal."""
+        """Why the step was not done, if it was not. That a repeated write finds its own block hardened is not a refusal."""
         if isinstance(answer.reply, Done):
             return None
         refusal = refusal_of(answer.reply)
@@ -323,7 +323,7 @@ class Primary(PageClient):
         return self._count_what_the_failover_kept(refusal, was_repeated)
 
     def _count_what_the_failover_kept(self, refusal: OlderEpoch, was_repeated: bool) -> Exception | None:
-        """A failover hardens what stood in a quorum. Of a write without a reply only the log can tell."""
+        """A failover hardens what was in a quorum of copies. What became of a write without a reply only the log shows."""
         connection = self.connection.connects
         while self._is_quorum_shown and self._unhardened and self._unhardened[0].stands(connection, self.quorum):
             self._hardened(self._unhardened[0].block.lsn)
@@ -337,7 +337,7 @@ class Primary(PageClient):
         return refusal if self._unhardened else None
 
     def _take_over(self, epoch: int) -> None:
-        """A primary takes over no epoch behind the one that it began in."""
+        """A primary does not take over an epoch after the one that it began in."""
         if self._is_fixed and epoch >= self.epoch:
             self._ended = OlderEpoch(Section.A, 2, epoch)
             raise self._ended

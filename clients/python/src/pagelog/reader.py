@@ -19,7 +19,7 @@ QUICKEST = 0.005
 
 @dataclass(frozen=True, slots=True)
 class Span:
-    """Blocks that were pulled, and the LSNs that they stand for: `first` to `last`, which is below `first` if none.
+    """Blocks that were pulled, and the LSNs that they cover: `first` to `last`, which is below `first` if none.
 
     An LSN of the span that no block of it has is a block that touches none of the partitions asked for. Where all
     partitions were asked for it is a block without records.
@@ -53,7 +53,7 @@ class Reader(PageClient):
         return blocks
 
     def span(self, lsn: int, *, pulls: int = 64, partitions: tuple[int, int] = ALL_PARTITIONS) -> Span:
-        """All that is hardened from this LSN on, as far as so many pulls (1 or more) reach, all in flight together.
+        """All that is hardened from this LSN on, as far as `pulls` pulls (1 or more) reach, all in flight together.
 
         A span that ends below its beginning says that nothing new is hardened. What a later pull of it is refused for is
         left to the next span: this one ends before. Raises `LogWentBack` where the log has become shorter than it was.
@@ -63,7 +63,7 @@ class Reader(PageClient):
             self.status()
         if pulls == 1 or self.hard_seen <= first.last:
             return first
-        # Each serves at least the blocks of the sixteen LSNs from its own on, so that the next may begin behind them.
+        # Each serves at least the blocks of the sixteen LSNs from its own on, so that the next may begin after them.
         starts = range(first.last + 1, min(first.last + 1 + PULL_MAX * (pulls - 1), self.hard_seen + 1), PULL_MAX)
         rest = self._span_of(starts, partitions, behind=first)
         return Span(lsn, rest.last, first.blocks + rest.blocks)

@@ -24,7 +24,7 @@ AUDIT_MAX = 1024
 STEPS_MAX = 1024
 """The most blocks of an advance."""
 COPIES_OF_QUORUM = {2: 3, 4: 6}
-"""How many copies there are, by the quorum: in so many of them a block has to stand before it is hardened."""
+"""How many copies there are, by the quorum: a block has to be in a quorum of them before it is hardened."""
 QUORUM = 2
 """The quorum where a table says nothing else."""
 HIGHEST_EPOCH = (1 << 32) - 1
@@ -82,7 +82,7 @@ class Write:
     repeatable: ClassVar[bool] = True
 
     def arguments(self) -> bytes:
-        """Its bytes behind the head. Raises `ArgumentOutOfRange` where the copy is not 0 to 255."""
+        """Its bytes after the head. Raises `ArgumentOutOfRange` where the copy is not 0 to 255."""
         return _number("copy", self.copy, 0, 255, 1) + self.block.data
 
 
@@ -95,7 +95,7 @@ class Offer:
     repeatable: ClassVar[bool] = True
 
     def arguments(self) -> bytes:
-        """Its bytes behind the head."""
+        """Its bytes after the head."""
         return self.block.data
 
 
@@ -108,7 +108,7 @@ class Report:
     repeatable: ClassVar[bool] = True
 
     def arguments(self) -> bytes:
-        """Its bytes behind the head. Raises `ArgumentOutOfRange`."""
+        """Its bytes after the head. Raises `ArgumentOutOfRange`."""
         return _number("LSN", self.lsn, 0, HIGHEST_LSN, 8)
 
 
@@ -123,7 +123,7 @@ class Get:
     repeatable: ClassVar[bool] = True
 
     def arguments(self) -> bytes:
-        """Its bytes behind the head. Raises `ArgumentOutOfRange`."""
+        """Its bytes after the head. Raises `ArgumentOutOfRange`."""
         exact = bytes([1 if self.exact else 0])
         return _number("page", self.page, 0, HIGHEST_PAGE, 4) + _number("LSN", self.lsn, 0, HIGHEST_LSN, 8) + exact
 
@@ -140,7 +140,7 @@ class Pull:
     repeatable: ClassVar[bool] = True
 
     def arguments(self) -> bytes:
-        """Its bytes behind the head. Raises `ArgumentOutOfRange`."""
+        """Its bytes after the head. Raises `ArgumentOutOfRange`."""
         hi = _number("hi", self.hi, 0, HIGHEST_PARTITION, 2)
         lo = _number("lo", self.lo, 0, self.hi, 2)
         return lo + hi + _number("LSN", self.lsn, 1, HIGHEST_LSN, 8) + _number("max", self.max, 1, PULL_MAX, 2)
@@ -156,7 +156,7 @@ class Advance:
     repeatable: ClassVar[bool] = False
 
     def arguments(self) -> bytes:
-        """Its bytes behind the head. Raises `ArgumentOutOfRange`."""
+        """Its bytes after the head. Raises `ArgumentOutOfRange`."""
         partition = _number("partition", self.partition, 0, HIGHEST_PARTITION, 2)
         return partition + _number("steps", self.steps, 1, STEPS_MAX, 2)
 
@@ -182,7 +182,7 @@ class Failover:
     repeatable: ClassVar[bool] = False
 
     def arguments(self) -> bytes:
-        """Its bytes behind the head. Raises `ArgumentOutOfRange`."""
+        """Its bytes after the head. Raises `ArgumentOutOfRange`."""
         return _number("principal", self.principal, 0, HIGHEST_EPOCH, 4)
 
 
@@ -195,7 +195,7 @@ class SetTable:
     repeatable: ClassVar[bool] = False
 
     def arguments(self) -> bytes:
-        """Its bytes behind the head. Raises `ArgumentOutOfRange`."""
+        """Its bytes after the head. Raises `ArgumentOutOfRange`."""
         if len(self.text) > TEXT_SIZE:
             raise ArgumentOutOfRange(f"a text of {len(self.text)} bytes, above {TEXT_SIZE}")
         return self.text
@@ -211,7 +211,7 @@ class Audit:
     repeatable: ClassVar[bool] = True
 
     def arguments(self) -> bytes:
-        """Its bytes behind the head. Raises `ArgumentOutOfRange`."""
+        """Its bytes after the head. Raises `ArgumentOutOfRange`."""
         return _number("first", self.first, 1, (1 << 64) - 1, 8) + _number("max", self.max, 1, AUDIT_MAX, 2)
 
 

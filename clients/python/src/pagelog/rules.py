@@ -171,7 +171,7 @@ class UnlistedPrimary(Denial):
 
 
 class LastEpoch(Denial):
-    """C9. The epoch is 2^32 - 1, behind which there is none."""
+    """C9. The epoch is 2^32 - 1, after which there is none."""
 
     rule = "LastEpoch"
     sentence = "there is no epoch behind the last one"

@@ -31,7 +31,7 @@ _ROLES = {
 
 
 class ExplainError(PagelogError):
-    """A request that cannot be read, a file that is no table, or no program to ask."""
+    """A request that cannot be read, a file that is not a table, or no program to ask."""
 
 
 @dataclass(frozen=True)
@@ -137,7 +137,7 @@ class Table:
         return any(one.get("id") == principal for one in self.principals)
 
     def beginning(self, rows: int, without: int) -> str:
-        """The text of the first rows, and behind them a row by which another principal than this may set the table."""
+        """The text of the first rows, and after them a row by which another principal than this may set the table."""
         other = next((one["id"] for one in self.principals if one["id"] != without), None)
         principals = list(self.principals)
         if other is None:
@@ -209,7 +209,7 @@ def explain_each(table: Table, principal: int, questions: Sequence[Question]) ->
 
 
 def is_allowed(reply: Reply) -> bool:
-    """By sections A and B. What the log says then is no matter of the table."""
+    """By sections A and B. What the log says after that is not a matter of the table."""
     return not isinstance(reply, Denied) or reply.section is Section.C
 
 
@@ -240,7 +240,7 @@ def _play(table: Table, text: str, question: Question) -> Reply:
 
 
 def play(table: Table, text: str, principal: int, questions: Sequence[Question]) -> list[Reply]:
-    """The program's replies to requests of one principal, one after the other over one database, under this text."""
+    """The program's replies to requests of one principal, one after the other on one database, under this text."""
     primary = principal if table.lists(principal) else next((one.get("id", 0) for one in table.principals), 0)
     token = table.token(principal)
     bodies = (Request(Head(principal, token, one.role, 0, 1), one.act(text.encode())).encode() for one in questions)

@@ -21,8 +21,8 @@ _OPERATIONS = {
 def all_differences(old: Table, new: Table) -> Iterator[Difference]:
     """Those of these requests that one table allows and the other denies.
 
-    The rows of a table speak of principals, roles, operations, ranges of partitions and LSNs, and so a request between
-    two bounds is decided as one at a bound. Raises `ExplainError` where the program takes one of them for no table.
+    The rows of a table name principals, roles, operations, ranges of partitions and LSNs, and so a request between
+    two bounds is decided as one at a bound. Raises `ExplainError` where the program says that one of them is not a table.
     """
     for table in (old, new):
         play(table, table.text.decode(), 0, [])

@@ -22,7 +22,7 @@ def explain_word(is_diff: bool, arguments: tuple[str, ...]) -> None:
     The program itself is asked: `pagelog play`, on an empty database in epoch 1 whose primary is the one who asks. PAGELOG
     names it where it is not on the path. A request is `principal N [as ROLE] OPERATION [ARGUMENT] [at LSN]`; the argument is
     the partitions of a write, an offer or a pull (0..3 or 1,4), the page of a get, the partition of an advance, and the
-    principal of a failover. The LSN, by default the lowest, tells rows apart that end at one (`through`).
+    principal of a failover. The LSN, by default the lowest, matters for rows that end at one (`through`).
 
     With --diff the requests that are decided otherwise are listed, and the exit status is 1 if there are any. Without a FILE
     of requests they are those of each principal, role and operation, at the first and last partition of each row's range, at

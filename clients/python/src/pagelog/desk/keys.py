@@ -13,7 +13,7 @@ from typing import Iterator
 
 @contextmanager
 def raw_keys() -> Iterator[None]:
-    """Keys come at once and are not shown. A standard input that is no terminal is left alone."""
+    """Keys come at once and are not shown. A standard input that is not a terminal is left alone."""
     if not sys.stdin.isatty():
         yield
         return
@@ -26,7 +26,7 @@ def raw_keys() -> Iterator[None]:
 
 
 def pressed_q(seconds: float) -> bool:
-    """Waits so long, and tells whether q was pressed meanwhile."""
+    """Waits this long at most, and says whether q was pressed meanwhile."""
     if not sys.stdin.isatty():
         time.sleep(seconds)
         return False

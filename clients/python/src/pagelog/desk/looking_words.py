@@ -22,7 +22,7 @@ from pagelog.request import Role
 dbs_option = click.option("--db", "dbs", multiple=True, default=(0,), show_default=True, metavar="N", type=click.IntRange(0, 15),
                           help="The number of a database; may be given more than once.")  # fmt: skip
 limit_option = click.option("--audit", "limit", metavar="N", type=click.IntRange(1, MOST_ENTRIES), help="How many entries an audit list "
-                            f"holds, as `serve` was told. [default: audit of [service] in the credentials, or {MOST_ENTRIES}]")  # fmt: skip
+                            f"holds, as given to `serve`. [default: audit of [service] in the credentials, or {MOST_ENTRIES}]")  # fmt: skip
 
 
 def watch_of(accounts: Accounts, db: int, limit: int | None, stack: ExitStack, **options: Any) -> Watch:
@@ -109,7 +109,7 @@ def audit_word(accounts: Accounts, db: int, first: int, follow: bool, idle: floa
 
 
 def entry_line(entry: Entry) -> str:
-    """An entry in the words of `pagelog ask`, with the name of the rule behind them."""
+    """An entry in the words of `pagelog ask`, with the name of the rule after them."""
     verdict = "allowed" if entry.is_allowed else f"denied {entry.place} value {entry.value} {entry.rule}"
     return (f"{entry.number} pass {entry.in_pass} principal {entry.principal} role {entry.role.word} epoch {entry.epoch} op "
             f"{entry.operation.word} a {entry.a} b {entry.b} {verdict}")  # fmt: skip
@@ -133,7 +133,7 @@ def entry_fields(entry: Entry) -> dict[str, object]:
 @limit_option
 @click.option("--interval", default=2.0, show_default=True, metavar="SECONDS", help="How often to look.")
 @click.option("--from-start", is_flag=True, help="Read the audit list from its beginning, for all denials there were.")
-@click.option("--count", default=0, metavar="N", help="End after so many looks. [default: never]")
+@click.option("--count", default=0, metavar="N", help="End after N looks. [default: never]")
 @faults
 def top_word(
     accounts: Accounts, dbs: tuple[int, ...], url: str | None, log: str | None, limit: int | None, interval: float, from_start: bool,
@@ -142,7 +142,7 @@ def top_word(
     """Watch databases live: epoch, primary, hardened end, rates, denials, the archive's lag and the audit list.
 
     Needs [operator]; with [secondary] applied LSNs are shown, and with --url the lag of the archive. A look costs two or
-    three entries of the audit list. Where the output is no terminal, each look is printed. q ends.
+    three entries of the audit list. Where the output is not a terminal, each look is printed. q ends.
 
     \b
     Example:

@@ -1,4 +1,4 @@
-"""What the words have in common: credentials, the archive's URL, progress, and how a fault is told."""
+"""What the words have in common: credentials, the archive's URL, progress, and how a fault is reported."""
 
 from __future__ import annotations
 
@@ -72,8 +72,8 @@ def url_of(url: str | None, accounts: Accounts) -> str:
 
 def quorum_option(word: Word) -> Word:
     """--quorum 2 or 4."""
-    return click.option("--quorum", type=click.Choice(["2", "4"]), help="In so many copies the database that is filled hardens a "
-                        "block, as its table says. [default: quorum of [service] in its credentials, or 2]")(word)  # fmt: skip
+    return click.option("--quorum", type=click.Choice(["2", "4"]), help="How many copies have to hold a block before the database that is "
+                        "filled hardens it, as its table says. [default: quorum of [service] in its credentials, or 2]")(word)  # fmt: skip
 
 
 def quorum_of(quorum: str | None, accounts: Accounts) -> int:
@@ -134,7 +134,7 @@ def bar(what: str) -> Iterator[Callable[[int, int], None]]:
 
 @contextmanager
 def stopping() -> Iterator[Callable[[], bool]]:
-    """Tells whether SIGTERM or SIGINT has come, so that a piece of work ends between two steps."""
+    """Says whether SIGTERM or SIGINT has come, so that a piece of work ends between two steps."""
     came: list[int] = []
 
     def take(number: int, _: FrameType | None) -> None:

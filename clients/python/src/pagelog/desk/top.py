@@ -36,7 +36,7 @@ _COLUMNS = {
 
 
 def page(address: str, lines: Mapping[int, Line], at: str, width: int = 150) -> RenderableType:
-    """The whole page, for a terminal of so many columns."""
+    """The whole page, for a terminal of `width` columns."""
     table = Table(expand=True, box=None, padding=(0, 1), header_style="bold")
     shown = [number for number, least in enumerate(_COLUMNS.values()) if width >= least]
     for number in shown:

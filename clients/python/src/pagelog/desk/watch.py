@@ -1,4 +1,4 @@
-"""What the audit list tells of a database: rates, denials, and how long the list will last."""
+"""What the audit list shows of a database: rates, denials, and how long the list will last."""
 
 from __future__ import annotations
 
