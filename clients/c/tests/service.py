@@ -169,12 +169,15 @@ class Proxy:
 
     A rule, `between`, is called with each whole frame of a request, once the service has answered all frames before it. What
     it returns is carried in the frame's place; an Answer is given to the client in the service's place; at None the connection
-    is cut, and the replies to what came from the client together with this frame are lost."""
+    is cut, and the replies to what came from the client together with this frame are lost.
 
-    def __init__(self, address, plan=None, between=None):
+    A second rule beside it, `holds`, is called once the service has answered all frames that have come. While it is true the
+    replies stay here: they go to the client together with later ones."""
+
+    def __init__(self, address, plan=None, between=None, holds=lambda: False):
         host, port = address.rsplit(":", 1)
         self.target = host, int(port)
-        self.plan, self.between = plan, between
+        self.plan, self.between, self.holds = plan, between, holds
         self.listener = socket.create_server(("127.0.0.1", 0), backlog=64)
         self.address = "127.0.0.1:%d" % self.listener.getsockname()[1]
         self.cuts = self.accepted = 0
@@ -234,13 +237,12 @@ class Proxy:
                 target.sendall(data)
 
     def carry_frames(self, client, server):
-        pending = b""
+        pending, replies = b"", []
         while self.is_on:
             data = client.recv(65536)
             if not data:
                 return
             pending += data
-            replies = []
             while len(pending) >= 4 and len(pending) >= 4 + int.from_bytes(pending[:4], "big"):
                 length = 4 + int.from_bytes(pending[:4], "big")
                 frame, pending = pending[:length], pending[length:]
@@ -249,7 +251,9 @@ class Proxy:
                     self.cuts += 1
                     return
                 replies.append(framed(carried) if isinstance(carried, Answer) else exchange(server, carried))
-            client.sendall(b"".join(replies))
+            if not self.holds():
+                client.sendall(b"".join(replies))
+                replies = []
 
 
 def framed(body):

@@ -252,6 +252,32 @@ def test_commits_that_nobody_waits_for():
             same("closed", 402, one(reader(service.address), "select count(*) from t"))
 
 
+def test_a_commit_waits_at_the_limit():
+    """The proxy holds all replies back until the report of a 31st commit has come. So 30 commits wait for nothing, and the
+    next one cannot find its replies there: it has to wait. Without the limit it would not; the window has room for 64."""
+    limit, reports = 30, [0]
+
+    def between(frame):
+        reports[0] += frame[33] == wire.REPORT
+        return frame
+
+    with Service() as service:
+        first = connect(service.address)
+        first.execute("create table t(a)")
+        first.close()
+        with Proxy(service.address, between=between, holds=lambda: reports[0] % (limit + 1) > 0) as proxy:
+            connection = connect(proxy.address, check=3600000, unwaited=limit, timeout=5000, patience=1000)
+            connection.execute("pragma synchronous = off")
+            same("no row yet", 0, one(connection, "select count(*) from t"))
+            before = number_of(connection, "round_trips")
+            for number in range(1, 3 * (limit + 1) + 1):
+                connection.execute("insert into t values (?)", (number,))
+                same(f"on their way after {number}", number % (limit + 1), number_of(connection, "on_their_way"))
+            same("round trips", 3, number_of(connection, "round_trips") - before)
+            same("rows", number, one(reader(service.address), "select count(*) from t"))
+            connection.close()
+
+
 def test_a_cache_of_lost_commits_is_not_believed():
     """Another writer's transaction has the change counter of the one that was lost. The error comes once."""
     with Service() as service:
