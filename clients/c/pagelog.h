@@ -46,7 +46,7 @@ enum {
 
 /* ---- Outcomes: what a client does next ---- */
 
-/* What became of a call. `pagelog_refused()` has the reply behind it, row and value. */
+/* What became of a call. `pagelog_refused()` has the reply that caused it, row and value. */
 enum pagelog_outcome {
     PAGELOG_DONE,       /* it is done; of an append: all blocks are in the log */
     PAGELOG_LOST,       /* no connection, or it was lost, or a time-out; asked again it may be done */
@@ -115,7 +115,7 @@ enum pagelog_kind {
     PAGELOG_REPLY_MALFORMED,
 };
 
-/* A reply. Its bytes are those that were received: they stand until the next call with the same object. */
+/* A reply. Its bytes are those that were received, and valid until the next call with the same object. */
 struct pagelog_reply {
     uint8_t kind;
     uint8_t section;  /* denied: 1 to 3, for A to C */
@@ -185,7 +185,7 @@ struct pagelog_records {
 /* Begins at the first record. REQUIRES: the block has no fault, as those of a decoded reply have none. */
 void pagelog_records_begin(struct pagelog_records *records, const uint8_t *block);
 
-/* The next record, or false behind the last one. */
+/* The next record, or false after the last one. */
 bool pagelog_records_next(struct pagelog_records *records, struct pagelog_record *record);
 
 /* Blocks with consecutive LSNs that are built of records, each filled before the next one is begun. */
@@ -248,8 +248,7 @@ struct pagelog_options {
      * where the last waits took no longer; 0: 50, PAGELOG_NO_SPIN: each wait sleeps. */
     unsigned spin_us;
     /* The landing zone that the table gave the epoch: 3 copies and quorum 2, or 6 and 4; 0 and 0: 3 and 2. No
-     * reply tells it, but a denial C5 or C6 does tell that it is the other one: then the object goes by that.
-     */
+     * reply reports it. A denial C5 or C6 shows that it is the other one: then the object goes by that. */
     unsigned copies, quorum;
 };
 
@@ -275,11 +274,11 @@ void pagelog_free(struct pagelog *log);
 /* Closes the connection. The next call opens another. Requests in flight are lost. */
 void pagelog_disconnect(struct pagelog *log);
 
-/* The reply behind the last outcome that was not DONE; `kind` is PAGELOG_REPLY_DONE where there was none, as
- * for LOST. */
+/* The reply that caused the last outcome that was not DONE; `kind` is PAGELOG_REPLY_DONE where there was
+ * none, as for LOST. */
 const struct pagelog_reply *pagelog_refused(const struct pagelog *log);
 
-/* Enters an outcome that was not DONE again, with the reply behind it: for who has asked meanwhile what
+/* Enters an outcome that was not DONE again, with the reply that caused it: for who has asked meanwhile what
  * became of it. */
 enum pagelog_outcome pagelog_restore(struct pagelog *log, enum pagelog_outcome outcome,
                                      const struct pagelog_reply *refused);
@@ -291,13 +290,13 @@ bool pagelog_is_anew(const struct pagelog *log);
 /* Whether an append has left something in the window, so that nothing else can be appended in this epoch. */
 bool pagelog_is_stuck(const struct pagelog *log);
 
-/* Writes a sentence on the last outcome that was not DONE, cut to `room` bytes with the 0 behind it, as
+/* Writes a sentence on the last outcome that was not DONE, cut to `room` bytes with the 0 at its end, as
  * "fenced: denied A2, value 7". */
 void pagelog_explain(const struct pagelog *log, char *text, size_t room);
 
 struct pagelog_counts pagelog_counts_of(const struct pagelog *log);
 
-/* The newest epoch that the object has heard of; 0 before the first reply that tells one. */
+/* The newest epoch that the object has heard of; 0 before the first reply that reports one. */
 uint32_t pagelog_epoch(const struct pagelog *log);
 
 /* The epoch in which the object writes, or 0 where it is no writer. */
@@ -342,14 +341,14 @@ enum pagelog_outcome pagelog_status(struct pagelog *log, enum pagelog_role role,
                                     struct pagelog_reply *status);
 
 /* Pages at an LSN, 8,192 bytes each, to `out`, with up to 64 requests in flight. DENIED with row C1 where the
- * LSN is above the end of the log. What stands in `out` after any outcome but DONE is not told. */
+ * LSN is above the end of the log. After any outcome but DONE the bytes of `out` are undefined. */
 enum pagelog_outcome pagelog_get(struct pagelog *log, enum pagelog_role role, uint64_t lsn,
                                  const uint32_t *pages, size_t count, uint8_t *out);
 
-/* The blocks from an LSN on, at most `max` (1 to 16), as a secondary, over all partitions. At the end of the
+/* The blocks from an LSN on, at most `max` (1 to 16), as a secondary, of all partitions. At the end of the
  * log it is DONE with a count of 0 and `next` as it was asked. `hard` is the end of the log where the blocks
  * go so far, else 0; where the table ends this principal's row at an LSN, that LSN, and a pull from the next
- * one is DENIED. The blocks stand until the next call. After a lost connection fewer are asked for. */
+ * one is DENIED. The blocks are valid until the next call. After a lost connection fewer are asked for. */
 enum pagelog_outcome pagelog_pull(struct pagelog *log, uint64_t from, unsigned max,
                                   struct pagelog_reply *blocks);
 
@@ -391,7 +390,7 @@ enum pagelog_outcome pagelog_append(struct pagelog *log, const struct pagelog_bl
  * pagelog_take_over was DONE. */
 void pagelog_append_ahead(struct pagelog *log, const struct pagelog_blocks *blocks, unsigned copies);
 
-/* As pagelog_append_ahead, with a report behind the last block: if nothing goes wrong they are in the log
+/* As pagelog_append_ahead, with a report after the last block: if nothing goes wrong they are in the log
  * soon, and nobody waited for it. Blocks that are added to them may be sent so too, up to 64 in all. What has
  * become of them the append tells. False where it is due at once: the blocks have not all left this process,
  * or are more than 64. */

@@ -10,7 +10,7 @@
  *   - Nothing of an epoch that is over can be written any more. So a block that was then in fewer copies than
  * a quorum, and was not hardened, never will be.
  *   - A landing zone has three copies and quorum two, or six and four, and keeps them for an epoch. Which of
- * the two it is no reply says, and the object may have been told the wrong one. So what holds of one of them
+ * the two it is no reply says, and the object may have been given the wrong one. So what holds of one of them
  * alone is said once the replies have shown the zone, or after a look at the log.
  */
 #include "pagelog_inside.h"
@@ -73,7 +73,7 @@ static unsigned most_quorum(const struct append *append) {
     return zone->is_seen ? zone->quorum : six_copies.quorum;
 }
 
-/* In how many copies the last block may stand. */
+/* In how many copies the last block may be. */
 static unsigned copies_of_last(struct append *append) {
     size_t last = append->count - 1;
     if (last >= append->first + PAGELOG_WINDOW) return 0;
@@ -81,7 +81,7 @@ static unsigned copies_of_last(struct append *append) {
     return count_of(marks->done | marks->unsure);
 }
 
-/* Whether each of `count` blocks from the first one on was Done in so many copies. */
+/* Whether each of `count` blocks from the first one on was Done in `copies` copies. */
 static bool are_done(struct append *append, size_t count, unsigned copies) {
     for (size_t i = append->first; i < append->first + count; i++)
         if (i >= append->first + PAGELOG_WINDOW || count_of(marks_of(append, i)->done) < copies) return false;
@@ -227,7 +227,7 @@ static bool learn_zone(struct append *append, size_t count) {
 /* ---- A look at what is in the log ---- */
 
 /* Whether the log has just these blocks from the first one on, `count` of them: DONE, CONFLICT where another
- * stands in its place or the log ends before, else why it could not be learned. */
+ * is in its place or the log ends before, else why it could not be learned. */
 static enum pagelog_outcome look(struct append *append, size_t first, size_t count) {
     size_t seen = 0;
     while (seen < count) {
@@ -249,7 +249,7 @@ static enum pagelog_outcome look(struct append *append, size_t first, size_t cou
 }
 
 /* After a lost connection, or a write at an LSN that is in the log: learns how far the log goes, and whether
- * what stands there is what was to be appended. DONE: the rest may be asked again. */
+ * what is there is what was to be appended. DONE: the rest may be asked again. */
 static enum pagelog_outcome catch_up(struct append *append) {
     struct pagelog_reply status;
     enum pagelog_outcome outcome = pagelog_status(append->log, PAGELOG_PRIMARY, &status);
@@ -286,7 +286,7 @@ static enum pagelog_outcome conclude_after_epoch(struct append *append) {
         outcome = look(append, append->count - 1, 1);
         if (outcome == PAGELOG_CONFLICT || append->log->anew) return give_up(append, PAGELOG_FENCED);
         if (outcome == PAGELOG_DONE) outcome = look(append, append->first, left);
-        /* Who may not look goes by the zone that it was told. */
+        /* Who may not look goes by the zone that it was given. */
         if (outcome != PAGELOG_CONFLICT && are_done(append, left, append->log->zone.quorum))
             outcome = PAGELOG_DONE;
     }

@@ -14,18 +14,18 @@ enum { SHORTEST_PIECE = 64 };
  * the service reads at once: so it needs not move the half of one before it can read on. */
 enum { WRITE_HEAD_BYTES = 35, FULL_BLOCK = (4 + PAGELOG_REQUEST_BYTES) / 2 - WRITE_HEAD_BYTES };
 
-/* What stands before the records of a block that touches one partition, as most do. */
+/* What comes before the records of a block that touches one partition, as most do. */
 enum { USUAL_HEAD_BYTES = BLOCK_HEAD_BYTES + 2 };
 
 struct pagelog_blocks {
     uint64_t next_lsn; /* of the block that is being filled */
-    /* Ended blocks, one behind the other; block i ends at ends[i], counted from the start of `bytes`. */
+    /* Ended blocks, one after the other; block i ends at ends[i], counted from the start of `bytes`. */
     uint8_t *bytes;
     size_t room;
     size_t *ends;
     size_t count, ends_room;
-    /* The block that is being filled. Its records stand in `bytes` already, behind the ended blocks and the
-     * room for a usual head. */
+    /* The block that is being filled. Its records are in `bytes` already, after the ended blocks and the room
+     * for a usual head. */
     size_t length;
     unsigned record_count;
     uint16_t *partitions; /* rising */
@@ -94,7 +94,7 @@ enum pagelog_outcome pagelog_blocks_end(struct pagelog_blocks *blocks) {
     return PAGELOG_DONE;
 }
 
-/* Where the partition of a page stands among those of the block, or would stand. */
+/* The place of a partition among those of the block, or the place where it would be. */
 static size_t place_of(const struct pagelog_blocks *blocks, uint16_t partition, bool *found) {
     size_t place = blocks->partition_count;
     while (place > 0 && blocks->partitions[place - 1] >= partition)
@@ -217,7 +217,7 @@ static uint64_t drawn_out(uint64_t now, uint64_t before) {
 }
 
 /* A bit for each byte tells whether it differs. Drawn out over as many places as a gap may have that is put
- * too, the bits of one Put are one run, and a run ends so many places behind the Put's last byte. */
+ * too, the bits of one Put are one run, and a run ends that many places after the Put's last byte. */
 enum pagelog_outcome pagelog_blocks_difference(struct pagelog_blocks *blocks, uint32_t page,
                                                const uint8_t *old, const uint8_t *new_bytes) {
     uint64_t before = 0, drawn = 0;

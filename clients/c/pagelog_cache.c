@@ -6,7 +6,7 @@
 
 enum { LEAST_CHAINS = 1024, LEAST_PAGES = 16 };
 
-/* Of a slab: its bytes, which are a huge page's of the system, and the pages behind its head. */
+/* Of a slab: its bytes, which are a huge page's of the system, and the pages after its head. */
 enum { SLAB_BYTES = 2 << 20, SLAB_PAGES = SLAB_BYTES / PAGELOG_PAGE_BYTES - 1 };
 
 /* Frames from the one used last to the one used longest ago. */
@@ -198,7 +198,7 @@ struct pagelog_frame *pagelog_cache_find(struct pagelog_cache *cache, uint32_t p
     return frame;
 }
 
-/* Lets unchanged pages go that were used longest ago; there are so many that the two used last stay. */
+/* Lets unchanged pages go that were used longest ago. LEAST_PAGES or more stay, so the two used last do. */
 static void make_room(struct pagelog_cache *cache) {
     while (cache->unchanged.count >= cache->most)
         drop_frame(cache, cache->unchanged.oldest);

@@ -15,7 +15,7 @@ struct pagelog_frame {
 
 struct pagelog_cache;
 
-/* A cache of at most so many pages, and as many more as are changed or in use. NULL where memory runs out. */
+/* A cache of up to `most` pages, besides those that are changed or in use. NULL where memory runs out. */
 struct pagelog_cache *pagelog_cache_new(size_t most);
 void pagelog_cache_free(struct pagelog_cache *cache);
 

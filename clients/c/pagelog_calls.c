@@ -8,7 +8,7 @@ enum { GETS_IN_FLIGHT = 64, MOST_EPOCHS = 64 };
 
 /* ---- Calls that are repeated ---- */
 
-/* Whether a denial tells an epoch that this role takes over, so that the request may be asked again. */
+/* Whether a denial reports an epoch that this role takes over, so that the request may be asked again. */
 static bool takes_over_epoch(const struct pagelog *log, uint8_t role, uint32_t asked_epoch) {
     const struct pagelog_reply *reply = &log->refused;
     bool tells = reply->kind == PAGELOG_REPLY_DENIED && reply->section == SECTION_A &&
@@ -34,7 +34,7 @@ bool pagelog_may_try_again(struct pagelog_patience *patience) {
     return true;
 }
 
-/* One request, asked again with the epoch that a denial tells, and after a lost connection. */
+/* One request, asked again with the epoch that a denial reports, and after a lost connection. */
 static enum pagelog_outcome ask(struct pagelog *log, const struct pagelog_request *request,
                                 struct pagelog_reply *reply) {
     if (log->asked_count > 0) return pagelog_fail(log, PAGELOG_MALFORMED);
@@ -190,14 +190,14 @@ static enum pagelog_outcome fail_over(struct pagelog *log, uint32_t principal, c
     return outcome;
 }
 
-/* Whether the last denial tells which epoch is the current one. */
+/* Whether the last denial reports which epoch is the current one. */
 static bool is_epoch_told(const struct pagelog *log) {
     const struct pagelog_reply *reply = &log->refused;
     return !log->anew && reply->kind == PAGELOG_REPLY_DENIED && reply->section == SECTION_A &&
            (reply->row == 2 || reply->row == 3);
 }
 
-/* A failover whose reply was lost may have begun the epoch that was told. */
+/* A failover whose reply was lost may have begun the epoch that was reported. */
 static bool may_be_ours(const struct pagelog *log, uint32_t expected) {
     return log->epoch > expected && log->epoch - expected <= log->lost_failovers;
 }

@@ -54,7 +54,7 @@ static enum pagelog_outcome fetch_bases(struct commit *commit, size_t first) {
 }
 
 /* Appends full groups, so that the blocks of a long transaction need not all be in memory. The last group
- * waits for the end mark: nobody sees what stands in the log without one. */
+ * waits for the end mark: nobody sees what is in the log without one. */
 static enum pagelog_outcome append_full_group(struct pagelog_file *file) {
     return pagelog_blocks_count(file->blocks) >= GROUP ? pagelog_append_ended(file) : PAGELOG_DONE;
 }
@@ -109,8 +109,8 @@ static struct mark next_mark(const struct pagelog_file *file) {
         .size = file->size, .session = file->session, .transaction = file->mark.transaction + 1};
 }
 
-/* Whether nothing differs from what was committed, with so many blocks of commits on their way. Blocks that
- * were appended already count too. */
+/* Whether nothing differs from what was committed, where the first `blocks_before` blocks are of commits on
+ * their way. Blocks that were appended already count too. */
 static bool is_nothing(const struct pagelog_file *file, uint64_t end_before, size_t blocks_before) {
     return pagelog_blocks_is_fresh(file->blocks) && pagelog_blocks_count(file->blocks) == blocks_before &&
            pagelog_end(file->log) == end_before && file->size == file->mark.size;
@@ -140,8 +140,7 @@ static enum pagelog_outcome send_last_blocks(struct pagelog_file *file, enum fat
     return PAGELOG_DONE;
 }
 
-/* Sends the changes, and the end mark behind them. `*mark` is that of the transaction once DONE is returned.
- */
+/* Sends the changes and then the end mark. `*mark` is that of the transaction once DONE is returned. */
 static enum pagelog_outcome send_changes(struct commit *commit, struct mark *mark, enum fate *fate) {
     struct pagelog_file *file = commit->file;
     size_t next = 0;
@@ -348,7 +347,7 @@ static bool add_touched(struct pages *pages, const uint8_t *block, uint32_t last
     return true;
 }
 
-/* The pages of the file that the blocks behind the end mark touch; all pages where this principal may not
+/* The pages of the file that the blocks after the end mark touch; all pages where this principal may not
  * pull. */
 static enum pagelog_outcome touched_pages(struct pagelog_file *file, uint64_t end, struct pages *pages) {
     uint32_t last = pages_of(file->mark.size);

@@ -9,7 +9,7 @@
 #include <string.h>
 #include <time.h>
 
-/* Writes a number in `size` bytes, 1 to 8, and returns the place behind it. */
+/* Writes a number in `size` bytes, 1 to 8, and returns the place after it. */
 static inline uint8_t *pagelog_write_number(uint8_t *to, uint64_t value, size_t size) {
     uint64_t bytes = htobe64(value << (64 - 8 * size));
     memcpy(to, &bytes, size);

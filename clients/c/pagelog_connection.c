@@ -18,7 +18,7 @@ enum {
     MOST_PIECES = 2 * MOST_LENT + 1,
     MOST_INPUT = 16 << 20, /* bytes that are read ahead while requests are still being sent */
     LEAST_REPLY = 5,       /* bytes of a frame of a reply, at least */
-    FEW_REPLIES = 3,       /* so many come at once, mostly */
+    FEW_REPLIES = 3,       /* this many come at once, mostly */
 };
 
 /* ---- Buffers ---- */
@@ -27,7 +27,7 @@ static size_t held(const struct buffer *buffer) {
     return buffer->end - buffer->start;
 }
 
-/* Makes room for `wanted` bytes behind what is held. */
+/* Makes room for `wanted` bytes after what is held. */
 static bool reserve(struct buffer *buffer, size_t wanted) {
     if (buffer->start == buffer->end) buffer->start = buffer->end = 0;
     if (buffer->room - buffer->end >= wanted) return true;
@@ -141,7 +141,7 @@ static bool finish_connect(int fd, uint64_t deadline) {
     return getsockopt(fd, SOL_SOCKET, SO_ERROR, &error, &size) == 0 && error == 0;
 }
 
-/* Lets a receive wait for so long by itself: one call of the system for each wait. */
+/* Lets a receive wait for `ms` by itself: one call of the system for each wait. */
 static bool may_wait(int fd, unsigned ms) {
     struct timeval most = {.tv_sec = ms / 1000, .tv_usec = ms % 1000 * 1000};
     return setsockopt(fd, SOL_SOCKET, SO_RCVTIMEO, &most, sizeof most) == 0 && fcntl(fd, F_SETFL, 0) == 0;
@@ -196,7 +196,7 @@ static ssize_t send_pieces(struct pagelog *log) {
     return sendmsg(log->socket, &message, flags);
 }
 
-/* Nothing is lent behind it: what could not be sent is copied. */
+/* Nothing is lent afterwards: what could not be sent is copied. */
 static bool send_some(struct pagelog *log) {
     struct buffer *output = &log->output;
     size_t lent = lent_bytes(log), all = held(output) + lent;
@@ -256,7 +256,7 @@ static void note_wait(struct pagelog *log, uint64_t ns) {
     log->usual_ns = (7 * log->usual_ns + (ns < most ? ns : most)) / 8;
 }
 
-/* Looks for so many bytes without sleeping, as long as `spin_ns`: a thread that sleeps is woken some ten
+/* Looks for `wanted` bytes without sleeping, for `spin_ns` at most: a thread that sleeps is woken some ten
  * microseconds after its reply has come. Only where the waits before took no longer, so that it mostly finds
  * them. False where the connection has ended. */
 static bool look_awake(struct pagelog *log, uint64_t start, size_t wanted) {
@@ -265,7 +265,7 @@ static bool look_awake(struct pagelog *log, uint64_t start, size_t wanted) {
     return true;
 }
 
-/* Waits for so many bytes, asleep, and reads them. A receive cannot wait for more than one by itself: it
+/* Waits for `least` bytes, asleep, and reads them. A receive cannot wait for more than one by itself: it
  * counts what has come since it began to wait. */
 static bool sleep_for(struct pagelog *log, size_t least, uint64_t deadline) {
     short ready;

@@ -46,7 +46,7 @@ void pagelog_file_free(struct pagelog_file *file) {
     free(file);
 }
 
-/* Reads the newest end mark as a writer, and undoes what stands behind it. */
+/* Reads the newest end mark as a writer, and undoes what is after it. */
 static enum pagelog_outcome recover(struct pagelog_file *file) {
     enum pagelog_outcome outcome = pagelog_take_mark(file, pagelog_end(file->log));
     if (outcome == PAGELOG_DONE && is_writer(file) && pagelog_end(file->log) > file->mark.lsn)
@@ -201,7 +201,7 @@ static uint32_t pages_ahead(struct pagelog_file *file, uint32_t page) {
     return file->ahead;
 }
 
-/* Fetches a page, and those behind it that will probably be read next. */
+/* Fetches a page, and those after it that will probably be read next. */
 static enum pagelog_outcome fetch_page(struct pagelog_file *file, uint32_t page) {
     uint32_t pages[MOST_AHEAD] = {0}, count = 0, ahead = pages_ahead(file, page);
     for (uint32_t i = 0; i < ahead; i++) {
@@ -298,7 +298,7 @@ enum pagelog_outcome pagelog_file_resize(struct pagelog_file *file, uint64_t siz
     if (file->is_over) return pagelog_refuse_until_begin(file);
     if (size > PAGELOG_FILE_MOST)
         return pagelog_file_fail(file, PAGELOG_MALFORMED, "the file would be too long");
-    if (size < file->size && start > 0) { /* behind its end a page has zeros */
+    if (size < file->size && start > 0) { /* after the end of the file its last page has zeros */
         enum pagelog_outcome outcome =
             change_page(file, pages_of(size), start, NULL, PAGELOG_PAGE_BYTES - start);
         if (outcome != PAGELOG_DONE) return outcome;

@@ -1,10 +1,10 @@
-/* A file of bytes with transactions, over a database of the service. It knows the wire, and nothing of who
- * uses it.
+/* A file of bytes with transactions, kept in a database of the service. It knows the wire, and nothing of
+ * who uses it.
  *
  * Page 0 of the database is the end mark: the LSN of the last transaction's last block, the size of the file,
  * and who wrote it. Page n has the bytes from (n - 1) * 8,192 on. A transaction is a list of blocks, the last
  * of which has the end mark as its last record. Who reads takes the end mark at the end of the log, and then
- * every page at the LSN that it tells, so that blocks behind it, of a transaction that is on its way or was
+ * every page at the LSN in that mark. So blocks after this LSN, of a transaction that is on its way or was
  * cut off, are not seen.
  *
  * A file is used by one thread at a time.
@@ -108,7 +108,7 @@ uint64_t pagelog_file_size(const struct pagelog_file *file);
  * DONE: it is in the log. IN_DOUBT: it may be; the next begin looks. Any other outcome: it is not in the log
  * and never will be. After any outcome but DONE the changes are still there, until pagelog_file_undo.
  *
- * Where `unwaited` is not 0, DONE may say only that it was sent, with a report: it comes into the log behind
+ * Where `unwaited` is not 0, DONE may say only that it was sent, with a report: it comes into the log after
  * those before it, as a whole or not at all. If it does not, another call has that outcome in place of its
  * own: the first begin after the refusal has come or the connection has ended, a read or a commit that has to
  * ask the service, or pagelog_file_settle. Then some of the commits that were on their way are not in the
@@ -122,7 +122,7 @@ enum pagelog_outcome pagelog_file_settle(struct pagelog_file *file);
 /* Forgets all changes since the last commit. */
 void pagelog_file_undo(struct pagelog_file *file);
 
-/* The reply behind the last outcome that was not DONE, as pagelog_refused. */
+/* The reply that caused the last outcome that was not DONE, as pagelog_refused. */
 const struct pagelog_reply *pagelog_file_refused(const struct pagelog_file *file);
 
 /* Whether a commit is allowed, as far as is known: it is a writer's, and the one before came to its end. */

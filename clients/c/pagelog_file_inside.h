@@ -8,13 +8,12 @@
 
 enum { MARK_PAGE = 0, MARK_BYTES = 40, GROUP = 64 };
 
-/* What page 0 says: numbers of 8 bytes, the high one first, behind a magic one. */
+/* What page 0 says: numbers of 8 bytes, the high one first, after a magic one. */
 struct mark {
     uint64_t lsn, size, session, transaction;
 };
 
-/* Blocks that were pulled and have no end mark behind them yet, one behind the other, each after its length.
- */
+/* Blocks that were pulled and have no end mark after them yet, one after the other, each after its length. */
 struct pending {
     uint8_t *bytes;
     size_t length, room;
@@ -92,7 +91,7 @@ enum pagelog_outcome pagelog_append_ended(struct pagelog_file *file);
  * given its LSN. */
 enum pagelog_outcome pagelog_add_mark(struct pagelog_file *file, struct mark *mark);
 
-/* Undoes what stands in the log behind the end mark, in a transaction of its own. */
+/* Undoes what is in the log after the end mark, in a transaction of its own. */
 enum pagelog_outcome pagelog_repair(struct pagelog_file *file);
 
 /* Pulls what was committed since, and applies it to the pages in memory. */

@@ -63,7 +63,7 @@ static unsigned record_fault(struct reader *reader, uint32_t *page) {
     return take_bytes(reader, length) ? 0 : BLOCK_CUT;
 }
 
-/* Reads all records behind annotations that were read into `noted`. */
+/* Reads all records, after the annotations that were read into `noted`. */
 static unsigned records_fault(struct reader *reader, const struct partitions *noted, size_t noted_count) {
     struct partitions touched = {{0}};
     size_t touched_count = 0;
@@ -274,7 +274,7 @@ void pagelog_read_audit_line(const uint8_t *bytes, struct pagelog_audit_line *li
     line->value = pagelog_read_number(bytes + LINE_VALUE, 8);
 }
 
-/* Reads the fields behind the kind; the first fault, but for bytes that are left over. */
+/* Reads the fields after the kind; the first fault, but for bytes that are left over. */
 static unsigned fields_fault(struct reader *reader, struct pagelog_reply *reply) {
     switch (reply->kind) {
     case PAGELOG_REPLY_BLOCKS:

@@ -26,23 +26,22 @@ enum { REPLY_EMPTY = 1, REPLY_ROLE, REPLY_KIND, REPLY_CUT, REPLY_TRAILING, REPLY
 /* Of the body of a request: its head, and all but the bytes of a block or a text, at most. */
 enum { HEAD_BYTES = 30, FRONT_BYTES = HEAD_BYTES + 16 };
 
-/* A buffer that grows. What is in it stands from `start` to `end`. */
+/* A buffer that grows. What is in it lies from `start` to `end`. */
 struct buffer {
     uint8_t *bytes;
     size_t start, end, room;
 };
 
-/* Bytes that are sent from where they stand: behind the first `at` bytes that the output holds. */
+/* Bytes that are sent from where they lie: after the first `at` bytes that the output holds. */
 struct lent {
     size_t at, length;
     const uint8_t *bytes;
 };
 
-/* So many pieces are lent at once. */
+/* Pieces that are lent at once, at most. */
 enum { MOST_LENT = 8 };
 
-/* What of the append to come is in flight: the writes of its first blocks, and behind some of them a report.
- */
+/* What is in flight of the append to come: the writes of its first blocks, a report after some of them. */
 struct ahead {
     size_t blocks;
     uint64_t reports; /* a bit for each of the blocks: a report follows its writes */
@@ -72,14 +71,14 @@ struct pagelog {
     uint64_t usual_ns;            /* how long the last waits took on average */
     bool is_in_group;             /* nothing is done before all replies to what is in flight are there */
     enum pagelog_outcome last;    /* the last outcome that was not DONE */
-    struct pagelog_reply refused; /* and the reply behind it, without its bytes */
+    struct pagelog_reply refused; /* and the reply that caused it, without its bytes */
     struct pagelog_counts counts;
 };
 
-/* Enters an outcome that has no reply behind it, and returns it. */
+/* Enters an outcome that no reply caused, and returns it. */
 enum pagelog_outcome pagelog_fail(struct pagelog *log, enum pagelog_outcome outcome);
 
-/* As pagelog_send, but the bytes of a long block are sent from where they stand: they have to stand there
+/* As pagelog_send, but the bytes of a long block are sent from where they lie: they have to stay there
  * until pagelog_push, or a receive. */
 enum pagelog_outcome pagelog_lend(struct pagelog *log, const struct pagelog_request *request);
 
@@ -102,7 +101,7 @@ size_t pagelog_take_done(struct pagelog *log, bool *is_over);
 /* Learns what a reply tells about the service, and enters a refusal. */
 enum pagelog_outcome pagelog_notice(struct pagelog *log, const struct pagelog_reply *reply);
 
-/* What came is no reply to what was asked, so that nothing behind it on this connection can be believed:
+/* What came is no reply to what was asked, so that nothing after it on this connection can be believed:
  * closes it. */
 enum pagelog_outcome pagelog_distrust(struct pagelog *log);
 

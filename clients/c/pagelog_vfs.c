@@ -29,13 +29,13 @@
  *   patience=MS      how long lost connections are opened again; as `timeout`, 10000
  *   spin=US          how long a wait for a reply may look for it before it sleeps, as long as the last
  *                    replies came so soon; 50; 0: it sleeps at once, which costs less of a processor
- *   unwaited=N       with synchronous=off so many commits, 64 at most, may be on their way to the
+ *   unwaited=N       with synchronous=off up to N commits, 64 at most, may be on their way to the
  *                    service while nobody waits for them; 0
  *
  * A transaction is committed by SQLITE_FCNTL_SYNC, which SQLite sends once for each, whatever `synchronous`
  * and `journal_mode` are: what was written since then becomes one transaction of the file. It waits until
  * that is in the log; only where `unwaited` is set and synchronous=off, nobody waits, and an error comes
- * later. With synchronous=full or normal SQLite syncs the file behind it, which waits. The journal, by which
+ * later. With synchronous=full or normal SQLite then syncs the file, which waits. The journal, by which
  * SQLite rolls back, is a file in this process' memory. There is no WAL.
  *
  * What an error means:
@@ -53,7 +53,7 @@
  *   SQLITE_NOTADB        page 0 of the database has something else
  *   SQLITE_MISUSE        the URI lacks a parameter, or has one that cannot be read
  *
- * `PRAGMA pagelog` tells where the connection stands; `PRAGMA pagelog_lsn` and the like one number of it;
+ * `PRAGMA pagelog` reports the state of the connection; `PRAGMA pagelog_lsn` and the like one number of it;
  * `PRAGMA pagelog_error` the last error in words; `PRAGMA pagelog_check = 50` changes `check`, and
  * `PRAGMA pagelog_spin = 0` changes `spin`. `PRAGMA pagelog_unwaited = N` waits for what is on its way, and
  * then changes `unwaited`.
@@ -549,7 +549,7 @@ static const char *role_name(const struct pagelog_file_state *state) {
     return state->is_writer ? "writer" : state->is_fenced ? "fenced" : "reader";
 }
 
-/* What `PRAGMA pagelog_...` tells, by its name. */
+/* What `PRAGMA pagelog_...` reports, by its name. */
 static bool number_of(const struct pagelog_file_state *state, const char *name, uint64_t *number) {
     const struct {
         const char *name;
@@ -632,8 +632,7 @@ static int file_control(sqlite3_file *file, int operation, void *argument) {
     case SQLITE_FCNTL_SYNC: /* a commit, or the end of a rollback, after which nothing differs */
         code = result(database, pagelog_file_commit(database->file));
         break;
-    case SQLITE_FCNTL_COMMIT_PHASETWO: /* where a VACUUM made the file shorter, it does so behind its commit
-                                        */
+    case SQLITE_FCNTL_COMMIT_PHASETWO: /* a VACUUM makes the file shorter after its commit */
         pagelog_file_commit(database->file);
         break;
     case SQLITE_FCNTL_PRAGMA:

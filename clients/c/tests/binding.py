@@ -142,7 +142,7 @@ def encode(made):
 
 
 def exact_buffer(data):
-    """The bytes in memory of just their length, so that a sanitizer sees a read behind them."""
+    """The bytes in memory of just their length, so that a sanitizer sees a read past their end."""
     return (ctypes.c_char * len(data)).from_buffer_copy(data) if data else (ctypes.c_char * 1)()
 
 

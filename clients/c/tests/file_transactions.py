@@ -121,7 +121,7 @@ def test_what_an_update_costs():
 
 
 class CutsOff:
-    """A proxy's rule. Once it is armed it cuts the connection behind the first two blocks, so that the group is halved, lets
+    """A proxy's rule. Once it is armed it cuts the connection after the first two blocks, so that the group is halved, lets
     the next report pass, and then cuts all: the first half of a transaction is in the log, without an end mark, and no other
     block of it has come to the service."""
 
@@ -174,7 +174,7 @@ def test_a_transaction_that_was_cut_off_is_undone():
                         same("a small change", (DONE, DONE, DONE),
                              (file.begin(), file.write(7, b"small"), file.commit()))
                     same("begin", DONE, reader.begin())
-                    same("nor behind it", wanted[:7] + b"small" + wanted[12:], reader.whole())
+                    same("nor after it", wanted[:7] + b"small" + wanted[12:], reader.whole())
                 with opened(service.address, 4, reads_only=True) as new:
                     same("begin", DONE, new.begin())
                     same("a new reader", wanted[:7] + b"small" + wanted[12:], new.whole())
@@ -308,7 +308,7 @@ def test_nothing_is_built_upon_half_a_transaction():
         step, writes, wanted = ["rest"], [0], b"a" * 150000
 
         def between(frame):
-            """Cuts behind the first two blocks, lets the report of the halved group pass, and has the next write denied."""
+            """Cuts after the first two blocks, lets the report of the halved group pass, and has the next write denied."""
             if step[0] == "cut" and frame[33] == wire.WRITE:
                 writes[0] += 1
                 if writes[0] == 5:
@@ -360,7 +360,7 @@ def test_limits_of_a_file():
         same("resize", DONE, file.resize(3 * 8192 + 5))
         same("commit", DONE, file.commit())
         same("read", (DONE, bytes(3 * 8192 + 5)), file.read(0, 1 << 20))
-        same("behind the end", (DONE, b""), file.read(1 << 40, 100))
+        same("after the end", (DONE, b""), file.read(1 << 40, 100))
         same("shorter", (DONE, DONE, DONE), (file.begin(), file.resize(0), file.commit()))
         same("empty", 0, file.size)
 
@@ -598,7 +598,7 @@ def test_lost_commits_are_told_by_the_next_begin():
                 outcome = old.begin()
                 while check > 0 and outcome == DONE:
                     outcome = old.begin()
-                same("told", (FENCED, True, True, 1),
+                same("reported", (FENCED, True, True, 1),
                      (outcome, old.state.is_over, old.state.is_fenced, old.state.losses))
                 true("in words", "nobody waited for" in old.words)
                 same("until a begin", (CONFLICT, CONFLICT), (old.read(0, 1)[0], old.commit()))

@@ -1,4 +1,4 @@
-/* A server that means harm, and the client that asks it, in one process, for so many seconds.
+/* A server that means harm, and the client that asks it, in one process, for SECONDS seconds.
  *
  *   hostile SECONDS SEED
  *

@@ -49,7 +49,7 @@ class Started:
 
 
 def wait_until(holds, processes):
-    """Until it holds, or one of the processes has ended, which is told when it is finished."""
+    """Until it holds, or one of the processes has ended, which is reported when it is finished."""
     while not holds() and all(process.process.poll() is None for process in processes):
         time.sleep(0.02)
 
@@ -108,7 +108,7 @@ class SaidUnwaited:
                 self.codes.add(rest.split(" ")[1])
 
     def compare(self, address):
-        """Of each epoch the first ones are there, up to some commit, and none behind it. How many of how many."""
+        """Of each epoch the first ones are there, up to some commit, and none after it. How many of how many."""
         connection, there = reader(address), {}
         same("integrity", "ok", one(connection, "pragma integrity_check"))
         epochs = []

@@ -320,7 +320,7 @@ def test_lost_commits_and_a_transaction_that_reads():
         rows = looker.execute("select a, b from t")
         true("what nobody waited for", rows.fetchone()[1] != bytes(3000))
         may_pass.set()
-        same("told", "SQLITE_IOERR_FSYNC", code_of(lambda: writer.execute("pragma pagelog_unwaited = 0")))
+        same("reported", "SQLITE_IOERR_FSYNC", code_of(lambda: writer.execute("pragma pagelog_unwaited = 0")))
         same("nobody begins", "SQLITE_BUSY", code_of(lambda: one(writer, "select count(*) from t")))
         same("torn", "SQLITE_IOERR_FSYNC", code_of(rows.fetchall))
         if looker.in_transaction:
@@ -456,7 +456,7 @@ def test_at_the_limits():
 
 
 def test_a_commit_in_doubt():
-    """The service goes away behind the writes of a commit, before its report or behind it. The error says that it is in
+    """The service goes away after the writes of a commit, before its report or after it. The error says that it is in
     doubt; the next transaction sees what became of it, as every other reader does."""
     found = set()
     for is_carried in (False, True):

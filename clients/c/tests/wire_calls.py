@@ -20,7 +20,7 @@ def block_of(lsn, *records):
 
 
 def numbered(first, count, size=20, page=0):
-    """Blocks that put the LSN, in so many bytes, one block each."""
+    """`count` blocks, each of which puts its LSN again and again, in at least `size` bytes."""
     blocks = Blocks(first)
     for lsn in range(first, first + count):
         same("put", DONE, blocks.put(page, 0, lsn.to_bytes(8, "big") * (size // 8 + 1)))
@@ -203,7 +203,7 @@ def test_blocks_are_cut_where_they_are_full():
 
 
 def test_blocks_that_are_dropped():
-    """Those behind them stay, and the one that is being filled, whatever partitions it touches."""
+    """Those after them stay, and the one that is being filled, whatever partitions it touches."""
     numbers = random.Random(4)
     for _ in range(30):
         blocks, whole, dropped = Blocks(5), Blocks(5), 0
@@ -287,7 +287,7 @@ class Seen:
 
 
 def blocks_ahead(log, seen, first, count, early):
-    """Blocks that are made one by one, and sent ahead once there are so many; those writes have come to the proxy."""
+    """Blocks that are made one by one, and sent ahead at each number in `early`; those writes have come to the proxy."""
     blocks, before = Blocks(first), seen.writes
     for number in range(1, count + 1):
         same("put", DONE, blocks.put(number, 0, b"%d" % number))
@@ -361,7 +361,7 @@ def test_blocks_ahead_that_do_not_all_go_at_once():
 
 
 def test_blocks_ahead_that_are_given_up():
-    """Nothing else is asked meanwhile, and behind it nothing is appended before an epoch of its own."""
+    """Nothing else is asked meanwhile, and afterwards nothing is appended before an epoch of its own."""
     seen = Seen()
     with Service() as service, Proxy(service.address, between=seen) as proxy, Log(proxy.address, 2) as log:
         same("take over", DONE, log.take_over())
@@ -414,7 +414,7 @@ def test_blocks_ahead_of_an_epoch_that_ends():
 
 
 def pulled(reader, count):
-    """The first blocks of the log, once there are so many."""
+    """The first `count` blocks of the log, once they are there."""
     found = []
     while len(found) < count:
         found += blocks_of(reader.pull(len(found) + 1)[1])
@@ -427,7 +427,7 @@ def add_block(blocks, page):
 
 
 def test_appends_that_nobody_waits_for():
-    """They come into the log by themselves, one after the other; the append behind them asks nothing twice, and waits once."""
+    """They come into the log by themselves, one after the other; the append after them asks nothing twice, and waits once."""
     seen, wanted = Seen(), []
     with Service() as service, Log(service.address, 3) as reader, Proxy(service.address, between=seen) as proxy, \
             Log(proxy.address, 2) as log:
@@ -575,7 +575,7 @@ def test_a_block_in_one_copy_is_never_in_the_log():
 
 
 def test_lost_replies_are_made_up_for_by_a_look():
-    """The connection is lost before so many writes of three blocks, and then the epoch ends: what was carried before it in
+    """The connection is lost after 0 to 7 of the requests of three blocks, and then the epoch ends: what was carried before in
     two copies is in the log, and nothing else; the client knows it by a look in the new epoch."""
     for carried in range(0, 8):
         with Service() as service, Log(service.address, 3) as reader:
@@ -603,7 +603,7 @@ def test_lost_replies_are_made_up_for_by_a_look():
 
 
 def test_a_lost_report_is_repeated():
-    """The connection is lost at the report, once before it was carried and once behind it: all blocks are in the log, and
+    """The connection is lost at the report, once before it was carried and once after it: all blocks are in the log, and
     the log ends where the client says."""
     for is_carried in (False, True):
         with Service() as service, service.operator() as operator, Log(service.address, 3) as reader:
@@ -728,7 +728,7 @@ def test_every_wait_ends():
             start = time.monotonic()
             service.process.send_signal(signal.SIGSTOP)
             same("a service that is silent", LOST, log.status(SECONDARY)[0])
-            true("no sooner than it was told", time.monotonic() - start > 0.19)
+            true("no sooner than reply_ms", time.monotonic() - start > 0.19)
             service.process.send_signal(signal.SIGCONT)
         with Log(service.address, 3) as log:
             same("one worker, two connections", (DONE, DONE), (log.status(SECONDARY)[0], holder.status(PRIMARY)[0]))

@@ -1,5 +1,5 @@
-"""Landing zones of three copies and of six, told rightly and wrongly; rows of a table that end at an LSN. What the service does
-not know of these is not tried, and said."""
+"""Landing zones of three copies and of six, with the right one and the wrong one in the options; rows of a table that end at an
+LSN. What the service does not know of these is not tried, and said."""
 
 from binding import DENIED, DONE, FENCED, MALFORMED, Blocks, Log, Options, blocks_of, byref, lib, token
 from check import run, same
@@ -13,7 +13,7 @@ NOT_KNOWN = "not tried: this service's tables have no"
 
 
 def same_log(follower, wanted):
-    """The log has these blocks, from its first one on, and is pulled until so many are there."""
+    """The log has these blocks, from its first one on, and is pulled until all of them are there."""
     found = []
     while len(found) < len(wanted):
         found += blocks_of(follower.pull(len(found) + 1)[1])
@@ -28,7 +28,7 @@ def numbered(first, count):
 
 
 def each_case():
-    """Each zone that the service knows, with each that a client may be told."""
+    """Each zone that the service knows, with each that a client may be given."""
     return [(zone, told) for zone in ZONES for told in (THREE, SIX)]
 
 
@@ -139,7 +139,7 @@ def test_failovers_before_each_request_of_what_nobody_waits_for():
 
 
 def test_who_may_not_look():
-    """Without the role of a secondary, who was told the right zone knows what a failover hardened."""
+    """Without the role of a secondary, who was given the right zone knows what a failover hardened."""
     for zone, text in ZONES.items():
         text = text.replace('who = 2\nrole = "secondary"', 'who = 2\nrole = "page_server"')
         with Service(text=text) as service, Log(service.address, 3) as follower, \
