@@ -36,18 +36,19 @@ class Service:
     def __init__(self, table=TABLE, primary=2, dbs=1, workers=16, connections=4294967295, audit=16777216, listen=None,
                  prefix=(), quiet=False, text=None, idle_polls=0):
         """`text` is that of the table, in place of a file."""
-        if text is not None:
-            self.file = tempfile.NamedTemporaryFile("w", suffix=".toml")
-            self.file.write(text), self.file.flush()
-            table = self.file.name
-        words = ["serve", "--listen", listen or "127.0.0.1:0", "--table", table, "--primary", primary, "--dbs", dbs,
-                 "--workers", workers, "--connections", connections, "--audit", audit]
+        words = ["serve", "--listen", listen or "127.0.0.1:0", "--primary", primary, "--dbs", dbs, "--workers", workers,
+                 "--connections", connections, "--audit", audit]
         if idle_polls:
             words += ["--idle-polls", idle_polls]
-        words = list(prefix) + [PROGRAM] + [str(word) for word in words]
-        self.process = subprocess.Popen(words, stdout=subprocess.PIPE, text=True, env=plain_environment(),
-                                        stderr=subprocess.DEVNULL if quiet else None)
-        line = self.process.stdout.readline().split()
+        # The service has read its table once it listens.
+        with tempfile.NamedTemporaryFile("w", suffix=".toml") as file:
+            if text is not None:
+                file.write(text), file.flush()
+                table = file.name
+            words = list(prefix) + [PROGRAM] + [str(word) for word in [*words, "--table", table]]
+            self.process = subprocess.Popen(words, stdout=subprocess.PIPE, text=True, env=plain_environment(),
+                                            stderr=subprocess.DEVNULL if quiet else None)
+            line = self.process.stdout.readline().split()
         if len(line) != 2 or line[0] != "listening":
             raise RuntimeError(f"the service did not start: {line}")
         self.address = line[1]
