@@ -21,7 +21,7 @@
  *                    before, for ever
  *   check=MS         how old may be what a transaction begins with; 0: each one asks
  *   stale=1          a secondary that gets no answer goes on with what it has
- *   cache=PAGES      pages of 8,192 bytes that are kept besides SQLite's own; 4096
+ *   pages=N          pages of 8,192 bytes that are kept besides SQLite's own; 4096
  *   copies=N         of the landing zone, as the table has it: 3, or 6
  *   quorum=N         of the landing zone: 2 of 3, or 4 of 6
  *   written=N        to how many copies a block is written; as many as the quorum
@@ -248,7 +248,7 @@ static unsigned spin_of(uint64_t us) {
 
 /* Reads all settings; the name of the first one that is missing or cannot be read, or NULL. */
 static const char *read_settings(sqlite3_filename uri, struct pagelog_file_options *options, char *address) {
-    uint64_t database = 0, id = UINT64_MAX, copies = 3, quorum = 0, written = 0, check = 0, cache = 0, at = 0,
+    uint64_t database = 0, id = UINT64_MAX, copies = 3, quorum = 0, written = 0, check = 0, pages = 0, at = 0,
              timeout = 0, patience, stale = 0, spin = DEFAULT_SPIN_US, unwaited = 0;
     if (!find_setting(uri, "to", address)) return "to";
     if (!read_setting(uri, "id", UINT32_MAX, &id) || id == UINT64_MAX) return "id";
@@ -261,7 +261,7 @@ static const char *read_settings(sqlite3_filename uri, struct pagelog_file_optio
     if (!read_setting(uri, "written", copies, &written) || (written > 0 && written < quorum))
         return "written";
     if (!read_setting(uri, "check", 3600000, &check)) return "check";
-    if (!read_setting(uri, "cache", UINT32_MAX, &cache)) return "cache";
+    if (!read_setting(uri, "pages", UINT32_MAX, &pages)) return "pages";
     if (!read_setting(uri, "timeout", 3600000, &timeout)) return "timeout";
     patience = timeout;
     if (!read_setting(uri, "patience", 3600000, &patience)) return "patience";
@@ -281,7 +281,7 @@ static const char *read_settings(sqlite3_filename uri, struct pagelog_file_optio
     options->written = (unsigned)written;
     options->unwaited = (unsigned)unwaited;
     options->check_ms = (unsigned)check;
-    options->cache_pages = (size_t)cache;
+    options->cache_pages = (size_t)pages;
     options->at = at;
     options->may_be_stale = stale == 1;
     return NULL;

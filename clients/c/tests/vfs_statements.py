@@ -378,6 +378,7 @@ def test_settings():
                            (f"id=3&token={TOKENS[3]}&copies=6&written=3", "SQLITE_MISUSE"),
                            (f"id=3&token={TOKENS[3]}&op=1", "SQLITE_MISUSE"),
                            (f"id=3&token={TOKENS[3]}&mode=ro&spin=x", "SQLITE_MISUSE"),
+                           (f"id=3&token={TOKENS[3]}&mode=ro&pages=x", "SQLITE_MISUSE"),
                            (f"id=3&token={TOKENS[3]}&unwaited=65", "SQLITE_MISUSE"),
                            (f"id=3&token={TOKENS[4]}&mode=ro", "SQLITE_PERM"),
                            (f"id=3&token={TOKENS[3]}&mode=ro&db=2", "SQLITE_PERM"),
@@ -388,6 +389,21 @@ def test_settings():
         joined = connect(service.address, 2, None, name="y")
         joined.execute("insert into t values (1)")
         same("a writer without an operator", 1, one(reader(service.address), "select count(*) from t"))
+        same("SQLite's own parameter", 1, one(reader(service.address, cache="shared"), "select count(*) from t"))
+
+
+def test_pages_in_memory():
+    """How many pages a connection keeps, by its parameter `pages`: few, or as many as it read."""
+    with Service() as service:
+        writer = connect(service.address)
+        writer.execute("create table t(a)")
+        writer.execute("insert into t select zeroblob(8000) from (select 1 from pragma_function_list limit 100)")
+        for few in (16, 64, None):
+            connection = reader(service.address, pages=few)
+            connection.execute("pragma cache_size = 10")
+            same(f"rows, pages={few}", 100, one(connection, "select count(*) from t where a is not null"))
+            kept = number_of(connection, "cached_pages")
+            true(f"pages={few}: {kept} are kept", kept <= few if few else kept > 100)
 
 
 def test_pragmas():
