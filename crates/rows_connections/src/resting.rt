@@ -121,6 +121,8 @@ fn turns(
             Ok(Rest::Again) => {}
             Ok(rest) => return Ok(rest),
             Err(Cause::Short) => return Err(Stop::Unread),
+            // The writer does not fail by itself: there was no memory for the replies that it did not take.
+            Err(Cause::Write) => return Err(Stop::NoMemory),
             Err(_) => return Err(Stop::Changed),
         }
     }

@@ -175,8 +175,11 @@ fn hundred_connections_one_worker(rt: HostRuntime) {
 /// How many pages the slow reader asks for: their replies are more than sockets hold.
 const GETS: u32 = 2_000;
 
-/// The bytes of a page's reply: its length, its kind, its LSN and the page.
-const PAGE_REPLY: usize = 4 + 1 + 8 + 8_192;
+/// The bytes of a page's reply after its length and its kind: its LSN and the page.
+const REST_OF_PAGE: usize = 8 + 8_192;
+
+/// The frame of the reply NoMemory.
+const NO_MEMORY: [u8; 5] = [0, 0, 0, 1, 6];
 
 // The frames of a block on page 0, hardened, and then of this many gets of it.
 fn gets_of_page(alloc: Global) -> Result<Vec<u8>, Stop> {
@@ -193,11 +196,12 @@ fn gets_of_page(alloc: Global) -> Result<Vec<u8>, Stop> {
 }
 
 // Whether the reply is that of a get of page 0 at 1: its byte 0 is aa, and the others are zero.
-fn is_page(reply: &[u8]) -> bool {
-    let Some((head, page)) = reply.split_at_checked(14) else {
+fn is_page(head: [u8; 5], rest: &[u8]) -> bool {
+    let Some((front, page)) = rest.split_at_checked(9) else {
         return false;
     };
-    head == [0, 0, 32, 9, 2, 0, 0, 0, 0, 0, 0, 0, 1, 0xaa].as_slice()
+    head == [0, 0, 32, 9, 2]
+        && front == [0, 0, 0, 0, 0, 0, 0, 1, 0xaa].as_slice()
         && page.iter().all(|byte| *byte == 0)
 }
 
@@ -227,12 +231,17 @@ fn ask_statuses(alloc: Global, other: &mut TcpStream, status: &[u8]) -> Result<(
     Ok(())
 }
 
-// Reads all of the pages.
+// Reads all of the pages, up to a get that found no memory.
 fn read_pages(alloc: Global, slow: &mut TcpStream) -> Result<(), Stop> {
-    let mut reply = vec![in alloc; 0; PAGE_REPLY]?;
+    let mut rest = vec![in alloc; 0; REST_OF_PAGE]?;
     for _ in 0..GETS {
-        slow.read_exact(&mut reply).map_err(stop_of)?;
-        check(is_page(&reply))?;
+        let mut head = [0; 5];
+        slow.read_exact(&mut head).map_err(stop_of)?;
+        if head == NO_MEMORY {
+            return Err(Stop::NoMemory);
+        }
+        slow.read_exact(&mut rest).map_err(stop_of)?;
+        check(is_page(head, &rest))?;
     }
     Ok(())
 }
