@@ -1,9 +1,7 @@
 //! The gate of `play`.
 
 ghost use Rattle.std.specs.Prelude.{⊤};
-ghost use Rattle.pl_core.specs.Reply.{FitsReply};
-ghost use Rattle.pl_core.specs.Step.{IsStep};
-ghost use Rattle.pl_play.specs.Answering.{PlayCall, own_pass};
+ghost use Rattle.pl_play.specs.Answering.{PlayCall};
 
 use pl_core::{Db, Reply};
 use pl_table::Request;
