@@ -5,7 +5,7 @@ Usage: python3 bench/pages.py
 Builds bench/pages, a program that calls pl_log and pl_pages, and runs it. It hardens 1,000 and then 1,000,000 blocks that
 change 1, 1,000 and 100,000 pages in turn, and prints the time of a get
 - of what is applied, without a version and then with one,
-- one block behind, and sixteen,
+- one block above it, and sixteen,
 - exact at an old LSN, with its version and without one,
 the time of the first get, which makes the index, and the peak of memory.
 """

@@ -126,7 +126,7 @@ def beside_copies(what, seconds, size, count, output):
 def blocks(count, sizes):
     for size, rounds in ((size, rounds) for size in sizes for rounds in (0, 20)):
         source = WORK / f"lines-{size}"
-        print(f"blocks of {size} bytes" + (f", a failover behind each {rounds}" if rounds else ""))
+        print(f"blocks of {size} bytes" + (f", a failover after each {rounds}" if rounds else ""))
         for part in (count // 8, count // 4, count // 2, count):
             written(source, itertools.islice(bodies(size, rounds), part))
             wall, _, peak = run(PLAY, source)
@@ -146,7 +146,7 @@ def pages(count):
         print(f"{count} gets of four pages, over a log of {hard} blocks")
         before, _, _ = run(PLAY, written(source, log_of(hard)))
         wall, _, peak = run(PLAY, written(source, itertools.chain(log_of(hard), reads_of(count, hard))), output)
-        print(f"  play: {wall - before:7.3f} s behind the {before:.3f} s of the log, "
+        print(f"  play: {wall - before:7.3f} s after the {before:.3f} s of the log, "
               f"{(wall - before) / count * 1e6:7.2f} us a get, peak {peak:6.1f} MiB")
         beside_copies("play", wall - before, wire.PAGE_BYTES, count, output)
     source.unlink()

@@ -246,7 +246,7 @@ class Case:
         head = f"{self.name:18} {speaking:2} of {connections:6,} x {flight:2} {workers:7}"
         own = rates.get(each)
         if not own:
-            print(f"{head}   it does not serve so many", flush=True)
+            print(f"{head}   it does not serve this many", flush=True)
             return
         if connections == speaking == 64:
             self.alone[workers] = max(own)

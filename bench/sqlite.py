@@ -30,7 +30,7 @@ program, as built by
     apt-get source sqlite3 && gcc -O2 -o speedtest1 sqlite3-*/test/speedtest1.c -lsqlite3
 
 Last comes a table: what this client aims at, what it is measured at in this run, and the half of the rounds around that.
-On a busy machine `chrt -r 5 python3 bench/sqlite.py` has it run before others, the services too: without that the rates tell who
+On a busy machine `chrt -r 5 python3 bench/sqlite.py` has it run before others, the services too: without that the rates show who
 was given a processor.
 """
 

@@ -283,7 +283,7 @@ const struct pagelog_reply *pagelog_refused(const struct pagelog *log);
 enum pagelog_outcome pagelog_restore(struct pagelog *log, enum pagelog_outcome outcome,
                                      const struct pagelog_reply *refused);
 
-/* Whether the service was started anew behind this object's back: its epoch or the end of its log fell.
+/* Whether the service was restarted while this object was in use: its epoch or the end of its log fell.
  * Everything that was in the log is gone then. Each later call is FENCED. */
 bool pagelog_is_anew(const struct pagelog *log);
 
@@ -375,7 +375,7 @@ enum pagelog_outcome pagelog_join(struct pagelog *log);
  * in smaller groups.
  *
  * DONE: all blocks are in the log, even if the epoch has ended in the meantime; then the next call is FENCED.
- * IN_DOUBT: the last block may be in the log or come into it; a look in a later epoch tells.
+ * IN_DOUBT: the last block may be in the log or come into it; a look in a later epoch shows which.
  * Any other outcome: the last block is not in the log and never will be; some of the first may be.
  *
  * After any outcome but DONE each later append is CONFLICT until pagelog_take_over was DONE, unless nothing
@@ -391,9 +391,9 @@ enum pagelog_outcome pagelog_append(struct pagelog *log, const struct pagelog_bl
 void pagelog_append_ahead(struct pagelog *log, const struct pagelog_blocks *blocks, unsigned copies);
 
 /* As pagelog_append_ahead, with a report after the last block: if nothing goes wrong they are in the log
- * soon, and nobody waited for it. Blocks that are added to them may be sent so too, up to 64 in all. What has
- * become of them the append tells. False where it is due at once: the blocks have not all left this process,
- * or are more than 64. */
+ * soon, and nobody waited for it. Blocks that are added to them may be sent so too, up to 64 in all. The
+ * append reports what has become of them. False where it is due at once: the blocks have not all left this
+ * process, or are more than 64. */
 bool pagelog_append_unwaited(struct pagelog *log, const struct pagelog_blocks *blocks, unsigned copies);
 
 /* Reads what replies to it have come, without waiting. True where the append is due: a reply is a refusal, or

@@ -216,7 +216,7 @@ static uint64_t drawn_out(uint64_t now, uint64_t before) {
     return now | reached;
 }
 
-/* A bit for each byte tells whether it differs. Drawn out over as many places as a gap may have that is put
+/* A bit for each byte says whether it differs. Drawn out over as many places as a gap may have that is put
  * too, the bits of one Put are one run, and a run ends that many places after the Put's last byte. */
 enum pagelog_outcome pagelog_blocks_difference(struct pagelog_blocks *blocks, uint32_t page,
                                                const uint8_t *old, const uint8_t *new_bytes) {

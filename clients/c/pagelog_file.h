@@ -113,7 +113,7 @@ uint64_t pagelog_file_size(const struct pagelog_file *file);
  * own: the first begin after the refusal has come or the connection has ended, a read or a commit that has to
  * ask the service, or pagelog_file_settle. Then some of the commits that were on their way are not in the
  * log, or may not be. The file is as it was before them, `is_over` says so, and every call is CONFLICT until
- * a begin, which tells what the log has got. */
+ * a begin, which reports what the log has got. */
 enum pagelog_outcome pagelog_file_commit(struct pagelog_file *file);
 
 /* Waits until what was committed is in the log. Any outcome but DONE: as above. */

@@ -94,11 +94,11 @@ size_t pagelog_encode_front(const struct pagelog_request *request, uint8_t front
 bool pagelog_is_pushed(const struct pagelog *log);
 
 /* Reads what has come, without waiting, and takes the replies that are Done from it, up to the first other
- * one: how many. `*is_over` tells whether there is another one, or the connection has ended; who waits meets
+ * one: how many. `*is_over` says whether there is another one, or the connection has ended; who waits meets
  * it. */
 size_t pagelog_take_done(struct pagelog *log, bool *is_over);
 
-/* Learns what a reply tells about the service, and enters a refusal. */
+/* Learns what a reply says about the service, and enters a refusal. */
 enum pagelog_outcome pagelog_notice(struct pagelog *log, const struct pagelog_reply *reply);
 
 /* What came is no reply to what was asked, so that nothing after it on this connection can be believed:

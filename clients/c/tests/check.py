@@ -23,7 +23,7 @@ def true(what, holds):
 
 
 def run(part, names, not_with_the_model=()):
-    """Prints a line for the part, and one for each test that failed. The exit status tells whether all passed."""
+    """Prints a line for the part, and one for each test that failed. The exit status says whether all passed."""
     unknown = set(not_with_the_model) - set(names)
     if unknown:
         sys.exit(f"{part}: there is no {', '.join(sorted(unknown))}")

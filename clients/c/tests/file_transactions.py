@@ -243,7 +243,7 @@ def test_a_commit_in_doubt_is_settled():
 
 
 def test_a_commit_in_doubt_is_looked_for_later():
-    """The service is away for longer than there is patience; the next begin tells what became of it."""
+    """The service is away for longer than there is patience; the next begin reports what became of it."""
     for carried in (0, 1, 2):
         with Service() as service:
             away, seen = [False], [0]

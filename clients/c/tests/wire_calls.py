@@ -489,7 +489,7 @@ def test_appends_that_nobody_waits_for_and_lost_connections():
 
 
 def test_appends_that_nobody_waits_for_and_an_epoch_that_ends():
-    """Before any one of their requests. What was in two copies is in the log, the append tells, and what was not is not."""
+    """Before any one of their requests. What was in two copies is in the log, as the append reports, and what was not is not."""
     for ends in range(1, 11):
         left = [None]
 
@@ -706,7 +706,7 @@ def test_a_service_that_was_started_anew():
 
 
 def test_a_service_that_was_started_anew_in_the_same_epoch():
-    """Nothing but the end of the log, which is lower than before, tells it."""
+    """Nothing but the end of the log, which is lower than before, shows it."""
     with Service() as service:
         address = service.address
         with Log(address, 2) as log, Log(address, 3) as reader, Log(address, 4) as other:

@@ -182,7 +182,7 @@ def _check_annotations(data: bytes) -> tuple[set[int], int]:
             raise BlockEndsInField()
         partition = _SHORT.unpack_from(data, at)[0]
         if partition <= before:
-            raise PartitionsNotRising(f"{partition} behind {before}")
+            raise PartitionsNotRising(f"{partition} after {before}")
         before, at = partition, at + 2
         found.add(partition)
     return found, at

@@ -81,7 +81,7 @@ class Primary(PageClient):
 
     An epoch belongs to a principal and not to a process. Two processes that write as one principal in one epoch mix
     their blocks, so begin with `take_over`, unless nobody else has the credentials. Where a connection is lost, its
-    writes without a reply are repeated; to tell one's own block from another's then needs an epoch of one's own, or a
+    writes without a reply are repeated; to distinguish one's own block from another's then needs an epoch of one's own, or a
     `witness` that may pull. Without either it is `InDoubt`.
 
     No reply says how many copies there are and what their quorum is: three and two, unless the table that was in force

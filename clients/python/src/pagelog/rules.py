@@ -152,7 +152,7 @@ class BelowQuorum(Denial):
 
 
 class NoTable(Denial):
-    """C7. The text is not a table; `value` and `fault` tell what is wrong with it."""
+    """C7. The text is not a table; `value` and `fault` say what is wrong with it."""
 
     rule = "NoTable"
     sentence = "the text is not a table"
@@ -174,7 +174,7 @@ class LastEpoch(Denial):
     """C9. The epoch is 2^32 - 1, after which there is none."""
 
     rule = "LastEpoch"
-    sentence = "there is no epoch behind the last one"
+    sentence = "there is no epoch after the last one"
 
 
 RULES: dict[tuple[Section, int], type[Denial]] = {
