@@ -90,6 +90,8 @@ impl VersionArena {
     }
 
     /// Whether the frame is out. The cost is constant.
+    ///
+    /// The service names only frames that it has taken, and does not ask.
     pub fn is_out(&self, id: FrameId) -> bool
         // Whether the frame is out.
         ensures value { result ≡ is_some (frame_bytes self.now id) }

@@ -28,7 +28,7 @@ pub fn asked(alloc: Global, arguments: io::Result<Vec<String>>) -> Result<Comman
     ensures usage { IfErr result (λ fault. IsUsage fault →
         IsOkAnd arguments (λ ws. takes own_app (map string_bytes ws.items) ≡ true) → ⊥) }
     // If memory ran out while the arguments were read, the fault is `NoMemory`.
-    ensures memory { IfErr arguments (λ error. error_kind error ≡ ErrorKind.OutOfMemory →
+    ensures no_memory { IfErr arguments (λ error. error_kind error ≡ ErrorKind.OutOfMemory →
         result ≡ Err CommandFault.NoMemory) }
 {
     match arguments {

@@ -403,7 +403,7 @@ fn match_arguments<'a>(
         (Names (subcommand_of own_app (map string_bytes arguments.entry.now)))) }
     ensures none { IfOk result (λ line. IsNone line →
         takes own_app (map string_bytes arguments.entry.now) ≢ true) }
-    ensures passes { IfErr result (λ error. takes own_app (map string_bytes arguments.entry.now) ≡ true →
+    ensures usage { IfErr result (λ error. takes own_app (map string_bytes arguments.entry.now) ≡ true →
         kind_of error ≡ ErrorKind.OutOfMemory) }
     ensures help { IfErr result (λ error. kind_of error ≡ ErrorKind.DisplayHelp →
         IsAmong ErrorKind.DisplayHelp (fault_of own_app (map string_bytes arguments.entry.now))) }

@@ -127,7 +127,7 @@ pub(crate) fn accept_all<R: Wait, W: Watch>(
 ) -> (u32, Stop)
     ensures most { result.0 ≤ connections }
     ensures limit { result.1 ≡ Stop.Limit → result.0 ≡ connections }
-    ensures started { result.1 ≢ Stop.Start }
+    ensures never { result.1 ≢ Stop.Start }
 {
     let mut is_told = false;
     for accepted in 0..connections {

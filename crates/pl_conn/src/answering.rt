@@ -45,8 +45,8 @@ pub(crate) fn answer_whole<G: Gate>(
     requires own { G.owns gate.now pass.old }
     ensures own { G.owns gate.now pass.new }
     ensures few { result ≤ length bytes.now }
-    ensures gathers { Gathers (G.calls gate.now) pass.old (take result bytes.now) outbox.old pass.new outbox.new }
-    ensures more { length outbox.old.lens ≤ length outbox.new.lens }
+    ensures value { Gathers (G.calls gate.now) pass.old (take result bytes.now) outbox.old pass.new outbox.new }
+    ensures least { length outbox.old.lens ≤ length outbox.new.lens }
     ensures most { length outbox.new.lens ≤ length outbox.old.lens + most }
 {
     let mut taken = 0;
@@ -66,7 +66,7 @@ pub(crate) fn answer_whole<G: Gate>(
 // failed, or took none.
 pub(crate) fn write_ready<W: Write>(writer: &mut W, bytes: &[u8]) -> (usize, io::Result<()>)
     ensures few { result.0 ≤ length bytes.now }
-    ensures appends { Appends (W.contents writer.old) (W.contents writer.new) (take result.0 bytes.now) }
+    ensures value { Appends (W.contents writer.old) (W.contents writer.new) (take result.0 bytes.now) }
 {
     let mut count = 0;
     while count < bytes.len() {

@@ -47,7 +47,7 @@ fn take_next<R: Source, G: Gate>(
     requires own { G.owns gate.now pass.old }
     requires room { MayGather outbox.old }
     ensures own { G.owns gate.now pass.new }
-    ensures takes { TakesFrame (G.calls gate.now) (R.remaining reader.old) pass.old outbox.old
+    ensures value { TakesFrame (G.calls gate.now) (R.remaining reader.old) pass.old outbox.old
         (R.remaining reader.new) pass.new outbox.new result }
     ensures one { result ≡ Ok true → length outbox.new.lens ≡ length outbox.old.lens + 1 }
 {
@@ -80,7 +80,7 @@ fn turn<R: Source, W: Write, G: Gate>(
     requires own { G.owns gate.now pass.old }
     requires some { 0 < most }
     ensures own { G.owns gate.now pass.new }
-    ensures turns { Turns (G.calls gate.now)
+    ensures value { Turns (G.calls gate.now)
         (scene (R.remaining reader.old) (W.contents writer.old) pass.old)
         (scene (R.remaining reader.new) (W.contents writer.new) pass.new)
         result }
@@ -107,7 +107,8 @@ fn turn<R: Source, W: Write, G: Gate>(
 }
 
 /// Reads frames until the end of input, or 2^32 of them, hands each body that is a request to the gate
-/// once, and writes the frames of the replies in the same order. It returns how many frames it answered.
+/// once, and writes the frames of the replies in the same order. It returns how many frames it answered. It is for one
+/// thread whose reader blocks; the workers of `serve` use [`Conversation`](crate::Conversation).
 ///
 /// A body that is not a request is answered `Malformed` with its code, and one whose block or text finds
 /// no memory `NoMemory`, both without the gate; the conversation goes on. What is answered is written
@@ -132,7 +133,7 @@ pub fn converse<R: Source, W: Write, G: Gate>(
     ensures own { G.owns gate.now pass.new }
     // The output is the frames of the replies to the frames that were read, in order, by a chain of
     // calls, and this is what it has at a fault (`Converses`).
-    ensures talk { Converses (G.calls gate.now)
+    ensures value { Converses (G.calls gate.now)
         (scene (R.remaining reader.old) (W.contents writer.old) pass.old)
         (scene (R.remaining reader.new) (W.contents writer.new) pass.new)
         result }

@@ -34,7 +34,7 @@ impl Model for Inbox {
 #[tactic(auto, using(crate::proofs::Filling::front_put))]
 fn put_front(room: &mut [u8], bytes: &[u8])
     requires few { length bytes.now ≤ length room.old }
-    ensures front { take (length bytes.now) room.new ≡ bytes.now }
+    ensures value { take (length bytes.now) room.new ≡ bytes.now }
     ensures len { length room.new ≡ length room.old }
 {
     room[..bytes.len()].copy_from_slice(bytes);
@@ -46,7 +46,7 @@ fn read_after<R: Read>(from: &mut R, room: &mut [u8], count: usize) -> io::Resul
     requires within { count ≤ length room.old }
     ensures len { length room.new ≡ length room.old }
     ensures few { IfOk result (λ more. count + more ≤ length room.new) }
-    ensures hears { IfOk result (λ more. Hears (R.remaining from.old) (take count room.old)
+    ensures ok { IfOk result (λ more. Hears (R.remaining from.old) (take count room.old)
         (R.remaining from.new) (take (count + more) room.new)) }
     ensures end { IfOk result (λ more. more ≡ 0 → count < length room.old → IsAtEnd (R.remaining from.new)) }
     ensures err { OnErr result (Hears (R.remaining from.old) (take count room.old)
@@ -90,7 +90,7 @@ impl Inbox {
 
     /// Reads once, as many bytes as there is room for after those that wait, and returns how many came.
     pub(crate) fn fill<R: Read>(&mut self, from: &mut R) -> io::Result<usize>
-        ensures hears { Hears (R.remaining from.old) self.old (R.remaining from.new) self.new }
+        ensures value { Hears (R.remaining from.old) self.old (R.remaining from.new) self.new }
         ensures end { IfOk result (λ more. more ≡ 0 → length self.old < 65540 → IsAtEnd (R.remaining from.new)) }
     {
         let more = read_after(from, self.room.as_mut_slice(), self.len)?;

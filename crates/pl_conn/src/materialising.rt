@@ -33,7 +33,7 @@ impl Worked {
         requires { self.old.done < 2 ^ 32 - 1 }
         ensures done { self.new.done ≡ self.old.done + (if is_done reply.now then 1 else 0) }
         ensures epoch { self.new.epoch ≡ unwrap_or (told_epoch reply.now) self.old.epoch }
-        ensures onward { result ≡ goes_on reply.now }
+        ensures value { result ≡ goes_on reply.now }
     {
         match reply {
             Reply::Done => {
@@ -91,7 +91,7 @@ fn round<G: Gate>(gate: &G, pass: &mut G::Pass, errand: &Errand, worked: &mut Wo
     requires own { G.owns gate.now pass.old }
     requires few { worked.old.done < 2 ^ 32 - 1 }
     ensures own { G.owns gate.now pass.new }
-    ensures round { Round (G.calls gate.now)
+    ensures value { Round (G.calls gate.now)
         (advance_at errand.now.principal errand.now.token errand.now.database errand.now.partition)
         pass.old worked.old worked.new result pass.new }
 {
@@ -121,7 +121,7 @@ pub fn materialise<G: Gate>(
     // the epoch that was reported last, 1 at first. Only the last reply may be other than Done and a
     // denial that reports the current epoch, and fewer calls are made only after such a reply. `done`
     // counts the replies of Done, and `epoch` is the one reported last (`Works`).
-    ensures works { Works (G.calls gate.now) (advance_at principal token database partition) rounds
+    ensures value { Works (G.calls gate.now) (advance_at principal token database partition) rounds
         pass.old result pass.new }
 {
     let errand = Errand {

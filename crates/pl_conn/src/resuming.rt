@@ -96,7 +96,7 @@ enum Heard {
 
 // Reads once, unless a whole frame was read, or the length of one that is too long.
 fn hear<R: Read>(reader: &mut R, inbox: &mut Inbox) -> io::Result<Heard>
-    ensures hears { Hears (R.remaining reader.old) inbox.old (R.remaining reader.new) inbox.new }
+    ensures value { Hears (R.remaining reader.old) inbox.old (R.remaining reader.new) inbox.new }
     ensures end { IfOk result (λ heard. heard ≡ Heard.End → IsAtEnd (R.remaining reader.new)) }
 {
     if !is_cut(inbox.as_slice()) {
@@ -123,9 +123,9 @@ fn speak<W: Write, G: Gate>(
 ) -> (usize, usize, io::Result<()>)
     requires own { G.owns gate.now pass.old }
     ensures own { G.owns gate.now pass.new }
-    ensures taken { result.0 ≤ length bytes.now }
+    ensures few { result.0 ≤ length bytes.now }
     ensures sent { result.1 ≤ length outbox.new.text }
-    ensures speaks { Speaks (G.calls gate.now) pass.old (W.contents writer.old) bytes.now
+    ensures value { Speaks (G.calls gate.now) pass.old (W.contents writer.old) bytes.now
         pass.new (W.contents writer.new) (middle (drop result.0 bytes.now) (drop result.1 outbox.new.text)) }
 {
     let mut taken = 0;
@@ -203,7 +203,7 @@ impl Conversation {
 
     // Writes the replies that wait, as many bytes as the writer takes now.
     fn tell<W: Write>(&mut self, alloc: Global, writer: &mut W) -> io::Result<()>
-        ensures tells { Tells (W.contents writer.old) self.old (W.contents writer.new) self.new }
+        ensures value { Tells (W.contents writer.old) self.old (W.contents writer.new) self.new }
     {
         let (count, end) = write_ready(writer, &self.waiting[self.sent..]);
         self.sent += count;
@@ -298,7 +298,7 @@ impl Conversation {
         ensures own { G.owns gate.now pass.new }
         // The output goes on with the replies to the frames that the input goes on with, in order,
         // by a chain of calls, however either is cut (`Rests`).
-        ensures rests { Rests (G.calls gate.now)
+        ensures value { Rests (G.calls gate.now)
             (scene (R.remaining reader.old) (W.contents writer.old) pass.old) self.old
             (scene (R.remaining reader.new) (W.contents writer.new) pass.new) self.new result }
     {
@@ -336,5 +336,5 @@ impl Conversation {
 #[tactic(auto, using(crate::proofs::Turning::resumes_then))]
 pub fn turns_join<G: Gate>(_gate: &G)
     // Two turns, one after the other, are as one (`TurnsJoin`).
-    ensures turns { TurnsJoin (G.calls _gate.now) }
+    ensures law { TurnsJoin (G.calls _gate.now) }
 {}

@@ -169,9 +169,9 @@ where
     requires own { All (G.owns gate.now) passes.items }
     requires none { workers.items ≡ [] }
     requires room { vec_len passes ≤ vec_capacity workers }
-    ensures starts { each_of result.items (λ h. h.promise.start.value) ≡
+    ensures passes { each_of result.items (λ h. h.promise.start.value) ≡
         take (vec_len result) passes.items }
-    ensures gates { AllOf result.items (λ h. h.promise.gate.value ≡ gate.now) }
+    ensures of { AllOf result.items (λ h. h.promise.gate.value ≡ gate.now) }
     ensures room { vec_len result ≤ vec_len passes }
 {
     let mut hired = hired;
@@ -206,7 +206,7 @@ where
     requires gates { AllOf workers.items (λ h. h.promise.gate.value ≡ gate.now) }
     requires none { ended.items ≡ [] }
     requires room { vec_len workers ≤ vec_capacity ended }
-    ensures returned { Returned (G.calls gate.now)
+    ensures passes { Returned (G.calls gate.now)
         (each_of workers.items (λ h. h.promise.start.value)) result.0.items }
     ensures own { All (G.owns gate.now) result.0.items }
 {
@@ -297,8 +297,8 @@ where
 /// to the worker that has the fewest. So one that is silent, or does not read its replies, holds up no other; a call
 /// that waits for a turn holds up those of its worker.
 ///
-/// A connection has its turn where its socket has something for it, and answers at most 256 frames in one, and as many
-/// as may wait together. One whose replies were not all taken is not read from until they are: less than 256 KiB and one
+/// A connection has its turn where its socket has something for it. A turn answers what one read brought, at most 65,540
+/// bytes of frames. One whose replies were not all taken is not read from until they are: less than 256 KiB and one
 /// reply more are kept for it. A silent one takes some hundred bytes.
 ///
 /// The passes that come back are those of the workers, in the order in which they were handed in. Where

@@ -46,7 +46,7 @@ impl SoloPass {
         // It has this number.
         ensures number { result.number ≡ number }
         // It has 1 to 16 databases (`HasDatabases`).
-        ensures has { HasDatabases result }
+        ensures fits { HasDatabases result }
     {
         SoloPass { dbs, number }
     }
@@ -75,7 +75,7 @@ impl SoloPass {
 }
 
 /// The gate of one caller. The databases are in the pass, so that a call neither waits nor needs a
-/// handle.
+/// handle. The gate of `pagelog serve` is [`Desks`](crate::Desks).
 ///
 /// A request is one step of the database that its head names, under the pass's number. `NoDatabase`
 /// is replied where there is none of that number, and then nothing has changed.

@@ -4,7 +4,7 @@ ghost use Rattle.pl_core.specs.Performing.{LogLaws, OrderLaws, PageLaws};
 
 /// What the laws of the log say of its changes.
 pub(crate) fn log_laws()
-    ensures laws { LogLaws }
+    ensures law { LogLaws }
 {
     pl_log::laws::writes_change_one_place();
     pl_log::laws::offers_change_one_place();
@@ -16,7 +16,7 @@ pub(crate) fn log_laws()
 
 /// What the laws of the written order, and of the rows of a table, say.
 pub(crate) fn order_laws()
-    ensures laws { OrderLaws }
+    ensures law { OrderLaws }
 {
     pl_decide::laws::allowed_requests_meet_no_rule();
     pl_decide::laws::unknown_principals_come_first();
@@ -28,7 +28,7 @@ pub(crate) fn order_laws()
 
 /// What the laws of pages say.
 pub(crate) fn page_laws()
-    ensures laws { PageLaws }
+    ensures law { PageLaws }
 {
     pl_pages::laws::pages_fit_longer_logs();
     pl_pages::laws::pages_stay();

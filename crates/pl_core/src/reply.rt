@@ -182,7 +182,7 @@ pub enum Reply {
     NoMemory,
     /// The audit list holds as many entries as it may. Nothing has changed.
     AuditFull,
-    /// Has a number in the format. Never from a step of the database.
+    /// The desk has given all its turns. Never from a step of the database.
     Spent,
     /// There is no such database. Never from a step of the database.
     NoDatabase,

@@ -40,8 +40,7 @@ impl Db {
     }
 
     // What section C looks at. The log is looked at for a request of the present epoch alone: another
-    // is denied by a row above. So is a write or an offer outside the window, whatever is said of its
-    // block.
+    // is denied by a row above. So is a write or an offer outside the window, whatever its block is.
     fn view(&self, request: &Request) -> View
         ensures hard { result.hard ≡ hard_of self.now }
         ensures copies { result.copies ≡ copies_of self.now }
@@ -76,6 +75,7 @@ impl Db {
         ensures value { result ≡ verdict_of request.now self.old }
         ensures same { self.new ≡ self.old }
     {
+        // Proof only: this does nothing.
         order_laws();
         let epochs = self.epochs();
         let view = self.view(request);
@@ -89,6 +89,7 @@ impl Db {
         ensures within { result ≤ hard_of self.now }
         ensures exact { verdict ≡ Verdict.Allowed → RowsAllowTo self.now request.now result }
     {
+        // Proof only: this does nothing.
         order_laws();
         let hard = self.hard();
         match verdict {
@@ -105,7 +106,7 @@ impl Db {
             RowsAllowTo self.now request.now result.reach }
         ensures copies { result.copies ≡ copies_in (table_of self.now).zone }
         ensures quorum { result.quorum ≡ quorum_in (table_of self.now).zone }
-        ensures zone { (1 ≤ result.quorum) × (result.quorum ≤ result.copies) × (result.copies ≤ 6) }
+        ensures fits { (1 ≤ result.quorum) × (result.quorum ≤ result.copies) × (result.copies ≤ 6) }
     {
         let reach = self.reach(request, verdict);
         let table = self.table_in_force();

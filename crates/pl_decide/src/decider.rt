@@ -126,7 +126,8 @@ impl Decider {
     }
 
     /// The verdict on any request: the denial of the first rule of the written order that denies it, or
-    /// `Allowed` where none does.
+    /// `Allowed` where none does. The service calls [`decide_known`](Decider::decide_known), since it has looked the
+    /// principal up.
     ///
     /// The rows of the table that can match are looked at, up to the first that does, or what they said
     /// of the same key is looked up, at LSNs of which the request's is one. Where it is to be cached and an
@@ -214,7 +215,7 @@ impl Decider {
 
     /// Whether the rows of the table allow at this LSN a request that they allow at its own.
     ///
-    /// Rows are looked at as by [`reach`](Decider::reach).
+    /// Rows are looked at as by [`reach`](Decider::reach), which is what the service asks.
     pub fn allows_at(&self, table: &Table, request: &Request, lsn: u64) -> bool
         // The decider agrees with the table (`AgreesWith`).
         requires agrees { AgreesWith self.now table.now }

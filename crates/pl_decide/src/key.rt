@@ -23,7 +23,7 @@ pub struct VerdictKey {
 impl VerdictKey {
     // The key of what is asked, or `None` where it may name more than one partition.
     pub(crate) fn of(asking: &Asking<'_>) -> Option<VerdictKey>
-        ensures key { IfSome result (λ key. IsKeyOf key (asked_by asking.now)) }
+        ensures some { IfSome result (λ key. IsKeyOf key (asked_by asking.now)) }
     {
         let partition = asking.partitions.at_most_one()?;
         Some(VerdictKey {

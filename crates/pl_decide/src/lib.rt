@@ -2,7 +2,7 @@
 //!
 //! The written order is section A (who asks, in which epoch and role), section B (the rows of the
 //! table in force) and section C (what the log has). Section C is read from a [`View`], which the
-//! caller fills, so that the decision knows of no log and no history. [`laws`] has what follows from
+//! caller fills, so that the decision needs no log and no history. [`laws`] has what follows from
 //! the order.
 #![tactic(auto)]
 

@@ -69,6 +69,7 @@ fn last_allowed(table: &Table, request: &Request, lsns: LsnRange) -> u64
     if lsns.to < u64::MAX {
         return table.reach(request, u64::MAX);
     }
+    // Proof only: this does nothing.
     pl_table::laws::lower_lsns_are_allowed();
     u64::MAX
 }

@@ -97,7 +97,7 @@ impl Desk {
         // changed. Else the call was one step (`IsStep` of pl_core) at a history that begins with
         // what the pass had seen, and what it has seen now is the history after that step
         // (`WasCalled`).
-        ensures called { WasCalled pass.old request result pass.new }
+        ensures call { WasCalled pass.old request result pass.new }
         // The reply can be written.
         ensures fits { FitsReply result }
     {

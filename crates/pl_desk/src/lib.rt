@@ -1,5 +1,5 @@
 //! One database for many threads. Each thread has a pass, with which it takes a ticket, waits for its
-//! turn, makes one step of the database, and gives the turn on.
+//! turn, makes one step of the database, and passes the turn on.
 //!
 //! A contract sees a [`Desk`] as a name and what it was made with, and a [`Pass`] as its number and
 //! the history that it has seen. That history is legal, only grows, and has, of the entries under the pass's

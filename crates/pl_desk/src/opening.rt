@@ -30,7 +30,7 @@ pub(crate) fn open_table(
     requires few { turns ≤ 2 ^ 62 }
     ensures terms { IfOk result (λ r. terms_of r.0.shared.key ≡
         record { seats = seats; turns = turns; opening = db }) }
-    ensures counts { IfOk result (λ r. (r.0.shared.table_id.words ≡ 3) ×
+    ensures len { IfOk result (λ r. (r.0.shared.table_id.words ≡ 3) ×
         (r.0.shared.table_id.slots ≡ 1)) }
     ensures first { IfOk result (λ r. (r.1.table_id ≡ r.0.shared.table_id) ×
         (r.1.me ≡ (first_view (terms_of r.0.shared.key), []))) }

@@ -35,8 +35,8 @@ pub(crate) fn ask(board: &Board, chair: &mut Chair) -> u64
     requires board { (chair.old.table_id ≡ board.now.table_id) × (board.now.table_id.words ≡ 3) }
     requires rests { (chair.old.me.1 ≡ []) × (chair.old.me.0.stage ≡ Idle) }
     ensures same { (chair.new.table_id ≡ chair.old.table_id) × (chair.new.id ≡ chair.old.id) }
-    ensures asked { chair.new.me ≡ (asked result chair.old.me.0, []) }
-    ensures sound { (chair.old.me.0.drawn ≤ result) ×
+    ensures pass { chair.new.me ≡ (asked result chair.old.me.0, []) }
+    ensures legal { (chair.old.me.0.drawn ≤ result) ×
         GoesOnFrom chair.old.me.0.terms chair.old.me.0.seen }
 {
     board.load::<Asks>(chair, NEXT)
@@ -47,7 +47,7 @@ pub(crate) fn draw(board: &Board, chair: &mut Chair) -> u64
     requires board { (chair.old.table_id ≡ board.now.table_id) × (board.now.table_id.words ≡ 3) }
     requires asks { (chair.old.me.1 ≡ []) × (chair.old.me.0.stage ≡ Asking) }
     ensures same { (chair.new.table_id ≡ chair.old.table_id) × (chair.new.id ≡ chair.old.id) }
-    ensures waits { chair.new.me ≡ (at_stage (Waiting result) chair.old.me.0, []) }
+    ensures pass { chair.new.me ≡ (at_stage (Waiting result) chair.old.me.0, []) }
 {
     board.fetch_add::<Draws>(chair, NEXT, 1)
 }
@@ -72,7 +72,7 @@ fn count_as<J: Told>(board: &Board, chair: &mut Chair, db: &BoxedDb)
     requires turn { (t : ℕ) × (h : History) × (chair.old.me.0.stage ≡ InTurn t h) ×
         AddsOne chair.old.me.0.number h db.now }
     ensures same { (chair.new.table_id ≡ chair.old.table_id) × (chair.new.id ≡ chair.old.id) }
-    ensures counted { chair.new.me ≡ (counted db.now chair.old.me.0, chair.old.me.1) }
+    ensures pass { chair.new.me ≡ (counted db.now chair.old.me.0, chair.old.me.1) }
 {
     let _ = db;
     board.fetch_add::<Counts<J>>(chair, COUNT, 1);
@@ -84,18 +84,18 @@ pub(crate) fn count(board: &Board, chair: &mut Chair, db: &BoxedDb)
     requires turn { (t : ℕ) × (h : History) × (chair.old.me.0.stage ≡ InTurn t h) ×
         AddsOne chair.old.me.0.number h db.now }
     ensures same { (chair.new.table_id ≡ chair.old.table_id) × (chair.new.id ≡ chair.old.id) }
-    ensures counted { chair.new.me ≡ (counted db.now chair.old.me.0, chair.old.me.1) }
+    ensures pass { chair.new.me ≡ (counted db.now chair.old.me.0, chair.old.me.1) }
 {
     count_as::<Brand>(board, chair, db);
 }
 
-/// Gives the turn on: the next ticket is served. The database is home by then.
+/// Passes the turn on: the next ticket is served. The database is back in the slot by then.
 pub(crate) fn serve(board: &Board, chair: &mut Chair)
     requires board { (chair.old.table_id ≡ board.now.table_id) × (board.now.table_id.words ≡ 3) }
     requires turn { (t : ℕ) × (h : History) × (chair.old.me.0.stage ≡ InTurn t h) ×
         (chair.old.me.1 ≡ (0, Some h) ∷ []) }
     ensures same { (chair.new.table_id ≡ chair.old.table_id) × (chair.new.id ≡ chair.old.id) }
-    ensures served { chair.new.me ≡ (turn_passed chair.old.me.0, []) }
+    ensures pass { chair.new.me ≡ (turn_passed chair.old.me.0, []) }
 {
     board.fetch_add::<Serves>(chair, SERVING, 1);
 }
@@ -107,8 +107,8 @@ pub(crate) fn deal(board: &Board, chair: &mut Chair) -> Chair
     requires deals { (0 < chair.old.me.0.dealt) ×
         (chair.old.me.0.dealt < chair.old.me.0.terms.seats) }
     ensures same { (chair.new.table_id ≡ chair.old.table_id) × (chair.new.id ≡ chair.old.id) }
-    ensures dealing { chair.new.me ≡ (dealing chair.old.me.0, []) }
-    ensures dealt { (result.table_id ≡ chair.old.table_id) ×
+    ensures pass { chair.new.me ≡ (dealing chair.old.me.0, []) }
+    ensures value { (result.table_id ≡ chair.old.table_id) ×
         (result.me ≡ (dealt chair.old.me.0, [])) }
 {
     board.split_seat::<Deals>(chair)
@@ -121,7 +121,7 @@ pub(crate) fn join(board: &Board, chair: &mut Chair, other: Chair)
     requires rests { (chair.old.me.1 ≡ []) × (chair.old.me.0.stage ≡ Idle) ×
         (other.me.1 ≡ []) × (other.me.0.stage ≡ Idle) }
     ensures same { (chair.new.table_id ≡ chair.old.table_id) × (chair.new.id ≡ chair.old.id) }
-    ensures met { chair.new.me ≡ (meeting chair.old.me.0 other.me.0, []) }
+    ensures pass { chair.new.me ≡ (meeting chair.old.me.0 other.me.0, []) }
 {
     board.join_seat::<Joins>(chair, other);
 }
@@ -132,9 +132,9 @@ pub(crate) fn compare(board: &Board, chair: &mut Chair)
     requires met { (chair.old.me.1 ≡ []) × ((first second : History) × (other : ℕ) ×
         (chair.old.me.0.stage ≡ Met first second other)) }
     ensures same { (chair.new.table_id ≡ chair.old.table_id) × (chair.new.id ≡ chair.old.id) }
-    ensures idle { chair.new.me ≡ (at_stage Idle chair.old.me.0, []) }
-    ensures sound { GoesOnFrom chair.old.me.0.terms chair.old.me.0.seen }
-    ensures both { (first second : History) (other : ℕ) →
+    ensures pass { chair.new.me ≡ (at_stage Idle chair.old.me.0, []) }
+    ensures legal { GoesOnFrom chair.old.me.0.terms chair.old.me.0.seen }
+    ensures met { (first second : History) (other : ℕ) →
         chair.old.me.0.stage ≡ Met first second other →
         HasBoth chair.old.me.0.terms chair.old.me.0.number other first second chair.old.me.0.seen }
 {

@@ -1,4 +1,4 @@
-//! A turn: waiting for it, one step of the database, and giving it on.
+//! A turn: waiting for it, one step of the database, and passing it on.
 
 ghost use Rattle.std.specs.Prelude.{◌≡◌, ◌≢◌, ℕ, [], ◌∷◌, Some, Option};
 ghost use Rattle.pl_core.specs.History.{History};
@@ -65,9 +65,10 @@ fn step_of(db: &mut BoxedDb, number: u64, request: Request) -> (Reply, bool)
     ensures step { IsStep number request db.old result.0 db.new }
     ensures grows { Grows result.1 number db.old db.new }
     ensures legal { IsLegal db.new }
-    ensures decided { result.0 ≢ Reply.Spent }
+    ensures never { result.0 ≢ Reply.Spent }
     ensures fits { FitsReply result.0 }
 {
+    // Proof only: this does nothing.
     replies_tell_their_cause();
     let db = &mut *db.db;
     let before = db.audit_len();
@@ -82,10 +83,10 @@ fn step(board: &Board, chair: &mut Chair, number: u64, request: Request) -> (Rep
     requires turn { (h : History) × (chair.old.me.1 ≡ (0, Some h) ∷ []) }
     ensures same { (chair.new.table_id ≡ chair.old.table_id) × (chair.new.id ≡ chair.old.id) }
     ensures out { (o : Option History) × (chair.new.me ≡ (chair.old.me.0, (0, o) ∷ [])) }
-    ensures stepped { (h : History) → chair.old.me.1 ≡ (0, Some h) ∷ [] →
+    ensures step { (h : History) → chair.old.me.1 ≡ (0, Some h) ∷ [] →
         IsStep number request h result.0 result.2 × Grows result.1 number h result.2 }
     ensures legal { IsLegal result.2 }
-    ensures decided { result.0 ≢ Reply.Spent }
+    ensures never { result.0 ≢ Reply.Spent }
     ensures fits { FitsReply result.0 }
 {
     let mut db = take_out(board, chair);
@@ -108,31 +109,31 @@ fn count_made(board: &Board, chair: &mut Chair, db: &BoxedDb, made: bool)
     }
 }
 
-// Puts the database back, so that the turn may be given on.
+// Puts the database back, so that the turn may be passed on.
 fn put_back(board: &Board, chair: &mut Chair, db: BoxedDb)
     requires board { chair.old.table_id ≡ board.now.table_id }
     requires turn { (t : ℕ) × (chair.old.me.0.stage ≡ InTurn t db) }
     requires out { (o : Option History) × (chair.old.me.1 ≡ (0, o) ∷ []) }
     ensures same { (chair.new.table_id ≡ chair.old.table_id) × (chair.new.id ≡ chair.old.id) }
-    ensures view { chair.new.me.0 ≡ chair.old.me.0 }
-    ensures home { (t : ℕ) × (h : History) × (chair.new.me.0.stage ≡ InTurn t h) ×
+    ensures pass { chair.new.me.0 ≡ chair.old.me.0 }
+    ensures turn { (t : ℕ) × (h : History) × (chair.new.me.0.stage ≡ InTurn t h) ×
         (chair.new.me.1 ≡ (0, Some h) ∷ []) }
 {
     board.exchange(chair, DB, Some(db));
 }
 
 /// One turn of the pass with this number: a step of the database at the history that the turn has
-/// found. Then the turn is given on.
+/// found. Then the turn is passed on.
 pub(crate) fn take_turn(board: &Board, chair: &mut Chair, number: u64, request: Request) -> Reply
     requires board { (chair.old.table_id ≡ board.now.table_id) × (board.now.table_id.words ≡ 3) }
     requires turn { (t : ℕ) × (h : History) × (chair.old.me.0.stage ≡ InTurn t h) ×
         (chair.old.me.1 ≡ (0, Some h) ∷ []) }
     requires number { number ≡ chair.old.me.0.number }
     ensures same { (chair.new.table_id ≡ chair.old.table_id) × (chair.new.id ≡ chair.old.id) }
-    ensures stepped { (h : History) → chair.old.me.1 ≡ (0, Some h) ∷ [] → (g : History) ×
+    ensures step { (h : History) → chair.old.me.1 ≡ (0, Some h) ∷ [] → (g : History) ×
         (chair.new.me ≡ (settled g chair.old.me.0, [])) × IsStep number request h result g ×
         IsLegal g }
-    ensures decided { result ≢ Reply.Spent }
+    ensures never { result ≢ Reply.Spent }
     ensures fits { FitsReply result }
 {
     let (reply, made, db) = step(board, chair, number, request);

@@ -148,7 +148,7 @@ impl Pages {
     /// makes the whole page (a Zero, or a Put of 8,192 bytes), whichever is newer; where there is
     /// neither, of all that change it. A new version takes a frame; once all have versions, or there is
     /// no memory for one more, it takes that of the oldest. Where there is no memory to note where the
-    /// version is, it is made anew when it is asked for again. An error means that another allocation
+    /// version is, it is made again when it is asked for again. An error means that another allocation
     /// failed: no applied LSN has changed.
     pub fn get(
         &mut self,
@@ -163,7 +163,7 @@ impl Pages {
         requires hard { lsn ≤ length log.old.hardened }
         // When the bytes are no longer lent, the pages fit the log, and the applied LSNs and the
         // number of chunks are as before, after an error too.
-        ensures* keeps { sem 𝓛 (EndsFitting self.entry log.old.hardened) }
+        ensures* fits { sem 𝓛 (EndsFitting self.entry log.old.hardened) }
         // The LSN that is answered (`chosen_lsn`).
         ensures at { IfOk result (λ given. given.0 ≡ chosen_lsn self.old page lsn exact) }
         // The page at that LSN: the log up to it, replayed.

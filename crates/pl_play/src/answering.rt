@@ -36,7 +36,7 @@ fn finds_no_memory(read: &Result<Request, BodyFault>) -> bool
 /// `AllocError` comes where the records of a block or a table's text found no memory, before any step.
 pub(crate) fn reply_to(alloc: Global, body: Bytes, db: &mut Db) -> Result<Reply, AllocError>
     // The reply of a step under pass 1, or the code of the body's fault (`AnswersAsRead`).
-    ensures answers { IfOk result (λ reply. AnswersAsRead PlayCall db.old body reply db.new) }
+    ensures reply { IfOk result (λ reply. AnswersAsRead PlayCall db.old body reply db.new) }
     // The reply can be written.
     ensures fits { IfOk result (λ reply. FitsReply reply) }
     // `AllocError` changes nothing.

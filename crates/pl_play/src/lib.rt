@@ -2,7 +2,7 @@
 //! bodies that it answers, the requests that an operator's words ask for, and replies as text.
 //!
 //! What a database begins with, what [`play`] answers to any input and what [`admin`] asks for are
-//! contracts over any reader, writer and list of words. A contract sees a `Db` as its history, a reader
+//! contracts for any reader, writer and list of words. A contract sees a `Db` as its history, a reader
 //! as the bytes that it has left, and a writer as the bytes that it holds, each where that is known.
 #![tactic(auto)]
 

@@ -67,7 +67,7 @@ fn play_line<W: Write>(
         (moment (W.contents writer.old) db.old)
         (moment (W.contents writer.new) db.new) result }
     // The fault is never `Read`.
-    ensures no_read { IfErr result (λ fault. fault ≢ PlayFault.Read) }
+    ensures never { IfErr result (λ fault. fault ≢ PlayFault.Read) }
 {
     let body = match bytes_of_line(alloc, line) {
         Ok(body) => body,

@@ -100,9 +100,9 @@ impl From<FileFault> for StartFault {
 /// The fault of a file that could not be opened or read.
 pub fn file_fault_of(error: &io::Error) -> FileFault
     // `NoMemory` exactly for an error of that kind.
-    ensures memory { (result ≡ FileFault.NoMemory) ↔ (error_kind error.now ≡ ErrorKind.OutOfMemory) }
+    ensures no_memory { (result ≡ FileFault.NoMemory) ↔ (error_kind error.now ≡ ErrorKind.OutOfMemory) }
     // It is never `Long`.
-    ensures read { result ≢ FileFault.Long }
+    ensures never { result ≢ FileFault.Long }
 {
     if error.kind() == ErrorKind::OutOfMemory {
         return FileFault::NoMemory;

@@ -88,7 +88,7 @@ fn take_last<R>(desks: &Desks<R>, passes: &mut Vec<Passes>) -> Passes
     requires of { All (ArePassesOf desks.now) passes.old.items }
     ensures value { passes.old.items ≡ passes.new.items ++ result ∷ [] }
     ensures rest { All (ArePassesOf desks.now) passes.new.items }
-    ensures last { ArePassesOf desks.now result }
+    ensures of { ArePassesOf desks.now result }
 {
     let Some(last) = passes.pop() else {
         unreachable!();

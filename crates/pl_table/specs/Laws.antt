@@ -23,7 +23,7 @@ pub record AsksToSet (id : ℕ) (q : Query) : Type 0 where
   pub role : q.head.role ≡ Operator
   pub op : op_of q.act ≡ SetTable
 
--- a row speaks of a principal's set_table exactly where it matches that request
+-- a row is about a principal's set_table exactly where it matches that request
 abbrev pub RowsSpeakOfSetting : Type 0
 RowsSpeakOfSetting = (id : ℕ) (q : Query) (row : Row) → AsksToSet id q
     → speaks_of_setting id row ≡ row_matches row (asked_in q)

@@ -76,7 +76,7 @@ impl RowIndex {
     // The places of the rows that can match, rising.
     fn listed(&self, asking: &Asking<'_>) -> &[u8]
         requires index { (rows : List Row) × IsIndexOf rows self.now }
-        ensures list { (rows : List Row) → IsIndexOf rows self.now →
+        ensures value { (rows : List Row) → IsIndexOf rows self.now →
             result.now ≡ places_from 0 (can_match (asked_by asking.now)) rows }
     {
         let place = place_of(&self.names, asking.principal);
@@ -101,7 +101,7 @@ impl OpLists {
 
 // The ids that rows name, rising, each once.
 fn names_in(alloc: Global, rows: &[Row]) -> Result<Vec<u32>, AllocError>
-    ensures rise { IfOk result (λ names. IsStrictlyIncreasing names.items) }
+    ensures rising { IfOk result (λ names. IsStrictlyIncreasing names.items) }
     ensures each { IfOk result
         (λ names. All (λ row. IfSome row.who (Contains names.items)) rows.now) }
 {

@@ -1,9 +1,9 @@
 //! Requests, and the written table that says who may append, pull, read and administer.
 //!
 //! A contract sees a [`Request`] as its head and its act, and a [`Table`] as its principals and its
-//! rows. What rows look at in a request is its [`Asking`]. [`Table::first_match`] finds the first row that speaks of a request. [`read_table`] reads a
-//! table from its text, or reports the first fault of the text. What a denial by the table means for
-//! a database is decided in the crates above.
+//! rows. What rows look at in a request is its [`Asking`]. [`Table::first_match`] finds the first row
+//! that matches a request. [`read_table`] reads a table from its text, or reports the first fault of
+//! the text. What a denial by the table means for a database is decided in the crates above.
 #![tactic(auto)]
 
 mod asking;

@@ -77,7 +77,7 @@ pub enum Act {
         first: u64,
         max: u16,
     },
-    /// Move old blocks to long-term storage.
+    /// Move all but the 64 newest blocks of the broker to the segments of bytes, in memory.
     Tidy,
 }
 

@@ -20,7 +20,7 @@ pub fn answer<G: Gate>(read: Result<Request, BodyFault>, gate: &G, pass: &mut G:
     // The reply can be written.
     ensures fits { FitsReply result }
     // A request is one of the gate's calls. Anything else is replied without a call, and the pass stays (`AnswersRead`).
-    ensures answers { AnswersRead (G.calls gate.now) read pass.old result pass.new }
+    ensures reply { AnswersRead (G.calls gate.now) read pass.old result pass.new }
 {
     match read {
         Ok(request) => gate.call(pass, request),

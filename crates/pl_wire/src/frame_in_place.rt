@@ -13,7 +13,7 @@ use bytes::Buf;
 /// `None` where they are less than a frame, or the length is above the limit: [`is_cut`] says which.
 pub fn body_in(bytes: &[u8]) -> Option<&[u8]>
     // The bytes begin with the frame of this body.
-    ensures whole { IfSome result (λ body. (4 + length body.now ≤ length bytes.now)
+    ensures some { IfSome result (λ body. (4 + length body.now ≤ length bytes.now)
         × (take (4 + length body.now) bytes.now ≡ frame body.now)) }
     // The body has at most 65,536 bytes.
     ensures fits { IfSome result (λ body. length body.now ≤ longest_request) }

@@ -259,7 +259,7 @@ fn act_in(alloc: Global, op: Op, arguments: Bytes) -> Result<Act, BodyFault>
 // It is made as what is returned, so that it is moved once.
 fn ranged_request(head: Head, act: Act) -> Result<Request, BodyFault>
     ensures exact { Returns result (ranged head act) }
-    ensures memory { result ≢ Err NoMemory }
+    ensures no_memory { result ≢ Err NoMemory }
 {
     match Request::new(head, act) {
         Some(request) => Ok(request),
@@ -325,6 +325,7 @@ pub fn decode_request(alloc: Global, body: &[u8]) -> Result<Request, BodyFault>
     // role is known.
     ensures no_memory { result ≡ Err NoMemory → MayLackMemory body.now }
 {
+    // Proof only: these do nothing.
     each_is_byte(body);
     one_spelling();
     request_of(alloc, body)
@@ -347,6 +348,7 @@ pub fn decode_request_shared(alloc: Global, body: Bytes) -> Result<Request, Body
     // role is known.
     ensures no_memory { result ≡ Err NoMemory → MayLackMemory body }
 {
+    // Proof only: these do nothing.
     each_is_byte(body.as_slice());
     one_spelling();
     request_in(alloc, body)

@@ -1,4 +1,4 @@
-//! Lines that stand for many requests: blocks that are written or offered one after the other, windows that are hardened,
+//! Lines that make many requests: blocks that are written or offered one after the other, windows that are hardened,
 //! statuses, and the lines of an audit.
 
 use crate::database::{Asked, Database};

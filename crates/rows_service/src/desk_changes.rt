@@ -279,7 +279,7 @@ fn has_writes_and_len(
     Ok((has, entries))
 }
 
-// The same of a database after a failover beneath writes.
+// The same of a database after a failover under writes.
 fn fail_over_beneath_writes<R: Threads + Wait + Abort + Sync>(
     rt: &R,
     alloc: Global,

@@ -159,7 +159,7 @@ fn read_rows(
     ensures exact { Gives (λ rows. rows.items) result
         (rows_of principals.now (map view listed.now)) }
     ensures members { IfOk result (λ rows. length rows.items ≤ length listed.now) }
-    ensures each_row { IfOk result (λ rows. All (IsRowOf principals.now) rows.items) }
+    ensures each { IfOk result (λ rows. All (IsRowOf principals.now) rows.items) }
 {
     if !each_is_row(listed) {
         return Err(ReadFault::Malformed(TableFault::RowKeys));
@@ -173,7 +173,7 @@ fn read_rows(
     Ok(rows_from(alloc, principals, listed)?)
 }
 
-// The first row that speaks of the principal's setting the table as operator.
+// The first row about the principal's set_table as operator.
 fn row_on_setting(rows: &[Row], id: u32) -> Option<&Row>
     ensures value { option_copied result ≡ find (speaks_of_setting id) rows.now }
 {

@@ -14,4 +14,4 @@ returns-in-Ok-None-clause-usage c =
 pub returns-clause-usage : goal.returns-clause-usage
 returns-clause-usage c =
     let same = ap (λ ws. takes own_app (map string_bytes ws)) c.as_slice.ensures.value in
-    IfErr-weaker c.outcome_of-in-Err.result _ _ (λ fault kinds usage taken. (kinds usage).1 (c.in-Err.ensures.passes (same ∙ taken))) c.outcome_of-in-Err.ensures.usage
+    IfErr-weaker c.outcome_of-in-Err.result _ _ (λ fault kinds usage taken. (kinds usage).1 (c.in-Err.ensures.usage (same ∙ taken))) c.outcome_of-in-Err.ensures.usage

@@ -6,15 +6,15 @@ use Rattle.pl_conn.proofs.resuming.speak.Goals as goal
 pub loop-init : goal.loop-init
 loop-init g c = (c.requires.own, search rules, speaks_none _ _ _ _)
 
-pub returns-then-is_err-clause-speaks : goal.returns-then-is_err-clause-speaks
-returns-then-is_err-clause-speaks g c =
+pub returns-then-is_err-clause-value : goal.returns-then-is_err-clause-value
+returns-then-is_err-clause-value g c =
     speaks_more _ _ _ _ _ _ _ c.args.bytes.now c.loop.taken c.answer_whole-taken.result c.write_ready-sent.result.0 c.answer_whole-taken.new.outbox.text
-    c.loop.invariant.2 (replies_of _ _ _ _ _ _ _ (search rules) c.answer_whole-taken.ensures.gathers) (rw c.text.ensures.value at c.write_ready-sent.ensures.appends)
+    c.loop.invariant.2 (replies_of _ _ _ _ _ _ _ (search rules) c.answer_whole-taken.ensures.value) (rw c.text.ensures.value at c.write_ready-sent.ensures.value)
 
-pub returns-then-is_none-clause-speaks : goal.returns-then-is_none-clause-speaks
-returns-then-is_none-clause-speaks g c =
+pub returns-then-is_none-clause-value : goal.returns-then-is_none-clause-value
+returns-then-is_none-clause-value g c =
     speaks_more _ _ _ _ _ _ _ c.args.bytes.now c.loop.taken c.answer_whole-taken.result c.write_ready-sent.result.0 c.answer_whole-taken.new.outbox.text
-    c.loop.invariant.2 (replies_of _ _ _ _ _ _ _ (search rules) c.answer_whole-taken.ensures.gathers) (rw c.text.ensures.value at c.write_ready-sent.ensures.appends)
+    c.loop.invariant.2 (replies_of _ _ _ _ _ _ _ (search rules) c.answer_whole-taken.ensures.value) (rw c.text.ensures.value at c.write_ready-sent.ensures.value)
 
 pub loop-preserved : goal.loop-preserved
 loop-preserved g c = (
@@ -22,5 +22,5 @@ loop-preserved g c = (
   search rules,
   speaks_all _ _ _ _ _ _ _ c.write_ready-sent.result.0 c.answer_whole-taken.new.outbox.text (search rules)
       (speaks_more _ _ _ _ _ _ _ c.args.bytes.now c.loop.taken c.answer_whole-taken.result c.write_ready-sent.result.0 c.answer_whole-taken.new.outbox.text
-      c.loop.invariant.2 (replies_of _ _ _ _ _ _ _ (search rules) c.answer_whole-taken.ensures.gathers) (rw c.text.ensures.value at c.write_ready-sent.ensures.appends)),
+      c.loop.invariant.2 (replies_of _ _ _ _ _ _ _ (search rules) c.answer_whole-taken.ensures.value) (rw c.text.ensures.value at c.write_ready-sent.ensures.value)),
 )

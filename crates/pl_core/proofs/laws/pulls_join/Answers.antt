@@ -2,4 +2,4 @@ use Rattle.pl_core.proofs.Joining.{pulls_join}
 use Rattle.pl_core.proofs.laws.pulls_join.Goals as goal
 
 pub returns : goal.returns
-returns c = record { law = pulls_join c.order_laws.ensures.laws c.pulls_join.ensures.law }
+returns c = record { law = pulls_join c.order_laws.ensures.law c.pulls_join.ensures.law }

@@ -4,8 +4,8 @@ use Rattle.pl_core.specs.History.{History}
 use Rattle.pl_desk.specs.Steps.{HeldSlot}
 use Rattle.pl_desk.proofs.turn.put_back.Goals as goal
 
-pub returns-clause-home : goal.returns-clause-home
-returns-clause-home c =
+pub returns-clause-turn : goal.returns-clause-turn
+returns-clause-turn c =
     let db : History = c.args.db in
     let is = c.exchange.ensures.3 in
     let empty : rest c.args.chair.now.me.1 ≡ [] = ap rest c.requires.out.1 in (

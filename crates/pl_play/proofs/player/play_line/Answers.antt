@@ -6,7 +6,7 @@ use Rattle.pl_play.proofs.player.play_line.Goals as goal
 pub returns-clause-value : goal.returns-clause-value
 returns-clause-value g c =
     let reads : decode_of c.args.line.now ≡ Ok c.in-Ok-from_vec.body = c.in-Ok.ensures.ok ∙ ap Ok (sym c.in-Ok-from_vec.ensures.ok) in
-    plays_line _ _ _ _ _ _ _ _ _ c.write_reply.result c.requires reads c.in_ok-reply.ensures.answers c.write_reply.ensures.value
+    plays_line _ _ _ _ _ _ _ _ _ c.write_reply.result c.requires reads c.in_ok-reply.ensures.reply c.write_reply.ensures.value
 
-pub returns-clause-no_read : goal.returns-clause-no_read
-returns-clause-no_read g c = writes_no_read _ _ _ c.write_reply.result c.write_reply.ensures.value
+pub returns-clause-never : goal.returns-clause-never
+returns-clause-never g c = writes_no_read _ _ _ c.write_reply.result c.write_reply.ensures.value

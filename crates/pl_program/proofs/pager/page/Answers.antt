@@ -3,4 +3,4 @@ use Rattle.pl_program.proofs.pager.page.Goals as goal
 
 pub loop-database-preserved : goal.loop-database-preserved
 loop-database-preserved g c =
-    (c.materialise-worked.ensures.own, pages_more _ _ _ _ _ _ _ c.loop-database.invariant.1 c.materialise-worked.ensures.works)
+    (c.materialise-worked.ensures.own, pages_more _ _ _ _ _ _ _ c.loop-database.invariant.1 c.materialise-worked.ensures.value)

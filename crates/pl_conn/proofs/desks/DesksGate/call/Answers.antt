@@ -18,4 +18,4 @@ returns-clause-call g c =
     called c.args.passes.now c.passes.inside.items.items c.head.result.now.database c.args.request c.call.result c.in-Some.pass.now c.call.new.pass
     c.passes.view_is (ap (λ (h : Head). h.database) c.head.ensures.value)
     (slice_get_read c.passes.inside.items.items (length c.passes.inside.items.items) c.head.result.now.database c.in-Some.pass.now refl c.in-Some.ensures.item.3.0 c.in-Some.ensures.value)
-    c.call.ensures.same c.call.ensures.called
+    c.call.ensures.same c.call.ensures.call

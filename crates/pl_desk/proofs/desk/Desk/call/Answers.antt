@@ -10,18 +10,18 @@ use Rattle.pl_desk.specs.Passes.{Knowledge, DeskOrigin, knowledge_of, WasCalled}
 use Rattle.pl_desk.proofs.Calling.{called}
 use Rattle.pl_desk.proofs.desk.Desk.call.Goals as goal
 
-pub returns-clause-called : goal.returns-clause-called
-returns-clause-called g c =
+pub returns-clause-call : goal.returns-clause-call
+returns-clause-call g c =
     let v : View = c.pass.inside.chair.me.0 in
     let desk = c.pass.inside.chair.table_id in
     let read : ℕ = c.ask.result in
     let ticket : ℕ = c.draw-ticket.result in
     let turn = c.wait.ensures.turn in
     let found : History = turn.0 in
-    let stepped = c.take_turn-reply.ensures.stepped found (ap (λ (m : HeldSlot). m.1) turn.1) in
+    let stepped = c.take_turn-reply.ensures.step found (ap (λ (m : HeldSlot). m.1) turn.1) in
     let now : History = stepped.0 in
     let waits : c.draw-ticket.new.chair.me.0 ≡ at_stage (Waiting ticket) (asked read v) =
-    ap (λ (m : HeldSlot). m.0) c.draw-ticket.ensures.waits ∙ ap (λ (m : HeldSlot). at_stage (Waiting ticket) m.0) c.ask.ensures.asked in
+    ap (λ (m : HeldSlot). m.0) c.draw-ticket.ensures.pass ∙ ap (λ (m : HeldSlot). at_stage (Waiting ticket) m.0) c.ask.ensures.pass in
     let after : c.take_turn-reply.new.chair.me.0 ≡ settled now (asked read v) =
     ap (λ (m : HeldSlot). m.0) stepped.1 ∙ (ap (λ (m : HeldSlot). settled now m.0) turn.1 ∙ ap (λ (u : View). settled now (at_stage (InTurn ticket found) u)) waits) in
     let ahead : IsAhead v.terms v.number v.seen found = subst (λ (u : View). IsAhead u.terms u.number u.seen found) waits turn.2 in
@@ -32,9 +32,9 @@ returns-clause-called g c =
     let turns : v.terms.turns ≡ c.self.inside.table.shared.key.turns = ap (λ (t : Terms). t.turns) of in
     let bound : c.self.inside.turns ≡ c.self.inside.table.shared.key.turns = c.self.invariant.2 in
     let less : read < c.self.inside.turns = c.if-ask-self.false in
-    let sound = c.ask.ensures.sound in
+    let sound = c.ask.ensures.legal in
     let done = called (knowledge_of desk v) c.args.request c.take_turn-reply.result found now read c.pass.invariant.3 c.pass.invariant.4 sound.0 sound.1 ahead step stepped.3
-    c.take_turn-reply.ensures.decided (omega (arith, turns, bound, less)) in
+    c.take_turn-reply.ensures.never (omega (arith, turns, bound, less)) in
     let table : c.take_turn-reply.new.chair.table_id ≡ desk =
     c.take_turn-reply.ensures.same.0 ∙ (c.wait.ensures.same.0 ∙ (c.draw-ticket.ensures.same.0 ∙ c.ask.ensures.same.0)) in
     subst (λ (p : Knowledge). WasCalled p c.args.request c.take_turn-reply.result (knowledge_of c.take_turn-reply.new.chair.table_id c.take_turn-reply.new.chair.me.0)) c.pass.view_is

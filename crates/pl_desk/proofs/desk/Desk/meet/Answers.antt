@@ -11,18 +11,18 @@ pub compare-requires-clause-met : goal.compare-requires-clause-met
 compare-requires-clause-met c =
     let v : View = c.pass.inside.chair.me.0 in
     let w : View = c.other.inside.chair.me.0 in
-    let joined = c.join.ensures.met in
+    let joined = c.join.ensures.pass in
     (ap (λ (m : HeldSlot). m.1) joined, (v.seen, w.seen, w.number, ap (λ (m : HeldSlot). m.0.stage) joined))
 
 pub returns-clause-met : goal.returns-clause-met
 returns-clause-met c =
     let v : View = c.pass.inside.chair.me.0 in
     let w : View = c.other.inside.chair.me.0 in
-    let joined : c.join.new.chair.me.0 ≡ meeting v w = ap (λ (m : HeldSlot). m.0) c.join.ensures.met in
-    let sound : GoesOnFrom v.terms (longer v.seen w.seen) = subst (λ (u : View). GoesOnFrom u.terms u.seen) joined c.compare.ensures.sound in
+    let joined : c.join.new.chair.me.0 ≡ meeting v w = ap (λ (m : HeldSlot). m.0) c.join.ensures.pass in
+    let sound : GoesOnFrom v.terms (longer v.seen w.seen) = subst (λ (u : View). GoesOnFrom u.terms u.seen) joined c.compare.ensures.legal in
     let both : HasBoth v.terms v.number w.number v.seen w.seen (longer v.seen w.seen) =
-    subst (λ (u : View). HasBoth u.terms u.number w.number v.seen w.seen u.seen) joined (c.compare.ensures.both v.seen w.seen w.number (ap (λ (u : View). u.stage) joined)) in
-    let after : c.compare.new.chair.me.0 ≡ at_stage Idle (meeting v w) = ap (λ (m : HeldSlot). m.0) c.compare.ensures.idle ∙ ap (at_stage Idle) joined in
+    subst (λ (u : View). HasBoth u.terms u.number w.number v.seen w.seen u.seen) joined (c.compare.ensures.met v.seen w.seen w.number (ap (λ (u : View). u.stage) joined)) in
+    let after : c.compare.new.chair.me.0 ≡ at_stage Idle (meeting v w) = ap (λ (m : HeldSlot). m.0) c.compare.ensures.pass ∙ ap (at_stage Idle) joined in
     let table : c.compare.new.chair.table_id ≡ c.pass.inside.chair.table_id = c.compare.ensures.same.0 ∙ c.join.ensures.same.0 in
     let done = met c.pass.inside.chair.table_id c.other.inside.chair.table_id v w sound both in
     let q = knowledge_of c.compare.new.chair.table_id c.compare.new.chair.me.0 in

@@ -6,4 +6,4 @@ use Rattle.pl_table.proofs.Listed.{length-places}
 use Rattle.pl_table.proofs.index.RowIndex.count.Goals as goal
 
 pub returns : goal.returns
-returns c = record { value = λ (rows : List Row) is. ap length (c.listed.ensures.list rows is) ∙ length-places 0 (can_match (asked_by c.args.asking.now)) rows }
+returns c = record { value = λ (rows : List Row) is. ap length (c.listed.ensures.value rows is) ∙ length-places 0 (can_match (asked_by c.args.asking.now)) rows }

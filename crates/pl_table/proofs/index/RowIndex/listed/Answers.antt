@@ -17,7 +17,7 @@ index-requires-2 c =
 
 pub returns : goal.returns
 returns c = record {
-  list = λ (rows : List Row) is.
+  value = λ (rows : List Row) is.
       let asker = asker_of c.args.asking.now.principal c.args.self.now.names.items in
       let op = c.args.asking.now.op in
       let mine = mapped_read lists_of (places_by_op rows) c.args.self.now.by_asker.items (askers c.args.self.now.names.items) c.place_of-place.result c.index.result.now asker is.lists (rw c.deref.ensures.value at c.place_of-place.ensures.value) c.index.ensures in

@@ -22,5 +22,5 @@ returns-clause-exact c =
 pub returns-clause-members : goal.returns-clause-members
 returns-clause-members c = rw c.in_ok-rows_from.ensures.ok (length-filter_map _ _)
 
-pub returns-clause-each_row : goal.returns-clause-each_row
-returns-clause-each_row c = rw c.in_ok-rows_from.ensures.ok (All-IsRowOf view _ _)
+pub returns-clause-each : goal.returns-clause-each
+returns-clause-each c = rw c.in_ok-rows_from.ensures.ok (All-IsRowOf view _ _)
