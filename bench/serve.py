@@ -20,8 +20,8 @@ service holds for each silent one. A server that does not serve that many has no
 Last come the delays of one request at a time on 64 connections, in microseconds: the 50th, 99th and 99.9th percentile and the
 longest, alone and beside silent connections.
 
-The service is crates/pagelog/out/pagelog, which scripts/pagelog proves and builds, or the program that PAGELOG names. Its workers
-poll so often before they sleep as --idle-polls says, 0 if it is not given.
+The service is crates/pagelog/out/pagelog, which scripts/pagelog proves and builds, or the program that PAGELOG names. Where
+--idle-polls is given, it is given that option.
 
 Where etcd is installed, a client in Python asks the service and one node of etcd, which syncs nothing to its disk, one
 request at a time on one connection: a 100-byte write beside a put, and a pull of one block beside a range of one key.

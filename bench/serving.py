@@ -20,13 +20,17 @@ TABLE = ROOT / "crates" / "pagelog" / "data" / "t0.toml"
 def words():
     parser = argparse.ArgumentParser()
     parser.add_argument("share", nargs="?", type=float, default=1.0, metavar="SHARE", help="of the work of a whole run")
-    parser.add_argument("--idle-polls", type=int, default=0, metavar="N", help="the option of pagelog serve")
+    parser.add_argument("--idle-polls", type=int, metavar="N", help="the option of pagelog serve, which has a default")
     return parser.parse_args()
 
 
 SHARE, IDLE_POLLS = words().share, words().idle_polls
-# The option for the service, none where it is 0, so that a program from before it can be timed too.
-IDLE = ["--idle-polls", IDLE_POLLS] if IDLE_POLLS else []
+# The option for the service, none where it is not given.
+IDLE = [] if IDLE_POLLS is None else ["--idle-polls", IDLE_POLLS]
+
+
+def idle_polls(number):
+    return "idle polls as by default" if number is None else f"{number} idle polls"
 
 
 def primary(op, rest):
@@ -46,5 +50,5 @@ def build_frames(work):
 
 def about():
     """What a run was made with, in a line."""
-    return (f"{os.cpu_count()} processors, load {os.getloadavg()[0]:.1f}, {PROGRAM.name}, {IDLE_POLLS} idle polls, "
+    return (f"{os.cpu_count()} processors, load {os.getloadavg()[0]:.1f}, {PROGRAM.name}, {idle_polls(IDLE_POLLS)}, "
             f"share {SHARE}")

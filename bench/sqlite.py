@@ -3,8 +3,8 @@
 Usage: python3 bench/sqlite.py [SHARE | --short] [--idle-polls N]     (1; a tenth of the work with 0.1; --short is 0.3, a
 minute or two)
 
-The service is crates/pagelog/out/pagelog, or the program that PAGELOG names; its workers poll before they sleep as often as
---idle-polls says, and 0 times if it is not given. The client is built by `make -C clients/c`.
+The service is crates/pagelog/out/pagelog, or the program that PAGELOG names; where --idle-polls is given, it is given that
+option. The client is built by `make -C clients/c`.
 Everything is measured in this one run, by the same statements, in this one process, round after round in turns: a table with
 a text of a hundred bytes and an index on a random number. Plain SQLite has its file in bench/work. Beside each rate is its
 share of that of plain SQLite in WAL with synchronous=off. Both are medians of all rounds; who comes first in a round is drawn.
@@ -59,7 +59,7 @@ def words():
     parser = argparse.ArgumentParser()
     parser.add_argument("share", nargs="?", type=float, default=1.0, metavar="SHARE", help="of the work of a whole run")
     parser.add_argument("--short", action="store_true", help="0.3 of it")
-    parser.add_argument("--idle-polls", type=int, default=0, metavar="N", help="the option of pagelog serve")
+    parser.add_argument("--idle-polls", type=int, metavar="N", help="the option of pagelog serve, which has a default")
     return parser.parse_args()
 
 
@@ -369,7 +369,7 @@ def main():
     shutil.rmtree(WORK, ignore_errors=True)
     WORK.mkdir(parents=True)
     print(f"{os.cpu_count()} processors, load {os.getloadavg()[0]:.1f}, SQLite {sqlite3.sqlite_version}, share {SHARE}, "
-          f"{IDLE_POLLS} idle polls, {ROUNDS} rounds")
+          f"{'default' if IDLE_POLLS is None else IDLE_POLLS} idle polls, {ROUNDS} rounds")
     with (Service(idle_polls=IDLE_POLLS) as first, Service(idle_polls=IDLE_POLLS) as second,
           Service(idle_polls=IDLE_POLLS) as third):
         systems = systems_of(first, second, third)

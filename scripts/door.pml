@@ -58,6 +58,17 @@ inline park(word, mark, place) {
     sleeps[_pid] == AWAKE
 }
 
+/* It ends at any time, by a wake or by itself. */
+inline park_timeout(word, mark, place) {
+    d_step {
+        if
+        :: word == mark -> sleeps[_pid] = place
+        :: else
+        fi
+    }
+    sleeps[_pid] = AWAKE
+}
+
 inline wake_one(place) {
     if
     :: sleeps[0] == place -> sleeps[0] = AWAKE
@@ -207,8 +218,9 @@ inline line_up() {
           :: !ok ->                                    // let patience = Duration::from_micros(PATIENCE);
 #ifdef FIRST_WAITS
              park(first, TAKEN, AS_FIRST);
+#else
+             park_timeout(first, TAKEN, AS_FIRST);     // self.first.park_timeout(rt, TAKEN, patience);
 #endif
-                                                       // self.first.park_timeout(rt, TAKEN, patience);
              inside = TAKEN                            // self.inside.store(u64::from(TAKEN), SeqCst);
           :: ok -> ok = false
           fi;
@@ -240,7 +252,12 @@ inline enter() {
 
 // door.rt: Door::leave
 inline leave() {
-    inside = VACANT // self.inside.store(VACANT, SeqCst);
+    inside = VACANT;         // self.inside.store(VACANT, SeqCst);
+    if
+    :: first != VACANT ->    // if self.first.load(SeqCst) != VACANT
+       wake_one(AS_FIRST)    // self.first.wake_one();
+    :: first == VACANT
+    fi
 }
 
 /* A turn. */

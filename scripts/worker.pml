@@ -6,9 +6,9 @@
  * nobody comes, or ends. The peers of a worker's connections act as often as they like, and may be silent for ever. A turn of
  * a connection leaves it at rest, or due, or closed: turns.pml has what happens in one. Each step of a channel, of a bell and
  * of a poll is a step by itself. A poll with no time returns at once, and another one sleeps until there is something to report.
- * Before a worker sleeps it polls with no time, up to IDLE_POLLS times, until one reports something. Once nobody can go on,
- * no socket lies in a channel, and no connection has an event, not even a reported one, or a turn due; a worker whose
- * channel is closed, and that has no connection, has ended.
+ * Before a worker sleeps it polls with no time, up to IDLE_POLLS times, until one reports something, unless another worker does
+ * so: that one has the lookout's place. Once nobody can go on, nobody is there, no socket lies in a channel, and no connection
+ * has an event, not even a reported one, or a turn due; a worker whose channel is closed, and that has no connection, has ended.
  *
  * After each step comes the line of the code that it is for, under the name of its function; two dots stand for lines that
  * the model leaves out. scripts/waiting compares these lines with the source.
@@ -40,6 +40,7 @@ byte ready[WORKERS];   /* those that the next poll reports */
 byte due[WORKERS];     /* those whose turn is due */
 byte events[WORKERS];  /* those that its last poll reported, and that had no turn since */
 bit ended[WORKERS];
+bit taken;             /* whether a worker has the lookout's place */
 
 #define IS_EMPTY (resting[me] == 0 && ready[me] == 0 && due[me] == 0)
 
@@ -184,8 +185,18 @@ inline poll() {
 #define NOTHING_WAS_TOLD (told == 0)
 #endif
 
-// worker.rt: wait
-inline wait() {
+// worker.rt: Lookout::takes
+inline takes() {
+    atomic { ok = !taken; taken = true }                   // self.taken.swap(1, SeqCst) == 0
+}
+
+// worker.rt: Lookout::leaves
+inline leaves() {
+    taken = false                                          // self.taken.store(0, SeqCst);
+}
+
+// worker.rt: poll_awake
+inline poll_awake() {
     do                                                     // for _ in 0..idle_polls {
     :: polls < IDLE_POLLS -> polls++;
        poll();                                             // poll.poll(events, Some(AT_ONCE))?;
@@ -193,13 +204,31 @@ inline wait() {
        :: !NOTHING_WAS_TOLD -> break                       // return Ok(()); }
        :: NOTHING_WAS_TOLD                                 // yield_now(); }
        fi
-    :: polls == IDLE_POLLS ->
-end_sleeps:
-       rung[me] || ready[me] > 0;
-       poll();                                             // poll.poll(events, None)
-       break
+    :: polls == IDLE_POLLS -> break                        // Ok(())
     od;
     polls = 0
+}
+
+// worker.rt: wait
+inline wait() {
+    takes();                                               // if idle_polls > 0 && lookout.takes() {
+    if
+    :: ok -> ok = false;
+       poll_awake();                                       // let polled = poll_awake(poll, events, idle_polls);
+#ifndef STAYS_AT_THE_LOOKOUT
+       leaves()                                            // lookout.leaves();
+#else
+       skip
+#endif
+    :: !ok
+    fi;
+    if                                                     // if polled.is_err() || !events.is_empty() {
+    :: !NOTHING_WAS_TOLD                                   // return polled; } }
+    :: NOTHING_WAS_TOLD ->
+end_sleeps:
+       rung[me] || ready[me] > 0;
+       poll()                                              // poll.poll(events, None)
+    fi
 }
 
 inline turn_ready() {
@@ -260,12 +289,13 @@ inline take_new() {
 
 // worker.rt: Worker::round
 inline round() {
-                                                           // let Worker { poll, events, lines, room, idle_polls } = self;
+                                                           // let Worker { poll, events, lines, room, lookout, idle_polls }
+                                                           // = self;
 #ifdef TAKES_BEFORE_IT_WAITS
     take_new();
 #endif
     if                                                     // let polled = if lines.due.is_empty() {
-    :: NOTHING_IS_DUE -> wait()                            // wait(poll, events, *idle_polls) } else {
+    :: NOTHING_IS_DUE -> wait()                            // wait(poll, events, lookout, *idle_polls) } else {
     :: !NOTHING_IS_DUE -> poll()                           // poll.poll(events, Some(AT_ONCE)) };
     fi;
     told = 0;                                              // if polled.is_err() { post.leaves(); return false; }
@@ -297,7 +327,7 @@ inline rounds() {
 active [WORKERS] proctype Worker() {
     byte me = _pid - 1 - WORKERS;
     byte told, polls, count;
-    bit is_closed, more;
+    bit is_closed, more, ok;
     rounds();
     assert(lying[me] == 0 && IS_EMPTY);
     ended[me] = true
@@ -309,5 +339,5 @@ active [WORKERS] proctype Worker() {
 /* Nobody can go on. */
 active proctype Watch() {
     timeout;
-    assert(SLEEPS_WELL(0) && SLEEPS_WELL(WORKERS - 1))
+    assert(SLEEPS_WELL(0) && SLEEPS_WELL(WORKERS - 1) && !taken)
 }

@@ -34,11 +34,11 @@ class Service:
     """Ends with the block that it is used in."""
 
     def __init__(self, table=TABLE, primary=2, dbs=1, workers=16, connections=4294967295, audit=16777216, listen=None,
-                 prefix=(), quiet=False, text=None, idle_polls=0):
+                 prefix=(), quiet=False, text=None, idle_polls=None):
         """`text` is that of the table, in place of a file."""
         words = ["serve", "--listen", listen or "127.0.0.1:0", "--primary", primary, "--dbs", dbs, "--workers", workers,
                  "--connections", connections, "--audit", audit]
-        if idle_polls:
+        if idle_polls is not None:
             words += ["--idle-polls", idle_polls]
         # The service has read its table once it listens.
         with tempfile.NamedTemporaryFile("w", suffix=".toml") as file:

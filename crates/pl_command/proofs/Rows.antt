@@ -125,8 +125,8 @@ module _ (limits : Limits) where
       default_by (has_row a.id rows) rows (default_rows a.id (reading_by a) a.defaults rows) g
       (subst (λ ds. AllGood (default_rows a.id (reading_by a) ds rows)) (sym none) g)
 
-  pub with_zero : (a : Rule) (v : Text) → a.defaults ≡ v ∷ [] → Reads (limits a.id) (reading_by a) v → Defaulted a
-  with_zero a v is read rows g =
+  pub keeps_default : (a : Rule) (v : Text) → a.defaults ≡ v ∷ [] → Reads (limits a.id) (reading_by a) v → Defaulted a
+  keeps_default a v is read rows g =
       default_by (has_row a.id rows) rows (default_rows a.id (reading_by a) a.defaults rows) g
       (subst (λ ds. AllGood (default_rows a.id (reading_by a) ds rows)) (sym is) (values_good a.id (reading_by a) DefaultValue v [] rows read g))
 

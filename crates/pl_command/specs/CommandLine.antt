@@ -31,10 +31,10 @@ abbrev pub number_option : Text → ℕ → ℕ → Rule
 number_option name least most =
     record (text_option name) { parser = Some (Signed (pos least) (pos most)) }
 
--- a number from 0 on, which is 0 where the option is not given
-abbrev pub number_or_zero : Text → ℕ → Rule
-number_or_zero name most =
-    record (number_option name 0 most) { required = false; defaults = codes "0" ∷ [] }
+-- a number from 0 on, which is this one where the option is not given
+abbrev pub number_or : Text → Text → ℕ → Rule
+number_or default name most =
+    record (number_option name 0 most) { required = false; defaults = default ∷ [] }
 
 -- words after the options, at least one
 abbrev pub words_rule : Rule
@@ -53,15 +53,15 @@ abbrev pub play_app : App
 play_app = subcommand_with (codes "play")
     (text_option (codes "table") ∷ number_option (codes "primary") 0 most_u32 ∷ [])
 
--- `serve` with its options, of which the last four are 0 where they are not given
+-- `serve` with its options, of which the last four have a number where they are not given
 abbrev pub serve_app : App
 serve_app = subcommand_with (codes "serve")
     (text_option (codes "listen") ∷ text_option (codes "table")
     ∷ number_option (codes "primary") 0 most_u32 ∷ number_option (codes "dbs") 1 16
     ∷ number_option (codes "workers") 1 64 ∷ number_option (codes "connections") 1 most_u32
-    ∷ number_option (codes "audit") 1 16777216 ∷ number_or_zero (codes "pager") most_u32
-    ∷ number_or_zero (codes "partition") 65535 ∷ number_or_zero (codes "rounds") most_u32
-    ∷ number_or_zero (codes "idle-polls") 10000 ∷ [])
+    ∷ number_option (codes "audit") 1 16777216 ∷ number_or (codes "0") (codes "pager") most_u32
+    ∷ number_or (codes "0") (codes "partition") 65535 ∷ number_or (codes "0") (codes "rounds") most_u32
+    ∷ number_or (codes "300") (codes "idle-polls") 10000 ∷ [])
 
 -- `ask` with its options, and then words
 abbrev pub ask_app : App

@@ -2,7 +2,7 @@
 
 ghost use Rattle.std.specs.Prelude.{◌≡◌, ◌≢◌, ◌≤◌, false, true, Some, None, codes, pos, IfErr, IfOk, IfSome, IsNone, map, string_bytes};
 ghost use Rattle.clap.specs.Words.{IsAmong, all_of, app_of, fault_of, found_of, kind_of, rows_of, rule_of, subcommand_of, subcommand_rows_of, takes};
-ghost use Rattle.pl_command.specs.CommandLine.{AsksFor, GivesAsk, GivesNumber, GivesPlay, GivesServe, GivesWords, Has, HasNumber, HasNumbers, HasWords, IsWholeCommand, IsHelp, IsUsage, Names, ask_app, number_option, number_or_zero, own_app, play_app, serve_app, text_option, words_rule};
+ghost use Rattle.pl_command.specs.CommandLine.{AsksFor, GivesAsk, GivesNumber, GivesPlay, GivesServe, GivesWords, Has, HasNumber, HasNumbers, HasWords, IsWholeCommand, IsHelp, IsUsage, Names, ask_app, number_option, number_or, own_app, play_app, serve_app, text_option, words_rule};
 
 use clap::builder::ValueParser;
 use clap::error::ErrorKind;
@@ -34,7 +34,7 @@ pub enum CommandLine {
         primary: u32,
         /// How many databases there are, 1 to 16.
         dbs: u32,
-        /// How many connections are answered at the same time, 1 to 64.
+        /// How many threads answer connections, 1 to 64.
         workers: u32,
         /// How many connections are accepted before the end, at least 1.
         connections: u32,
@@ -109,14 +109,20 @@ fn number<'a>(alloc: Global, name: &'a str, least: u32, most: u32, help: &'a str
     text(alloc, name, "N", help).value_parser(range)
 }
 
-// The option `--name N`, with a number from 0 on, which is 0 where it is not given.
-fn number_from_zero<'a>(alloc: Global, name: &'a str, most: u32, help: &'a str) -> Arg<'a>
-    ensures rule { rule_of result ≡ number_or_zero name.entry.now most }
+// The option `--name N`, with a number from 0 on, which is this one where it is not given.
+fn number_or<'a>(
+    alloc: Global,
+    default: &'a str,
+    name: &'a str,
+    most: u32,
+    help: &'a str,
+) -> Arg<'a>
+    ensures rule { rule_of result ≡ number_or default.entry.now name.entry.now most }
     ensures local { result.global ≡ false }
 {
     number(alloc, name, 0, most, help)
         .required(false)
-        .default_value("0")
+        .default_value(default)
 }
 
 // The words after the options of `ask`.
@@ -163,7 +169,7 @@ fn serve_command<'a>(alloc: Global) -> Result<Command<'a>, AllocError>
             "workers",
             1,
             64,
-            "How many connections are answered at the same time, 1 to 64",
+            "How many threads answer connections, 1 to 64",
         ))?
         .arg(number(
             alloc,
@@ -179,24 +185,33 @@ fn serve_command<'a>(alloc: Global) -> Result<Command<'a>, AllocError>
             16_777_216,
             "How many entries each audit list holds",
         ))?
-        .arg(number_from_zero(
+        .arg(number_or(
             alloc,
+            "0",
             "pager",
             u32::MAX,
             "The id of the page server that advances a partition",
         ))?
-        .arg(number_from_zero(alloc, "partition", 65_535, "The partition that it advances"))?
-        .arg(number_from_zero(
+        .arg(number_or(
             alloc,
+            "0",
+            "partition",
+            65_535,
+            "The partition that it advances",
+        ))?
+        .arg(number_or(
+            alloc,
+            "0",
             "rounds",
             u32::MAX,
             "How often it advances the partition of each database",
         ))?
-        .arg(number_from_zero(
+        .arg(number_or(
             alloc,
+            "300",
             "idle-polls",
             10_000,
-            "How often a worker polls again before it sleeps, 0 to 10,000",
+            "How often one worker at a time polls again before it sleeps, 0 to 10,000",
         ))
 }
 
@@ -286,7 +301,7 @@ pub struct ServeNumbers {
     pub primary: u32,
     /// How many databases there are, 1 to 16.
     pub dbs: u32,
-    /// How many connections are answered at the same time, 1 to 64.
+    /// How many threads answer connections, 1 to 64.
     pub workers: u32,
     /// How many connections are accepted before the end, at least 1.
     pub connections: u32,

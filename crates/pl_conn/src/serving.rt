@@ -7,13 +7,13 @@ ghost use Rattle.pl_conn.specs.Workers.{AllOf, each_of};
 
 use crate::accepting::accept_all;
 use crate::watch::{Unwatched, Watch};
-use crate::worker::{Outcome, Post, Worker};
+use crate::worker::{Lookout, Outcome, Post, Worker};
 use crossbeam_channel::Sender;
 use pl_wire::Gate;
 use std::alloc::{AllocError, Global};
 use std::net::{Net, TcpListener, TcpStream};
 use std::snapshot::Snapshot;
-use std::sync::Wait;
+use std::sync::{Arc, Wait};
 use std::thread;
 use std::thread::{Promise, PromisedHandle, Scope, Threads};
 
@@ -77,11 +77,17 @@ impl Staff {
     }
 
     // One worker more, if there is memory for it, and descriptors.
-    fn add<R: Net>(&mut self, rt: &R, alloc: Global, idle_polls: u32) -> Result<bool, AllocError> {
+    fn add<R: Net>(
+        &mut self,
+        rt: &R,
+        alloc: Global,
+        lookout: &Arc<Lookout>,
+        idle_polls: u32,
+    ) -> Result<bool, AllocError> {
         let Ok((channel, sockets)) = crossbeam_channel::bounded(alloc, WAITING) else {
             return Ok(false);
         };
-        match Worker::new(rt, alloc, sockets, idle_polls) {
+        match Worker::new(rt, alloc, sockets, lookout, idle_polls) {
             Some((worker, post)) => {
                 self.push(worker, post, channel)?;
                 Ok(true)
@@ -98,8 +104,9 @@ impl Staff {
         idle_polls: u32,
     ) -> Result<Staff, AllocError> {
         let mut staff = Staff::with_room(alloc, count)?;
+        let lookout = Arc::new(alloc, Lookout::new())?;
         for _ in 0..count {
-            if !staff.add(rt, alloc, idle_polls)? {
+            if !staff.add(rt, alloc, &lookout, idle_polls)? {
                 break;
             }
         }
@@ -344,7 +351,8 @@ where
 }
 
 /// Serves as [`serve`] does, and reports to the watch what it cannot do meanwhile. A worker that has nothing to do first polls
-/// its sockets `idle_polls` times more, awake, and then sleeps; with 0, as `serve` has it, it sleeps at once.
+/// its sockets `idle_polls` times more, awake, unless another worker does so, and then sleeps; with 0, as `serve` has it, it
+/// sleeps at once.
 pub fn serve_watched<R: Threads + Wait + Net + Sync, G: Gate + Sync, W: Watch>(
     rt: &R,
     alloc: Global,

@@ -12,9 +12,9 @@ use slab::Slab;
 use std::alloc::Global;
 use std::io;
 use std::net::{Net, TcpStream};
-use std::sync::Wait;
 use std::sync::atomic::AtomicU64;
 use std::sync::atomic::Ordering::SeqCst;
+use std::sync::{Arc, Wait};
 use std::thread::yield_now;
 use std::time::Duration;
 
@@ -66,6 +66,32 @@ impl Post {
     }
 }
 
+/// The place of the one worker of a service that polls awake. So idle polls cost a service one processor at most, and
+/// none where the workers have enough to do.
+#[derive(Drop)]
+pub(crate) struct Lookout {
+    taken: AtomicU64,
+}
+
+impl Lookout {
+    /// A place where nobody is.
+    pub(crate) const fn new() -> Lookout {
+        Lookout {
+            taken: AtomicU64::new(0),
+        }
+    }
+
+    // Takes the place, if nobody is there, and says whether it did.
+    fn takes(&self) -> bool {
+        self.taken.swap(1, SeqCst) == 0
+    }
+
+    // Leaves the place to others.
+    fn leaves(&self) {
+        self.taken.store(0, SeqCst);
+    }
+}
+
 // One connection of a worker.
 #[derive(Drop)]
 struct Line {
@@ -92,7 +118,8 @@ pub(crate) struct Worker {
     events: Events,
     lines: Lines,
     room: Room,
-    // How often it polls again, awake, before it sleeps.
+    // Where one of the workers polls awake, and how often it does before it sleeps.
+    lookout: Arc<Lookout>,
     idle_polls: u32,
 }
 
@@ -266,15 +293,32 @@ fn turn_ready<G: Gate>(
     }
 }
 
-// Waits for events, however long it takes. It first polls awake, this often at most: an event that comes soon costs no
-// wake-up then. Between two polls other threads may run.
-fn wait(poll: &mut Poll, events: &mut Events, idle_polls: u32) -> io::Result<()> {
+// Polls awake, this often at most, until there is an event. Between two polls other threads may run.
+fn poll_awake(poll: &mut Poll, events: &mut Events, idle_polls: u32) -> io::Result<()> {
     for _ in 0..idle_polls {
         poll.poll(events, Some(AT_ONCE))?;
         if !events.is_empty() {
             return Ok(());
         }
         yield_now();
+    }
+    Ok(())
+}
+
+// Waits for events, however long it takes. It first polls awake, unless another worker does: an event that comes soon
+// costs no wake-up then.
+fn wait(
+    poll: &mut Poll,
+    events: &mut Events,
+    lookout: &Lookout,
+    idle_polls: u32,
+) -> io::Result<()> {
+    if idle_polls > 0 && lookout.takes() {
+        let polled = poll_awake(poll, events, idle_polls);
+        lookout.leaves();
+        if polled.is_err() || !events.is_empty() {
+            return polled;
+        }
     }
     poll.poll(events, None)
 }
@@ -304,7 +348,7 @@ fn events_and_room(alloc: Global) -> Option<(Events, Room)> {
 
 impl Worker {
     // A worker without a connection, over this poll, with all the memory that it needs.
-    fn over(alloc: Global, poll: Poll, idle_polls: u32) -> Option<Worker> {
+    fn over(alloc: Global, poll: Poll, lookout: Arc<Lookout>, idle_polls: u32) -> Option<Worker> {
         let lines = Lines::new(alloc)?;
         let (events, room) = events_and_room(alloc)?;
         Some(Worker {
@@ -312,21 +356,24 @@ impl Worker {
             events,
             lines,
             room,
+            lookout,
             idle_polls,
         })
     }
 
-    /// A worker for the sockets that come here, which polls this often before it sleeps, with all that it needs, and what
-    /// the accepting thread shares with it. `None` where there was no memory, or no descriptor.
+    /// A worker for the sockets that come here, which polls this often before it sleeps, where no other one does, with all
+    /// that it needs, and what the accepting thread shares with it. `None` where there was no memory, or no descriptor.
     pub(crate) fn new<R: Net>(
         rt: &R,
         alloc: Global,
         sockets: Receiver<TcpStream>,
+        lookout: &Arc<Lookout>,
         idle_polls: u32,
     ) -> Option<(Worker, Post)> {
         let poll = Poll::new(rt).ok()?;
         let bell = Waker::new(poll.registry(), BELL).ok()?;
-        let worker = Worker::over(alloc, poll, idle_polls)?;
+        let lookout = Arc::try_clone(lookout).ok()?;
+        let worker = Worker::over(alloc, poll, lookout, idle_polls)?;
         let post = Post {
             sockets,
             bell,
@@ -354,10 +401,11 @@ impl Worker {
             events,
             lines,
             room,
+            lookout,
             idle_polls,
         } = self;
         let polled = if lines.due.is_empty() {
-            wait(poll, events, *idle_polls)
+            wait(poll, events, lookout, *idle_polls)
         } else {
             poll.poll(events, Some(AT_ONCE))
         };

@@ -12,7 +12,7 @@ use std::time::Duration;
 use std::{hint, thread};
 
 /// How often a thread looks before it lines up.
-const LOOKS: u32 = 40;
+const LOOKS: u32 = 230;
 
 /// From which look on it lets other threads run in between: the one inside may have lost its processor.
 const PATIENT_LOOKS: u32 = 30;
@@ -20,7 +20,7 @@ const PATIENT_LOOKS: u32 = 30;
 /// How many times the processor pauses between two looks, where it does not let others run.
 const PAUSES: u32 = 4;
 
-/// How many microseconds the first in line sleeps, where somebody is inside when it becomes the first.
+/// How many microseconds the first in line sleeps at most, where somebody is inside when it becomes the first.
 const PATIENCE: u64 = 50;
 
 /// That nobody is inside, or the first in line.
@@ -50,10 +50,10 @@ fn pause() {
 ///
 /// One thread is inside at a time. One that finds another there looks for a moment and goes in as soon as
 /// nobody is inside, whoever came first: a thread that runs does not wait for one that has lost its processor.
-/// Then it lines up. The first in line sleeps for a while and goes in, even if somebody is inside, and
-/// then waits for its ticket alone. All others sleep until the first has gone in, which wakes one of
-/// them. So whoever leaves wakes nobody here: a thread that keeps calling keeps the database in its
-/// cache.
+/// Then it lines up. The first in line sleeps until somebody leaves, and for a while at most. Then it goes
+/// in, even if somebody is inside again, and waits for its ticket alone. All others sleep until the first
+/// has gone in, which wakes one of them. So whoever leaves wakes one thread at most, and a line of many is
+/// gone soon after one that had lost its processor leaves.
 #[derive(Drop)]
 pub(crate) struct Door {
     inside: AtomicU64,
@@ -106,9 +106,12 @@ impl Door {
         }
     }
 
-    /// Says that the caller has given its turn on. It wakes nobody.
+    /// Says that the caller has passed its turn on, and wakes the first in line, where there is one.
     pub(crate) fn leave(&self) {
         self.inside.store(VACANT, SeqCst);
+        if self.first.load(SeqCst) != VACANT {
+            self.first.wake_one();
+        }
     }
 
     // Waits in line.

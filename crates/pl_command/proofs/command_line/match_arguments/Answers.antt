@@ -14,7 +14,7 @@ pub returns-in_err-matches-clause-usage : goal.returns-in_err-matches-clause-usa
 returns-in_err-matches-clause-usage c =
     let words = map string_bytes c.args.arguments.now in
     passed_up c.from_residual.result c.in_err-matches.field-0.0 (λ e. takes own_app words ≡ true → kind_of e ≡ OutOfMemory) c.from_residual.ensures.1
-    (λ taken. c.in_err-matches.ensures.usage (ap (λ a. takes a words) c.requires ∙ taken))
+    (λ taken. c.in_err-matches.ensures.passes (ap (λ a. takes a words) c.requires ∙ taken))
 
 pub returns-clause-none : goal.returns-clause-none
 returns-clause-none c none taken =
