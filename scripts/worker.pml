@@ -101,9 +101,9 @@ inline hand_over() {
 
 // accepting.rt: accept_all
 inline accept_all() {
-                                                           // let mut is_told = false;
+                                                           // let mut is_reported = false;
     do                                                     // for accepted in 0..connections {
-    :: accepted < SOCKETS -> accepted++;                   // let Ok(socket) = accept(rt, listener, watch, &mut is_told)
+    :: accepted < SOCKETS -> accepted++;                   // let Ok(socket) = accept(rt, listener, watch, &mut is_reported)
        hand_over()
     :: break                                               // else { return (accepted, Stop::Accept); };
     :: goto rests                                          /* nobody comes any more */

@@ -60,17 +60,17 @@ class Followers(Folder):
                 began = time.monotonic()
                 process = self.follow(url, file)
                 assert process.stdout is not None
-                is_told = at % 3 != 2
-                if is_told:
+                is_reported = at % 3 != 2
+                if is_reported:
                     self.assertIn("archived ", process.stdout.readline())
                     until_told = time.monotonic() - began
                 # Amid a later batch, or before or amid the first.
-                time.sleep(chance.random() * (0.15 if is_told else until_told * 1.1))
+                time.sleep(chance.random() * (0.15 if is_reported else until_told * 1.1))
                 process.kill()
                 process.communicate()
                 sizes = archive.check()
                 self.assertEqual(sizes.blocks, archive.archived)
-                self.assertGreaterEqual(sizes.blocks, before + is_told)
+                self.assertGreaterEqual(sizes.blocks, before + is_reported)
                 before = sizes.blocks
         finally:
             done.set()

@@ -15,7 +15,7 @@ use Rattle.pl_wire.specs.declared.frame_reading.FrameFault.{FrameFault}
 use Rattle.pl_wire.specs.declared.frame_reading.FrameFault.TheVariants as frame_faults
 use Rattle.pl_wire.specs.Answering.{Answered, AnswersBody, Calls}
 use Rattle.pl_conn.specs.Conversation.{Converses, Ends, MayWait, Scene, Talk, Talks, cause_of, scene, replies_text}
-use Rattle.pl_conn.specs.Gathering.{Box, Gathers, TakesFrame, Told, Turns, emptied, told_talk, whole_in}
+use Rattle.pl_conn.specs.Gathering.{Box, Gathers, TakesFrame, Told, Turns, emptied, reported_talk, whole_in}
 use Rattle.pl_conn.specs.declared.cause.Cause.{Cause}
 use Rattle.pl_conn.specs.declared.cause.Cause.TheVariants as causes
 use Rattle.pl_conn.specs.declared.cause.ConnFault.{ConnFault}
@@ -46,7 +46,7 @@ module _ {P : Type 0} (calls : Calls P) where
   -- there is no memory to begin with
   pub converses_none : (input output : Option (List ℕ)) (p : P) → Converses calls (scene input output p) (scene input output p) (Err (record { cause = causes.NoMemory; answered = 0 }))
   converses_none input output p = (
-    told_talk [] [],
+    reported_talk [] [],
     record { short = tt; read = Consumes-nil input; chain = refl; fits = tt; written = Appends-nil output },
     refl,
     ((refl, refl), inl (omega arith)),
@@ -54,7 +54,7 @@ module _ {P : Type 0} (calls : Calls P) where
 
   -- what was said goes on
   talks_after : (before now after : Scene P) (bodies : List (List ℕ)) (replies : List Reply) (talk : Talk)
-      → Talks calls before now (told_talk bodies replies) → Talks calls now after talk → Talks calls before after (later bodies replies talk)
+      → Talks calls before now (reported_talk bodies replies) → Talks calls now after talk → Talks calls before after (later bodies replies talk)
   talks_after before now after bodies replies talk s t =
       let read = rw (append-nil (frames_of bodies)) at s.read in
       let chain = rw (append-nil replies) at s.chain in
@@ -80,7 +80,7 @@ module _ {P : Type 0} (calls : Calls P) where
   told_more before now after n m s t = record {
     bodies = s.bodies ++ t.bodies;
     replies = s.replies ++ t.replies;
-    talks = talks_after before now after s.bodies s.replies (told_talk t.bodies t.replies) s.talks t.talks;
+    talks = talks_after before now after s.bodies s.replies (reported_talk t.bodies t.replies) s.talks t.talks;
     number = counted s.replies t.replies n m s.number t.number;
   }
 
@@ -99,11 +99,11 @@ module _ {P : Type 0} (calls : Calls P) where
   told_end before now after n few s t =
       let same : n + 0 ≡ n = omega arith in
       let all = subst (λ (k : ℕ). Told calls before after k) same (told_more before now after n 0 s t.0) in
-      (told_talk all.bodies all.replies, all.talks, all.number, (refl, refl), refl, few, λ less. t.1 refl)
+      (reported_talk all.bodies all.replies, all.talks, all.number, (refl, refl), refl, few, λ less. t.1 refl)
 
   -- or to the most frames
   pub told_full : (before now : Scene P) (n : ℕ) → n ≤ 2 ^ 32 → 2 ^ 32 ≤ n → Told calls before now n → Converses calls before now (Ok n)
-  told_full before now n few full t = (told_talk t.bodies t.replies, t.talks, t.number, (refl, refl), refl, few, λ less. absurd (omega (arith, less, full)))
+  told_full before now n few full t = (reported_talk t.bodies t.replies, t.talks, t.number, (refl, refl), refl, few, λ less. absurd (omega (arith, less, full)))
 
   -- there is no frame
   pub stopped : (input left output : Option (List ℕ)) (p : P) (fault : FrameFault) → StopsFrame longest_request input left fault

@@ -6,7 +6,7 @@ use Rattle.std.proofs.lemmas.List.Sums.{sum_by-cons}
 use Rattle.pl_table.specs.Request.{Query}
 use Rattle.pl_core.specs.declared.reply.Reply.{Reply}
 use Rattle.pl_conn.specs.declared.materialising.Worked.{Worked}
-use Rattle.pl_conn.specs.Materialising.{is_done, told_epoch, goes_on, last_told_epoch, Asks, Round, Works}
+use Rattle.pl_conn.specs.Materialising.{is_done, reported_epoch, goes_on, last_reported_epoch, Asks, Round, Works}
 
 -- this many rounds, after each of which another may follow
 pub record Going {P : Type 0} (calls : P → Query → Reply → P → Type 0) (request : ℕ → Query) (before : P) (worked : Worked) (round : ℕ) (now : P) : Type 0 where
@@ -16,7 +16,7 @@ pub record Going {P : Type 0} (calls : P → Query → Reply → P → Type 0) (
   pub count : length replies ≡ round
   pub few : worked.done ≤ round
   pub done : worked.done ≡ count_by is_done replies
-  pub epoch : worked.epoch ≡ last_told_epoch replies
+  pub epoch : worked.epoch ≡ last_reported_epoch replies
 
 pub going_start : {P : Type 0} (calls : P → Query → Reply → P → Type 0) (request : ℕ → Query) (before : P) → Going calls request before (record { done = 0; epoch = 1 }) 0 before
 going_start calls request before = record { replies = []; asks = refl; onward = tt; count = refl; few = omega arith; done = refl; epoch = refl }
@@ -54,7 +54,7 @@ going_more calls request before worked new round now after g r =
       count = omega (arith, count);
       few = omega (arith, one, few, done);
       done = counted calls request before worked new round now after true g r;
-      epoch = r.epoch ∙ ap (unwrap_or (told_epoch r.reply)) g.epoch;
+      epoch = r.epoch ∙ ap (unwrap_or (reported_epoch r.reply)) g.epoch;
     }
 
 pub works_all : {P : Type 0} (calls : P → Query → Reply → P → Type 0) (request : ℕ → Query) (before : P) (worked : Worked) (rounds : ℕ) (now : P)
@@ -78,5 +78,5 @@ works_ended calls request before worked new round rounds now after less g r = re
   onward = g.onward;
   ended = λ all. let ends = r.onward in let goes = all.0 in cc;
   done = counted calls request before worked new round now after false g r;
-  epoch = r.epoch ∙ ap (unwrap_or (told_epoch r.reply)) g.epoch;
+  epoch = r.epoch ∙ ap (unwrap_or (reported_epoch r.reply)) g.epoch;
 }

@@ -46,8 +46,8 @@ pub record Talks {P : Type 0} (calls : Calls P) (before after : Scene P) (talk :
   pub written : Appends before.output after.output (replies_text talk.whole ++ talk.cut)
 
 -- all replies are written
-abbrev pub IsTold : Talk → Type 0
-IsTold talk = (talk.others ≡ []) × (talk.cut ≡ [])
+abbrev pub IsReported : Talk → Type 0
+IsReported talk = (talk.others ≡ []) × (talk.cut ≡ [])
 
 -- the length of a frame that is too long
 abbrev pub IsTooLongFrame : List ℕ → Type 0
@@ -64,16 +64,16 @@ IsToldInPart talk = (next : Reply) × (more : List Reply) × (k : ℕ) × (talk.
 
 -- why it ended, and what was read and written then; left is what the reader has left
 abbrev pub Ends : Cause → Talk → Option (List ℕ) → Type 0
-Ends causes.Short talk left = IsTold talk × (0 < length talk.part) × IsCut longest_request talk.part × IsAtEnd left
-Ends causes.TooLong talk left = IsTold talk × IsTooLongFrame talk.part
-Ends causes.Read talk left = IsTold talk × IsCut longest_request talk.part
+Ends causes.Short talk left = IsReported talk × (0 < length talk.part) × IsCut longest_request talk.part × IsAtEnd left
+Ends causes.TooLong talk left = IsReported talk × IsTooLongFrame talk.part
+Ends causes.Read talk left = IsReported talk × IsCut longest_request talk.part
 Ends causes.Write talk left = IsToldInPart talk × (IsCut longest_request talk.part ⊎ IsTooLongFrame talk.part)
-Ends causes.NoMemory talk left = IsTold talk × IsCut longest_request talk.part
+Ends causes.NoMemory talk left = IsReported talk × IsCut longest_request talk.part
 
 -- all frames of the input are answered, or 2^32 of them; or some, and then a fault
 abbrev pub Converses : {P : Type 0} → Calls P → Scene P → Scene P → Result ℕ ConnFault → Type 0
 Converses calls before after (Ok count) = (talk : Talk) × Talks calls before after talk × (length talk.whole ≡ count)
-    × IsTold talk × (talk.part ≡ []) × (count ≤ 2 ^ 32) × (count < 2 ^ 32 → IsAtEnd after.input)
+    × IsReported talk × (talk.part ≡ []) × (count ≤ 2 ^ 32) × (count < 2 ^ 32 → IsAtEnd after.input)
 Converses calls before after (Err fault) = (talk : Talk) × Talks calls before after talk
     × (length talk.whole ≡ fault.answered) × Ends fault.cause talk after.input
 

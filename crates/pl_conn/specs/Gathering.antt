@@ -59,14 +59,14 @@ TakesFrame calls input before box rest after left (Err cause) = (after ≡ befor
     × ((fault : FrameFault) × (cause ≡ cause_of fault) × StopsFrame longest_request input rest fault)
 
 -- a conversation of which nothing waits
-abbrev pub told_talk : List (List ℕ) → List Reply → Talk
-told_talk bodies replies = record { bodies = bodies; whole = replies; others = []; part = []; cut = [] }
+abbrev pub reported_talk : List (List ℕ) → List Reply → Talk
+reported_talk bodies replies = record { bodies = bodies; whole = replies; others = []; part = []; cut = [] }
 
 -- so far each frame that was read has its reply, all replies are written, and this is their number
 pub record Told {P : Type 0} (calls : Calls P) (before now : Scene P) (count : ℕ) : Type 0 where
   pub bodies : List (List ℕ)
   pub replies : List Reply
-  pub talks : Talks calls before now (told_talk bodies replies)
+  pub talks : Talks calls before now (reported_talk bodies replies)
   pub number : length replies ≡ count
 
 -- one turn of a conversation that waits for its reader and its writer: some frames are answered, or the input is at its end

@@ -34,26 +34,26 @@ is_older_epoch sections.A row = row == 2
 is_older_epoch _ row = false
 
 -- the current epoch, where the reply is a denial for an older one and the epoch is below 2^32
-abbrev pub told_epoch : Reply → Option ℕ
-told_epoch (replies.Denied section row now) =
+abbrev pub reported_epoch : Reply → Option ℕ
+reported_epoch (replies.Denied section row now) =
     if is_older_epoch section row && nat_lt now (2 ^ 32) then Some now else None
-told_epoch _ = None
+reported_epoch _ = None
 
 -- whether another round may follow: the partition was advanced, or the current epoch is reported
 abbrev pub goes_on : Reply → Bool
-goes_on reply = is_done reply || is_some (told_epoch reply)
+goes_on reply = is_done reply || is_some (reported_epoch reply)
 
 -- the epoch that was reported last, where the newest reply is first; 1 where none was
-abbrev pub last_told_epoch : List Reply → ℕ
-last_told_epoch [] = 1
-last_told_epoch (reply ∷ earlier) = unwrap_or (told_epoch reply) (last_told_epoch earlier)
+abbrev pub last_reported_epoch : List Reply → ℕ
+last_reported_epoch [] = 1
+last_reported_epoch (reply ∷ earlier) = unwrap_or (reported_epoch reply) (last_reported_epoch earlier)
 
 -- calls with these replies, the newest first, lead from one pass to the other; each call makes the
 -- request at the epoch that had been reported before it
 abbrev pub Asks : {P : Type 0} → Calls P → (ℕ → Query) → P → List Reply → P → Type 0
 Asks calls request before [] after = after ≡ before
 Asks calls request before (reply ∷ earlier) after =
-    (now : _) × Asks calls request before earlier now × calls now (request (last_told_epoch earlier)) reply after
+    (now : _) × Asks calls request before earlier now × calls now (request (last_reported_epoch earlier)) reply after
 
 -- At most this many calls are made. Only the last reply may be one after which no round follows, and
 -- fewer calls are made only after such a reply. The replies of Done are counted, and the epoch is the
@@ -65,12 +65,12 @@ pub record Works {P : Type 0} (calls : Calls P) (request : ℕ → Query) (round
   pub onward : AllByRecursion (λ reply. IsTrue (goes_on reply)) (drop 1 replies)
   pub ended : AllByRecursion (λ reply. IsTrue (goes_on reply)) replies → length replies ≡ rounds
   pub done : worked.done ≡ count_by is_done replies
-  pub epoch : worked.epoch ≡ last_told_epoch replies
+  pub epoch : worked.epoch ≡ last_reported_epoch replies
 
 -- one round: its call, what is known after it, and whether another may follow
 pub record Round {P : Type 0} (calls : Calls P) (request : ℕ → Query) (before : P) (old new : Worked) (more : Bool) (after : P) : Type 0 where
   pub reply : Reply
   pub call : calls before (request old.epoch) reply after
   pub done : new.done ≡ old.done + (if is_done reply then 1 else 0)
-  pub epoch : new.epoch ≡ unwrap_or (told_epoch reply) old.epoch
+  pub epoch : new.epoch ≡ unwrap_or (reported_epoch reply) old.epoch
   pub onward : more ≡ goes_on reply

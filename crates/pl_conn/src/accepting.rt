@@ -37,7 +37,7 @@ fn accept<R: Wait, W: Watch>(
     rt: &R,
     listener: &TcpListener,
     watch: &W,
-    is_told: &mut bool,
+    is_reported: &mut bool,
 ) -> io::Result<TcpStream> {
     let bell = AtomicU64::new(0);
     for _ in rt.forever() {
@@ -45,9 +45,9 @@ fn accept<R: Wait, W: Watch>(
             Ok((socket, _)) => return Ok(socket),
             // Nobody rings: it is the time that ends the rest.
             Err(error) if passes(&error) => {
-                if !*is_told {
+                if !*is_reported {
                     watch.accept_rests(&error);
-                    *is_told = true;
+                    *is_reported = true;
                 }
                 bell.park_timeout(rt, 0, Duration::from_millis(REST));
             }
@@ -129,9 +129,9 @@ pub(crate) fn accept_all<R: Wait, W: Watch>(
     ensures limit { result.1 ≡ Stop.Limit → result.0 ≡ connections }
     ensures never { result.1 ≢ Stop.Start }
 {
-    let mut is_told = false;
+    let mut is_reported = false;
     for accepted in 0..connections {
-        let Ok(socket) = accept(rt, listener, watch, &mut is_told) else {
+        let Ok(socket) = accept(rt, listener, watch, &mut is_reported) else {
             return (accepted, Stop::Accept);
         };
         hand_over(rt, posts, channels, socket);

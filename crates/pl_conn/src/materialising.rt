@@ -1,7 +1,7 @@
 //! Materialising a partition: the rounds of a page server that applies the log before anybody reads.
 
 ghost use Rattle.std.specs.Prelude.{◌≡◌, ◌+◌, ◌-◌, ◌^◌, ◌<◌, unwrap_or, if◌then◌else◌};
-ghost use Rattle.pl_conn.specs.Materialising.{advance_at, is_done, is_older_epoch, told_epoch, goes_on, Round, Works};
+ghost use Rattle.pl_conn.specs.Materialising.{advance_at, is_done, is_older_epoch, reported_epoch, goes_on, Round, Works};
 
 use pl_core::Reply;
 use pl_decide::Rule;
@@ -32,7 +32,7 @@ impl Worked {
     fn learn(&mut self, reply: &Reply) -> bool
         requires { self.old.done < 2 ^ 32 - 1 }
         ensures done { self.new.done ≡ self.old.done + (if is_done reply.now then 1 else 0) }
-        ensures epoch { self.new.epoch ≡ unwrap_or (told_epoch reply.now) self.old.epoch }
+        ensures epoch { self.new.epoch ≡ unwrap_or (reported_epoch reply.now) self.old.epoch }
         ensures value { result ≡ goes_on reply.now }
     {
         match reply {

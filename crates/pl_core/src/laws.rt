@@ -6,8 +6,8 @@ ghost use Rattle.pl_core.specs.Laws.{ReadsReachAsRowsAllow, ReachesAreHardened, 
 ghost use Rattle.pl_core.specs.Laws.{AppliedLsnsOnlyRise, PagesAreReplays, GetsAreRepeatable};
 ghost use Rattle.pl_core.specs.Laws.{ServedBlocksAreHardened, HardenedBlocksAreNumbered, HardenedBlocksAreBlocks, PullsMissNothing, HistoryPullsJoin};
 ghost use Rattle.pl_core.specs.Laws.{OlderEpochsAreFenced, HistoriesStayLegal};
-ghost use Rattle.pl_core.specs.Laws.{NothingStandsAboveTheWindow, RunsEndInTheWindow};
-ghost use Rattle.pl_core.specs.Laws.{FullListsAreTold, UnknownPrincipalsAreTold, NoMemoryChangesNothing, StepsReplyTheirOwn};
+ghost use Rattle.pl_core.specs.Laws.{NothingIsAboveTheWindow, RunsEndInTheWindow};
+ghost use Rattle.pl_core.specs.Laws.{FullListsAreReported, UnknownPrincipalsAreReported, NoMemoryChangesNothing, StepsReplyTheirOwn};
 
 use crate::lower::{order_laws, page_laws};
 
@@ -126,7 +126,7 @@ pub fn histories_stay_legal()
 /// that a failover hardens is the same however far one looks.
 pub fn runs_end_in_the_window()
     // No LSN more than 64 above the hardened ones is in a copy.
-    ensures above { NothingStandsAboveTheWindow }
+    ensures above { NothingIsAboveTheWindow }
     // The run of a failover is the same however far one looks.
     ensures same { RunsEndInTheWindow }
 {
@@ -138,10 +138,10 @@ pub fn runs_end_in_the_window()
 /// `NoMemory` enters nothing. `Spent`, `NoDatabase` and `Malformed` never come.
 pub fn replies_tell_their_cause()
     // `AuditFull` comes exactly where the audit list is full.
-    ensures full { FullListsAreTold }
+    ensures full { FullListsAreReported }
     // The denial of an unknown principal comes exactly where the list has room and the principal is
     // unknown.
-    ensures unknown { UnknownPrincipalsAreTold }
+    ensures unknown { UnknownPrincipalsAreReported }
     // `NoMemory` enters nothing.
     ensures no_memory { NoMemoryChangesNothing }
     // No step answers `Spent`, `NoDatabase` or `Malformed`.

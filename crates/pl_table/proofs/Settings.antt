@@ -17,8 +17,8 @@ use Rattle.pl_table.specs.Acts.{number_of, partitions_of}
 use Rattle.pl_table.specs.Asking.{asked_in}
 use Rattle.pl_table.specs.Row.{row_matches, range_matches, through_matches}
 use Rattle.pl_table.specs.FirstMatch.{first_match_from, found_allows}
-use Rattle.pl_table.specs.Setting.{speaks_of_setting, allows, somebody_sets}
-use Rattle.pl_table.specs.Laws.{AsksToSet, RowsSpeakOfSetting, SomebodyIsAllowed}
+use Rattle.pl_table.specs.Setting.{is_about_setting, allows, somebody_sets}
+use Rattle.pl_table.specs.Laws.{AsksToSet, RowsAreAboutSetting, SomebodyIsAllowed}
 
 -- what sets a table names no partition
 names_none : (act : Act) → op_of act ≡ ops.SetTable → partitions_of act ≡ []
@@ -59,16 +59,16 @@ each_range allows None = refl
 each_range true (Some range) = refl
 each_range false (Some range) = refl
 
-pub row_of_setting : RowsSpeakOfSetting
+pub row_of_setting : RowsAreAboutSetting
 row_of_setting id q row asks =
     rw (asks.who, asks.role, asks.op, names_none q.act asks.op, each_range row.allows row.range, has_no_number q.act asks.op, each_end row.allows row.through, and-true (part_matches (lists_op ops.SetTable) row.op), and-true _) refl
 
-first_at : (k id : ℕ) (q : Query) (row : Row) (rows : List Row) (b : Bool) → speaks_of_setting id row ≡ b → row_matches row (asked_in q) ≡ b → allows (find (speaks_of_setting id) rows) ≡ found_allows (first_match_from (k + 1) rows (asked_in q)) → allows (find (speaks_of_setting id) (row ∷ rows)) ≡ found_allows (first_match_from k (row ∷ rows) (asked_in q))
+first_at : (k id : ℕ) (q : Query) (row : Row) (rows : List Row) (b : Bool) → is_about_setting id row ≡ b → row_matches row (asked_in q) ≡ b → allows (find (is_about_setting id) rows) ≡ found_allows (first_match_from (k + 1) rows (asked_in q)) → allows (find (is_about_setting id) (row ∷ rows)) ≡ found_allows (first_match_from k (row ∷ rows) (asked_in q))
 first_at k id q row rows true speaks matches later = rw (speaks, matches) refl
 first_at k id q row rows false speaks matches later = rw (speaks, matches) later
 
 -- the first row that speaks of it allows where the first that matches does
-first_allows : (k id : ℕ) (q : Query) (rows : List Row) → AsksToSet id q → allows (find (speaks_of_setting id) rows) ≡ found_allows (first_match_from k rows (asked_in q))
+first_allows : (k id : ℕ) (q : Query) (rows : List Row) → AsksToSet id q → allows (find (is_about_setting id) rows) ≡ found_allows (first_match_from k rows (asked_in q))
 first_allows k id q [] asks = refl
 first_allows k id q (row ∷ rows) asks = first_at k id q row rows (row_matches row (asked_in q)) (row_of_setting id q row asks) refl (first_allows (k + 1) id q rows asks)
 
@@ -93,7 +93,7 @@ asks id = record { who = refl; role = refl; op = refl }
 pub somebody_is_allowed : SomebodyIsAllowed
 unfolding somebody_sets
 somebody_is_allowed ps rows =
-    let sets = λ (p : Principal). allows (find (speaks_of_setting p.id) rows) in
+    let sets = λ (p : Principal). allows (find (is_about_setting p.id) rows) in
     let is_allowed_all = λ (p : Principal). (q : Query) → AsksToSet p.id q → IsSomeAnd (first_match_from 1 rows (asked_in q)) (λ found. IsTrue found.1) in (
       λ h. any_weaker (λ p. sets p ≡ true) is_allowed_all (λ p e q a. is_allowed _ (sym (first_allows 1 p.id q rows a) ∙ e)) ps (Any-from_list_any sets ps h),
       λ any. list_any-from_Any sets ps (any_weaker is_allowed_all (λ p. sets p ≡ true) (λ p each. first_allows 1 p.id (asking p.id) rows (asks p.id) ∙ found_allowed _ (each (asking p.id) (asks p.id))) ps any),

@@ -11,7 +11,7 @@ use Rattle.pl_table.specs.Row.{row_matches}
 use Rattle.pl_table.specs.FirstMatch.{first_match_from, rows_allow}
 use Rattle.pl_table.specs.Table.{WrittenTable, IsTable}
 use Rattle.pl_table.specs.TableText.{table_reading}
-use Rattle.pl_table.specs.Setting.{speaks_of_setting, somebody_sets}
+use Rattle.pl_table.specs.Setting.{is_about_setting, somebody_sets}
 
 -- what a text reads as is a table
 abbrev pub TextsReadAsTables : Type 0
@@ -24,9 +24,9 @@ pub record AsksToSet (id : ℕ) (q : Query) : Type 0 where
   pub op : op_of q.act ≡ SetTable
 
 -- a row is about a principal's set_table exactly where it matches that request
-abbrev pub RowsSpeakOfSetting : Type 0
-RowsSpeakOfSetting = (id : ℕ) (q : Query) (row : Row) → AsksToSet id q
-    → speaks_of_setting id row ≡ row_matches row (asked_in q)
+abbrev pub RowsAreAboutSetting : Type 0
+RowsAreAboutSetting = (id : ℕ) (q : Query) (row : Row) → AsksToSet id q
+    → is_about_setting id row ≡ row_matches row (asked_in q)
 
 -- somebody sets the table exactly where a principal is listed whose request is allowed by the first row that matches it
 abbrev pub SomebodyIsAllowed : Type 0

@@ -9,8 +9,8 @@ use Rattle.pl_table.specs.Ops.{same_role, lists_op}
 use Rattle.pl_table.specs.Absent.{part_matches}
 
 -- The row is about a principal's set_table as operator. That names no partition, so that every range matches.
-abbrev pub speaks_of_setting : ℕ → Row → Bool
-speaks_of_setting id row = part_matches (λ who. who == id) row.who && (part_matches (same_role Operator) row.role && part_matches (lists_op SetTable) row.op)
+abbrev pub is_about_setting : ℕ → Row → Bool
+is_about_setting id row = part_matches (λ who. who == id) row.who && (part_matches (same_role Operator) row.role && part_matches (lists_op SetTable) row.op)
 
 -- the row is there, and allows
 abbrev pub allows : Option Row → Bool
@@ -19,4 +19,4 @@ allows (Some row) = row.allows
 
 -- for some principal the first row about its set_table allows it
 unfoldable pub somebody_sets : List Principal → List Row → Bool
-somebody_sets ps rows = list_any (λ p. allows (find (speaks_of_setting p.id) rows)) ps
+somebody_sets ps rows = list_any (λ p. allows (find (is_about_setting p.id) rows)) ps

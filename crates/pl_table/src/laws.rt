@@ -1,13 +1,13 @@
 //! Laws: theorems about the definitions, for the crates above. Each is a function whose body is empty
 //! and whose clauses hold for all texts, requests and rows.
 
-ghost use Rattle.pl_table.specs.Laws.{LowerLsnsAreAllowed, RowsSpeakOfSetting, SomebodyIsAllowed, TextsReadAsTables};
+ghost use Rattle.pl_table.specs.Laws.{LowerLsnsAreAllowed, RowsAreAboutSetting, SomebodyIsAllowed, TextsReadAsTables};
 
 /// A table has no fault 12 exactly where some listed principal is allowed to set the table: the first
 /// row that matches its set_table as operator allows it.
 pub fn setting_is_a_first_match()
     // A row is about a principal's set_table exactly where it matches that request.
-    ensures row { RowsSpeakOfSetting }
+    ensures row { RowsAreAboutSetting }
     // Somebody may set the table exactly where a listed principal's set_table as operator is
     // allowed by the first row that matches it.
     ensures table { SomebodyIsAllowed }

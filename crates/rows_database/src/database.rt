@@ -231,7 +231,7 @@ impl Database {
     // Takes those of the requests that were not refused memory, each as a step of its own. Whether they are replied so.
     fn steps_as(&mut self, queued: &[(usize, String)], replies: &[Reply]) -> Result<bool, Stop> {
         for (queued, reply) in queued.iter().zip(replies) {
-            if !is_refused(reply) && !is_told(self.alloc, &self.step_queued(queued)?, reply)? {
+            if !is_refused(reply) && !is_reported(self.alloc, &self.step_queued(queued)?, reply)? {
                 return Ok(false);
             }
         }
@@ -357,7 +357,7 @@ fn is_refused(reply: &Reply) -> bool {
 }
 
 // Whether both replies have the same bytes.
-fn is_told(alloc: Global, told: &Reply, wanted: &Reply) -> Result<bool, Stop> {
+fn is_reported(alloc: Global, told: &Reply, wanted: &Reply) -> Result<bool, Stop> {
     Ok(encoded(alloc, told)? == encoded(alloc, wanted)?)
 }
 

@@ -56,7 +56,7 @@ decode 0000000000000001 0001 0000 0000 00                               = fault 
 ";
 
 #[test]
-fn first_fault_is_told(rt: HostRuntime) -> Result<(), Fail> {
+fn first_fault_is_reported(rt: HostRuntime) -> Result<(), Fail> {
     plays::<Codec>(rt.alloc(), FIRST_FAULT_IS_TOLD)
 }
 
@@ -119,7 +119,7 @@ block 1:zero,zero@4294967295                     = 26 bytes
 ";
 
 #[test]
-fn making_tells_the_first_fault(rt: HostRuntime) -> Result<(), Fail> {
+fn making_reports_the_first_fault(rt: HostRuntime) -> Result<(), Fail> {
     plays::<Codec>(rt.alloc(), MAKING_TELLS_THE_FIRST_FAULT)
 }
 

@@ -117,7 +117,7 @@ act 1 1 00 0000000000000000 00                          = fault 8
 ";
 
 #[test]
-fn least_code_is_told(rt: HostRuntime) -> Result<(), Fail> {
+fn least_code_is_reported(rt: HostRuntime) -> Result<(), Fail> {
     plays::<Wire>(rt.alloc(), LEAST_CODE_IS_TOLD)
 }
 

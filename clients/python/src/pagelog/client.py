@@ -18,7 +18,7 @@ ALL_PARTITIONS = (0, HIGHEST_PARTITION)
 Self = TypeVar("Self", bound="Client")
 
 
-def told_epoch(reply: Reply) -> int | None:
+def reported_epoch(reply: Reply) -> int | None:
     """The current epoch, where the reply denies for the sake of another."""
     if isinstance(reply, Denied) and reply.section is Section.A and reply.row in (2, 3):
         return reply.value
@@ -111,7 +111,7 @@ class Client:
             epoch = None
             asked = (self._request(acts[at]) for at in left)
             for at, reply in zip(left, self.connection.exchange(asked, in_flight), strict=True):
-                told = told_epoch(reply)
+                told = reported_epoch(reply)
                 if told is None:
                     replies[at] = reply
                 else:

@@ -5,7 +5,7 @@ from __future__ import annotations
 import time
 from typing import Callable, Iterator
 
-from pagelog.client import Client, told_epoch
+from pagelog.client import Client, reported_epoch
 from pagelog.reply import Done, Entries, Entry, expect
 from pagelog.request import AUDIT_MAX, Audit, Failover, Head, Request, Role, SetTable, Tidy
 
@@ -25,7 +25,7 @@ class Operator(Client):
             epoch = self.status().epoch
         head = Head(self.credentials.id, self.credentials.token, self.role, self.database, epoch)
         reply = self.connection.ask(Request(head, Failover(to)))
-        told = told_epoch(reply)
+        told = reported_epoch(reply)
         if told is not None:
             self._take_over(told)
         expect(Done, reply)

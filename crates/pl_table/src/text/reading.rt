@@ -10,7 +10,7 @@ ghost use Rattle.pl_table.specs.Part.{id_under, token_under, principal_of, has_w
 ghost use Rattle.pl_table.specs.Tree.{is_principal, is_row};
 ghost use Rattle.pl_table.specs.Table.{IsRowOf};
 ghost use Rattle.pl_table.specs.TableText.{listed_of, listed_in_tree, counts_of, have_own_ids, principals_of, rows_of, listed_table, table_reading};
-ghost use Rattle.pl_table.specs.Setting.{speaks_of_setting, allows, somebody_sets};
+ghost use Rattle.pl_table.specs.Setting.{is_about_setting, allows, somebody_sets};
 
 use crate::fault::{ReadFault, TableFault};
 use crate::op::{Op, Role};
@@ -175,14 +175,14 @@ fn read_rows(
 
 // The first row about the principal's set_table as operator.
 fn row_on_setting(rows: &[Row], id: u32) -> Option<&Row>
-    ensures value { option_copied result ≡ find (speaks_of_setting id) rows.now }
+    ensures value { option_copied result ≡ find (is_about_setting id) rows.now }
 {
     rows.iter()
         .find(|row| row.speaks_of(id, Role::Operator, Op::SetTable))
 }
 
 fn may_set_table(rows: &[Row], id: u32) -> bool
-    ensures value { result ≡ allows (find (speaks_of_setting id) rows.now) }
+    ensures value { result ≡ allows (find (is_about_setting id) rows.now) }
 {
     match row_on_setting(rows, id) {
         Some(row) => row.allows,
