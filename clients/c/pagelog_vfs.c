@@ -89,6 +89,9 @@ enum { DEFAULT_SPIN_US = 50, MOST_SPIN_US = 1000000 };
 /* Of a database: the change counter, the number of pages, and those of the free list. */
 enum { VERSION_OFFSET = 24, VERSION_BYTES = 16 };
 
+/* Of a database: by which way it is written and read, each a byte. 2 says by a WAL. */
+enum { WAYS_OFFSET = 18, WAYS_BYTES = 2, BY_JOURNAL = 1, BY_WAL = 2 };
+
 /* Of a journal: the room that it begins with, and the most that is kept for the next one. */
 enum { JOURNAL_BYTES = 65536, MOST_KEPT = 4 << 20 };
 
@@ -114,6 +117,9 @@ struct connection {
     int lock;
     uint64_t losses; /* of the file, when SQLite last asked whether its own cache is old */
     bool is_sized;   /* SQLite has asked for the size of a sector */
+    /* What was set by `PRAGMA locking_mode` and `journal_mode`. */
+    bool is_exclusive;
+    const char *journal_mode;
 };
 
 /* A journal. */
@@ -423,6 +429,27 @@ static bool is_cache_lost(struct connection *connection, int length, sqlite3_int
     return true;
 }
 
+/* Whether these bytes of a file have those that say by which way a database is written and read. */
+static bool has_ways(int length, sqlite3_int64 offset) {
+    return offset <= WAYS_OFFSET && offset + length >= WAYS_OFFSET + WAYS_BYTES;
+}
+
+/* A database that was copied from a file in WAL says so. There is no WAL here: it is read as one with a
+ * journal. */
+static void read_as_with_journal(unsigned char *bytes, int length, sqlite3_int64 offset) {
+    if (!has_ways(length, offset)) return;
+    unsigned char *ways = bytes + (WAYS_OFFSET - offset);
+    for (int i = 0; i < WAYS_BYTES; i++)
+        if (ways[i] == BY_WAL) ways[i] = BY_JOURNAL;
+}
+
+/* SQLite keeps what it has written, so it has to read that again. */
+static void forget_wal(struct connection *connection, const unsigned char *bytes, int length,
+                       sqlite3_int64 offset) {
+    if (has_ways(length, offset) && bytes[WAYS_OFFSET - offset + WAYS_BYTES - 1] == BY_WAL)
+        connection->losses = ~pagelog_file_losses(connection->database->file);
+}
+
 static int file_read(sqlite3_file *file, void *bytes, int length, sqlite3_int64 offset) {
     struct database *database = enter(file);
     size_t count = 0;
@@ -433,11 +460,13 @@ static int file_read(sqlite3_file *file, void *bytes, int length, sqlite3_int64 
     int code =
         result(database, pagelog_file_read(database->file, (uint64_t)offset, bytes, (size_t)length, &count));
     if (code == SQLITE_OK && count < (size_t)length) code = SQLITE_IOERR_SHORT_READ;
+    if (code == SQLITE_OK) read_as_with_journal(bytes, length, offset);
     return leave(database, code);
 }
 
 static int file_write(sqlite3_file *file, const void *bytes, int length, sqlite3_int64 offset) {
     struct database *database = enter(file);
+    forget_wal((struct connection *)file, bytes, length, offset);
     return leave(database, result(database, pagelog_file_write(database->file, (uint64_t)offset, bytes,
                                                                (size_t)length)));
 }
@@ -615,10 +644,27 @@ static int set_by_pragma(struct database *database, const char *name, unsigned l
     return code;
 }
 
+/* SQLite takes a WAL to be possible where one connection keeps the lock, whatever the VFS has. There is none
+ * here, so the mode stays as it is, as SQLite has it where the lock is given back. */
+static int answer_mode(struct connection *connection, char **arguments) {
+    static const char *const modes[] = {"delete", "truncate", "persist", "memory", "off"};
+    const char *name = arguments[1], *value = arguments[2];
+    if (!value) return SQLITE_NOTFOUND;
+    if (sqlite3_stricmp(name, "locking_mode") == 0)
+        connection->is_exclusive = sqlite3_stricmp(value, "exclusive") == 0;
+    if (sqlite3_stricmp(name, "journal_mode") != 0) return SQLITE_NOTFOUND;
+    for (size_t i = 0; i < sizeof modes / sizeof *modes; i++)
+        if (sqlite3_stricmp(value, modes[i]) == 0) connection->journal_mode = modes[i];
+    if (!connection->is_exclusive || sqlite3_stricmp(value, "wal") != 0) return SQLITE_NOTFOUND;
+    arguments[0] = sqlite3_mprintf("%s", connection->journal_mode);
+    return arguments[0] ? SQLITE_OK : SQLITE_NOMEM;
+}
+
 /* `arguments` are a place for a text, the name of the pragma and its argument. */
-static int answer_pragma(struct database *database, char **arguments) {
+static int answer_pragma(struct connection *connection, char **arguments) {
+    struct database *database = connection->database;
     const char *name = arguments[1];
-    if (sqlite3_strnicmp(name, "pagelog", 7) != 0) return SQLITE_NOTFOUND;
+    if (sqlite3_strnicmp(name, "pagelog", 7) != 0) return answer_mode(connection, arguments);
     int code = arguments[2] ? set_by_pragma(database, name, strtoul(arguments[2], NULL, 10)) : SQLITE_OK;
     if (code != SQLITE_OK) return code;
     arguments[0] = text_of_pragma(database, name + 7);
@@ -636,7 +682,7 @@ static int file_control(sqlite3_file *file, int operation, void *argument) {
         pagelog_file_commit(database->file);
         break;
     case SQLITE_FCNTL_PRAGMA:
-        code = answer_pragma(database, argument);
+        code = answer_pragma((struct connection *)file, argument);
         break;
     case SQLITE_FCNTL_LOCKSTATE:
         *(int *)argument = ((struct connection *)file)->lock;
@@ -784,8 +830,9 @@ static int open_database(sqlite3_filename name, struct connection *connection, i
     int code = find_or_open(&options, &connection->database);
     if (code != SQLITE_OK) return code;
     connection->lock = SQLITE_LOCK_NONE;
-    connection->is_sized = false;
+    connection->is_sized = connection->is_exclusive = false;
     connection->losses = pagelog_file_losses(connection->database->file);
+    connection->journal_mode = "delete";
     connection->base.pMethods = &file_methods;
     if (out_flags && options.reads_only)
         *out_flags = (flags & ~(SQLITE_OPEN_READWRITE | SQLITE_OPEN_CREATE)) | SQLITE_OPEN_READONLY;
