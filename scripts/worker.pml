@@ -1,14 +1,15 @@
 /*
- * How accepted sockets come to the workers, and how the workers end, in every interleaving: the channels, the bells and the
- * rounds of crates/pl_conn as a model for the checker spin. scripts/waiting runs it.
+ * How accepted sockets come to the workers, how the workers end, and which one polls awake, in every interleaving: the
+ * channels, the bells, the lookout and the rounds of crates/pl_conn as a model for the checker spin. scripts/waiting runs it.
  *
  * The accepting thread hands over as many sockets as it likes, and rests for ever when it likes, as a listener does at which
  * nobody comes, or ends. The peers of a worker's connections act as often as they like, and may be silent for ever. A turn of
  * a connection leaves it at rest, or due, or closed: turns.pml has what happens in one. Each step of a channel, of a bell and
  * of a poll is a step by itself. A poll with no time returns at once, and another one sleeps until there is something to report.
  * Before a worker sleeps it polls with no time, up to IDLE_POLLS times, until one reports something, unless another worker does
- * so: that one has the lookout's place. Once nobody can go on, nobody is there, no socket lies in a channel, and no connection
- * has an event, not even a reported one, or a turn due; a worker whose channel is closed, and that has no connection, has ended.
+ * so: that one has the lookout's place. No two workers ever do so at the same time. Once nobody can go on, nobody is there, no
+ * socket lies in a channel, and no connection has an event, not even a reported one, or a turn due; a worker whose channel is
+ * closed, and that has no connection, has ended.
  *
  * After each step comes the line of the code that it is for, under the name of its function; two dots stand for lines that
  * the model leaves out. scripts/waiting compares these lines with the source.
@@ -41,6 +42,7 @@ byte due[WORKERS];     /* those whose turn is due */
 byte events[WORKERS];  /* those that its last poll reported, and that had no turn since */
 bit ended[WORKERS];
 bit taken;             /* whether a worker has the lookout's place */
+byte awake;            /* how many workers poll awake */
 
 #define IS_EMPTY (resting[me] == 0 && ready[me] == 0 && due[me] == 0)
 
@@ -197,6 +199,7 @@ inline leaves() {
 
 // worker.rt: poll_awake
 inline poll_awake() {
+    atomic { awake++; assert(awake == 1) };
     do                                                     // for _ in 0..idle_polls {
     :: polls < IDLE_POLLS -> polls++;
        poll();                                             // poll.poll(events, Some(AT_ONCE))?;
@@ -206,7 +209,7 @@ inline poll_awake() {
        fi
     :: polls == IDLE_POLLS -> break                        // Ok(())
     od;
-    polls = 0
+    atomic { polls = 0; awake-- }
 }
 
 // worker.rt: wait
@@ -220,7 +223,14 @@ inline wait() {
 #else
        skip
 #endif
-    :: !ok
+    :: !ok ->
+#ifdef LEAVES_ANOTHERS
+       leaves()
+#elif defined POLLS_WITHOUT_THE_PLACE
+       poll_awake()
+#else
+       skip
+#endif
     fi;
     if                                                     // if polled.is_err() || !events.is_empty() {
     :: !NOTHING_WAS_TOLD                                   // return polled; } }
