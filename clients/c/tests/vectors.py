@@ -10,8 +10,8 @@ import subprocess
 import tempfile
 import threading
 
-from binding import (AuditLine, DONE, LOST, MALFORMED, Blocks, Log, Reply, Request, blocks_of, byref, c_void_p, ctypes, decode, encode, lib,
-                     records_of, exact_buffer)
+from binding import (AUDIT_FULL, DENIED, DONE, FENCED, LOST, MALFORMED, NO_MEMORY, AuditLine, Blocks, Log, Reply, Request, blocks_of,
+                     byref, c_void_p, ctypes, decode, encode, lib, records_of, exact_buffer)
 from check import run, same, true
 from service import CLIENT, ROOT, Service, exactly, plain_environment, wire
 
@@ -146,35 +146,47 @@ def test_faults_of_replies():
         same(body[:20].hex(), fault, decode(body)[0])
 
 
+# The operation that a reply is an answer to, where it is none to a report, and what the client makes of a reply: of a denial
+# by the epoch, FENCED.
+ASKED = {"blocks": "pull", "page": "get", "entries": "audit", "status": "status"}
+MADE = {"denied": FENCED, "no_memory": NO_MEMORY, "audit_full": AUDIT_FULL, "spent": DENIED, "no_database": DENIED,
+        "malformed": MALFORMED}
+
+
 def test_frames():
-    """What a connection carries, at a socket of this test's own."""
+    """What a connection carries, at a socket of this test's own: a frame of each operation and of each kind of reply."""
     requests = {data: fields for _, data, fields in vectors("request")}
-    replies = {data for _, data, _ in vectors("reply")}
-    listener = socket.create_server(("127.0.0.1", 0))
+    replies = {data: fields for _, data, fields in vectors("reply")}
+    of_operation = {fields["op"]: fields for fields in requests.values()}
+    listener, framed = socket.create_server(("127.0.0.1", 0)), set()
     address = "127.0.0.1:%d" % listener.getsockname()[1]
     for name, data, fields in vectors("frame"):
         body = bytes.fromhex(fields["body"])
         true(f"{name}: its body has a line", body in requests or body in replies)
+        kind = replies[body]["reply"] if body in replies else None
+        asked = of_operation[ASKED.get(kind, "report")] if kind else requests[body]
+        framed.add(("reply", kind) if kind else ("request", asked["op"]))
         seen = []
 
         def answer():
             client, _ = listener.accept()
             length = struct.unpack(">I", exactly(client, 4))[0]
             seen.append(struct.pack(">I", length) + exactly(client, length))
-            client.sendall(data if body in replies else b"\0\0\0\1\6")
+            client.sendall(data if kind else b"\0\0\0\1\6")
             client.close()
 
         thread = threading.Thread(target=answer)
         thread.start()
         with Log(address, 2) as log:
-            asked = requests[body] if body in requests else next(f for f in requests.values() if f["op"] == "report")
             same("send", DONE, log.send(request_of(asked), whole=True))
             outcome, reply = log.receive()
+            if kind:
+                same(name, (MADE.get(kind, DONE), replies[body]), (outcome, fields_of(reply)))
         thread.join()
-        if body in requests:
+        if not kind:
             same(name, data.hex(), seen[0].hex())
-        else:
-            same(name, (DONE, KINDS[body[0]]), (outcome, KINDS[reply.kind]))
+    wanted = {("request", operation) for operation in OPERATIONS} | {("reply", kind) for kind in KINDS}
+    same("each operation and each kind has a frame", wanted, framed)
 
 
 def answered(data, reply_ms):

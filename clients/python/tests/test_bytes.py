@@ -104,15 +104,22 @@ class Formats(unittest.TestCase):
 
     def test_the_vectors(self) -> None:
         lines = "".join(re.findall(r"^```vectors\n(.*?)^```", FORMATS, flags=re.S | re.M)).splitlines()
-        seen = set()
+        whose, framed = {}, set()
         for line in lines:
-            kind, name, digits, fields = line.split(" ", 3)
+            kind, name, digits, text = line.split(" ", 3)
+            fields = json.loads(text)
+            if kind != "frame":
+                whose[digits] = kind, fields.get("op") or fields.get("reply")
             with self.subTest(f"{kind} {name}"):
-                self.check_vector(kind, bytes.fromhex(digits), json.loads(fields))
-            seen.add((kind, json.loads(fields).get("op") or json.loads(fields).get("reply")))
+                if kind == "frame":
+                    framed.add(whose[fields["body"]])
+                    self.check_frame(bytes.fromhex(digits), bytes.fromhex(fields["body"]), whose[fields["body"]][0])
+                else:
+                    self.check_vector(kind, bytes.fromhex(digits), fields)
         wanted = {("request", operation.word) for operation in Operation} | {("reply", word) for word in vectors.WORDS.values()}
         wanted |= {("reply", word) for word in ("blocks", "page", "entries", "status", "denied", "malformed")}
-        self.assertEqual(seen, wanted | {("block", None), ("frame", None)})
+        self.assertEqual(set(whose.values()), wanted | {("block", None)})
+        self.assertEqual(framed, wanted)
 
     def check_vector(self, kind: str, data: bytes, fields: dict[str, object]) -> None:
         """Both directions of one line: its bytes and its fields say the same."""
@@ -126,11 +133,9 @@ class Formats(unittest.TestCase):
             self.assertEqual(encode_reply(vectors.reply_of_fields(fields)), data)
             self.assertEqual(vectors.fields_of_reply(decode_reply(data)), fields)
         else:
-            self.assertEqual(kind, "frame")
-            body = bytes.fromhex(str(fields["body"]))
-            self.check_frame(data, body)
+            self.fail(f"a line of kind {kind}")
 
-    def check_frame(self, data: bytes, body: bytes) -> None:
+    def check_frame(self, data: bytes, body: bytes, kind: str) -> None:
         """A connection takes the body out of the frame, however its bytes come, and puts a request's body into one."""
         for cut in range(len(data) + 1):
             connection = Connection("127.0.0.1:1")
@@ -139,7 +144,7 @@ class Formats(unittest.TestCase):
             if cut < len(data):
                 connection._in += data[cut:]
                 self.assertEqual(connection._take_frame(), body)
-        if len(body) >= 30:
+        if kind == "request":
             self.assertEqual(_Waiting(decode_request(body)).frame, data)
 
 
