@@ -18,7 +18,7 @@ With silent connections there follow what the best round is of the one with 64 c
 service holds for each silent one. A server that does not serve that many has no number.
 
 Last come the delays of one request at a time on 64 connections, in microseconds: the 50th, 99th and 99.9th percentile and the
-longest, alone and beside silent connections.
+longest, alone and beside silent connections; and those of each kind of request under the mixed load of bench/mixed.py.
 
 The service is crates/pagelog/out/pagelog, which scripts/pagelog proves and builds, or the program that PAGELOG names. Where
 --idle-polls is given, it is given that option.
@@ -41,8 +41,9 @@ import subprocess
 import tempfile
 import time
 
+import mixed
 import rounds
-from serving import IDLE, PROGRAM, SHARE, TABLE, about, build_frames, primary, reader, wire
+from serving import SHARE, about, build_frames, port_of, primary, reader, wire, words_of_service
 
 ROUNDS = 25
 WORKERS = (2, 4, 64)
@@ -96,9 +97,8 @@ class Running:
 
 
 def service(workers):
-    running = Running([PROGRAM, "serve", "--listen", "127.0.0.1:0", "--table", TABLE,
-                       "--primary", 2, "--dbs", 1, "--workers", workers, "--connections", 4294967295, "--audit", 16777216, *IDLE])
-    running.port = int(running.process.stdout.readline().split()[1].rsplit(":", 1)[1])
+    running = Running(words_of_service(workers))
+    running.port = port_of(running.process)
     for request in SETUP:
         assert first_bytes(running.port, request) == b"\0\0\0\1\0"
     return running
@@ -355,5 +355,7 @@ def main():
 with tempfile.TemporaryDirectory() as work:
     FRAMES = build_frames(work)
     main()
+    print()
+    mixed.measure(FRAMES, work, WORKERS)
     if shutil.which("etcd"):
         beside_etcd(work)

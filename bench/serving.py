@@ -1,10 +1,13 @@
-"""What the benches of a running service share: the program, its table, how much of the work is done, and frames of requests."""
+"""What the benches of a running service share: the program, its table, how much of the work is done, frames of requests, and a
+service that takes them."""
 
 import argparse
 import os
 import pathlib
+import socket
 import subprocess
 import sys
+import time
 
 import programs
 
@@ -15,6 +18,8 @@ import wire  # noqa: E402
 
 PROGRAM = programs.pagelog()
 TABLE = ROOT / "crates" / "pagelog" / "data" / "t0.toml"
+# How many blocks are hardened with one report.
+WINDOW = 64
 
 
 def words():
@@ -39,6 +44,76 @@ def primary(op, rest):
 
 def reader(op, rest):
     return wire.frame(wire.head(3, wire.SECONDARY, op) + rest)
+
+
+def get(page, lsn, exact):
+    return reader(wire.GET, wire.get(page, lsn, exact))
+
+
+def small_block(lsn):
+    """Eight bytes at one of many places of one of 1,000 pages."""
+    return wire.block(lsn, [(lsn % 1000, lsn * 8 % 8184, bytes([lsn % 256] * 8))])
+
+
+def in_copies(block, lsn):
+    """The frames by which a block gets into two copies."""
+    return [primary(wire.WRITE, wire.write(copy, block(lsn))) for copy in (0, 1)]
+
+
+def words_of_service(workers):
+    """The words that start a service of one database."""
+    return [PROGRAM, "serve", "--listen", "127.0.0.1:0", "--table", TABLE, "--primary", 2, "--dbs", 1, "--workers", workers,
+            "--connections", 4294967295, "--audit", 16777216, *IDLE]
+
+
+def port_of(process):
+    """Where a service listens: its first line says so."""
+    return int(process.stdout.readline().split()[1].rsplit(":", 1)[1])
+
+
+class Service:
+    """A service that is ended with this program's leave alone, and a connection to it."""
+
+    def __init__(self, workers=64):
+        self.process = subprocess.Popen([str(word) for word in words_of_service(workers)], stdout=subprocess.PIPE,
+                                        stderr=subprocess.DEVNULL, text=True)
+        self.port = port_of(self.process)
+        self.socket = socket.create_connection(("127.0.0.1", self.port))
+        self.socket.setsockopt(socket.IPPROTO_TCP, socket.TCP_NODELAY, 1)
+        self.file = self.socket.makefile("rb")
+
+    def __enter__(self):
+        return self
+
+    def __exit__(self, *_):
+        self.hang_up()
+        self.process.terminate()
+        self.process.wait()
+
+    def hang_up(self):
+        """Ends the connection."""
+        self.file.close()
+        self.socket.close()
+
+    def replies(self, frames):
+        """Sends the frames together, and gives the bodies of the replies."""
+        self.socket.sendall(b"".join(frames))
+        return [self.file.read(int.from_bytes(self.file.read(4), "big")) for _ in frames]
+
+    def harden(self, count, block):
+        """Hardens `count` blocks, a window with each report."""
+        for first in range(1, count + 1, WINDOW):
+            last = min(first + WINDOW - 1, count)
+            frames = [frame for lsn in range(first, last + 1) for frame in in_copies(block, lsn)]
+            assert set(self.replies([*frames, primary(wire.REPORT, wire.report(last))])) == {b"\0"}
+
+    def delay(self, frame):
+        """Microseconds until the reply has come, which has to be a page."""
+        began = time.perf_counter()
+        [reply] = self.replies([frame])
+        took = (time.perf_counter() - began) * 1e6
+        assert reply[0] == 2, reply[:20]
+        return took
 
 
 def build_frames(work):
