@@ -71,7 +71,7 @@ class Connection:
     reply that came begins the count anew. `pause` is the wait in seconds before the second attempt, doubled for each
     further one up to a second.
 
-    A worker of the service is held as long as the connection is open, so close it, or use it in a `with`. It is for one
+    The service never closes an idle connection, and counts it, so close it, or use it in a `with`. It is for one
     thread at a time.
     """
 
@@ -98,7 +98,7 @@ class Connection:
         self.close()
 
     def close(self) -> None:
-        """Closes the socket and lets the worker go. The next request connects again."""
+        """Closes the socket. The next request connects again."""
         if self._socket is not None:
             self._socket.close()
         self._socket = None
