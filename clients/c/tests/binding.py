@@ -207,6 +207,15 @@ class Blocks:
         return found
 
 
+def numbered(first, count, size=20, page=0):
+    """`count` blocks, each of which puts its LSN again and again, in at least `size` bytes."""
+    blocks = Blocks(first)
+    for lsn in range(first, first + count):
+        assert blocks.put(page, 0, lsn.to_bytes(8, "big") * (size // 8 + 1)) == DONE
+        assert blocks.end() == DONE
+    return blocks
+
+
 class Log:
     """An object of the wire."""
 

@@ -257,6 +257,21 @@ class Proxy:
                 replies = []
 
 
+def failing_over(service, operation, count, to=5):
+    """A proxy's rule: before the `count`-th request of an operation the epoch ends, by an operator's failover."""
+    left = [count]
+
+    def between(frame):
+        if frame[33] == operation:
+            left[0] -= 1
+            if left[0] == 0:
+                with service.operator() as operator:
+                    operator.failover(to)
+        return frame
+
+    return between
+
+
 def framed(body):
     return struct.pack(">I", len(body)) + body
 

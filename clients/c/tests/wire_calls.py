@@ -10,22 +10,13 @@ import threading
 import time
 
 from binding import (CONFLICT, DENIED, DONE, FENCED, IN_DOUBT, LOST, MALFORMED, AUDIT_FULL, NO_SPIN, OPERATOR, PAGE_SERVER,
-                     PRIMARY, SECONDARY, Blocks, Log, blocks_of, encode, records_of, request, token)
+                     PRIMARY, SECONDARY, Blocks, Log, blocks_of, encode, numbered, records_of, request, token)
 from check import run, same, true
-from service import Proxy, Service, START_TABLE, TABLE, wire
+from service import Proxy, Service, START_TABLE, TABLE, failing_over, wire
 
 
 def block_of(lsn, *records):
     return wire.block(lsn, list(records))
-
-
-def numbered(first, count, size=20, page=0):
-    """`count` blocks, each of which puts its LSN again and again, in at least `size` bytes."""
-    blocks = Blocks(first)
-    for lsn in range(first, first + count):
-        same("put", DONE, blocks.put(page, 0, lsn.to_bytes(8, "big") * (size // 8 + 1)))
-        same("end", DONE, blocks.end())
-    return blocks
 
 
 def test_requests_are_spelled_as_the_scripts_spell_them():
@@ -534,21 +525,6 @@ def test_an_old_writer_is_fenced():
         same("asked for", DONE, old.take_over())
         same("append", DONE, old.append(numbered(6, 1)))
         same("end", 6, operator.status()[2])
-
-
-def failing_over(service, operation, count, to):
-    """Called with each frame: before the `count`-th one of an operation, the epoch ends."""
-    left = [count]
-
-    def between(frame):
-        if frame[33] == operation:
-            left[0] -= 1
-            if left[0] == 0:
-                with service.operator() as operator:
-                    operator.failover(to)
-        return frame
-
-    return between
 
 
 def test_blocks_in_two_copies_are_in_the_log_when_their_report_is_denied():

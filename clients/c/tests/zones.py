@@ -1,10 +1,10 @@
 """Landing zones of three copies and of six, with the right one and the wrong one in the options; rows of a table that end at an
 LSN. What the service does not know of these is not tried, and said."""
 
-from binding import DENIED, DONE, FENCED, MALFORMED, Blocks, Log, Options, blocks_of, byref, lib, token
+from binding import DENIED, DONE, FENCED, MALFORMED, Blocks, Log, Options, blocks_of, byref, lib, numbered, token
 from check import run, same
 from database import code_of, connect, one, reader
-from service import Proxy, SIX_COPIES, Service, TABLE, starts_with, wire
+from service import Proxy, SIX_COPIES, Service, TABLE, failing_over, starts_with, wire
 
 THREE, SIX = (3, 2), (6, 4)
 KNOWS_SIX = starts_with(SIX_COPIES)
@@ -20,13 +20,6 @@ def same_log(follower, wanted):
     same("log", wanted, found)
 
 
-def numbered(first, count):
-    blocks = Blocks(first)
-    for lsn in range(first, first + count):
-        blocks.put(0, 0, lsn.to_bytes(8, "big")), blocks.end()
-    return blocks
-
-
 def each_case():
     """Each zone that the service knows, with each that a client may be given."""
     return [(zone, told) for zone in ZONES for told in (THREE, SIX)]
@@ -39,20 +32,6 @@ def each_log():
                 Log(service.address, 2, copies=told[0], quorum=told[1]) as log:
             same("take over", DONE, log.take_over())
             yield zone, told, follower, log
-
-
-def ending_before(service, operation, count):
-    """A proxy's rule: the epoch ends before the `count`-th request of an operation."""
-    left = [count]
-
-    def between(frame):
-        left[0] -= frame[33] == operation
-        if frame[33] == operation and left[0] == 0:
-            with service.operator() as operator:
-                operator.failover(5)
-        return frame
-
-    return between
 
 
 def test_pairs_that_no_table_has():
@@ -89,7 +68,7 @@ def test_failovers_before_each_request():
         writes = [(many, wire.WRITE, count) for many in (1, 3) for count in range(1, many * max(zone[1], told[1]) + 1)]
         for many, operation, count in writes + [(1, wire.REPORT, 1), (3, wire.REPORT, 1), (3, wire.REPORT, 2)]:
             with Service(text=ZONES[zone]) as service, Log(service.address, 3) as follower, \
-                    Proxy(service.address, between=ending_before(service, operation, count)) as proxy, \
+                    Proxy(service.address, between=failing_over(service, operation, count)) as proxy, \
                     Log(proxy.address, 2, copies=told[0], quorum=told[1]) as log:
                 same("take over", DONE, log.take_over())
                 blocks = numbered(1, many)
@@ -127,7 +106,7 @@ def test_failovers_before_each_request_of_what_nobody_waits_for():
         each = max(zone[1], told[1])
         for operation, count in [(wire.WRITE, n) for n in range(1, 3 * each + 1)] + [(wire.REPORT, n) for n in (1, 2, 3)]:
             with Service(text=ZONES[zone]) as service, Log(service.address, 3) as follower, \
-                    Proxy(service.address, between=ending_before(service, operation, count)) as proxy, \
+                    Proxy(service.address, between=failing_over(service, operation, count)) as proxy, \
                     Log(proxy.address, 2, copies=told[0], quorum=told[1]) as log:
                 same("take over", DONE, log.take_over())
                 blocks = send_one_by_one(log, 3)
@@ -143,7 +122,7 @@ def test_who_may_not_look():
     for zone, text in ZONES.items():
         text = text.replace('who = 2\nrole = "secondary"', 'who = 2\nrole = "page_server"')
         with Service(text=text) as service, Log(service.address, 3) as follower, \
-                Proxy(service.address, between=ending_before(service, wire.REPORT, 1)) as proxy, \
+                Proxy(service.address, between=failing_over(service, wire.REPORT, 1)) as proxy, \
                 Log(proxy.address, 2, copies=zone[0]) as log:
             same("take over", DONE, log.take_over())
             blocks = numbered(1, 3)
