@@ -87,6 +87,7 @@ declare("pagelog_blocks_at", c_void_p, c_void_p, c_size_t, POINTER(c_size_t))
 declare("pagelog_blocks_free", None, c_void_p)
 declare("pagelog_encode_request", c_size_t, POINTER(Request), c_char_p, c_size_t)
 declare("pagelog_decode_reply", c_uint, c_char_p, c_size_t, POINTER(Reply))
+declare("pagelog_outcome_of", c_uint, POINTER(Reply))
 declare("pagelog_block_fault", c_uint, c_char_p, c_size_t)
 declare("pagelog_read_audit_line", None, c_char_p, POINTER(AuditLine))
 declare("pagelog_records_begin", None, POINTER(Records), c_char_p)
@@ -151,6 +152,10 @@ def decode(body):
     reply = Reply()
     reply.kept = exact_buffer(body)
     return lib.pagelog_decode_reply(ctypes.cast(reply.kept, c_char_p), len(body), byref(reply)), reply
+
+
+def outcome_of(reply):
+    return name(lib.pagelog_outcome_of(byref(reply)))
 
 
 def records_of(block):

@@ -257,6 +257,16 @@ class Proxy:
                 replies = []
 
 
+class Peer:
+    """A proxy's rule: each request is answered with `body`, or carried out where that is None."""
+
+    def __init__(self):
+        self.body = None
+
+    def __call__(self, frame):
+        return frame if self.body is None else Answer(self.body)
+
+
 def failing_over(service, operation, count, to=5):
     """A proxy's rule: before the `count`-th request of an operation the epoch ends, by an operator's failover."""
     left = [count]

@@ -1,0 +1,262 @@
+"""What each reply means to each call of the wire: every row of a denial, every other kind, and a service that has no memory for
+a while, or for good. The service carries out what it is asked; a proxy answers some requests in its place."""
+
+from binding import (AUDIT_FULL, CONFLICT, DENIED, DONE, FENCED, IN_DOUBT, MALFORMED, NO_MEMORY, OPERATOR, PAGE_SERVER, PRIMARY,
+                     SECONDARY, Log, blocks_of, decode, numbered, outcome_of, request)
+from check import run, same
+from service import Answer, Peer, Proxy, Service, wire
+
+# By pagelog.h: each row, with a value that it may have; its outcome; what an object learns by the value, if anything.
+ROWS = [
+    ("A1", 0, DENIED, None),
+    ("A2", 8, FENCED, "epoch"),
+    ("A3", 8, FENCED, "epoch"),
+    ("A4", 0, FENCED, None),
+    ("A5", 0, DENIED, None),
+    ("B0", 0, DENIED, None),
+    ("B2", 0, DENIED, None),
+    ("B6", 0, DENIED, None),
+    ("B65535", 0, DENIED, None),
+    ("C1", 12, DENIED, "end"),
+    ("C2", 12, CONFLICT, "end"),
+    ("C3", 1 << 48, CONFLICT, "end"),
+    ("C4", 0, CONFLICT, None),
+    ("C5", 0, DENIED, None),
+    ("C6", 12, CONFLICT, "end"),
+    ("C7", 13, DENIED, None),
+    ("C8", 0, DENIED, None),
+    ("C9", 0, DENIED, None),
+]
+
+
+def denial(row, value=0):
+    """The body of a reply Denied."""
+    return b"\5" + wire.number("ABC".index(row[0]) + 1, 1) + wire.number(int(row[1:]), 2) + wire.number(value, 8)
+
+
+def status(epoch, end):
+    """The body of a reply Status."""
+    return b"\4" + wire.number(epoch, 4) + wire.number(2, 4) + wire.number(end, 8) + bytes(16)
+
+
+LINE = (wire.number(1, 8) + wire.number(1, 8) + wire.number(2, 4) + b"\1" + bytes(4) + b"\7" + bytes(16) + b"\1"
+        + wire.number(2, 2) + wire.number(1, 8))
+BLOCK = wire.block(1, [(0, 0, b"a")])
+NO_MEMORY_BODY = b"\6"
+
+# Each kind by its number: a body, the outcome, and what the object says of it.
+KINDS = [
+    (b"\0", DONE, ""),
+    (b"\1" + wire.number(2, 8) + wire.number(1, 2) + wire.frame(BLOCK), DONE, ""),
+    (b"\2" + wire.number(1, 8) + bytes(8192), DONE, ""),
+    (b"\3" + wire.number(1, 2) + LINE, DONE, ""),
+    (status(7, 1), DONE, ""),
+    (denial("B3"), DENIED, "denied: denied B3, value 0"),
+    (NO_MEMORY_BODY, NO_MEMORY, "no memory"),
+    (b"\7", AUDIT_FULL, "audit list full"),
+    (b"\x08", DENIED, "denied: spent"),
+    (b"\x09", DENIED, "denied: no database"),
+    (b"\x0a\x08", MALFORMED, "malformed: fault 8 of the request"),
+]
+
+# The kind of the reply to an operation that is done.
+KIND_OF = {wire.GET: 2, wire.PULL: 1, wire.AUDIT: 3, wire.STATUS: 4}
+
+
+def each_request():
+    """A request of each operation."""
+    return [request(PRIMARY, wire.WRITE, BLOCK), request(PRIMARY, wire.OFFER, BLOCK), request(PRIMARY, wire.REPORT, lsn=1),
+            request(SECONDARY, wire.GET, lsn=1, exact=1), request(SECONDARY, wire.PULL, hi=65535, lsn=1, max=16),
+            request(PAGE_SERVER, wire.ADVANCE, steps=1), request(OPERATOR, wire.STATUS), request(OPERATOR, wire.FAILOVER, to=2),
+            request(OPERATOR, wire.SET_TABLE, b""), request(OPERATOR, wire.AUDIT, lsn=1, max=16), request(OPERATOR, wire.TIDY)]
+
+
+def test_each_row_of_a_denial_has_its_outcome_and_its_value():
+    """Of the reply by itself, and whatever was asked. The object knows the epoch 7 and the end 9 before."""
+    peer = Peer()
+    with Service() as service, Proxy(service.address, between=peer) as proxy:
+        for row, value, outcome, learns in ROWS:
+            fault, reply = decode(denial(row, value))
+            same(f"{row} by itself", (0, outcome), (fault, outcome_of(reply)))
+            with Log(proxy.address, 3) as log:
+                peer.body = status(7, 9)
+                same("status", (DONE, 7, 9), (log.status(SECONDARY)[0], log.epoch, log.end))
+                peer.body = denial(row, value)
+                for asked in each_request():
+                    same("send", DONE, log.send(asked))
+                    found, reply = log.receive()
+                    same(f"{row} to operation {asked.operation}", (outcome, (row, value)), (found, log.row))
+                    same("its parts", (5, "ABC".index(row[0]) + 1, int(row[1:]), value),
+                         (reply.kind, reply.section, reply.row, reply.value))
+                    same("in words", f"{outcome}: denied {row}, value {value}", log.words)
+                known = value if learns == "epoch" else 7, value if learns == "end" else 9
+                same(f"{row}: what is known", (known, False), ((log.epoch, log.end), log.is_anew))
+                same(f"{row}: one connection", 1, log.counts.connects)
+
+
+def test_a_denial_that_reports_less_than_before_is_of_a_service_that_was_started_anew():
+    """An epoch, or an end of the log, that has fallen. After it nothing is believed any more."""
+    peer = Peer()
+    with Service() as service, Proxy(service.address, between=peer) as proxy:
+        for row, _, _, learns in ROWS:
+            with Log(proxy.address, 3) as log:
+                peer.body = status(7, 9)
+                same("status", DONE, log.status(SECONDARY)[0])
+                peer.body = denial(row, 6 if learns == "epoch" else 8)
+                same(row, learns is not None, log.ask(SECONDARY, wire.STATUS)[0] == FENCED and log.is_anew)
+                if learns:
+                    peer.body = status(8, 10)
+                    same(f"{row}: for good", (FENCED, True), (log.status(SECONDARY)[0], "started anew" in log.words))
+
+
+def test_each_kind_of_reply_to_each_operation():
+    """A refusal may come to every operation. Of the other kinds each operation has one: any other is MALFORMED, and ends the
+    connection, so that what was asked after it has no reply."""
+    peer, ended = Peer(), 0
+    with Service() as service, Proxy(service.address, between=peer) as proxy, Log(proxy.address, 3) as log:
+        for kind, (body, outcome, words) in enumerate(KINDS):
+            peer.body = body
+            fault, reply = decode(body)
+            same(f"kind {kind} by itself", (0, outcome), (fault, outcome_of(reply)))
+            for asked in each_request():
+                what = f"kind {kind} to operation {asked.operation}"
+                same("send", (DONE, DONE), (log.send(asked), log.send(asked)))
+                found, reply = log.receive()
+                if kind < 5 and kind != KIND_OF.get(asked.operation, 0):
+                    same(what, (MALFORMED, "malformed", 0, 0), (found, log.words, log.refused.kind, log.in_flight()))
+                    ended += 1
+                    continue
+                same(what, (outcome, kind, 1), (found, reply.kind, log.in_flight()))
+                if outcome != DONE:
+                    same(what, (words, kind), (log.words, log.refused.kind))
+                found, reply = log.receive()
+                same(f"{what}, once more", (outcome, kind, 0), (found, reply.kind, log.in_flight()))
+        same("connections", 1 + ended, log.counts.connects)
+
+
+def refusals():
+    """Each refusal: its body, its outcome, and what the object says of it. The service's log has no block."""
+    rows = [(denial(row, value), outcome, f"{outcome}: denied {row}, value {value}") for row, value, outcome, *_ in ROWS]
+    return rows + [kind for kind in KINDS[5:] if kind[1] != MALFORMED]
+
+
+def test_calls_that_are_repeated_report_each_refusal():
+    """As it came. An epoch that the refusal reports is taken over by a secondary, which asks once more in it, and never by a
+    primary."""
+    peer = Peer()
+    with Service() as service, Proxy(service.address, between=peer) as proxy:
+        for body, outcome, words in refusals():
+            peer.body = body
+            twice = 2 if "A2" in words or "A3" in words else 1
+            for what, requests, call in (("status", twice, lambda log: log.status(SECONDARY)[0]),
+                                         ("get", 3 * twice, lambda log: log.get(SECONDARY, 1, [4, 5, 6])[0]),
+                                         ("pull", twice, lambda log: log.pull(1)[0]),
+                                         ("status of a primary", 1, lambda log: log.status(PRIMARY)[0]),
+                                         ("get of a primary", 3, lambda log: log.get(PRIMARY, 1, [4, 5, 6])[0])):
+                with Log(proxy.address, 2) as log:
+                    same(f"{what}, {words}", (outcome, words), (call(log), log.words))
+                    same(f"{what}, {words}: requests", (requests, 0), (log.counts.requests, log.in_flight()))
+            for what, call in (("join", lambda log: log.join()), ("take over", lambda log: log.take_over())):
+                with Log(proxy.address, 2) as log:
+                    same(f"{what}, {words}", (outcome, words, 0), (call(log), log.words, log.writing_epoch))
+
+
+class Refuses:
+    """A proxy's rule: once it has a body, that answers the writes and reports which `picks` names by their number, from 1 on,
+    their operation and their copy."""
+
+    def __init__(self):
+        self.body, self.picks, self.seen = None, None, 0
+
+    def begin(self, body, picks):
+        self.body, self.picks, self.seen = body, picks, 0
+
+    def end(self):
+        self.body = None
+
+    def __call__(self, frame):
+        if self.body is None or frame[33] not in (wire.WRITE, wire.REPORT):
+            return frame
+        self.seen += 1
+        return Answer(self.body) if self.picks(self.seen, frame[33], frame[34]) else frame
+
+
+def goes_on(what, log, blocks, taken):
+    """What follows an append that was not done, once nothing is refused any more, by how many copies had taken its block. None:
+    the same append is done. One: its LSN is taken in this epoch, and it never gets into the log. Two: it gets there when the
+    epoch ends."""
+    end = log.end
+    if taken == 0:
+        same(f"{what}: the same once more", (DONE, end + 1), (log.append(blocks), log.end))
+    else:
+        same(f"{what}: its LSN is taken", CONFLICT, log.append(blocks))
+        same(f"{what}: take over", (DONE, end + taken // 2), (log.take_over(), log.end))
+    same(f"{what}: and on", DONE, log.append(numbered(log.end + 1, 1)))
+
+
+def test_what_an_append_makes_of_a_refusal():
+    """A quorum of copies may have taken its block before: then it is in doubt, unless the database answers nothing any more."""
+    rule = Refuses()
+    with Service() as service, service.operator() as operator, Proxy(service.address, between=rule) as proxy, \
+            Log(proxy.address, 2) as log:
+        same("take over", DONE, log.take_over())
+        cases = [(denial(row, value), outcome, f"denied {row}, value {value}", False)
+                 for row, value, outcome in (("A1", 0, DENIED), ("A4", 0, FENCED), ("A5", 0, DENIED), ("B0", 0, DENIED),
+                                             ("B7", 0, DENIED), ("C4", 0, CONFLICT), ("C5", 0, DENIED))]
+        cases += [(b"\x09", DENIED, "no database", False), (b"\x08", DENIED, "spent", True),
+                  (b"\7", AUDIT_FULL, "audit list full", True)]
+        for body, outcome, words, is_final in cases:
+            for taken in (0, 1, 2):
+                what, end = f"{words}, taken by {taken}", log.end
+                rule.begin(body, lambda number, operation, copy: number > taken)
+                wanted = IN_DOUBT if taken == 2 and not is_final else outcome
+                blocks = numbered(end + 1, 1)
+                same(what, wanted, log.append(blocks))
+                same(f"{what}: in words", words if wanted == words else f"{wanted}: {words}", log.words)
+                same(f"{what}: not in the log yet", (end, end), (log.end, operator.status()[2]))
+                rule.end()
+                goes_on(what, log, blocks, taken)
+
+
+def test_no_memory_that_passes_is_made_up_for():
+    """Of three blocks, six writes and a report, some requests are answered NoMemory: the first two, each one in turn, or all of
+    four tries. What was refused is asked again, with a report, and nothing else; the log has just these blocks."""
+    rule = Refuses()
+    cases = [({1, 2}, 7 + 3)] + [({number}, 7 + 2) for number in range(1, 7)] + [({7}, 7 + 1), (set(range(1, 29)), 7 * 5)]
+    with Service() as service, Log(service.address, 3) as reader, Proxy(service.address, between=rule) as proxy, \
+            Log(proxy.address, 2, patience_ms=600000) as log:
+        same("take over", DONE, log.take_over())
+        for refused, requests in cases:
+            what, first, before = f"NoMemory to {min(refused)} to {max(refused)}", log.end + 1, log.counts.requests
+            rule.begin(NO_MEMORY_BODY, lambda number, operation, copy: number in refused)
+            blocks = numbered(first, 3)
+            same(what, (DONE, first + 2), (log.append(blocks), log.end))
+            same(f"{what}: requests", requests, log.counts.requests - before)
+            same(f"{what}: log", blocks.all(), blocks_of(reader.pull(first)[1]))
+
+
+def test_no_memory_for_ever():
+    """An append asks five times. It is NO_MEMORY where fewer copies than a quorum took the block, and in doubt where a quorum
+    did, and the report alone was refused."""
+    rule = Refuses()
+    cases = [("all", lambda number, operation, copy: True, NO_MEMORY, 5 * 3, 0),
+             ("the writes", lambda number, operation, copy: operation == wire.WRITE, NO_MEMORY, 5 * 3, 0),
+             ("one copy", lambda number, operation, copy: (operation, copy) == (wire.WRITE, 1), NO_MEMORY, 1 + 5 * 2, 1),
+             ("the report", lambda number, operation, copy: operation == wire.REPORT, IN_DOUBT, 2 + 5, 2)]
+    with Service() as service, service.operator() as operator, Proxy(service.address, between=rule) as proxy, \
+            Log(proxy.address, 2, patience_ms=600000) as log:
+        same("take over", DONE, log.take_over())
+        for what, picks, outcome, requests, taken in cases:
+            end, before = log.end, log.counts.requests
+            rule.begin(NO_MEMORY_BODY, picks)
+            blocks = numbered(end + 1, 1)
+            same(f"NoMemory to {what}", outcome, log.append(blocks))
+            same(f"{what}: in words", "in doubt: no memory" if outcome == IN_DOUBT else "no memory", log.words)
+            same(f"{what}: requests", requests, log.counts.requests - before)
+            same(f"{what}: not in the log yet", (end, end), (log.end, operator.status()[2]))
+            rule.end()
+            goes_on(what, log, blocks, taken)
+
+
+if __name__ == "__main__":
+    run("wire replies", globals())
