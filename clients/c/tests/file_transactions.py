@@ -6,9 +6,7 @@ import time
 from binding import (AUDIT_FULL, CONFLICT, DENIED, DONE, FENCED, IN_DOUBT, LOST, MALFORMED, File, Log, PRIMARY, SECONDARY,
                      Blocks)
 from check import LONG, MODEL, run, same, true
-from service import Proxy, Service, START_TABLE, TABLE, random_plan, wire
-
-NUMBERS = random.Random(11)
+from service import Proxy, Service, START_TABLE, TABLE, failing_over, random_plan, wire
 
 
 def opened(address, principal=2, **more):
@@ -213,6 +211,48 @@ def test_a_fenced_writer_fetches_on():
         with opened(service.address, 5) as new:
             same("new", (DONE, DONE, DONE), (new.begin(), new.write(0, b"c" * 50000), new.commit()))
             same("its snapshot", wanted, old.whole())
+
+
+def test_a_commit_whose_report_meets_a_failover_is_done():
+    """An operator ends the epoch just before the last report of a commit of one block, and of more than a window. Each block is
+    in two copies, so the failover has put it into the log, and the commit is done; the next one is not."""
+    large = random.Random(9).randbytes(2200000)
+    for unwaited, changed, reports in ((0, b"b" * 10, 1), (64, b"b" * 10, 1), (0, large, 2)):
+        for to in (2, 5):
+            with Service() as service, opened(service.address, 3, reads_only=True) as reader, \
+                    Proxy(service.address, between=failing_over(service, wire.REPORT, 1 + reports, to)) as proxy, \
+                    opened(proxy.address, 2, unwaited=unwaited, check_ms=3600000) as file:
+                wanted = changed + (b"a" * 20)[len(changed) :]
+                same("before", (DONE, DONE, DONE, DONE), (file.begin(), file.write(0, b"a" * 20), file.commit(), file.settle()))
+                same("at the failover", (DONE, DONE), (file.begin(), file.write(0, changed)))
+                same("done", (DONE, DONE, 0), (file.commit(), file.settle(), file.state.losses))
+                same("in an epoch that is over", (2, 3), (file.state.writing_epoch, file.state.epoch))
+                same("a reader", (DONE, True, 2), (reader.begin(), reader.whole() == wanted, reader.state.transaction))
+                with opened(service.address, 4, reads_only=True) as new:
+                    same("a new reader", (DONE, True), (new.begin(), new.whole() == wanted))
+                same("the next one", (DONE, DONE), (file.begin(), file.write(0, b"c")))
+                outcome = file.commit()
+                same("is refused", (FENCED, True), (file.settle() if unwaited else outcome, file.state.is_fenced))
+                same("and not there", (DONE, True), (reader.begin(), reader.whole() == wanted))
+                same("it follows", (DONE, True), (file.begin(), file.whole() == wanted))
+
+
+def test_half_a_transaction_that_a_failover_puts_into_the_log_is_not_committed():
+    """An operator ends the epoch before the report of the first 64 blocks: they are in the log, without an end mark."""
+    with Service() as service, opened(service.address, 3, reads_only=True) as reader, \
+            Proxy(service.address, between=failing_over(service, wire.REPORT, 2)) as proxy, opened(proxy.address, 2) as file:
+        numbers = random.Random(10)
+        wanted = numbers.randbytes(50000)
+        same("before", (DONE, DONE, DONE), (file.begin(), file.write(0, wanted), file.commit()))
+        before = file.state.end
+        same("write", (DONE, DONE), (file.begin(), file.write(0, numbers.randbytes(2200000))))
+        same("fenced", (FENCED, True), (file.commit(), "A2" in file.words))
+        with service.operator() as operator:
+            same("half of it is in the log", before + 64, operator.status()[2])
+        same("a reader", (DONE, True), (reader.begin(), reader.whole() == wanted))
+        same("it follows", (DONE, True), (file.begin(), file.whole() == wanted))
+        with opened(service.address, 5) as new:
+            same("the next writer", (1, DONE, True), (new.state.repairs, new.begin(), new.whole() == wanted))
 
 
 def test_a_commit_in_doubt_is_settled():
