@@ -11,7 +11,7 @@ import time
 
 from check import LONG, run, same, true
 from database import EXTENSION, TOKENS, code_of, connect, one, reader, uri
-from service import CLIENT, Answer, Proxy, START_TABLE, Service, plain_environment, wire
+from service import CLIENT, Answer, Asker, Peer, Proxy, START_TABLE, Service, failing_over, plain_environment, wire
 
 COUNT = 40000 if LONG else 10000
 
@@ -526,6 +526,122 @@ def test_replies_of_a_service_at_its_end():
             same(f"who comes now, {words}", name, code_of(lambda: reader(proxy.address, patience=200)))
             is_over[0] = False
             same("a row", 1, one(follower, "select count(*) from t"))
+
+
+def write_as_another(address, lsn, *records, copies=(0, 1), database=0):
+    """Another session of principal 2 writes a block in the current epoch, and reports it where two copies have it."""
+    block = wire.block(lsn, list(records))
+    with Asker(address, 2, wire.PRIMARY, database) as other:
+        for copy in copies:
+            same("its write", b"\0", other.ask(wire.WRITE, wire.write(copy, block)))
+        if len(copies) > 1:
+            same("its report", b"\0", other.ask(wire.REPORT, wire.report(lsn)))
+
+
+def mark(lsn, size=0, magic=b"plfile01"):
+    """An end mark: magic, LSN, the size of the file, the session, the number of the transaction."""
+    return magic + b"".join(wire.number(value, 8) for value in (lsn, size, 1, 1))
+
+
+def test_a_database_of_something_else_is_not_opened():
+    """Page 0 has no end mark, or one that cannot be its own. Nobody may open the database, and nothing is written to it."""
+    cases = [("a text", b"something else"), ("another magic number", mark(1, magic=b"plfile02")), ("an LSN of 0", mark(0)),
+             ("an LSN above its own", mark(2)), ("a size above the largest", mark(1, 4294967295 * 8192 + 1))]
+    with Service(dbs=1 + len(cases)) as service:
+        for db, (what, page) in enumerate(cases, 1):
+            write_as_another(service.address, 1, (0, 0, page), database=db)
+            for who, opened in (("reader", lambda: reader(service.address, db=db)),
+                                ("reader of the past", lambda: connect(service.address, 4, None, at=1, db=db)),
+                                ("writer", lambda: connect(service.address, db=db)),
+                                ("writer without an operator", lambda: connect(service.address, 2, None, db=db))):
+                same(f"{what}, {who}", "SQLITE_NOTADB", code_of(opened))
+            with service.operator(db) as operator:
+                same(f"{what}: blocks", 1, operator.status()[2])
+        write_as_another(service.address, 1, (0, 0, mark(1)))
+        same("an end mark of its own", 0, one(connect(service.address), "select count(*) from sqlite_schema"))
+
+
+def test_another_session_in_the_epoch_is_a_protocol_error():
+    """It takes the next LSN, in one copy and then in the log. Nothing of the transaction that meets it is in the database; what
+    the other session wrote is undone, as it has no end mark."""
+    with Service() as service:
+        insert = lambda value: code_of(lambda: writer.execute("insert into t values (?)", (value,)))
+        rows = lambda connection: connection.execute("select a from t").fetchall()
+        writer = connect(service.address, check=3600000)
+        writer.executescript("create table t(a); insert into t values (1);")
+        write_as_another(service.address, number_of(writer, "end") + 1, (2, 100, b"other"), copies=(1,))
+        for _ in range(2):
+            same("in one copy", "SQLITE_PROTOCOL", insert(2))
+            same("why", "conflict: denied C4, value 0", one(writer, "pragma pagelog_error"))
+            same("rows", [(1,)], rows(writer))
+        writer.close()
+        writer = connect(service.address, check=3600000)
+        same("in an epoch of its own", None, insert(3))
+        lsn = number_of(writer, "end") + 1
+        write_as_another(service.address, lsn, (2, 100, b"other"))
+        same("in the log", "SQLITE_PROTOCOL", insert(4))
+        same("why", f"conflict: denied C2, value {lsn}", one(writer, "pragma pagelog_error"))
+        same("rows of a reader meanwhile", [(1,), (3,)], rows(reader(service.address)))
+        same("rows", [(1,), (3,)], rows(writer))
+        same("undone", 1, number_of(writer, "repairs"))
+        same("and on", None, insert(5))
+        for connection in (writer, reader(service.address)):
+            same("rows at the end", [(1,), (3,), (5,)], rows(connection))
+            same("integrity", "ok", one(connection, "pragma integrity_check"))
+
+
+# What no service replies to a request of this client: a body, and what the client says of it.
+NONSENSE = (("no byte", b"", "malformed"), ("an unknown kind", b"\x0b", "malformed"), ("a byte too many", b"\6\0", "malformed"),
+            ("half a page", b"\2" + bytes(4104), "malformed"), ("no section", b"\5\4\0\1" + bytes(8), "malformed"),
+            ("a fault that no request has", b"\x0a\x10", "malformed"),
+            ("a fault of the request", b"\x0a\x06", "malformed: fault 6 of the request"))
+
+
+def test_a_peer_that_is_no_service_is_a_protocol_error():
+    """From a COMMIT on, which is in doubt then, all that is asked is answered with nonsense. Once the service answers again
+    both connections go on."""
+    peer, rows, select = Peer(), [], "select a from t"
+    with Service() as service, Proxy(service.address, between=peer) as proxy:
+        writer, follower = connect(proxy.address, patience=200), reader(proxy.address, patience=200)
+        writer.execute("create table t(a)")
+        for number, (what, nonsense, words) in enumerate(NONSENSE):
+            writer.execute("insert into t values (?)", (number,))
+            rows.append((number,))
+            follower.execute("begin")
+            same(f"before {what}", rows, follower.execute(select).fetchall())
+            writer.execute("begin immediate")
+            writer.execute("insert into t values (-1)")
+            peer.body = nonsense
+            same(f"{what}: a commit", "SQLITE_IOERR_FSYNC", code_of(lambda: writer.execute("commit")))
+            same(f"{what}: a snapshot", rows, follower.execute(select).fetchall())
+            follower.execute("commit")
+            for who, connection in (("a reader", follower), ("a writer", writer)):
+                same(f"{what}: {who}", "SQLITE_PROTOCOL", code_of(lambda: connection.execute(select).fetchall()))
+                same("why", words, one(connection, "pragma pagelog_error"))
+            for who, opened in (("a new reader", lambda: reader(proxy.address, patience=200)),
+                                ("a new writer", lambda: connect(proxy.address, 5, patience=200))):
+                same(f"{what}: {who}", "SQLITE_PROTOCOL", code_of(opened))
+            peer.body = None
+            for connection in (writer, follower):
+                same(f"after {what}", rows, connection.execute(select).fetchall())
+
+
+def test_a_commit_whose_report_meets_a_failover_is_done():
+    """An operator ends the epoch just before the report of a COMMIT, whose blocks are in two copies: so they are in the log.
+    The next transaction is refused."""
+    for check in (0, 3600000):
+        for to in (2, 5):
+            with Service() as service, Proxy(service.address, between=failing_over(service, wire.REPORT, 2, to)) as proxy:
+                writer = connect(proxy.address, check=check)
+                writer.execute("create table t(a, b)")
+                same("done", None, code_of(lambda: writer.execute("insert into t values (1, randomblob(100000))")))
+                same("in an epoch that is over", (2, 3), (number_of(writer, "writing_epoch"), number_of(writer, "epoch")))
+                new = reader(service.address)
+                same("a new reader", [(1, 100000)], new.execute("select a, length(b) from t").fetchall())
+                same("integrity", "ok", one(new, "pragma integrity_check"))
+                same("the next one", "SQLITE_READONLY", code_of(lambda: writer.execute("insert into t values (2, 2)")))
+                for connection in (new, writer):
+                    same("rows", [(1, 100000)], connection.execute("select a, length(b) from t").fetchall())
 
 
 def test_no_memory():
