@@ -9,11 +9,11 @@ import tempfile
 import threading
 import time
 
-from check import LONG, run, same, true
+from check import LONG, MODEL, run, same, true
 from database import EXTENSION, TOKENS, code_of, connect, one, reader, uri
 from service import CLIENT, Answer, Asker, Peer, Proxy, START_TABLE, Service, failing_over, plain_environment, wire
 
-COUNT = 40000 if LONG else 10000
+COUNT = 40000 if LONG else 300 if MODEL else 10000
 
 
 def mixed(numbers, count):
@@ -714,4 +714,6 @@ def test_speedtest1():
 
 
 if __name__ == "__main__":
-    run("vfs", globals())
+    # The model never lacks memory, and takes long to start, and to carry much out.
+    run("vfs", globals(), not_with_the_model=["test_page_sizes", "test_at_the_limits", "test_a_commit_in_doubt",
+                                              "test_replies_of_a_service_at_its_end", "test_no_memory", "test_speedtest1"])
