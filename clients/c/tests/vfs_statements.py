@@ -119,6 +119,23 @@ def test_page_sizes():
         same("the page size that SQLite takes by itself", 8192, one(connection, "pragma page_size"))
 
 
+def test_database_that_was_copied_from_wal():
+    """Its first page says that it has a WAL. There is none here."""
+    with Service() as service, tempfile.TemporaryDirectory() as folder:
+        plain = sqlite3.connect(os.path.join(folder, "plain.db"), isolation_level=None)
+        same("a WAL", "wal", one(plain, "pragma journal_mode = wal"))
+        plain.execute("create table t(a)")
+        plain.execute("insert into t values (1)")
+        connection = connect(service.address)
+        plain.backup(connection)
+        for number, opened in ((2, connection), (3, connect(service.address))):
+            opened.execute("insert into t values (?)", (number,))
+            same("rows", number, one(opened, "select count(*) from t"))
+            same("no WAL", "delete", one(opened, "pragma journal_mode"))
+        same("a reader's rows", 6, one(reader(service.address), "select sum(a) from t"))
+        plain.close()
+
+
 def test_journal_and_locking_modes():
     with Service() as service:
         connection = connect(service.address)
@@ -135,7 +152,11 @@ def test_journal_and_locking_modes():
         same("exclusive", "exclusive", one(connection, "pragma locking_mode = exclusive"))
         connection.execute("insert into t values (1)")
         connection.execute("insert into t values (2)")
-        same("no WAL either", "delete", one(connection, "pragma journal_mode"))
+        same("no WAL either", "delete", one(connection, "pragma journal_mode = wal"))
+        same("another mode", "memory", one(connection, "pragma journal_mode = memory"))
+        same("which stays", "memory", one(connection, "pragma journal_mode = WAL"))
+        connection.execute("delete from t where rowid = 12")
+        connection.execute("insert into t values (2)")
         same("rows", 12, one(reader(service.address), "select count(*) from t"))
 
 
