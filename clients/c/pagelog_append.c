@@ -135,7 +135,9 @@ static bool note(struct append *append, enum pagelog_outcome outcome) {
         append->refusal = outcome;
         append->refused = *refused;
     }
-    return outcome != PAGELOG_LOST && outcome != PAGELOG_MALFORMED;
+    if (outcome != PAGELOG_MALFORMED) return outcome != PAGELOG_LOST;
+    pagelog_disconnect(append->log); /* of what is in flight no reply is read any more */
+    return false;
 }
 
 /* The reply to the oldest request in flight, unless it was read before. */
@@ -332,6 +334,7 @@ static enum pagelog_outcome run(struct append *append) {
         if (is_in_log(append, count)) {
             advance(append, count);
             pagelog_progress(&patience);
+            memory_tries = 0;
             most = most * 2 < PAGELOG_WINDOW ? most * 2 : PAGELOG_WINDOW;
             continue;
         }

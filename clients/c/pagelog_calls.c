@@ -74,7 +74,10 @@ static enum pagelog_outcome get_group(struct pagelog *log, enum pagelog_role rol
     }
     for (size_t i = 0; i < count; i++) {
         enum pagelog_outcome outcome = pagelog_receive(log, &reply);
-        if (outcome == PAGELOG_LOST || outcome == PAGELOG_MALFORMED) return outcome;
+        if (outcome == PAGELOG_LOST || outcome == PAGELOG_MALFORMED) {
+            pagelog_disconnect(log); /* of what is in flight no reply is read any more */
+            return outcome;
+        }
         if (outcome == PAGELOG_DONE && reply.at != lsn) return pagelog_distrust(log);
         if (outcome == PAGELOG_DONE) memcpy(out + i * PAGELOG_PAGE_BYTES, reply.bytes, PAGELOG_PAGE_BYTES);
         if (outcome == PAGELOG_DONE || first != PAGELOG_DONE) continue;

@@ -57,13 +57,19 @@ enum pagelog_outcome pagelog_add_mark(struct pagelog_file *file, struct mark *ma
     return outcome == PAGELOG_DONE ? pagelog_blocks_end(file->blocks) : outcome;
 }
 
+/* Whether the page has no byte but zeros: nothing was ever written to it. */
+static bool is_untouched(const uint8_t *page) {
+    return page[0] == 0 && memcmp(page, page + 1, PAGELOG_PAGE_BYTES - 1) == 0;
+}
+
 enum pagelog_outcome pagelog_take_mark(struct pagelog_file *file, uint64_t lsn) {
     uint8_t page[PAGELOG_PAGE_BYTES];
     const uint32_t number = MARK_PAGE;
     struct mark mark;
     enum pagelog_outcome outcome = pagelog_fetch(file, lsn, &number, 1, page);
     if (outcome != PAGELOG_DONE) return outcome;
-    file->is_foreign = !pagelog_read_mark(page, &mark) || mark.lsn > lsn;
+    file->is_foreign =
+        !pagelog_read_mark(page, &mark) || mark.lsn > lsn || (mark.lsn == 0 && !is_untouched(page));
     if (file->is_foreign) {
         return pagelog_file_fail(file, PAGELOG_MALFORMED,
                                  "page 0 is no end mark: the database holds something else");

@@ -567,7 +567,8 @@ def mark(lsn, size=0, magic=b"plfile01"):
 def test_a_database_of_something_else_is_not_opened():
     """Page 0 has no end mark, or one that cannot be its own. Nobody may open the database, and nothing is written to it."""
     cases = [("a text", b"something else"), ("another magic number", mark(1, magic=b"plfile02")), ("an LSN of 0", mark(0)),
-             ("an LSN above its own", mark(2)), ("a size above the largest", mark(1, 4294967295 * 8192 + 1))]
+             ("an LSN above its own", mark(2)), ("a size above the largest", mark(1, 4294967295 * 8192 + 1)),
+             ("something after zeros", bytes(8191) + b"x")]
     with Service(dbs=1 + len(cases)) as service:
         for db, (what, page) in enumerate(cases, 1):
             write_as_another(service.address, 1, (0, 0, page), database=db)

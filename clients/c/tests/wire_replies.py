@@ -6,6 +6,9 @@ from binding import (AUDIT_FULL, CONFLICT, DENIED, DONE, FENCED, IN_DOUBT, MALFO
 from check import run, same
 from service import Answer, Peer, Proxy, Service, wire
 
+# Blocks above the end of the log, at most.
+WINDOW = 64
+
 # By pagelog.h: each row, with a value that it may have; its outcome; what an object learns by the value, if anything.
 ROWS = [
     ("A1", 0, DENIED, None),
@@ -256,6 +259,40 @@ def test_no_memory_for_ever():
             same(f"{what}: not in the log yet", (end, end), (log.end, operator.status()[2]))
             rule.end()
             goes_on(what, log, blocks, taken)
+
+
+def test_no_memory_once_in_each_group():
+    """Seven groups of 64 blocks, of which each is refused memory once: what was made up for does not count any more."""
+    rule = Refuses()
+    with Service() as service, Proxy(service.address, between=rule) as proxy, Log(proxy.address, 2, patience_ms=600000) as log:
+        same("take over", DONE, log.take_over())
+        refused = set()
+
+        def picks(number, operation, copy):
+            group = log.end // WINDOW
+            if group in refused:
+                return False
+            refused.add(group)
+            return True
+
+        rule.begin(NO_MEMORY_BODY, picks)
+        same("append", (DONE, 7 * WINDOW), (log.append(numbered(1, 7 * WINDOW)), log.end))
+        same("groups that were refused", set(range(7)), refused)
+
+
+def test_malformed_amid_a_group_leaves_nothing_in_flight():
+    """The service takes a request for none, which no request of this client is. The next call is answered as ever."""
+    peer = Peer()
+    with Service() as service, Proxy(service.address, between=peer) as proxy, Log(proxy.address, 2) as log:
+        same("take over", DONE, log.take_over())
+        same("append", DONE, log.append(numbered(1, 3)))
+        for what, call in (("gets", lambda: log.get(PRIMARY, 1, [1, 2, 3])[0]), ("append", lambda: log.append(numbered(4, 2)))):
+            peer.body = b"\x0a\x06"
+            same(what, MALFORMED if what == "gets" else IN_DOUBT, call())
+            same(f"{what}: in flight", 0, log.in_flight())
+            peer.body = None
+            same(f"{what}: then a status", DONE, log.status()[0])
+            same(f"{what}: then a take-over", DONE, log.take_over())
 
 
 if __name__ == "__main__":
