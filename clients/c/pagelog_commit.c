@@ -183,11 +183,11 @@ static enum pagelog_outcome settle_doubt(struct pagelog_file *file, const struct
     enum pagelog_outcome outcome = pagelog_take_over(
         file->log, options->operator_principal, options->operator_token, pagelog_writing_epoch(file->log));
     bool is_fenced = outcome == PAGELOG_FENCED && !pagelog_is_anew(file->log);
-    if (outcome != PAGELOG_DONE && !is_fenced) return PAGELOG_IN_DOUBT;
+    if (outcome != PAGELOG_DONE && !is_fenced) return pagelog_restore(file->log, PAGELOG_IN_DOUBT, &refused);
     if (is_fenced) pagelog_become_follower(file);
     outcome = find_mark(file, role_of(file), mark);
     if (outcome == PAGELOG_DONE) return PAGELOG_DONE;
-    if (outcome != PAGELOG_CONFLICT) return PAGELOG_IN_DOUBT;
+    if (outcome != PAGELOG_CONFLICT) return pagelog_restore(file->log, PAGELOG_IN_DOUBT, &refused);
     if (is_fenced) return PAGELOG_FENCED;
     return pagelog_restore(file->log, cause == PAGELOG_DONE ? PAGELOG_LOST : cause, &refused);
 }

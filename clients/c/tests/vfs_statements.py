@@ -635,6 +635,7 @@ def test_a_peer_that_is_no_service_is_a_protocol_error():
             writer.execute("insert into t values (-1)")
             peer.body = nonsense
             same(f"{what}: a commit", "SQLITE_IOERR_FSYNC", code_of(lambda: writer.execute("commit")))
+            same(f"{what}: why", "in doubt", one(writer, "pragma pagelog_error").split(":")[0])
             same(f"{what}: a snapshot", rows, follower.execute(select).fetchall())
             follower.execute("commit")
             for who, connection in (("a reader", follower), ("a writer", writer)):
