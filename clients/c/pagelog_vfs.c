@@ -650,8 +650,10 @@ static int answer_mode(struct connection *connection, char **arguments) {
     static const char *const modes[] = {"delete", "truncate", "persist", "memory", "off"};
     const char *name = arguments[1], *value = arguments[2];
     if (!value) return SQLITE_NOTFOUND;
-    if (sqlite3_stricmp(name, "locking_mode") == 0)
-        connection->is_exclusive = sqlite3_stricmp(value, "exclusive") == 0;
+    if (sqlite3_stricmp(name, "locking_mode") == 0) {
+        if (sqlite3_stricmp(value, "exclusive") == 0) connection->is_exclusive = true;
+        if (sqlite3_stricmp(value, "normal") == 0) connection->is_exclusive = false;
+    }
     if (sqlite3_stricmp(name, "journal_mode") != 0) return SQLITE_NOTFOUND;
     for (size_t i = 0; i < sizeof modes / sizeof *modes; i++)
         if (sqlite3_stricmp(value, modes[i]) == 0) connection->journal_mode = modes[i];

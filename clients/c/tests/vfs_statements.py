@@ -153,6 +153,7 @@ def test_journal_and_locking_modes():
         connection.execute("insert into t values (1)")
         connection.execute("insert into t values (2)")
         same("no WAL either", "delete", one(connection, "pragma journal_mode = wal"))
+        same("what is no locking mode", "exclusive", one(connection, "pragma locking_mode = other"))
         same("another mode", "memory", one(connection, "pragma journal_mode = memory"))
         same("which stays", "memory", one(connection, "pragma journal_mode = WAL"))
         connection.execute("delete from t where rowid = 12")
