@@ -1,5 +1,5 @@
 -- Equality of records and blocks, by their parts.
-use Rattle.std.proofs.Common.{◌≡◌, ℕ, List, [], ◌∷◌, Bool, true, false, ◌&&◌, eqb, refl, ap, ◌∙◌, Decides}
+use Rattle.std.proofs.Common.{◌≡◌, ℕ, List, Bool, true, false, ◌&&◌, eqb, refl, ap, ◌∙◌, Decides}
 use Rattle.std.specs.Str.{bytes_eq}
 use Rattle.std.specs.Cmp.Lexicographic.{pointwise}
 use Rattle.std.proofs.lemmas.Bool.{eqb-true, eq-eqb}
@@ -49,20 +49,3 @@ same_block-Decides a b =
       λ e. let parts = both (eqb a.lsn b.lsn) (pointwise same_record a.records b.records) e in Content-same a b (eqb-true a.lsn b.lsn parts.0) (records.0 parts.1),
       λ e. rw (eq-eqb a.lsn b.lsn (ap (λ (x : Content). x.lsn) e), records.1 (ap (λ (x : Content). x.records) e)) refl,
     )
-
--- tests that agree on records agree on lists of them
-pub pointwise-agree : (test : Record → Record → Bool) → ((x y : Record) → test x y ≡ same_record x y) → (xs ys : List Record) → pointwise test xs ys ≡ pointwise same_record xs ys
-pointwise-agree test is [] [] = refl
-pointwise-agree test is [] (y ∷ ys) = refl
-pointwise-agree test is (x ∷ xs) [] = refl
-pointwise-agree test is (x ∷ xs) (y ∷ ys) = rw (is, pointwise-agree test is xs ys) refl
-
--- a test that is right for each pair of variants agrees with `same_record` on all records
-pub same_record-agree : (test : Record → Record → Bool)
-    → ((p o q u : ℕ) (b c : List ℕ) → test (Put p o b) (Put q u c) ≡ (eqb p q && (eqb o u && bytes_eq b c))) → ((p q : ℕ) → test (Zero p) (Zero q) ≡ eqb p q)
-    → ((p o q : ℕ) (b : List ℕ) → test (Put p o b) (Zero q) ≡ false) → ((p q u : ℕ) (c : List ℕ) → test (Zero p) (Put q u c) ≡ false)
-    → (x y : Record) → test x y ≡ same_record x y
-same_record-agree test puts zeros put_zero zero_put (Put p o b) (Put q u c) = puts p o q u b c
-same_record-agree test puts zeros put_zero zero_put (Zero p) (Zero q) = zeros p q
-same_record-agree test puts zeros put_zero zero_put (Put p o b) (Zero q) = put_zero p o q b
-same_record-agree test puts zeros put_zero zero_put (Zero p) (Put q u c) = zero_put p q u c

@@ -8,3 +8,4 @@ pub mod Records
 pub mod Spellings
 pub mod RecordFaults
 pub mod Annotated
+pub mod Runs

@@ -13,6 +13,7 @@ pub mod laws;
 mod making;
 mod reading;
 mod record;
+mod same_bytes;
 pub mod seen;
 mod touching;
 mod writing;

@@ -9,7 +9,7 @@ ghost use Rattle.pl_block.specs.declared.fault.Failed.TheVariants.{NoMemory};
 ghost use Rattle.pl_block.specs.Faults.{Returns};
 ghost use Rattle.pl_block.specs.Making.{record_fault, records_fault, block_made};
 
-use crate::block::{Block, Parts};
+use crate::block::{Block, Partitions, Parts};
 use crate::bounds::{LONGEST_BLOCK, check_len, check_lsn, check_put};
 use crate::fault::{BlockFault, Fault};
 use crate::record::{Record, touched_partitions};
@@ -89,7 +89,7 @@ fn parts_of(alloc: Global, lsn: u64, records: Vec<Record>) -> Result<Parts, Bloc
     check_len(len)?;
     Ok(Parts {
         lsn,
-        partitions,
+        partitions: Partitions::from_vec(partitions),
         records,
         len,
     })

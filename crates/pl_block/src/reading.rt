@@ -9,13 +9,16 @@ ghost use Rattle.pl_block.specs.declared.fault.Failed.TheVariants.{NoMemory};
 ghost use Rattle.pl_block.specs.Faults.{Gives, Reads, Returns, Takes};
 ghost use Rattle.pl_block.specs.Reading.{lsn_at, rising_at, annotations_at, annotations_fault, put_at, zero_at, record_at, records_at, block_reading};
 
-use crate::block::{Block, Parts};
+use crate::block::{Block, Partitions, Parts};
 use crate::bounds::{check_len, check_lsn, check_put};
 use crate::fault::{BlockFault, Fault};
 use crate::record::{PUT, Record, ZERO, touched_partitions};
 use crate::seen::each_is_byte;
 use bytes::{Buf, Bytes};
 use std::alloc::{AllocError, Global};
+
+/// The bytes of a Zero, of which no record has fewer.
+const SHORTEST_RECORD: usize = 5;
 
 #[tactic(auto, unfolding(crate::specs::Reading::lsn_at))]
 fn take_lsn(rest: &mut Bytes) -> Result<u64, Fault>
@@ -27,10 +30,10 @@ fn take_lsn(rest: &mut Bytes) -> Result<u64, Fault>
 }
 
 // This many partitions, each above the one before it.
-fn take_rising(alloc: Global, count: u16, rest: &mut Bytes) -> Result<Vec<u16>, BlockFault>
+fn take_rising(alloc: Global, count: u16, rest: &mut Bytes) -> Result<Partitions, BlockFault>
     ensures exact { Takes (λ ps. ps.items) result rest.new (rising_at count 0 rest.old) }
 {
-    let mut partitions = Vec::new(alloc);
+    let mut partitions = Partitions::new(alloc);
     let mut low = 0u32;
     for _ in 0..count {
         let partition = rest.try_get_u16()?;
@@ -44,7 +47,7 @@ fn take_rising(alloc: Global, count: u16, rest: &mut Bytes) -> Result<Vec<u16>, 
 }
 
 #[tactic(auto, unfolding(crate::specs::Reading::annotations_at))]
-fn take_annotations(alloc: Global, rest: &mut Bytes) -> Result<Vec<u16>, BlockFault>
+fn take_annotations(alloc: Global, rest: &mut Bytes) -> Result<Partitions, BlockFault>
     ensures exact { Takes (λ ps. ps.items) result rest.new (annotations_at rest.old) }
 {
     let count = rest.try_get_u16()?;
@@ -89,11 +92,12 @@ fn take_record(rest: &mut Bytes) -> Result<Record, BlockFault>
     }
 }
 
-// This many records.
+// This many records. Their places are allocated at once, no more than the bytes that are left can spell.
 fn take_records(alloc: Global, count: u16, rest: &mut Bytes) -> Result<Vec<Record>, BlockFault>
     ensures exact { Takes (λ rs. rs.items) result rest.new (records_at count rest.old) }
 {
-    let mut records = Vec::new(alloc);
+    let places = usize::from(count).min(rest.len() / SHORTEST_RECORD);
+    let mut records = Vec::with_capacity(alloc, places)?;
     for _ in 0..count {
         let entry = take_record(rest)?;
         records.push(entry)?;
@@ -128,7 +132,7 @@ fn check_annotations(
 
 // The LSN, the annotations and the records of a block.
 #[tactic(auto, unfolding(crate::specs::Reading::block_reading))]
-fn fields_of(alloc: Global, input: Bytes) -> Result<(u64, Vec<u16>, Vec<Record>), BlockFault>
+fn fields_of(alloc: Global, input: Bytes) -> Result<(u64, Partitions, Vec<Record>), BlockFault>
     ensures exact { Gives (λ x. record { lsn = x.0; records = x.2.items }) result
         (block_reading input) }
     ensures valid { IfOk result (λ x. x.1.items ≡ touched x.2.items) }
@@ -143,7 +147,7 @@ fn fields_of(alloc: Global, input: Bytes) -> Result<(u64, Vec<u16>, Vec<Record>)
     if !rest.is_empty() {
         return Err(BlockFault::Malformed(Fault::BytesAfterEnd));
     }
-    check_annotations(alloc, &partitions, &records)?;
+    check_annotations(alloc, partitions.as_slice(), &records)?;
     Ok((lsn, partitions, records))
 }
 

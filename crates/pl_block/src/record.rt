@@ -1,8 +1,10 @@
 //! One change to one page.
 
 ghost use Rattle.std.specs.Prelude.{◌≡◌, IfOk, map};
-ghost use Rattle.pl_block.specs.Block.{changed_page, partition_of, touched};
+ghost use Rattle.std.specs.Cmp.Lexicographic.{pointwise};
+ghost use Rattle.pl_block.specs.Block.{changed_page, partition_of, same_record, touched};
 
+use crate::same_bytes::same_bytes;
 use bytes::Bytes;
 use std::alloc::{AllocError, Global};
 
@@ -16,7 +18,7 @@ pub(crate) const PUT: u8 = 1;
 pub(crate) const ZERO: u8 = 2;
 
 /// A change to one page.
-#[derive(Debug, Drop, PartialEq)]
+#[derive(Debug, Drop)]
 pub enum Record {
     /// Replaces the bytes of the page from `offset` on by `bytes`. In a block they are 1 to 8,192
     /// bytes, and end within the page.
@@ -49,6 +51,47 @@ impl Record {
     {
         (self.page() / PAGES_PER_PARTITION) as u16
     }
+}
+
+// Whether two records are the same.
+fn is_same(one: &Record, other: &Record) -> bool
+    ensures value { result ≡ same_record one.now other.now }
+{
+    match (one, other) {
+        (
+            Record::Put {
+                page,
+                offset,
+                bytes,
+            },
+            Record::Put {
+                page: other_page,
+                offset: other_offset,
+                bytes: other_bytes,
+            },
+        ) => {
+            page == other_page
+                && offset == other_offset
+                && same_bytes(bytes.as_slice(), other_bytes.as_slice())
+        }
+        (Record::Zero { page }, Record::Zero { page: other_page }) => page == other_page,
+        _ => false,
+    }
+}
+
+/// Whether the records are the same, in the same order.
+pub(crate) fn are_same(one: &[Record], other: &[Record]) -> bool
+    ensures value { result ≡ pointwise same_record one.now other.now }
+{
+    if one.len() != other.len() {
+        return false;
+    }
+    for (entry, beside) in one.iter().zip(other) {
+        if !is_same(entry, beside) {
+            return false;
+        }
+    }
+    true
 }
 
 // The partition of each record, in the order of the records.

@@ -279,13 +279,13 @@ impl Decider {
     {
         let asking = request.asking();
         let Some(key) = VerdictKey::of(&asking) else {
-            return table.first_match(request);
+            return table.first_match_of(&asking);
         };
         match self.look_up(key) {
             Some(verdict) if verdict.is_at(asking.lsn) => return verdict.found,
             _ => {}
         }
-        let found = table.first_match(request);
+        let found = table.first_match_of(&asking);
         if is_far(table, request, found) {
             self.cache(table, request, key, found);
         }

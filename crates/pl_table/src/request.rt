@@ -122,6 +122,7 @@ impl Act {
 
     // The partitions that the act names: those that its block touches, that of its page, all from lo to hi,
     // or the one that advances.
+    #[inline]
     fn partitions(&self) -> Partitions<'_>
         ensures value { named_by result ≡ partitions_of self.now }
     {
@@ -221,6 +222,7 @@ impl Request {
     }
 
     /// What the rows of a table look at in it. Nothing is copied.
+    #[inline]
     pub fn asking(&self) -> Asking<'_>
         // What rows look at in the request (`asked_in`).
         ensures value { asked_by result ≡ asked_in self.now }

@@ -196,6 +196,9 @@ impl Table {
         ensures exact { (lsn : ℕ) → lsn ≤ most →
             rows_allow self.now.rows (asked_at (asked_in request.now) lsn) ≡ nat_le lsn result }
     {
+        if !self.has_ends {
+            return most;
+        }
         self.reach_of(&request.asking(), most)
     }
 

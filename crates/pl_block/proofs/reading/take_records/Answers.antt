@@ -4,7 +4,7 @@ use Rattle.pl_block.proofs.reading.take_records.Goals as goal
 
 pub returns-in_err-entry : goal.returns-in_err-entry
 returns-in_err-entry c =
-    let p = err_from_is_err_and c.from_residual.result c.from_residual.ensures.1 in
+    let p = err_from_is_err_and c.from_residual-in_err-entry.result c.from_residual-in_err-entry.ensures.1 in
     record { exact = rw (p.1, p.2) (records_end c.in_err-entry.field-0.0 c.loop.records.items c.args.count c.loop.counter c.loop.rest _ c.loop-test.true c.in_err-entry.ensures.exact c.loop.invariant) }
 
 pub loop-preserved : goal.loop-preserved

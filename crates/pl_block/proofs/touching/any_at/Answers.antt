@@ -1,4 +1,4 @@
-use Rattle.std.proofs.Common.{arith, inl, inr}
+use Rattle.std.proofs.Common.{inl, inr}
 use Rattle.pl_block.proofs.Annotated.{any_cut, any_found, any_passed, any_done}
 use Rattle.pl_block.proofs.touching.any_at.Goals.{else-lo-partition-via-then-lo-partition+else-partition-hi, else-lo-partition-via-else-lo-partition}
 use Rattle.pl_block.proofs.touching.any_at.Goals as goal
