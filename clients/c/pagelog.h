@@ -330,7 +330,8 @@ enum pagelog_outcome pagelog_send_as(struct pagelog *log, const struct pagelog_r
  * the same, where the reply is none of those that the request can have. */
 enum pagelog_outcome pagelog_receive(struct pagelog *log, struct pagelog_reply *reply);
 
-/* How many requests were sent or queued whose replies were not yet read. */
+/* How many requests were sent or queued whose replies were not yet read. Those of pagelog_tidy_up are not
+ * counted. */
 size_t pagelog_in_flight(const struct pagelog *log);
 
 /* ---- Reading. These calls need an object with nothing in flight; they are repeated after a lost connection,
@@ -402,6 +403,14 @@ bool pagelog_append_is_due(struct pagelog *log);
 
 /* The same call, but true where all replies have come and none is a refusal: the append waits for nothing. */
 bool pagelog_append_is_answered(struct pagelog *log);
+
+/* For the time after a long append, in which nobody waits. A report enters the blocks of the report before
+ * into the index of pages, and moves old blocks to where they stay, before it is answered. This has the
+ * service do that now: by a report of the end of the log, and, where `operator_token` is not NULL, a tidy in
+ * that operator's name. Both change nothing that is read. It waits for nothing, and has no outcome. The
+ * replies are passed over by who reads the next one; after a refusal nothing is sent until this object begins
+ * another epoch. Nothing is sent either where something is in flight, or where this object may not append. */
+void pagelog_tidy_up(struct pagelog *log, uint32_t operator_principal, const uint8_t *operator_token);
 
 #ifdef __cplusplus
 }

@@ -170,6 +170,7 @@ static enum pagelog_outcome begin_epoch(struct pagelog *log, uint32_t epoch, boo
     log->owns_epoch = owns;
     log->zone.is_seen = false;
     log->stuck = true;
+    log->is_tidying_refused = false;
     if (epoch > log->epoch) log->epoch = epoch;
     enum pagelog_outcome outcome = pagelog_status(log, PAGELOG_PRIMARY, &status);
     if (outcome == PAGELOG_DONE) log->stuck = false;
@@ -231,4 +232,24 @@ enum pagelog_outcome pagelog_join(struct pagelog *log) {
         log->writing_epoch = 0;
         if (outcome != PAGELOG_FENCED || !is_epoch_told(log) || ++epochs > MOST_EPOCHS) return outcome;
     }
+}
+
+/* ---- What nobody waits for ---- */
+
+void pagelog_tidy_up(struct pagelog *log, uint32_t operator_principal, const uint8_t *operator_token) {
+    struct pagelog_request report = {.role = PAGELOG_PRIMARY, .operation = PAGELOG_REPORT, .lsn = log->end};
+    struct pagelog_request tidy = {.principal = operator_principal,
+                                   .role = PAGELOG_OPERATOR,
+                                   .database = log->options.database,
+                                   .epoch = log->writing_epoch,
+                                   .operation = PAGELOG_TIDY};
+    bool is_busy = log->socket < 0 || log->asked_count > 0 || log->unheard > 0;
+    if (is_busy || log->writing_epoch == 0 || log->stuck || log->anew || log->is_tidying_refused) return;
+    pagelog_send(log, &report);
+    if (operator_token) {
+        memcpy(tidy.token, operator_token, PAGELOG_TOKEN_BYTES);
+        pagelog_send_as(log, &tidy);
+    }
+    pagelog_pass_over(log);
+    pagelog_push(log);
 }

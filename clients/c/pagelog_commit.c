@@ -5,7 +5,8 @@
 #include <stdlib.h>
 #include <string.h>
 
-enum { FEW_BLOCKS = 8 };
+/* After MUCH_SENT bytes there is so much left to do for the service that it is asked to do it at once. */
+enum { FEW_BLOCKS = 8, MUCH_SENT = 8 * PAGELOG_BLOCK_BYTES };
 
 static const uint8_t zeros[PAGELOG_PAGE_BYTES];
 
@@ -230,6 +231,16 @@ enum pagelog_outcome pagelog_file_settle(struct pagelog_file *file) {
     return PAGELOG_DONE;
 }
 
+/* Has the service do what the last commits have left for the next report, while nobody waits. */
+static void tidy_up_at_times(struct pagelog_file *file) {
+    const struct pagelog_file_options *options = &file->options;
+    uint64_t sent = pagelog_counts_of(file->log).bytes_sent;
+    if (sent - file->tidied < MUCH_SENT) return;
+    file->tidied = sent;
+    pagelog_tidy_up(file->log, options->operator_principal,
+                    options->has_operator ? options->operator_token : NULL);
+}
+
 static enum pagelog_outcome commit_changes(struct commit *commit) {
     struct pagelog_file *file = commit->file;
     struct mark mark = next_mark(file);
@@ -244,6 +255,7 @@ static enum pagelog_outcome commit_changes(struct commit *commit) {
         pagelog_file_undo(file);
     else
         note_failure(file, outcome, end);
+    if (outcome == PAGELOG_DONE && fate == IN_THE_LOG) tidy_up_at_times(file);
     return outcome;
 }
 

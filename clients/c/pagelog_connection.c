@@ -93,7 +93,7 @@ static void take_over_lent(struct pagelog *log) {
 void pagelog_disconnect(struct pagelog *log) {
     if (log->socket >= 0) close(log->socket);
     log->socket = -1;
-    log->asked_count = 0;
+    log->asked_count = log->unheard = 0;
     log->ahead = (struct ahead){0};
     log->waits = false;
     log->lent_count = 0;
@@ -245,7 +245,7 @@ static enum pagelog_outcome flush(struct pagelog *log) {
 /* How many bytes the wait is for: all replies to what is in flight, where nothing is done before they are
  * there. */
 static size_t bytes_awaited(const struct pagelog *log) {
-    size_t has = held(&log->input), least = log->asked_count * LEAST_REPLY;
+    size_t has = held(&log->input), least = (log->unheard + log->asked_count) * LEAST_REPLY;
     bool is_group = log->is_in_group && log->asked_count > FEW_REPLIES;
     return is_group && least > has ? least - has : 1;
 }
@@ -380,12 +380,34 @@ static bool answers(uint8_t operation, uint8_t kind) {
     return kind == PAGELOG_REPLY_DONE;
 }
 
+void pagelog_pass_over(struct pagelog *log) {
+    log->unheard += log->asked_count;
+    log->asked_count = 0;
+}
+
+/* Reads the next reply, which is passed over. */
+static enum pagelog_outcome pass_over_one(struct pagelog *log) {
+    const uint8_t *body = NULL;
+    size_t length = 0;
+    struct pagelog_reply reply;
+    enum pagelog_outcome outcome = read_frame(log, &body, &length);
+    if (outcome != PAGELOG_DONE) return outcome;
+    if (pagelog_decode_reply(body, length, &reply) != 0 || !answers(PAGELOG_REPORT, reply.kind))
+        return pagelog_distrust(log);
+    if (reply.kind != PAGELOG_REPLY_DONE) log->is_tidying_refused = true;
+    log->unheard--;
+    log->counts.replies++;
+    return PAGELOG_DONE;
+}
+
 enum pagelog_outcome pagelog_receive(struct pagelog *log, struct pagelog_reply *reply) {
     const uint8_t *body = NULL;
     size_t length = 0;
     memset(reply, 0, sizeof *reply);
     if (log->asked_count == 0) return pagelog_fail(log, PAGELOG_MALFORMED);
     enum pagelog_outcome outcome = flush(log);
+    while (outcome == PAGELOG_DONE && log->unheard > 0)
+        outcome = pass_over_one(log);
     if (outcome == PAGELOG_DONE) outcome = read_frame(log, &body, &length);
     if (outcome != PAGELOG_DONE) return outcome;
     uint8_t operation = log->asked[log->asked_first];
@@ -415,6 +437,8 @@ size_t pagelog_take_done(struct pagelog *log, bool *is_over) {
     size_t count = 0;
     *is_over = !pagelog_is_pushed(log) || !read_some(log, MSG_DONTWAIT);
     if (*is_over) return 0;
+    while (log->unheard > 0 && is_done_next(log))
+        pass_over_one(log);
     while (log->asked_count > 0 && is_done_next(log) && pagelog_receive(log, &reply) == PAGELOG_DONE)
         count++;
     *is_over = held(&log->input) >= LEAST_REPLY;

@@ -29,8 +29,9 @@ struct pagelog_file;
 
 struct pagelog_file_options {
     struct pagelog_options service;
-    bool reads_only;   /* a secondary: it follows what others commit */
-    bool has_operator; /* a writer begins an epoch of its own, in this operator's name */
+    bool reads_only; /* a secondary: it follows what others commit */
+    /* A writer begins an epoch of its own in this operator's name, and has the service tidy up in it. */
+    bool has_operator;
     uint32_t operator_principal;
     uint8_t operator_token[PAGELOG_TOKEN_BYTES];
     unsigned written; /* to how many copies each block is written; 0: as many as the quorum */
@@ -107,6 +108,8 @@ uint64_t pagelog_file_size(const struct pagelog_file *file);
  *
  * DONE: it is in the log. IN_DOUBT: it may be; the next begin looks. Any other outcome: it is not in the log
  * and never will be. After any outcome but DONE the changes are still there, until pagelog_file_undo.
+ *
+ * Once 256 KiB were sent since the last time, a commit that was waited for is followed by pagelog_tidy_up.
  *
  * Where `unwaited` is not 0, DONE may say only that it was sent, with a report: it comes into the log after
  * those before it, as a whole or not at all. If it does not, another call has that outcome in place of its

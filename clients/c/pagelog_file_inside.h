@@ -29,6 +29,7 @@ struct pagelog_file {
     struct mark settled;   /* of the last transaction before these */
     size_t looked;         /* how many blocks there were when their replies were looked for last */
     uint64_t sent;         /* when the last of them was sent */
+    uint64_t tidied;       /* how many bytes had been sent when the service was asked to tidy up */
     bool is_over;          /* some of them were lost, and there was no begin since */
     uint64_t losses;       /* how often some were */
     uint64_t session;      /* of the writer: a random number */

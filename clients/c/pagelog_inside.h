@@ -57,6 +57,8 @@ struct pagelog {
     size_t lent_count;
     uint8_t asked[PAGELOG_IN_FLIGHT]; /* a ring: the operations of the requests in flight, the oldest first */
     size_t asked_first, asked_count;
+    size_t unheard;               /* requests before these, the replies to which are passed over */
+    bool is_tidying_refused;      /* one of them was, in the writing epoch */
     uint32_t epoch;               /* the newest that was heard of; 0: none yet */
     uint32_t writing_epoch;       /* 0: no writer */
     uint64_t end;                 /* the highest LSN known to be in the log */
@@ -89,6 +91,9 @@ void pagelog_push(struct pagelog *log);
 /* As pagelog_encode_request, but without the bytes at the end of the body; there are `*length` of them. */
 size_t pagelog_encode_front(const struct pagelog_request *request, uint8_t front[FRONT_BYTES],
                             size_t *length);
+
+/* The replies to what is in flight will be passed over. REQUIRES: each of them is Done, or a refusal. */
+void pagelog_pass_over(struct pagelog *log);
 
 /* Whether all that was queued has left this process. */
 bool pagelog_is_pushed(const struct pagelog *log);

@@ -15,7 +15,8 @@
  *   op=N             an operator, and
  *   optoken=HEX      its token: a writer that has both begins an epoch of its own when it opens,
  *                    and a writer elsewhere is fenced by it; one that has not writes in the
- *                    current epoch, if that is its principal's
+ *                    current epoch, if that is its principal's. By the operator it also has the
+ *                    service tidy up after each 256 KiB that it sends
  *   mode=ro          a secondary: it follows what is committed
  *   at=LSN           a secondary that reads the newest transaction that ended at this LSN or
  *                    before, for ever

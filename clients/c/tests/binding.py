@@ -118,6 +118,7 @@ declare("pagelog_append_ahead", None, c_void_p, c_void_p, c_uint)
 declare("pagelog_append_unwaited", c_bool, c_void_p, c_void_p, c_uint)
 declare("pagelog_append_is_due", c_bool, c_void_p)
 declare("pagelog_append_is_answered", c_bool, c_void_p)
+declare("pagelog_tidy_up", None, c_void_p, c_uint32, POINTER(c_uint8))
 declare("pagelog_disconnect", None, c_void_p)
 declare("pagelog_free", None, c_void_p)
 
@@ -285,6 +286,10 @@ class Log:
 
     def is_answered(self):
         return lib.pagelog_append_is_answered(self.made)
+
+    def tidy_up(self, operator=1):
+        """In the name of an operator, or of none."""
+        lib.pagelog_tidy_up(self.made, operator or 0, token(operator) if operator else None)
 
     def disconnect(self):
         lib.pagelog_disconnect(self.made)

@@ -6,7 +6,7 @@ import time
 from binding import (AUDIT_FULL, CONFLICT, DENIED, DONE, FENCED, IN_DOUBT, LOST, MALFORMED, File, Log, PRIMARY, SECONDARY,
                      Blocks)
 from check import LONG, MODEL, run, same, true
-from service import Proxy, Service, START_TABLE, TABLE, failing_over, random_plan, wire
+from service import Answer, Proxy, Service, START_TABLE, TABLE, failing_over, random_plan, wire
 
 
 def opened(address, principal=2, **more):
@@ -116,6 +116,89 @@ def test_what_an_update_costs():
         same("nothing", (DONE, DONE, DONE), (file.begin(), file.write(5000, b"%08d" % 9), file.commit()))
         same("no request", after.requests, file.state.wire.requests)
         return f"{(after.bytes_sent - before.bytes_sent) // 10} bytes an update"
+
+
+class Tidying:
+    """A proxy's rule: it counts what is asked between two commits, and meets the report or the tidy there by `meets`."""
+
+    def __init__(self, operation=None, meets=None):
+        self.operation, self.meets, self.reports, self.tidies, self.is_after_report = operation, meets, 0, 0, False
+
+    def __call__(self, frame):
+        is_second_report = frame[33] == wire.REPORT and self.is_after_report
+        self.reports += is_second_report
+        self.tidies += frame[33] == wire.TIDY
+        self.is_after_report = frame[33] in (wire.REPORT, wire.TIDY)
+        if self.meets and frame[33] == self.operation and (is_second_report or frame[33] == wire.TIDY):
+            meets, self.meets = self.meets, None
+            return meets(frame)
+        return frame
+
+
+def test_the_service_tidies_up_after_much_was_sent():
+    """Once for each 256 KiB at most, after a commit that was waited for, in the name of the operator if there is one."""
+    small, middle, large = 5000, 60000, 400000
+    cases = [("small", 1, 0, [small] * 20, 0, 0), ("middle", 1, 0, [middle] * 10, 3, 3), ("large", 1, 0, [large] * 4, 4, 4),
+             ("longer than a window", 1, 0, [2500000], 1, 1), ("no operator", None, 0, [large] * 4, 4, 0),
+             ("nobody waits", 1, 64, [middle] * 10, 0, 0)]
+    for what, operator, unwaited, sizes, reports, tidies in cases:
+        rule, numbers = Tidying(), random.Random(12)
+        with Service() as service, Proxy(service.address, between=rule) as proxy, \
+                opened(proxy.address, 2, operator=operator, unwaited=unwaited, check_ms=3600000) as file:
+            trips = file.state.wire.round_trips
+            for size in sizes:
+                wanted = numbers.randbytes(size)
+                same("commit", (DONE, DONE, DONE), (file.begin(), file.write(0, wanted), file.commit()))
+                if unwaited == 0:
+                    blocks = -(-size // 31000)
+                    true("no wait for it", file.state.wire.round_trips - trips <= -(-blocks // 64))
+                trips = file.state.wire.round_trips
+            same("settled", DONE, file.settle())
+            wanted = bytes([wanted[0] ^ 1]) + wanted[1:]
+            same("one more", (DONE, DONE, DONE, DONE), (file.begin(), file.write(0, wanted[:1]), file.commit(), file.settle()))
+            if unwaited == 0:
+                same(what, (reports, tidies), (rule.reports, rule.tidies))
+            same(f"{what}: tidies", tidies, rule.tidies)
+            with opened(service.address, 3, reads_only=True) as new:
+                true(f"{what}: a reader", new.begin() == DONE and new.whole()[:size] == wanted)
+
+
+def test_faults_while_the_service_tidies_up():
+    """At the report or the tidy after a commit the connection is cut, the request is refused, or the epoch ends. The commit is
+    done, nothing is said of it, and what comes next is done too, or fenced."""
+    first, second = random.Random(13).randbytes(400000), random.Random(14).randbytes(300000)
+    bodies = [b"\5\2\0\0" + bytes(8), b"\6", b"\7", b"\x08"]
+    for operation in (wire.REPORT, wire.TIDY):
+        with Service(dbs=7) as service:
+            ways = [("cut", lambda frame: None)]
+            ways += [(f"answered {body!r}", lambda frame, body=body: Answer(body)) for body in bodies]
+
+            def fail_over(frame):
+                with service.operator(6) as operator:
+                    operator.failover(5)
+                return frame
+
+            for database, (what, meets) in enumerate(ways + [("the epoch ends", fail_over)]):
+                rule = Tidying(operation, meets)
+                what = f"{what} at operation {operation}"
+                database = 6 if meets == fail_over else database
+                with Proxy(service.address, between=rule) as proxy, \
+                        opened(proxy.address, 2, check_ms=3600000, database=database) as file, \
+                        opened(service.address, 3, reads_only=True, database=database) as reader:
+                    same(what, (DONE, DONE, DONE), (file.begin(), file.write(0, first), file.commit()))
+                    same(f"{what}: as it was", (DONE, first), (reader.begin(), reader.whole()))
+                    same(f"{what}: what it reads", (DONE, first), (file.begin(), file.whole()))
+                    same("write", DONE, file.write(0, second))
+                    wanted = FENCED if meets == fail_over else DONE
+                    same(f"{what}: the next one", (wanted, None), (file.commit(), rule.meets))
+                    same(f"{what}: a reader", (DONE, True),
+                         (reader.begin(), reader.whole() == (first if wanted == FENCED else second + first[300000:])))
+                    tidies = rule.tidies
+                    if wanted == DONE:
+                        same("large", (DONE, DONE, DONE), (file.begin(), file.write(0, first), file.commit()))
+                        same("small", (DONE, DONE, DONE), (file.begin(), file.write(0, b"x"), file.commit()))
+                        same(f"{what}: tidies again", what.startswith("cut"), rule.tidies > tidies)
+                        same(f"{what}: at last", (DONE, b"x" + first[1:]), (reader.begin(), reader.whole()))
 
 
 class CutsOff:

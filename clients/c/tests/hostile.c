@@ -249,6 +249,7 @@ static void make_call(struct pagelog *log, const struct pagelog_options *options
     struct pagelog_request audit = {.role = PAGELOG_OPERATOR, .operation = PAGELOG_AUDIT, .lsn = 1, .max = 3};
     const uint32_t pages[3] = {1, 2, 70000};
     static uint8_t out[3 * PAGELOG_PAGE_BYTES];
+    if (below(state, 2)) pagelog_tidy_up(log, 1, below(state, 2) ? options->token : NULL);
     switch (below(state, CALLS)) {
     case 0:
         pagelog_status(log, 1 + (enum pagelog_role)below(state, 4), &reply);

@@ -510,6 +510,138 @@ def test_appends_that_nobody_waits_for_and_an_epoch_that_ends():
             same("log", blocks.all()[:kept], blocks_of(reader.pull(1)[1]))
 
 
+class Asked:
+    """A rule for a proxy: it keeps the operation of each request, and cuts the connection at one of them."""
+
+    def __init__(self):
+        self.operations, self.cut = [], None
+
+    def __call__(self, frame):
+        self.operations.append(frame[33])
+        return None if frame[33] == self.cut else frame
+
+
+def appended(log, how):
+    """A block that is appended in some way."""
+    blocks = numbered(log.end + 1, 1)
+    if how == "ahead":
+        log.append_ahead(blocks)
+    if how in ("unwaited", "looked for"):
+        true("sent", log.append_unwaited(blocks))
+    while how == "looked for" and not log.is_answered():
+        same("all is well", False, log.is_due())
+    return log.append(blocks)
+
+
+def test_tidying_up():
+    """It asks two things, or one where there is no operator. Whatever comes next has the reply to its own request, and the log
+    and its end are as before."""
+    asked = Asked()
+    calls = [("status", lambda log: log.status()[0]), ("gets", lambda log: log.get(PRIMARY, log.end, [0] * 70)[0]),
+             ("pull", lambda log: log.pull(1, 1)[0]), ("take over", lambda log: log.take_over())]
+    calls += [(how, lambda log, how=how: appended(log, how)) for how in ("at once", "ahead", "unwaited", "looked for")]
+    with Service() as service, service.operator() as operator, Log(service.address, 3) as reader, \
+            Proxy(service.address, between=asked) as proxy, Log(proxy.address, 2) as log:
+        same("take over", DONE, log.take_over())
+        same("append", DONE, log.append(numbered(1, 5)))
+        for what, call in calls:
+            for who in (1, None):
+                before, requests, end = len(asked.operations), log.counts.requests, log.end
+                log.tidy_up(who)
+                same(f"before {what}", (0, requests + (2 if who else 1)), (log.in_flight(), log.counts.requests))
+                same(what, (DONE, 0), (call(log), log.in_flight()))
+                same(f"{what}: replies", log.counts.requests, log.counts.replies)
+                same(f"{what}: asked", [wire.REPORT, wire.TIDY][: 2 if who else 1],
+                     asked.operations[before : before + (2 if who else 1)])
+                same(f"{what}: end", end + (what in ("at once", "ahead", "unwaited", "looked for")), log.end)
+        same("log", numbered(1, log.end).all()[5:], pulled(reader, log.end)[5:])
+        same("none was refused", 0, log.refused.kind)
+        operator.status()
+        same("tidied", len(calls), sum(line[25] == wire.TIDY for line in lines_of(operator)))
+        trips = log.counts.round_trips
+        log.tidy_up()
+        log.disconnect()
+        same("no wait for it", trips, log.counts.round_trips)
+
+
+def lines_of(operator):
+    """The lines of the audit list."""
+    found = []
+    while True:
+        reply = operator.ask(wire.AUDIT, wire.audit(len(found) + 1, 1024))
+        lines = [reply[at : at + 53] for at in range(3, len(reply), 53)]
+        found += lines
+        if len(lines) < 1024:
+            return found
+
+
+def test_where_nothing_is_tidied():
+    """Without a connection, before a writer has an epoch, while something is in flight, and after an append that was given up."""
+    with Service() as service, Log(service.address, 2) as log, Log(service.address, 3) as reader:
+        log.tidy_up()
+        same("not connected", 0, log.counts.requests)
+        same("join", DONE, log.join())
+        same("status", DONE, reader.status(SECONDARY)[0])
+        before = reader.counts.requests
+        reader.tidy_up()
+        same("a reader", before, reader.counts.requests)
+        same("send", DONE, log.send(request(PRIMARY, wire.STATUS)))
+        before = log.counts.requests
+        log.tidy_up()
+        same("in flight", (before, 1), (log.counts.requests, log.in_flight()))
+        same("its reply", (DONE, 4), (lambda outcome, reply: (outcome, reply.kind))(*log.receive()))
+        log.tidy_up()
+        log.tidy_up()
+        same("once", before + 2, log.counts.requests)
+        blocks = numbered(1, 2)
+        log.append_ahead(blocks)
+        before = log.counts.requests
+        log.tidy_up()
+        same("blocks ahead", (before, 4), (log.counts.requests, log.in_flight()))
+        log.disconnect()
+        same("given up", CONFLICT, log.append(blocks))
+        same("status", DONE, log.status()[0])
+        before = log.counts.requests
+        log.tidy_up()
+        same("stuck", before, log.counts.requests)
+
+
+def test_tidying_up_and_lost_connections():
+    """Cut at the report or the tidy: the next append is done, and each block is in the log once."""
+    for cut in (wire.REPORT, wire.TIDY):
+        for how in ("at once", "ahead", "unwaited"):
+            asked = Asked()
+            with Service() as service, Log(service.address, 3) as reader, Proxy(service.address, between=asked) as proxy, \
+                    Log(proxy.address, 2) as log:
+                same("take over", DONE, log.take_over())
+                same("append", DONE, log.append(numbered(1, 3)))
+                asked.cut = cut
+                log.tidy_up()
+                while proxy.cuts == 0:
+                    time.sleep(0.001)
+                asked.cut = None
+                blocks = numbered(4, 1)
+                if how == "ahead":
+                    log.append_ahead(blocks)
+                if how == "unwaited":
+                    log.append_unwaited(blocks)
+                same(f"append {how}", (DONE, 4), (log.append(blocks), log.end))
+                same("log", numbered(1, 4).all(), blocks_of(reader.pull(1)[1]))
+
+
+def test_tidying_up_after_the_epoch():
+    """It ends before the report or before the tidy: the next append learns of it, and nothing comes into the log."""
+    for operation, count in ((wire.REPORT, 2), (wire.TIDY, 1)):
+        with Service() as service, Log(service.address, 3) as reader, \
+                Proxy(service.address, between=failing_over(service, operation, count)) as proxy, Log(proxy.address, 2) as log:
+            same("take over", DONE, log.take_over())
+            same("append", DONE, log.append(numbered(1, 3)))
+            log.tidy_up()
+            same("fenced", (FENCED, ("A2", 3)), (log.append(numbered(4, 1)), log.row))
+            same("epochs", (2, 3), (log.writing_epoch, log.epoch))
+            same("log", 3, len(blocks_of(reader.pull(1)[1])))
+
+
 def test_an_old_writer_is_fenced():
     with Service() as service, Log(service.address, 2) as old, Log(service.address, 5) as new, \
             service.operator() as operator:

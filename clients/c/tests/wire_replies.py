@@ -1,9 +1,11 @@
 """What each reply means to each call of the wire: every row of a denial, every other kind, and a service that has no memory for
 a while, or for good. The service carries out what it is asked; a proxy answers some requests in its place."""
 
+import threading
+
 from binding import (AUDIT_FULL, CONFLICT, DENIED, DONE, FENCED, IN_DOUBT, MALFORMED, NO_MEMORY, OPERATOR, PAGE_SERVER, PRIMARY,
                      SECONDARY, Log, blocks_of, decode, numbered, outcome_of, request)
-from check import run, same
+from check import run, same, true
 from service import Answer, Peer, Proxy, Service, wire
 
 # Blocks above the end of the log, at most.
@@ -293,6 +295,113 @@ def test_malformed_amid_a_group_leaves_nothing_in_flight():
             peer.body = None
             same(f"{what}: then a status", DONE, log.status()[0])
             same(f"{what}: then a take-over", DONE, log.take_over())
+
+
+class RefusesOne:
+    """A proxy's rule: it answers the next request of an operation with a body."""
+
+    def __init__(self):
+        self.body, self.operation = None, None
+
+    def begin(self, operation, body):
+        self.operation, self.body = operation, body
+
+    def __call__(self, frame):
+        if frame[33] != self.operation:
+            return frame
+        self.operation = None
+        return Answer(self.body)
+
+
+def test_tidying_up_that_is_refused():
+    """Nobody hears of it, and no more is asked until the next epoch."""
+    rule = RefusesOne()
+    with Service() as service, Proxy(service.address, between=rule) as proxy, Log(proxy.address, 2) as log:
+        for body, _, words in refusals():
+            for operation in (wire.REPORT, wire.TIDY):
+                what = f"{words} to operation {operation}"
+                same("take over", DONE, log.take_over())
+                same("append", DONE, log.append(numbered(log.end + 1, 1)))
+                rule.begin(operation, body)
+                known = log.end, log.epoch, log.is_anew
+                log.tidy_up()
+                same(what, (DONE, 0, 0), (log.status()[0], log.in_flight(), log.refused.kind))
+                same(f"{what}: what is known", known, (log.end, log.epoch, log.is_anew))
+                requests = log.counts.requests
+                log.tidy_up()
+                same(f"{what}: not again", requests, log.counts.requests)
+                same(f"{what}: append", DONE, log.append(numbered(log.end + 1, 1)))
+        same("one connection", 1, log.counts.connects)
+
+
+def test_tidying_up_that_is_refused_before_an_append_that_nobody_waits_for():
+    """The append is due then, meets the refusal, and is done. The replies are held back until the second block has come."""
+    rule, is_held = RefusesOne(), [False]
+    with Service() as service, Proxy(service.address, between=rule, holds=lambda: is_held[0]) as proxy, \
+            Log(proxy.address, 2) as log:
+        for operation in (None, wire.REPORT, wire.TIDY):
+            same("take over", DONE, log.take_over())
+            same("append", DONE, log.append(numbered(log.end + 1, 1)))
+            rule.begin(operation, denial("B0"))
+            is_held[0], end, blocks = True, log.end, numbered(log.end + 1, 1)
+            log.tidy_up()
+            same("sent", (True, 3), (log.append_unwaited(blocks), log.in_flight()))
+            for _ in range(50):
+                same("nothing has come", (False, False, 3), (log.is_due(), log.is_answered(), log.in_flight()))
+            is_held[0] = False
+            same("put", (DONE, DONE), (blocks.put(5, 0, b"more"), blocks.end()))
+            true("sent", log.append_unwaited(blocks))
+            is_over = False
+            while not is_over:
+                is_due = log.is_due()
+                true("no refusal", operation or not is_due)
+                true("no answer", not operation or not log.is_answered())
+                is_over = is_due if operation else log.is_answered()
+            same("append", (DONE, end + 2, 0), (log.append(blocks), log.end, log.in_flight()))
+
+
+def test_a_look_for_replies_does_not_wait_after_tidying_up():
+    """What tidies up is answered, and the block that is sent after it is held up before the service."""
+    has_come, may_go = threading.Event(), threading.Event()
+
+    def between(frame):
+        if frame[33] == wire.TIDY:
+            has_come.set()
+        if frame[33] == wire.WRITE:
+            may_go.wait(60)
+        return frame
+
+    with Service() as service, Proxy(service.address, between=between) as proxy, Log(proxy.address, 2, reply_ms=2000) as log:
+        same("take over", DONE, log.take_over())
+        log.tidy_up()
+        true("it has come", has_come.wait(60))
+        blocks = numbered(1, 1)
+        same("sent", True, log.append_unwaited(blocks))
+        before = log.counts.replies
+        while log.counts.replies < before + 2:
+            same("not due", (False, 3), (log.is_due(), log.in_flight()))
+        for _ in range(5):
+            same("not due yet", (False, False, 3), (log.is_due(), log.is_answered(), log.in_flight()))
+        may_go.set()
+        same("append", (DONE, 1), (log.append(blocks), log.end))
+
+
+def test_a_reply_to_tidying_up_that_is_none():
+    """What came before the reply to a request is none of the service: so it is with the connection."""
+    rule = RefusesOne()
+    bodies = [body for body, *_ in KINDS[1:5]] + [b"", b"\x0b", b"\0\0", denial("B3")[:-1]]
+    calls = [("status", MALFORMED, lambda log: log.status()[0]),
+             ("append", IN_DOUBT, lambda log: log.append(numbered(log.end + 1, 1)))]
+    with Service() as service, Proxy(service.address, between=rule) as proxy, Log(proxy.address, 2) as log:
+        for body in bodies:
+            for operation in (wire.REPORT, wire.TIDY):
+                for what, outcome, call in calls:
+                    same("take over", DONE, log.take_over())
+                    same("append", DONE, log.append(numbered(log.end + 1, 1)))
+                    rule.begin(operation, body)
+                    log.tidy_up()
+                    same(f"{body!r} to operation {operation}, {what}", (outcome, 0), (call(log), log.in_flight()))
+                    same("then", DONE, log.status()[0])
 
 
 if __name__ == "__main__":
