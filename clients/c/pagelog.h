@@ -245,7 +245,8 @@ struct pagelog_options {
     unsigned
         patience_ms; /* how long a call opens lost connections again while nothing gets done; 0: 10,000 */
     /* How many microseconds a wait may look for its reply before it sleeps, which spares its being woken,
-     * where the last waits took no longer; 0: 50, PAGELOG_NO_SPIN: each wait sleeps. */
+     * where the last waits took no longer; 0: 50, PAGELOG_NO_SPIN: each wait sleeps. Of many replies it looks
+     * for the last ones, so long for each that comes. */
     unsigned spin_us;
     /* The landing zone that the table gave the epoch: 3 copies and quorum 2, or 6 and 4; 0 and 0: 3 and 2. No
      * reply reports it. A denial C5 or C6 shows that it is the other one: then the object goes by that. */

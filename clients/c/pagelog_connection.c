@@ -19,6 +19,7 @@ enum {
     MOST_INPUT = 16 << 20, /* bytes that are read ahead while requests are still being sent */
     LEAST_REPLY = 5,       /* bytes of a frame of a reply, at least */
     FEW_REPLIES = 3,       /* this many come at once, mostly */
+    LAST_REPLIES = 8,      /* of a group: those that a wait may look for */
 };
 
 /* ---- Buffers ---- */
@@ -250,18 +251,25 @@ static size_t bytes_awaited(const struct pagelog *log) {
     return is_group && least > has ? least - has : 1;
 }
 
-/* Notes how long a wait took. A long one counts as a few short ones, so that it is soon forgotten. */
+/* Notes how long a wait took for its last bytes. A long one counts as a few short ones, so that it is soon
+ * forgotten. */
 static void note_wait(struct pagelog *log, uint64_t ns) {
     uint64_t most = 4 * log->spin_ns;
     log->usual_ns = (7 * log->usual_ns + (ns < most ? ns : most)) / 8;
 }
 
-/* Looks for `wanted` bytes without sleeping, for `spin_ns` at most: a thread that sleeps is woken some ten
- * microseconds after its reply has come. Only where the waits before took no longer, so that it mostly finds
- * them. False where the connection has ended. */
-static bool look_awake(struct pagelog *log, uint64_t start, size_t wanted) {
-    while (held(&log->input) < wanted && pagelog_now_ns() - start < log->spin_ns)
+/* Looks for `wanted` bytes without sleeping, for `spin_ns` after the last that came at most: a thread that
+ * sleeps is woken some ten microseconds after its reply has come, or more. Only where the waits before took
+ * no longer, so that it mostly finds them. `*since` becomes the time at which the last bytes but those came.
+ * False where the connection has ended. */
+static bool look_awake(struct pagelog *log, size_t wanted, uint64_t *since) {
+    uint64_t now = *since;
+    while (held(&log->input) < wanted && now - *since < log->spin_ns) {
+        size_t before = held(&log->input);
         if (!read_some(log, MSG_DONTWAIT)) return false;
+        now = pagelog_now_ns();
+        if (held(&log->input) > before && held(&log->input) < wanted) *since = now;
+    }
     return true;
 }
 
@@ -276,14 +284,24 @@ static bool sleep_for(struct pagelog *log, size_t least, uint64_t deadline) {
     return read_some(log, MSG_DONTWAIT);
 }
 
+/* Sleeps until all but the last replies of a group are there, as far as they are waited for, so that the wait
+ * is awake when the last ones come. */
+static bool sleep_before_last(struct pagelog *log, size_t wanted, uint64_t deadline) {
+    size_t last = LAST_REPLIES * LEAST_REPLY, until = wanted > last ? wanted - last : 0;
+    if (held(&log->input) < until && !read_some(log, MSG_DONTWAIT)) return false;
+    return held(&log->input) >= until || sleep_for(log, until - held(&log->input), deadline);
+}
+
 /* The first wait for a reply: for `reply_ms`. */
 static bool wait_first(struct pagelog *log, uint64_t *deadline) {
-    uint64_t start = pagelog_now_ns();
-    size_t wanted = held(&log->input) + bytes_awaited(log);
-    *deadline = start / 1000000 + log->options.reply_ms;
-    if (log->usual_ns < log->spin_ns && !look_awake(log, start, wanted)) return false;
+    uint64_t since = pagelog_now_ns();
+    size_t before = held(&log->input), wanted = before + bytes_awaited(log);
+    *deadline = since / 1000000 + log->options.reply_ms;
+    if (log->spin_ns > 0 && !sleep_before_last(log, wanted, *deadline)) return false;
+    if (held(&log->input) > before) since = pagelog_now_ns();
+    if (log->usual_ns < log->spin_ns && !look_awake(log, wanted, &since)) return false;
     if (held(&log->input) < wanted && !sleep_for(log, wanted - held(&log->input), *deadline)) return false;
-    if (log->spin_ns > 0) note_wait(log, pagelog_now_ns() - start);
+    if (log->spin_ns > 0) note_wait(log, pagelog_now_ns() - since);
     return true;
 }
 

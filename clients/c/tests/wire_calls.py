@@ -894,6 +894,18 @@ def test_waits_that_look_for_their_reply():
         same("awake", DONE, near.status()[0])
 
 
+def test_a_wait_for_many_replies_looks_for_the_last_ones():
+    """They come some eight at a time, soon after each other. To look for all of them would take a processor all the time."""
+    between = lambda frame: time.sleep(0.002) or frame
+    with Service() as service, Proxy(service.address, between=between) as slow, Log(slow.address, 2, spin_us=1000000) as log:
+        same("join", DONE, log.join())
+        for _ in range(3):
+            blocks = numbered(log.end + 1, 40, 8000)
+            start, used = time.monotonic(), time.thread_time()
+            same("append", DONE, log.append(blocks))
+            true("it sleeps first", time.thread_time() - used < (time.monotonic() - start) / 2)
+
+
 def test_a_joined_writer_without_the_role_of_a_secondary():
     """Under the start table nobody may look: a lost reply to a report is made up for by an epoch of one's own."""
     with Service(table=START_TABLE) as service:
