@@ -86,14 +86,13 @@ taken [] rest db some first is = absurd (omega (arith, some))
 taken (d ∷ ds) rest db some first is = λ i. sym first i ∷ sym is i
 
 -- with a desk more, and a database less
-pub terms_more : (seats turns : ℕ) (desks new : List DeskOrigin) (desk : DeskOrigin) (left rest : List History) (db : History) (all : List Terms)
-    → new ≡ desks ++ desk ∷ [] → left ≡ db ∷ rest → desk.terms ≡ record { seats = seats; turns = turns; opening = db }
+pub terms_more : (seats turns : ℕ) (desks new : List DeskOrigin) (left rest : List History) (db : History) (all : List Terms)
+    → map (λ d. d.terms) new ≡ map (λ d. d.terms) desks ++ record { seats = seats; turns = turns; opening = db } ∷ [] → left ≡ db ∷ rest
     → map (λ d. d.terms) desks ++ terms_of_each seats turns left ≡ all
     → map (λ d. d.terms) new ++ terms_of_each seats turns rest ≡ all
-terms_more seats turns desks new desk left rest db all pushed is made so_far =
-    let front : map (λ d. d.terms) new ≡ map (λ d. d.terms) desks ++ desk.terms ∷ [] = ap (map (λ d. d.terms)) pushed ∙ map-append (λ d. d.terms) desks (desk ∷ []) in
+terms_more seats turns desks new left rest db all front is so_far =
+    let t : Terms = record { seats = seats; turns = turns; opening = db } in
     ap (λ (ts : List Terms). ts ++ terms_of_each seats turns rest) front
-    ∙ append_assoc (map (λ d. d.terms) desks) (desk.terms ∷ []) (terms_of_each seats turns rest)
-    ∙ ap (λ (t : Terms). map (λ d. d.terms) desks ++ t ∷ terms_of_each seats turns rest) made
+    ∙ append_assoc (map (λ d. d.terms) desks) (t ∷ []) (terms_of_each seats turns rest)
     ∙ ap (λ (hs : List History). map (λ d. d.terms) desks ++ terms_of_each seats turns hs) (sym is)
     ∙ so_far

@@ -84,6 +84,31 @@ fn deal(all: &mut Vec<Passes>, mut passes: Vec<Pass>) -> Result<(), AllocError>
     Ok(())
 }
 
+// Opens the desk of one database more, and deals its passes out.
+fn open_one(
+    alloc: Global,
+    db: Db,
+    seats: u32,
+    turns: u64,
+    desks: &mut Vec<Desk>,
+    all: &mut Vec<Passes>,
+) -> Result<(), AllocError>
+    requires seats { 1 ≤ seats }
+    requires some { 1 ≤ turns }
+    requires few { turns ≤ 2 ^ 62 }
+    requires dealt { all.old.items ≡ all_fresh desks.old.items seats }
+    ensures terms { OnOk result (map (λ desk. desk.terms) desks.new.items ≡
+        map (λ desk. desk.terms) desks.old.items ++
+        record { seats = seats; turns = turns; opening = db } ∷ []) }
+    ensures dealt { OnOk result (all.new.items ≡ all_fresh desks.new.items seats) }
+{
+    let Ok((desk, passes)) = Desk::new(alloc, db, seats, turns) else {
+        return Err(AllocError);
+    };
+    desks.push(desk)?;
+    deal(all, passes)
+}
+
 // At each desk the pass meets the other.
 fn meet_each(desks: &[Desk], passes: &mut [Pass], mut others: Vec<Pass>)
     requires of { ArePassesOf desks.now passes.old }
@@ -132,11 +157,7 @@ impl<R> Desks<R> {
         let mut desks = Vec::with_capacity(alloc, dbs.len())?;
         let mut left = dbs;
         while !left.is_empty() {
-            let Ok((desk, passes)) = Desk::new(alloc, left.remove(0), seats, turns) else {
-                return Err(AllocError);
-            };
-            desks.push(desk)?;
-            deal(&mut all, passes)?;
+            open_one(alloc, left.remove(0), seats, turns, &mut desks, &mut all)?;
         }
         Ok((Desks { rt, desks }, all))
     }

@@ -1,7 +1,7 @@
 use Rattle.std.proofs.Common.{ℕ, ◌<◌, List, ◌++◌, map, length, sym, ap, subst, ◌∙◌}
 use Rattle.pl_desk.specs.Passes.{DeskOrigin}
 use Rattle.pl_conn.specs.Desks.{terms_of_each, all_fresh}
-use Rattle.pl_conn.proofs.Dealing.{all_fresh-none, all_fresh-pushed, all_fresh-of, terms_more, taken, some_left}
+use Rattle.pl_conn.proofs.Dealing.{all_fresh-none, all_fresh-of, terms_more, taken, some_left}
 use Rattle.pl_conn.proofs.desks.Desks.new.Goals as goal
 
 pub loop-alloc-init : goal.loop-alloc-init
@@ -14,12 +14,10 @@ pub loop-alloc-preserved : goal.loop-alloc-preserved
 loop-alloc-preserved g c =
     let left = c.loop-alloc.left in
     let some : 0 < length left.items = subst (λ (n : ℕ). 0 < n) left.ok.0 (some_left left.len (sym c.is_empty.ensures ∙ c.loop-alloc-test.true)) in
-    let pushed = c.in_ok-push.ensures.items in
     let first = taken left.items c.remove.new.self.items c.remove.result some c.remove.ensures.value c.remove.ensures.items in
-    let terms = terms_more c.args.seats c.args.turns c.loop-alloc.desks.items c.push.new.self.items c.in-Ok.desk left.items c.remove.new.self.items c.remove.result (terms_of_each c.args.seats c.args.turns c.args.dbs.items) pushed first c.in-Ok.ensures.terms c.loop-alloc.invariant.terms in
     record {
-      terms = terms;
-      fresh = all_fresh-pushed c.loop-alloc.desks.items c.push.new.self.items c.in-Ok.desk c.args.seats c.in-Ok.passes.items c.loop-alloc.all.items c.deal.new.all.items pushed c.in-Ok.ensures.passes c.loop-alloc.invariant.fresh c.in_ok-deal.ensures;
+      terms = terms_more c.args.seats c.args.turns c.loop-alloc.desks.items c.open_one.new.desks.items left.items c.remove.new.self.items c.remove.result (terms_of_each c.args.seats c.args.turns c.args.dbs.items) c.in_ok-open_one.ensures.terms first c.loop-alloc.invariant.terms;
+      fresh = c.in_ok-open_one.ensures.dealt;
     }
 
 pub returns-clause-of : goal.returns-clause-of
