@@ -20,7 +20,7 @@ fn is_same_run(one: &[u8], other: &[u8]) -> bool
 }
 
 /// Whether the bytes are the same. The last run is looked at first, and may overlap with the one before
-/// it. A run at a time takes a tenth of the time of a byte at a time.
+/// it.
 pub(crate) fn same_bytes(one: &[u8], other: &[u8]) -> bool
     ensures value { result ≡ bytes_eq one.now other.now }
 {
