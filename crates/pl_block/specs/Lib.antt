@@ -2,6 +2,7 @@ pub mod Bounds
 pub mod Spare
 pub mod Codes
 pub mod Block
+pub mod Few
 pub mod Spelling
 pub mod Faults
 pub mod Reading

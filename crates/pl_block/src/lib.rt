@@ -9,6 +9,7 @@
 mod block;
 mod bounds;
 mod fault;
+mod few;
 pub mod laws;
 mod making;
 mod reading;

@@ -9,9 +9,10 @@ ghost use Rattle.pl_block.specs.declared.fault.Failed.TheVariants.{NoMemory};
 ghost use Rattle.pl_block.specs.Faults.{Returns};
 ghost use Rattle.pl_block.specs.Making.{record_fault, records_fault, block_made};
 
-use crate::block::{Block, Partitions, Parts};
+use crate::block::{Block, Parts};
 use crate::bounds::{LONGEST_BLOCK, check_len, check_lsn, check_put};
 use crate::fault::{BlockFault, Fault};
+use crate::few::Few;
 use crate::record::{Record, touched_partitions};
 use crate::seen::is_u32;
 use std::alloc::Global;
@@ -89,8 +90,8 @@ fn parts_of(alloc: Global, lsn: u64, records: Vec<Record>) -> Result<Parts, Bloc
     check_len(len)?;
     Ok(Parts {
         lsn,
-        partitions: Partitions::from_vec(partitions),
-        records,
+        partitions: Few::Many(partitions),
+        records: Few::Many(records),
         len,
     })
 }

@@ -6,12 +6,14 @@ ghost use Rattle.pl_block.specs.Block.{Content, touched};
 ghost use Rattle.pl_block.specs.Bounds.{longest_block};
 ghost use Rattle.pl_block.specs.Spelling.{IsBlock, block_spelling};
 ghost use Rattle.pl_block.specs.declared.fault.Failed.TheVariants.{NoMemory};
+ghost use Rattle.pl_block.specs.Few.{listed};
 ghost use Rattle.pl_block.specs.Faults.{Gives, Reads, Returns, Takes};
 ghost use Rattle.pl_block.specs.Reading.{lsn_at, rising_at, annotations_at, annotations_fault, put_at, zero_at, record_at, records_at, block_reading};
 
-use crate::block::{Block, Partitions, Parts};
+use crate::block::{Block, Parts};
 use crate::bounds::{check_len, check_lsn, check_put};
 use crate::fault::{BlockFault, Fault};
+use crate::few::Few;
 use crate::record::{PUT, Record, ZERO, touched_partitions};
 use crate::seen::each_is_byte;
 use bytes::{Buf, Bytes};
@@ -30,10 +32,10 @@ fn take_lsn(rest: &mut Bytes) -> Result<u64, Fault>
 }
 
 // This many partitions, each above the one before it.
-fn take_rising(alloc: Global, count: u16, rest: &mut Bytes) -> Result<Partitions, BlockFault>
+fn take_rising(alloc: Global, count: u16, rest: &mut Bytes) -> Result<Vec<u16>, BlockFault>
     ensures exact { Takes (λ ps. ps.items) result rest.new (rising_at count 0 rest.old) }
 {
-    let mut partitions = Partitions::new(alloc);
+    let mut partitions = Vec::new(alloc);
     let mut low = 0u32;
     for _ in 0..count {
         let partition = rest.try_get_u16()?;
@@ -46,12 +48,23 @@ fn take_rising(alloc: Global, count: u16, rest: &mut Bytes) -> Result<Partitions
     Ok(partitions)
 }
 
+// This many partitions. One alone needs no memory.
+#[tactic(auto, unfolding(crate::specs::Reading::rising_at))]
+fn take_partitions(alloc: Global, count: u16, rest: &mut Bytes) -> Result<Few<u16>, BlockFault>
+    ensures exact { Takes listed result rest.new (rising_at count 0 rest.old) }
+{
+    if count == 1 {
+        return Ok(Few::One(rest.try_get_u16()?));
+    }
+    Ok(Few::Many(take_rising(alloc, count, rest)?))
+}
+
 #[tactic(auto, unfolding(crate::specs::Reading::annotations_at))]
-fn take_annotations(alloc: Global, rest: &mut Bytes) -> Result<Partitions, BlockFault>
-    ensures exact { Takes (λ ps. ps.items) result rest.new (annotations_at rest.old) }
+fn take_annotations(alloc: Global, rest: &mut Bytes) -> Result<Few<u16>, BlockFault>
+    ensures exact { Takes listed result rest.new (annotations_at rest.old) }
 {
     let count = rest.try_get_u16()?;
-    take_rising(alloc, count, rest)
+    take_partitions(alloc, count, rest)
 }
 
 #[tactic(auto, unfolding(crate::specs::Reading::put_at))]
@@ -93,7 +106,7 @@ fn take_record(rest: &mut Bytes) -> Result<Record, BlockFault>
 }
 
 // This many records. Their places are allocated at once, no more than the bytes that are left can spell.
-fn take_records(alloc: Global, count: u16, rest: &mut Bytes) -> Result<Vec<Record>, BlockFault>
+fn take_each(alloc: Global, count: u16, rest: &mut Bytes) -> Result<Vec<Record>, BlockFault>
     ensures exact { Takes (λ rs. rs.items) result rest.new (records_at count rest.old) }
 {
     let places = usize::from(count).min(rest.len() / SHORTEST_RECORD);
@@ -103,6 +116,17 @@ fn take_records(alloc: Global, count: u16, rest: &mut Bytes) -> Result<Vec<Recor
         records.push(entry)?;
     }
     Ok(records)
+}
+
+// This many records. One alone needs no memory.
+#[tactic(auto, unfolding(crate::specs::Reading::records_at))]
+fn take_records(alloc: Global, count: u16, rest: &mut Bytes) -> Result<Few<Record>, BlockFault>
+    ensures exact { Takes listed result rest.new (records_at count rest.old) }
+{
+    if count == 1 {
+        return Ok(Few::One(take_record(rest)?));
+    }
+    Ok(Few::Many(take_each(alloc, count, rest)?))
 }
 
 // Whether the records touch these partitions. Those of one record are compared without memory.
@@ -132,10 +156,10 @@ fn check_annotations(
 
 // The LSN, the annotations and the records of a block.
 #[tactic(auto, unfolding(crate::specs::Reading::block_reading))]
-fn fields_of(alloc: Global, input: Bytes) -> Result<(u64, Partitions, Vec<Record>), BlockFault>
-    ensures exact { Gives (λ x. record { lsn = x.0; records = x.2.items }) result
+fn fields_of(alloc: Global, input: Bytes) -> Result<(u64, Few<u16>, Few<Record>), BlockFault>
+    ensures exact { Gives (λ x. record { lsn = x.0; records = listed x.2 }) result
         (block_reading input) }
-    ensures valid { IfOk result (λ x. x.1.items ≡ touched x.2.items) }
+    ensures valid { IfOk result (λ x. listed x.1 ≡ touched (listed x.2)) }
     ensures no_memory { result ≡ Err NoMemory → length input ≤ longest_block }
 {
     check_len(input.len())?;
@@ -147,7 +171,7 @@ fn fields_of(alloc: Global, input: Bytes) -> Result<(u64, Partitions, Vec<Record
     if !rest.is_empty() {
         return Err(BlockFault::Malformed(Fault::BytesAfterEnd));
     }
-    check_annotations(alloc, partitions.as_slice(), &records)?;
+    check_annotations(alloc, partitions.as_slice(), records.as_slice())?;
     Ok((lsn, partitions, records))
 }
 

@@ -1,7 +1,7 @@
 //! What the arguments of the program ask for, read with `clap`.
 
 ghost use Rattle.std.specs.Prelude.{◌≡◌, ◌≢◌, ◌≤◌, false, true, Some, None, codes, pos, IfErr, IfOk, IfSome, IsNone, map, string_bytes};
-ghost use Rattle.clap.specs.Words.{IsAmong, all_of, app_of, fault_of, found_of, kind_of, rows_of, rule_of, subcommand_of, subcommand_rows_of, takes};
+ghost use Rattle.clap.specs.Words.{App, IsAmong, Rule, all_of, app_of, fault_of, found_of, kind_of, rows_of, rule_of, subcommand_of, subcommand_rows_of, takes, with_rule, with_subcommand};
 ghost use Rattle.pl_command.specs.CommandLine.{AsksFor, GivesAsk, GivesNumber, GivesPlay, GivesServe, GivesWords, Has, HasNumber, HasNumbers, HasWords, IsWholeCommand, IsHelp, IsUsage, Names, ask_app, number_option, number_or, own_app, play_app, serve_app, text_option, words_rule};
 
 use clap::builder::ValueParser;
@@ -137,119 +137,130 @@ fn words<'a>(alloc: Global) -> Arg<'a>
         .num_args(1..)
 }
 
+// A command that is being made. Where an allocation failed, it stays so.
+#[derive(Drop)]
+struct Making<'a> {
+    command: Result<Command<'a>, AllocError>,
+}
+
+// The command with this subcommand.
+fn joined<'a>(
+    command: Result<Command<'a>, AllocError>,
+    subcommand: Result<Command<'a>, AllocError>,
+) -> Result<Command<'a>, AllocError>
+    ensures app { (app sub : App) → IfOk command.entry (λ c. app_of c ≡ app) → IfOk subcommand.entry (λ c. app_of c ≡ sub) →
+        sub.top.is_plain ≡ true → IfOk result (λ c. app_of c ≡ with_subcommand app sub.top) }
+{
+    command?.subcommand(subcommand?)
+}
+
+impl<'a> Making<'a> {
+    fn new(command: Command<'a>) -> Making<'a>
+        ensures app { (app : App) → app_of command.entry ≡ app →
+            IfOk result.command (λ c. app_of c ≡ app) }
+    {
+        Making {
+            command: Ok(command),
+        }
+    }
+
+    // An option more.
+    fn option(self, option: Arg<'a>) -> Making<'a>
+        requires local { option.global ≡ false }
+        ensures app { (app : App) (rule : Rule) → IfOk self.entry.command (λ c. app_of c ≡ app) →
+            rule_of option.entry ≡ rule → IfOk result.command (λ c. app_of c ≡ with_rule app rule) }
+    {
+        let Making { command } = self;
+        Making {
+            command: match command {
+                Ok(command) => command.arg(option),
+                Err(refused) => Err(refused),
+            },
+        }
+    }
+
+    // A subcommand more.
+    fn subcommand(self, subcommand: Making<'a>) -> Making<'a>
+        ensures app { (app sub : App) → IfOk self.entry.command (λ c. app_of c ≡ app) →
+            IfOk subcommand.entry.command (λ c. app_of c ≡ sub) → sub.top.is_plain ≡ true →
+            IfOk result.command (λ c. app_of c ≡ with_subcommand app sub.top) }
+    {
+        let Making { command } = self;
+        let Making { command: other } = subcommand;
+        Making {
+            command: joined(command, other),
+        }
+    }
+}
+
 const TABLE: &str = "The file with the text of the table of who may do what";
 
 const PRIMARY: &str = "The id of the first primary";
 
-fn play_command<'a>(alloc: Global) -> Result<Command<'a>, AllocError>
-    ensures ok { IfOk result (λ c. app_of c ≡ play_app) }
+fn play_command<'a>(alloc: Global) -> Making<'a>
+    ensures ok { IfOk result.command (λ c. app_of c ≡ play_app) }
 {
-    Command::new(alloc, "play")
-        .about("Answers request bodies, each a line of hexadecimal digits of the standard input")
-        .arg(text(alloc, "table", "FILE", TABLE))?
-        .arg(number(alloc, "primary", 0, u32::MAX, PRIMARY))
+    let about = "Answers request bodies, each a line of hexadecimal digits of the standard input";
+    Making::new(Command::new(alloc, "play").about(about))
+        .option(text(alloc, "table", "FILE", TABLE))
+        .option(number(alloc, "primary", 0, u32::MAX, PRIMARY))
 }
 
-fn serve_command<'a>(alloc: Global) -> Result<Command<'a>, AllocError>
-    ensures ok { IfOk result (λ c. app_of c ≡ serve_app) }
+fn serve_command<'a>(alloc: Global) -> Making<'a>
+    ensures ok { IfOk result.command (λ c. app_of c ≡ serve_app) }
 {
-    Command::new(alloc, "serve")
-        .about("Answers the requests of connections")
-        .arg(text(
-            alloc,
-            "listen",
-            "ADDRESS",
-            "The address at which connections are accepted",
-        ))?
-        .arg(text(alloc, "table", "FILE", TABLE))?
-        .arg(number(alloc, "primary", 0, u32::MAX, PRIMARY))?
-        .arg(number(alloc, "dbs", 1, 16, "How many databases there are, 1 to 16"))?
-        .arg(number(
-            alloc,
-            "workers",
-            1,
-            64,
-            "How many threads answer connections, 1 to 64",
-        ))?
-        .arg(number(
-            alloc,
-            "connections",
-            1,
-            u32::MAX,
-            "How many connections are accepted before the end",
-        ))?
-        .arg(number(
-            alloc,
-            "audit",
-            1,
-            16_777_216,
-            "How many entries each audit list holds",
-        ))?
-        .arg(number_or(
-            alloc,
-            "0",
-            "pager",
-            u32::MAX,
-            "The id of the page server that advances a partition",
-        ))?
-        .arg(number_or(
-            alloc,
-            "0",
-            "partition",
-            65_535,
-            "The partition that it advances",
-        ))?
-        .arg(number_or(
-            alloc,
-            "0",
-            "rounds",
-            u32::MAX,
-            "How often it advances the partition of each database",
-        ))?
-        .arg(number_or(
-            alloc,
-            "300",
-            "idle-polls",
-            10_000,
-            "How often one worker at a time polls again before it sleeps, 0 to 10,000",
-        ))
+    let listen = "The address at which connections are accepted";
+    let dbs = "How many databases there are, 1 to 16";
+    let workers = "How many threads answer connections, 1 to 64";
+    let connections = "How many connections are accepted before the end";
+    let audit = "How many entries each audit list holds";
+    let pager = "The id of the page server that advances a partition";
+    let partition = "The partition that it advances";
+    let rounds = "How often it advances the partition of each database";
+    let idle_polls = "How often one worker at a time polls again before it sleeps, 0 to 10,000";
+    Making::new(Command::new(alloc, "serve").about("Answers the requests of connections"))
+        .option(text(alloc, "listen", "ADDRESS", listen))
+        .option(text(alloc, "table", "FILE", TABLE))
+        .option(number(alloc, "primary", 0, u32::MAX, PRIMARY))
+        .option(number(alloc, "dbs", 1, 16, dbs))
+        .option(number(alloc, "workers", 1, 64, workers))
+        .option(number(alloc, "connections", 1, u32::MAX, connections))
+        .option(number(alloc, "audit", 1, 16_777_216, audit))
+        .option(number_or(alloc, "0", "pager", u32::MAX, pager))
+        .option(number_or(alloc, "0", "partition", 65_535, partition))
+        .option(number_or(alloc, "0", "rounds", u32::MAX, rounds))
+        .option(number_or(alloc, "300", "idle-polls", 10_000, idle_polls))
 }
 
-fn ask_command<'a>(alloc: Global) -> Result<Command<'a>, AllocError>
-    ensures ok { IfOk result (λ c. app_of c ≡ ask_app) }
+fn ask_command<'a>(alloc: Global) -> Making<'a>
+    ensures ok { IfOk result.command (λ c. app_of c ≡ ask_app) }
 {
-    Command::new(alloc, "ask")
-        .about("Sends one request of an operator, and shows the reply")
-        .arg(text(alloc, "to", "ADDRESS", "The address of the service"))?
-        .arg(number(alloc, "id", 0, u32::MAX, "The operator's id"))?
-        .arg(text(
-            alloc,
-            "token",
-            "HEX",
-            "The operator's token, 32 hexadecimal digits",
-        ))?
-        .arg(number(
-            alloc,
-            "db",
-            0,
-            u32::MAX,
-            "The number of the database, from 0",
-        ))?
-        .arg(number(alloc, "epoch", 0, u32::MAX, "The current epoch"))?
-        .arg(words(alloc))
+    let about = "Sends one request of an operator, and shows the reply";
+    let token = "The operator's token, 32 hexadecimal digits";
+    let db = "The number of the database, from 0";
+    Making::new(Command::new(alloc, "ask").about(about))
+        .option(text(alloc, "to", "ADDRESS", "The address of the service"))
+        .option(number(alloc, "id", 0, u32::MAX, "The operator's id"))
+        .option(text(alloc, "token", "HEX", token))
+        .option(number(alloc, "db", 0, u32::MAX, db))
+        .option(number(alloc, "epoch", 0, u32::MAX, "The current epoch"))
+        .option(words(alloc))
 }
 
 // The program and its subcommands.
 fn program<'a>(alloc: Global) -> Result<Command<'a>, AllocError>
     ensures ok { IfOk result (λ c. app_of c ≡ own_app) }
 {
-    Command::new(alloc, "pagelog")
+    let top = Command::new(alloc, "pagelog")
         .about("A log service for databases")
         .subcommand_required(true)
-        .arg_required_else_help(true)
-        .subcommand(play_command(alloc)?)?
-        .subcommand(serve_command(alloc)?)?
-        .subcommand(ask_command(alloc)?)
+        .arg_required_else_help(true);
+    let made = Making::new(top)
+        .subcommand(play_command(alloc))
+        .subcommand(serve_command(alloc))
+        .subcommand(ask_command(alloc));
+    let Making { command } = made;
+    command
 }
 
 // The number that was found for this option, where it is in the range.

@@ -5,7 +5,7 @@ use Rattle.pl_block.specs.Reading.{len_fault}
 use Rattle.pl_block.specs.Spelling.{IsBlock, block_spelling}
 use Rattle.pl_block.proofs.Spellings.{length-counted, lsn_fault-ok}
 use Rattle.pl_block.proofs.RecordFaults.{len_fault-ok, len_fault-told, made, made_fails-length}
-use Rattle.pl_block.proofs.making.parts_of.Goals.{After-from_vec}
+use Rattle.pl_block.proofs.making.parts_of.Goals.{In_ok-check_len}
 use Rattle.pl_block.proofs.making.parts_of.Goals as goal
 
 pub returns-in_err-check_len-clause-exact : goal.returns-in_err-check_len-clause-exact
@@ -16,7 +16,7 @@ returns-in_err-check_len-clause-exact c =
     rw (p.1, p.2) (made_fails-length c.in_err-check_len.field-0.0 c.args.lsn c.args.records.items c.in_ok-check_lsn.field-0 c.in_ok-check_records.field-0 (sym c.in_ok-check_lsn.ensures.value) (sym (rw c.deref.ensures.value at c.in_ok-check_records.ensures.value)) (sym counted ∙ sym c.in_err-check_len.ensures.value))
 
 -- the spelling passes the test of its length
-short : (c : After-from_vec) → len_fault (length (block_spelling (record { lsn = c.args.lsn; records = c.args.records.items }))) ≡ Ok c.in_ok-check_len.field-0
+short : (c : In_ok-check_len) → len_fault (length (block_spelling (record { lsn = c.args.lsn; records = c.args.records.items }))) ≡ Ok c.in_ok-check_len.field-0
 short c =
     let told = c.deref-3.ensures.value ∙ c.in_ok-partitions.ensures.ok ∙ ap touched c.deref-2.ensures.value in
     let counted = len_fault-told c.args.lsn c.args.records.items _ _ c.spelling_len-len.result told c.deref-4.ensures.value c.spelling_len-len.ensures.value c.spelling_len-len.ensures.long in
@@ -33,7 +33,7 @@ invariant_of-result c =
     } in
     let told = c.deref-3.ensures.value ∙ c.in_ok-partitions.ensures.ok ∙ ap touched c.deref-2.ensures.value in
     let whole = length-counted c.args.lsn c.args.records.items _ _ told c.deref-4.ensures.value in
-    record { block = is_block; touched_by = c.from_vec.ensures.items ∙ c.in_ok-partitions.ensures.ok ∙ ap touched c.deref-2.ensures.value; counted = c.spelling_len-len.ensures.value (len_fault-ok c.spelling_len-len.result c.in_ok-check_len.field-0 (sym c.in_ok-check_len.ensures.value)) ∙ sym whole }
+    record { block = is_block; touched_by = c.in_ok-partitions.ensures.ok ∙ ap touched c.deref-2.ensures.value; counted = c.spelling_len-len.ensures.value (len_fault-ok c.spelling_len-len.result c.in_ok-check_len.field-0 (sym c.in_ok-check_len.ensures.value)) ∙ sym whole }
 
 pub returns-clause-exact : goal.returns-clause-exact
 returns-clause-exact c =

@@ -16,7 +16,7 @@ returns-then-from-low c =
 pub loop-preserved : goal.loop-preserved
 loop-preserved c =
     let read = number_is c.loop.rest c.in_ok-partition.partition c.try_get_u16.new.self c.in_ok-partition.ensures.rest.0 c.in_ok-partition.ensures.value c.in_ok-partition.ensures.rest.1 in
-    rw (c.in_ok-push.ensures.ok, c.from-low.ensures) (rising_goes_on c.loop.partitions.items c.args.count c.loop.counter c.loop.low c.loop.rest c.in_ok-partition.partition c.try_get_u16.new.self _ c.loop-test.true read (omega arith) c.loop.invariant)
+    rw (c.in_ok-push.ensures.items, c.from-low.ensures) (rising_goes_on c.loop.partitions.items c.args.count c.loop.counter c.loop.low c.loop.rest c.in_ok-partition.partition c.try_get_u16.new.self _ c.loop-test.true read (omega arith) c.loop.invariant)
 
 pub returns : goal.returns
 returns c = record { exact = rising_is_done c.loop.partitions.items c.args.count c.loop.counter c.loop.low c.loop.rest _ c.loop-test.false c.loop.invariant }

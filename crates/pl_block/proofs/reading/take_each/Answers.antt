@@ -1,6 +1,6 @@
 use Rattle.std.proofs.lemmas.Result.{err_from_is_err_and}
 use Rattle.pl_block.proofs.Fronts.{records_go_on, records_end, records_are_done}
-use Rattle.pl_block.proofs.reading.take_records.Goals as goal
+use Rattle.pl_block.proofs.reading.take_each.Goals as goal
 
 pub returns-in_err-entry : goal.returns-in_err-entry
 returns-in_err-entry c =
