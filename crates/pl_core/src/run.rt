@@ -1,6 +1,6 @@
 //! A run: one step for each request, in order.
 
-ghost use Rattle.std.specs.Prelude.{◌≡◌, IfOk, OnErr};
+ghost use Rattle.std.specs.Prelude.{◌≡◌, IfOk, OnErr, reverse, vec_len};
 ghost use Rattle.std.specs.List.{All};
 ghost use Rattle.pl_core.specs.Reply.{FitsReply};
 ghost use Rattle.pl_core.specs.Run.{IsRun};
@@ -9,6 +9,16 @@ use crate::db::Db;
 use crate::reply::Reply;
 use pl_table::Request;
 use std::alloc::AllocError;
+
+// The requests from the last to the first, so that a pop takes the first.
+fn last_first(requests: Vec<(u64, Request)>) -> Vec<(u64, Request)>
+    ensures value { result.items ≡ reverse requests.items }
+    ensures len { vec_len result ≡ vec_len requests }
+{
+    let mut left = requests;
+    left.reverse();
+    left
+}
 
 impl Db {
     /// Takes one step for each request, each under the pass of its number, and returns the replies in
@@ -23,8 +33,7 @@ impl Db {
         ensures err { OnErr result (self.new ≡ self.old) }
     {
         let mut replies = Vec::with_capacity(self.alloc, requests.len())?;
-        let mut left = requests;
-        left.reverse();
+        let mut left = last_first(requests);
         while let Some((pass_no, request)) = left.pop() {
             let reply = self.step(pass_no, request);
             replies.push(reply).unwrap();
