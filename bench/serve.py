@@ -1,16 +1,17 @@
 """Times `pagelog serve` over the loopback, beside a bare echo of the same frames and, where it is installed, redis-server.
 
-Usage: python3 bench/serve.py [SHARE] [--idle-polls N]     (1; a tenth of the requests with 0.1)
+Usage: python3 bench/serve.py [SHARE] [--idle-polls N]     (1; a tenth of the requests with 0.1, but for those in flight)
 
-For each of a 100-byte write (the same block again and again), a report, a pull of one block and a get of a page, round trips
-a second of services of 2, 4 and 64 workers: at 1, 8 and 64 connections with one request each at a time; at 64 of 1,000 and of
+For each of a 100-byte write (the same block again and again), a report, a pull of one block and a get of a page, round trips a
+second of services of 2, 4 and 64 workers: at 1, 8 and 64 connections with one request each at a time; at 64 of 1,000 and of
 10,000 connections, of which the others asked once and are silent since (fewer where the limit of open files is lower); and
-with 64 requests in flight on one connection. All are asked by the same client, bench/frames.c, and so is the echo, which has
-a thread for each connection and answers each frame by one as long as the service's, in a write of its own. Beside it is,
-with requests in flight, an echo that gathers what it answers as the service does: it reads and writes whole batches and looks
-at nothing. Redis is asked for XADD of 100 bytes, XRANGE of one entry and GET of 8,192 bytes.
+with 64 requests in flight on one connection, in rounds of 20,000 whatever the share is. All are asked by the same client,
+bench/frames.c, and so is the echo, which has a thread for each connection and answers each frame by one as long as the
+service's, in a write of its own. Beside it is, with requests in flight, an echo that gathers what it answers as the service
+does: it reads and writes whole batches and looks at nothing. Redis is asked for XADD of 100 bytes, XRANGE of one entry and GET
+of 8,192 bytes.
 
-Each number is the best of 25 short rounds, in each of which all are asked in turn: where the machine is shared with others
+Each number is the best of 25 rounds, in each of which all are asked in turn: where the machine is shared with others
 some rounds are disturbed, and a long one is rarely spared. After each other server's number comes what the service's best
 round is of its best, and the median of what the service's round is of the other's. After them come the processor time that
 the service took for a request, over all rounds, and the most memory that it held until then, which grows with its audit list.
@@ -224,7 +225,8 @@ class Case:
 
     def shape(self, speaking, connections, flight, count):
         """A line for each service."""
-        count = max(1, int(count * SHARE))
+        # Rounds of 800 requests in flight gave the service 0.52 of the echo's writes, and rounds of 20,000 gave it 0.43.
+        count = count if flight > 1 else max(1, int(count * SHARE))
         quiet = min(connections, resource.getrlimit(resource.RLIMIT_NOFILE)[0] - OTHERS) - speaking
         others = self.bare, self.gathering if flight > 1 else None, self.other
         asked = [*self.services.values(), *filter(None, others)]
