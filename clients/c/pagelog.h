@@ -28,6 +28,7 @@ extern "C" {
 enum {
     PAGELOG_PAGE_BYTES = 8192,
     PAGELOG_BLOCK_BYTES = 32768,   /* a block, encoded, at most */
+    PAGELOG_ZERO_BYTES = 5,        /* a Zero in a block */
     PAGELOG_REQUEST_BYTES = 65536, /* the body of a request, at most */
     PAGELOG_REPLY_BYTES = 1048576, /* the body of a reply, at most */
     PAGELOG_TOKEN_BYTES = 16,

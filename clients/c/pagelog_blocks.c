@@ -178,9 +178,9 @@ uint64_t pagelog_blocks_room(struct pagelog_blocks *blocks, uint32_t page, uint1
 }
 
 enum pagelog_outcome pagelog_blocks_zero(struct pagelog_blocks *blocks, uint32_t page) {
-    enum pagelog_outcome outcome = ensure_room(blocks, page, ZERO_BYTES);
+    enum pagelog_outcome outcome = ensure_room(blocks, page, PAGELOG_ZERO_BYTES);
     if (outcome != PAGELOG_DONE) return outcome;
-    uint8_t *at = add_record(blocks, page, ZERO_BYTES);
+    uint8_t *at = add_record(blocks, page, PAGELOG_ZERO_BYTES);
     if (!at) return PAGELOG_NO_MEMORY;
     pagelog_write_number(pagelog_write_number(at, RECORD_ZERO, 1), page, 4);
     return PAGELOG_DONE;

@@ -33,6 +33,7 @@ struct pagelog_cache {
     struct list changed, unchanged;
     struct slab *slabs;    /* those with pages that nobody uses */
     unsigned unused_slabs; /* how many of them have no others: 0 or 1 */
+    uint32_t made;         /* frames that were made */
 };
 
 /* ---- Memory for pages ---- */
@@ -217,6 +218,7 @@ struct pagelog_frame *pagelog_cache_make(struct pagelog_cache *cache, uint32_t p
         return NULL;
     }
     frame->page = page;
+    frame->changes = (uint8_t)(++cache->made * UINT32_C(2654435761) >> 24);
     put_in_chain(cache, frame);
     link_newest(cache, frame);
     return frame;
@@ -269,6 +271,7 @@ void pagelog_cache_keep(struct pagelog_cache *cache) {
         frame->base = frame->changed;
         frame->changed = old;
         frame->has_base = true;
+        frame->changes++;
         set_changed(cache, frame, NULL);
     }
 }

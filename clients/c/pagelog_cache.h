@@ -8,6 +8,7 @@
 struct pagelog_frame {
     uint32_t page;
     bool has_base;
+    uint8_t changes;  /* commits that changed it, from any number on: those before are not known */
     uint8_t *base;    /* 8,192 bytes: the page as it was committed, where `has_base` */
     uint8_t *changed; /* 8,192 bytes: the page as the transaction has it, or NULL */
     struct pagelog_frame *next_in_chain, *newer, *older;

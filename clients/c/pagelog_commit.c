@@ -67,14 +67,27 @@ static enum pagelog_outcome send_full_blocks(struct commit *commit) {
     return append_full_group(file);
 }
 
+/* Adds a page as a whole: zeros, and then what differs from them. */
+static enum pagelog_outcome add_image(struct pagelog_blocks *blocks, uint32_t page, const uint8_t *bytes) {
+    enum pagelog_outcome outcome = pagelog_blocks_zero(blocks, page);
+    return outcome == PAGELOG_DONE ? pagelog_blocks_difference(blocks, page, zeros, bytes) : outcome;
+}
+
+/* Adds the records of a page that was in the file before. */
+static enum pagelog_outcome add_old_page(struct pagelog_blocks *blocks, const struct pagelog_frame *frame) {
+    _Static_assert(IMAGE_EACH == UINT8_MAX + 1, "the changes of a frame are counted in a byte");
+    bool is_due = frame->changes == UINT8_MAX && memcmp(frame->base, frame->changed, PAGELOG_PAGE_BYTES) != 0;
+    return is_due ? add_image(blocks, frame->page, frame->changed)
+                  : pagelog_blocks_difference(blocks, frame->page, frame->base, frame->changed);
+}
+
 /* Adds the records of the changed pages that were in the file before. */
 static enum pagelog_outcome add_old_pages(struct commit *commit, size_t *next) {
     struct pagelog_blocks *blocks = commit->file->blocks;
     for (; *next < commit->count && commit->frames[*next]->page <= commit->old_pages; ++*next) {
         struct pagelog_frame *frame = commit->frames[*next];
         enum pagelog_outcome outcome = frame->has_base ? PAGELOG_DONE : fetch_bases(commit, *next);
-        if (outcome == PAGELOG_DONE)
-            outcome = pagelog_blocks_difference(blocks, frame->page, frame->base, frame->changed);
+        if (outcome == PAGELOG_DONE) outcome = add_old_page(blocks, frame);
         if (outcome == PAGELOG_DONE) outcome = send_full_blocks(commit);
         if (outcome != PAGELOG_DONE) return outcome;
     }
@@ -84,10 +97,10 @@ static enum pagelog_outcome add_old_pages(struct commit *commit, size_t *next) {
 /* Adds the records of the pages that are new in the file, each of which begins as zeros. */
 static enum pagelog_outcome add_fresh_pages(struct commit *commit, size_t next) {
     struct pagelog_blocks *blocks = commit->file->blocks;
-    for (uint32_t page = commit->old_pages; page < commit->fresh_pages;) {
-        enum pagelog_outcome outcome = pagelog_blocks_zero(blocks, ++page);
-        if (outcome == PAGELOG_DONE && next < commit->count && commit->frames[next]->page == page)
-            outcome = pagelog_blocks_difference(blocks, page, zeros, commit->frames[next++]->changed);
+    for (uint32_t page = commit->old_pages + 1; page <= commit->fresh_pages; page++) {
+        bool is_changed = next < commit->count && commit->frames[next]->page == page;
+        enum pagelog_outcome outcome =
+            add_image(blocks, page, is_changed ? commit->frames[next++]->changed : zeros);
         if (outcome == PAGELOG_DONE) outcome = send_full_blocks(commit);
         if (outcome != PAGELOG_DONE) return outcome;
     }

@@ -8,6 +8,10 @@
 
 enum { MARK_PAGE = 0, MARK_BYTES = 40, GROUP = 64 };
 
+/* With each such commit that changes it, a page is written as a whole, so that no get replays many more
+ * blocks. */
+enum { IMAGE_EACH = 256 };
+
 /* What page 0 says: numbers of 8 bytes, the high one first, after a magic one. */
 struct mark {
     uint64_t lsn, size, session, transaction;

@@ -116,7 +116,7 @@ bool pagelog_records_next(struct pagelog_records *records, struct pagelog_record
     records->left--;
     *record = (struct pagelog_record){.page = (uint32_t)pagelog_read_number(at + 1, 4)};
     if (at[0] == RECORD_ZERO) {
-        records->at = at + ZERO_BYTES;
+        records->at = at + PAGELOG_ZERO_BYTES;
         return true;
     }
     record->offset = (uint16_t)pagelog_read_number(at + 5, 2);

@@ -5,7 +5,7 @@
 #include "pagelog.h"
 #include "pagelog_common.h"
 
-enum { RECORD_PUT = 1, RECORD_ZERO = 2, PUT_HEAD_BYTES = 9, ZERO_BYTES = 5, BLOCK_HEAD_BYTES = 12 };
+enum { RECORD_PUT = 1, RECORD_ZERO = 2, PUT_HEAD_BYTES = 9, BLOCK_HEAD_BYTES = 12 };
 
 enum { SECTION_A = 1, SECTION_B, SECTION_C };
 

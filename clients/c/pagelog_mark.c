@@ -48,12 +48,15 @@ enum pagelog_outcome pagelog_append_ended(struct pagelog_file *file) {
     return PAGELOG_DONE;
 }
 
+/* Where zeros come before the mark, both are in one block: nobody sees the page without its mark. */
 enum pagelog_outcome pagelog_add_mark(struct pagelog_file *file, struct mark *mark) {
     uint8_t bytes[MARK_BYTES];
-    mark->lsn = pagelog_blocks_room(file->blocks, MARK_PAGE, MARK_BYTES);
+    enum pagelog_outcome outcome = PAGELOG_DONE;
+    mark->lsn = pagelog_blocks_room(file->blocks, MARK_PAGE, PAGELOG_ZERO_BYTES + MARK_BYTES);
     if (mark->lsn == 0) return PAGELOG_NO_MEMORY;
     write_mark(bytes, mark);
-    enum pagelog_outcome outcome = pagelog_blocks_put(file->blocks, MARK_PAGE, 0, bytes, MARK_BYTES);
+    if (mark->transaction % IMAGE_EACH == 0) outcome = pagelog_blocks_zero(file->blocks, MARK_PAGE);
+    if (outcome == PAGELOG_DONE) outcome = pagelog_blocks_put(file->blocks, MARK_PAGE, 0, bytes, MARK_BYTES);
     return outcome == PAGELOG_DONE ? pagelog_blocks_end(file->blocks) : outcome;
 }
 

@@ -4,9 +4,9 @@ import random
 import time
 
 from binding import (AUDIT_FULL, CONFLICT, DENIED, DONE, FENCED, IN_DOUBT, LOST, MALFORMED, File, Log, PRIMARY, SECONDARY,
-                     Blocks)
+                     Blocks, records_of)
 from check import LONG, MODEL, run, same, true
-from service import Answer, Proxy, Service, START_TABLE, TABLE, failing_over, random_plan, wire
+from service import Answer, Asker, Proxy, Service, START_TABLE, TABLE, failing_over, random_plan, wire
 
 
 def opened(address, principal=2, **more):
@@ -133,6 +133,60 @@ class Tidying:
             meets, self.meets = self.meets, None
             return meets(frame)
         return frame
+
+
+def longest_replays(blocks):
+    """Of each page how many blocks have to be applied at most, from one that makes the whole page on."""
+    since, most = {}, {}
+    for block in blocks:
+        _, records = records_of(block)
+        touched = {page for page, *_ in records}
+        whole = {page for page, *put in records if not put or len(put[1]) == 8192}
+        for page in touched:
+            since[page] = 1 if page in whole else since.get(page, 0) + 1
+            most[page] = max(most.get(page, 0), since[page])
+    return most
+
+
+def test_no_page_has_a_long_replay():
+    """Each page, and the one of the end mark, is written as a whole with one of 256 commits that change it."""
+    numbers, commits = random.Random(7), 700
+    with Service() as service:
+        wanted = bytearray(numbers.randbytes(3 * 8192))
+        with opened(service.address) as file:
+            same("commit", (DONE, DONE, DONE), (file.begin(), file.write(0, bytes(wanted)), file.commit()))
+            for number in range(commits):
+                same("begin", DONE, file.begin())
+                for at in (10, 8192 + number % 8000) if number % 2 else (10,):
+                    wanted[at : at + 4] = number.to_bytes(4, "big")
+                    same("write", DONE, file.write(at, bytes(wanted[at : at + 4])))
+                same("commit", DONE, file.commit())
+        with Asker(service.address, 3, wire.SECONDARY) as asker:
+            most = longest_replays(asker.blocks())
+        same("pages", [0, 1, 2, 3], sorted(most))
+        true(f"at most 256 blocks, and not one: {most}", all(64 < most[page] <= 256 for page in (0, 1, 2)) and most[3] == 1)
+        with opened(service.address, 3, reads_only=True) as reader:
+            same("reader", (DONE, bytes(wanted)), (reader.begin(), reader.whole()))
+
+
+def test_the_page_of_the_end_mark_is_never_without_it():
+    """Where it is written as a whole, zeros first, both are in one block, however few bytes that block has left."""
+    with Service() as service:
+        with opened(service.address) as file:
+            same("commit", (DONE, DONE, DONE), (file.begin(), file.write(0, bytes(4 * 8192)), file.commit()))
+            for left in range(46, 58):
+                while file.state.transaction % 256 != 255:
+                    data = bytes([file.state.transaction % 251])
+                    same("commit", (DONE, DONE, DONE), (file.begin(), file.write(5 * 8192, data), file.commit()))
+                # Three pages and the most of a fourth, which end the block's records so many bytes before its end.
+                data = bytes([1 + left]) * (4 * 8192 - 83 - left)
+                same("commit", (DONE, DONE, DONE), (file.begin(), file.write(0, data), file.commit()))
+        with Asker(service.address, 3, wire.SECONDARY) as asker:
+            cleared = [records for records in (records_of(block)[1] for block in asker.blocks()) if (0,) in records]
+        same("times", 12, len(cleared))
+        true("and the mark last", all(records[-2] == (0,) and records[-1][:2] == (0, 0) for records in cleared))
+        lengths = {sum(5 if len(record) == 1 else 9 + len(record[2]) for record in records) for records in cleared}
+        true(f"some began a block of their own: {sorted(lengths)}", 54 in lengths and max(lengths) > 32000)
 
 
 def test_the_service_tidies_up_after_much_was_sent():
