@@ -1,9 +1,14 @@
-/* A client and an echo of frames, for bench/serve.py and bench/stalls.py.
+/* A client, an echo of frames and a service of the bare rules, for bench/serve.py and bench/stalls.py.
  *
  *   frames echo REPLY [gather]
  *     Listens at a free port of the loopback and prints it. Each frame that comes, a length of four bytes, the high one
  *     first, and that many bytes, is answered by a frame with a body of REPLY bytes, in a write of its own. With `gather`
  *     the answers to all frames that one read gave go out together. One thread a connection.
+ *
+ *   frames rules
+ *     The same that gathers, for the writes of the primary of the start table: each is answered as the service answers it, by what
+ *     its rules ask of it and no more. It reads the block, and looks for the principal, the row, the epoch, the window and the
+ *     block that is kept, under a mutex; it keeps the block, and enters it in a list. It serves nothing else.
  *
  *   frames ask PORT CONNECTIONS FLIGHT COUNT REPLY FILE
  *     Opens CONNECTIONS connections, a thread each. Each sends COUNT requests, the bytes of FILE each, with up to FLIGHT of
@@ -24,6 +29,7 @@
 #include <netinet/tcp.h>
 #include <pthread.h>
 #include <stdatomic.h>
+#include <stdint.h>
 #include <stdio.h>
 #include <stdlib.h>
 #include <string.h>
@@ -61,7 +67,98 @@ static double now(void) {
 /* ---- the echo */
 
 static size_t reply_bytes;
-static int gathers;
+static int gathers, asks_rules;
+
+static uint64_t number_at(const uint8_t *bytes, int count) {
+    uint64_t number = 0;
+    while (count-- > 0) number = number << 8 | *bytes++;
+    return number;
+}
+
+/* ---- the bare rules, for a write */
+
+enum { WRITE = 1, HEAD = 31, PRINCIPALS = 5, ROWS = 6, WINDOW = 64, COPIES = 3 };
+
+struct block {
+    size_t len;
+    uint8_t bytes[];
+};
+
+struct entry {
+    uint64_t number, pass, lsn;
+    uint32_t principal, epoch;
+    uint8_t copy, role, op, section, row;
+    uint64_t value;
+};
+
+static const struct {
+    int allows;
+    uint32_t who;
+    int role;
+    uint32_t ops;
+} rows[ROWS] = {{1, 1, 4, ~0u}, {1, 2, 1, ~0u}, {0, 3, 0, 1 << 4}, {1, 3, 2, ~0u}, {1, 4, 3, ~0u}, {1, 5, 1, ~0u}};
+
+static pthread_mutex_t turn = PTHREAD_MUTEX_INITIALIZER;
+static struct block *window[WINDOW];
+static uint8_t copies[WINDOW];
+static struct entry *list;
+static size_t entries, entry_room;
+
+/* Whether the bytes spell a block of Puts, each of a partition that is named. */
+static int is_block(const uint8_t *bytes, size_t len) {
+    if (len < 12) return 0;
+    size_t partitions = number_at(bytes + 8, 2), at = 10 + 2 * partitions + 2;
+    if (len < at) return 0;
+    for (size_t left = number_at(bytes + at - 2, 2); left > 0; left--) {
+        if (len - at < 9 || bytes[at] != 1) return 0;
+        size_t offset = number_at(bytes + at + 5, 2), count = number_at(bytes + at + 7, 2), named = 0;
+        if (count == 0 || offset + count > 8192 || len - at - 9 < count) return 0;
+        while (named < partitions && number_at(bytes + 10 + 2 * named, 2) != number_at(bytes + at + 1, 2)) named++;
+        if (named == partitions) return 0;
+        at += 9 + count;
+    }
+    return at == len;
+}
+
+/* The section of the first rule against the write, or 0. */
+static int denial(const uint8_t *body, const uint8_t *spelled, size_t len, uint64_t lsn) {
+    uint32_t who = number_at(body, 4);
+    int role = body[20], row = 0;
+    if (who < 1 || who > PRINCIPALS) return 1;
+    for (int i = 4; i < 20; i++)
+        if (body[i] != 0x11 * who) return 1;
+    if (number_at(body + 25, 4) != 1 || (role == 1 && who != 2)) return 1;
+    while (row < ROWS && !(rows[row].who == who && (!rows[row].role || rows[row].role == role) && rows[row].ops >> WRITE & 1)) row++;
+    if (row == ROWS || !rows[row].allows) return 2;
+    const struct block *kept = window[lsn % WINDOW];
+    if (body[HEAD - 1] >= COPIES || lsn < 2 || lsn > WINDOW + 1) return 3;
+    return kept && (kept->len != len || memcmp(kept->bytes, spelled, len)) ? 3 : 0;
+}
+
+/* The section that denies a write, or 0 where it is allowed. */
+static int answer(const uint8_t *body, size_t len) {
+    const uint8_t *spelled = body + HEAD;
+    if (len < HEAD || body[29] != WRITE || !is_block(spelled, len - HEAD)) {
+        fprintf(stderr, "frames: a body that is no write\n");
+        exit(1);
+    }
+    struct block *made = malloc(sizeof *made + len - HEAD);
+    uint64_t lsn = number_at(spelled, 8);
+    made->len = len - HEAD;
+    memcpy(made->bytes, spelled, made->len);
+    pthread_mutex_lock(&turn);
+    int section = denial(body, spelled, len - HEAD, lsn);
+    if (entries == entry_room) list = realloc(list, (entry_room = entry_room ? 2 * entry_room : 1024) * sizeof *list);
+    list[entries] = (struct entry){entries + 1, 1, lsn, number_at(body, 4), 1, body[HEAD - 1], body[20], WRITE, section, 0, 0};
+    entries++;
+    if (!section) {
+        copies[lsn % WINDOW] |= 1 << body[HEAD - 1];
+        if (!window[lsn % WINDOW]) window[lsn % WINDOW] = made, made = NULL;
+    }
+    pthread_mutex_unlock(&turn);
+    free(made);
+    return section;
+}
 
 static void *echo(void *given) {
     int fd = (int)(long)given;
@@ -81,6 +178,7 @@ static void *echo(void *given) {
             unsigned char head[4] = {reply_bytes >> 24, reply_bytes >> 16, reply_bytes >> 8, reply_bytes};
             memcpy(out + put, head, 4);
             memset(out + put + 4, 0, reply_bytes);
+            if (asks_rules) out[put + 4] = answer(h + 4, len);
             put += 4 + reply_bytes;
             if (!gathers || put > ROOM - 4) {
                 write_all(fd, out, put);
@@ -344,6 +442,9 @@ int main(int argc, char **argv) {
         reply_bytes = strtoul(argv[2], NULL, 10);
         gathers = argc == 4;
         serve_echo();
+    } else if (argc == 2 && !strcmp(argv[1], "rules")) {
+        reply_bytes = gathers = asks_rules = 1;
+        serve_echo();
     } else if (argc == 8 && !strcmp(argv[1], "ask")) {
         port = atoi(argv[2]);
         flight = atoi(argv[4]);
@@ -357,7 +458,7 @@ int main(int argc, char **argv) {
         count = atol(argv[3]);
         run_delays((argc - 4) / 3, argv + 4);
     } else {
-        fprintf(stderr, "usage: frames echo REPLY | frames ask PORT CONNECTIONS FLIGHT COUNT REPLY FILE\n"
+        fprintf(stderr, "usage: frames echo REPLY | frames rules | frames ask PORT CONNECTIONS FLIGHT COUNT REPLY FILE\n"
                         "       frames silent PORT CONNECTIONS REPLY FILE\n"
                         "       frames delays PORT COUNT KIND CONNECTIONS FILE [KIND CONNECTIONS FILE ..]\n");
         return 2;

@@ -8,8 +8,8 @@ second of services of 2, 4 and 64 workers: at 1, 8 and 64 connections with one r
 with 64 requests in flight on one connection, in rounds of 20,000 whatever the share is. All are asked by the same client,
 bench/frames.c, and so is the echo, which has a thread for each connection and answers each frame by one as long as the
 service's, in a write of its own. Beside it is, with requests in flight, an echo that gathers what it answers as the service
-does: it reads and writes whole batches and looks at nothing. Redis is asked for XADD of 100 bytes, XRANGE of one entry and GET
-of 8,192 bytes.
+does: it reads and writes whole batches and looks at nothing; and for writes a program in C that does what the rules ask of a
+write and no more, in a line of its own. Redis is asked for XADD of 100 bytes, XRANGE of one entry and GET of 8,192 bytes.
 
 Each number is the best of 25 rounds, in each of which all are asked in turn: where the machine is shared with others
 some rounds are disturbed, and a long one is rarely spared. After each other server's number comes what the service's best
@@ -105,10 +105,14 @@ def service(workers):
     return running
 
 
-def echo(reply, *how):
-    running = Running([FRAMES, "echo", reply - 4, *how])
+def frames(*words):
+    running = Running([FRAMES, *words])
     running.port = int(running.process.stdout.readline())
     return running
+
+
+def echo(reply, *how):
+    return frames("echo", reply - 4, *how)
 
 
 def redis():
@@ -210,6 +214,7 @@ class Case:
         self.services = {workers: self.started(stack, f"{workers} workers", service(workers), reply) for workers in WORKERS}
         self.bare = self.started(stack, "echo", echo(reply), reply)
         self.gathering = self.started(stack, "gathered", echo(reply, "gather"), reply)
+        self.rules = self.started(stack, "rules", frames("rules"), reply) if self.name == CASES[0][0] else None
         self.other = None
         if other and command:
             wanted = "+2" if command[0] == "XADD" else len(first_bytes(other.port, spelled(command)))
@@ -228,7 +233,7 @@ class Case:
         # Rounds of 800 requests in flight gave the service 0.52 of the echo's writes, and rounds of 20,000 gave it 0.43.
         count = count if flight > 1 else max(1, int(count * SHARE))
         quiet = min(connections, resource.getrlimit(resource.RLIMIT_NOFILE)[0] - OTHERS) - speaking
-        others = self.bare, self.gathering if flight > 1 else None, self.other
+        others = self.bare, *((self.gathering, self.rules) if flight > 1 else ()), self.other
         asked = [*self.services.values(), *filter(None, others)]
         before = {each: each.server.memory("VmRSS") for each in asked}
         with contextlib.ExitStack() as stack:
@@ -243,6 +248,10 @@ class Case:
                 self.time_delays([each for each in served if each is not self.other], speaking + quiet, count)
         for workers, each in self.services.items():
             self.line(workers, each, speaking, speaking + quiet, flight, rates, spent, kept)
+        if self.rules in rates:
+            shares = ", ".join(f"{workers} workers {beside(rates[each], rates[self.rules]).split(maxsplit=1)[1]}"
+                               for workers, each in self.services.items())
+            print(f"{self.name:18} of the rules in C, at {max(rates[self.rules]):,.0f}, best and median: {shares}", flush=True)
 
     def line(self, workers, each, speaking, connections, flight, rates, spent, kept):
         head = f"{self.name:18} {speaking:2} of {connections:6,} x {flight:2} {workers:7}"
