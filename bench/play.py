@@ -7,8 +7,8 @@ Usage: python3 bench/play.py [LINES] [BYTES ...]     (100000 lines; blocks of 10
   database of `play` holds 65,536 entries; the lines after them are answered `07`.
 - pages: gets of four pages in turn, exact and at what is applied, with an advance before each sixteen, on logs of
   several lengths; beside a program that copies as many pages and writes them as lines, and `cat` of the same output.
-- audit: the last 1,024 lines of an audit list as long as LINES, asked for again and again, and the memory of an entry.
-  It is run on the program of crates/trial, which may have longer lists and writes them shorter, beside the same two.
+- audit: the last 1,024 lines of an audit list, asked for again and again, beside the same two; and the memory of an entry. The
+  list has as many entries as LINES, but at most 16,000, so that four times as many go into the list of `play`.
 
 The input is generated under bench/work and removed at the end. Prints times, lines a second and the peak of memory of
 each run (never less than this program's own), and ratios within this one run.
@@ -29,7 +29,6 @@ import wire  # noqa: E402
 WORK = ROOT / "bench" / "work"
 CRATE = ROOT / "crates" / "pagelog"
 PLAY = [CRATE / "out" / "pagelog", "play", "--table", CRATE / "data" / "t0.toml", "--primary", "2"]
-TRIAL = ROOT / "crates" / "trial"
 HEX_LINES = (
     "import sys, binascii\n"
     "out = sys.stdout.buffer\n"
@@ -94,19 +93,18 @@ def reads_of(count, hard):
         yield wire.head(3, wire.SECONDARY, wire.GET) + wire.get(at % 4, hard - at % 2, at % 2 == 0)
 
 
-def written(source, some_bodies, opening=b""):
+def written(source, some_bodies):
     with open(source, "wb") as file:
-        file.write(opening)
         file.writelines(body.hex().encode() + b"\n" for body in some_bodies)
     return source
 
 
-def run(command, source, output=os.devnull, folder=None):
+def run(command, source, output=os.devnull):
     """Wall seconds, processor seconds and the peak of memory in MiB."""
     with open(source, "rb") as stdin, open(output, "wb") as stdout:
         start = time.perf_counter()
         child = subprocess.Popen([str(word) for word in command] if isinstance(command, list) else command,
-                                 stdin=stdin, stdout=stdout, cwd=folder, shell=isinstance(command, str))
+                                 stdin=stdin, stdout=stdout, shell=isinstance(command, str))
         _, status, usage = os.wait4(child.pid, 0)
         wall = time.perf_counter() - start
     if status != 0:
@@ -155,35 +153,32 @@ def pages(count):
 
 def audits(count, asked=1_000):
     source, output = WORK / "lines", WORK / "replies"
-    opening = f"open t0.toml 2 {4 * count}\n".encode()
     status = wire.head(2, wire.PRIMARY, wire.STATUS)
     audit = wire.head(1, wire.OPERATOR, wire.AUDIT) + wire.audit(max(1, count - 1023), 1024)
-    trial, folder = [TRIAL / "out" / "trial"], TRIAL / "data"
     print(f"{asked} audits of 1024 lines, of {count} entries")
     walls, peaks = [], []
     for entries in (count, 2 * count, 4 * count):
-        wall, _, peak = run(trial, written(source, itertools.repeat(status, entries), opening), folder=folder)
+        wall, _, peak = run(PLAY, written(source, itertools.repeat(status, entries)))
         print(f"  {entries:>7} statuses: {wall:7.3f} s, peak {peak:6.1f} MiB")
         walls.append(wall)
         peaks.append(peak)
     print(f"  {(peaks[2] - peaks[1]) * 2**20 / (2 * count):.0f} bytes an entry, with the room that the list keeps")
     lines = itertools.chain(itertools.repeat(status, count), itertools.repeat(audit, asked))
-    wall, _, _ = run(trial, written(source, lines, opening), output, folder)
-    print(f"  trial: {wall - walls[0]:7.3f} s, {(wall - walls[0]) / asked * 1e6:7.2f} us an audit")
-    beside_copies("trial", wall - walls[0], 53 * 1024, asked, output)
+    wall, _, _ = run(PLAY, written(source, lines), output)
+    print(f"  play: {wall - walls[0]:7.3f} s, {(wall - walls[0]) / asked * 1e6:7.2f} us an audit")
+    beside_copies("play", wall - walls[0], 53 * 1024, asked, output)
     source.unlink()
     output.unlink()
 
 
 def main():
-    for program in (PLAY[0], TRIAL / "out" / "trial"):
-        if not program.exists():
-            sys.exit(f"bench: no program yet: run `rt run` once in {program.parent.parent.relative_to(ROOT)}")
+    if not PLAY[0].exists():
+        sys.exit(f"bench: no program yet: run `rt run` once in {CRATE.relative_to(ROOT)}")
     count = int(sys.argv[1]) if len(sys.argv) > 1 else 100_000
     WORK.mkdir(parents=True, exist_ok=True)
     blocks(count, [int(word) for word in sys.argv[2:]] or [100, 16_384])
     pages(min(max(1, count // 50), 20_000))
-    audits(count)
+    audits(min(count, 16_000))
 
 
 if __name__ == "__main__":

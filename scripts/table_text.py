@@ -1,6 +1,6 @@
 """Reads the text of any table, written from docs/TABLES.md alone, for the model's service.
 
-The stored trial does without: its texts are those of tables.py, each with its table or its fault.
+The trial does without: its texts are those of tables.py, each with its table or its fault.
 """
 
 import string

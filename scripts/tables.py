@@ -79,8 +79,6 @@ SIX_AND_ENDS = Table([1, 2, 3, 4, 5], [
 THREE_COPIES = Table([1, 2, 3, 4, 5], START.rows, THREE)
 TABLES = [START, NO_PULL_OF_2, WITHOUT_5, ONE_ROW, BY_PARTITION, ENDS_AT_2, NO_PULL_ABOVE_3, MANY_ENDS,
           SIX_COPIES, SIX_AND_ENDS, THREE_COPIES]
-# The files of the stored trial, by their names.
-FILES = {"t0.toml": START, "six.toml": SIX_COPIES}
 
 PRINCIPAL = principal_text(1)
 OPERATOR = PRINCIPAL + row_text(allow(who=1, role=wire.OPERATOR))

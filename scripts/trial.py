@@ -1,33 +1,36 @@
-"""Plays generated request bodies, and compares each reply with that of a model.
+"""Sends request bodies to databases of pagelog, and compares each reply, byte for byte, with that of a model.
 
-Usage: python3 scripts/trial.py [LINES] [SEED]   plays this many lines (20000, seed 1) on the built pagelog; where the seed
-                                                 is a multiple of three, the database begins with six copies
-       python3 scripts/trial.py --write          writes stdin, stdout and the tables in data/ of crates/trial
-       python3 scripts/trial.py --check          compares these with what --write would write
+Usage: python3 scripts/trial.py                  plays the parts of trial_parts.py and 2,600 random lines
+       python3 scripts/trial.py LINES [SEED]     plays this many random lines (seed 1); where the seed is a multiple of three, the
+                                                 database begins with six copies
 
-The model (model.py) is written from docs/RULES.md and docs/FORMATS.md alone. Lines depend on the seed
-alone, and the first N of a longer run are those of a run of N lines. At the first reply that differs
-the seed is printed, and the lines up to that one are left in crates/pagelog/out/trial-failed.
+The model (model.py) is written from docs/RULES.md and docs/FORMATS.md alone. Nothing is stored: bodies and replies are made each
+time. They depend on the seed alone, and the first N lines of a longer run are those of a run of N lines. A database is played by
+`play`, each line under pass 1. Where its audit list has another limit than that of `play`, it is asked over one connection to a
+`serve` of one worker, which has pass 1 too. With PAGELOG=PROGRAM that program is asked. At the first reply that differs the bodies
+up to that one are left in crates/pagelog/out, in a file trial-failed-NAME, with the table of their database beside it.
 """
 
+import itertools
 import pathlib
 import subprocess
 import sys
+import tempfile
 
+sys.dont_write_bytecode = True
 import tables
 import wire
-from trial_lines import Trial, put
+from clients import Service, asked
+from trial_lines import ENTRIES_OF_PLAY, Trial, put
 from trial_parts import PARTS
 from wire import ADVANCE, AUDIT, FAILOVER, GET, OFFER, PULL, REPORT, SET_TABLE, STATUS, TIDY, WRITE
 from wire import OPERATOR, PAGE_SERVER, PAGES_OF_A_PARTITION, PRIMARY, SECONDARY
 
 ROOT = pathlib.Path(__file__).resolve().parent.parent
-STORED = ROOT / "crates" / "trial"
+PAGELOG = ROOT / "scripts" / "pagelog"
 TABLE = ROOT / "crates" / "pagelog" / "data" / "t0.toml"
-SIX_TABLE = STORED / "data" / "six.toml"
-FAILED = ROOT / "crates" / "pagelog" / "out" / "trial-failed"
-SEED = 20
-RANDOM_LINES = 2600
+OUT = ROOT / "crates" / "pagelog" / "out"
+SEED, RANDOM_LINES = 20, 2600
 
 
 # Random lines: for each operation who asks for it, as what, and with which arguments.
@@ -131,13 +134,24 @@ def random_line(trial):
     trial.play(body)
 
 
-# The stored trial, and a run of pagelog.
+# The trials.
 
 
-def stored():
-    trial = Trial(SEED, is_stored=True)
+def random_lines(count, seed, table=tables.START):
+    trial = Trial(seed, f"seed-{seed}")
+    trial.open(table=table)
+    for _ in range(count):
+        random_line(trial)
+    return trial
+
+
+def parts():
+    """Each part, and random lines; at the end of these the whole audit list."""
+    trial = Trial(SEED, "")
     for part in PARTS:
+        trial.part = part.__name__
         part(trial)
+    trial.part = "random_lines"
     trial.open()
     for _ in range(RANDOM_LINES):
         random_line(trial)
@@ -147,52 +161,72 @@ def stored():
     return trial
 
 
-def text_of(lines):
-    return "\n".join(lines) + "\n"
+# A run of pagelog.
+
+
+def lines_of(bodies):
+    return "".join(body.hex() + "\n" for body in bodies)
+
+
+def played(database, table):
+    """What `play` answers, line by line, and where it does not end well a line that says how."""
+    words = [PAGELOG, "play", "--table", table, "--primary", str(database.primary)]
+    run = subprocess.run(words, input=lines_of(database.asked), capture_output=True, text=True)
+    ending = [f"status {run.returncode}: {run.stderr.strip()}"] if run.returncode or run.stderr else []
+    return run.stdout.splitlines() + ending
+
+
+def served(database, table):
+    """The same of `serve`: one request after the other, each to the only database that there is."""
+    service = Service([PAGELOG, "serve", "--listen", "127.0.0.1:0", "--table", table, "--primary", database.primary, "--dbs", 1,
+                       "--workers", 1, "--connections", 1, "--audit", database.limit])
+    client = service.connect()
+    replies = [asked(client, wire.to_database(body, 0)) for body in database.asked]
+    client.close()
+    service.ends(1, 0)
+    return [reply.hex() if reply is not None else "nothing" for reply in replies]
+
+
+def check(database):
+    """Each reply is the model's, and no more come."""
+    with tempfile.NamedTemporaryFile(suffix=".toml") as table:
+        table.write(database.table.text)
+        table.flush()
+        found = (played if database.limit == ENTRIES_OF_PLAY else served)(database, table.name)
+    wanted = [reply.hex() for reply in database.replies]
+    for at, (one, other) in enumerate(itertools.zip_longest(wanted, found, fillvalue="nothing")):
+        if one != other:
+            fail(database, at, one, other)
+
+
+def fail(database, at, wanted, found):
+    OUT.mkdir(exist_ok=True)
+    left = OUT / f"trial-failed-{database.name}"
+    left.write_text(lines_of(database.asked[:at + 1]))
+    left.with_suffix(".toml").write_bytes(database.table.text)
+    body = lines_of(database.asked[at:at + 1]).strip() or "nothing"
+    sys.exit(f"{database.name}, primary {database.primary}, audit list of {database.limit}, line {at + 1}: {body}\n"
+             f"the model: {wanted}\npagelog:   {found}\n"
+             f"The shortest prefix that fails is left in {left.relative_to(ROOT)}, and its table beside it")
 
 
 def summary(trial):
     return ", ".join(f"{name} {trial.met[name]}" for name in sorted(trial.met))
 
 
-def files_of(trial):
-    stdin, stdout = text_of(trial.lines).encode(), text_of(trial.replies).encode()
-    return {"stdin": stdin, "stdout": stdout, **{f"data/{name}": table.text for name, table in tables.FILES.items()}}
-
-
-def store():
-    trial = stored()
-    for name, content in files_of(trial).items():
-        (STORED / name).write_bytes(content)
-    print(f"{len(trial.lines)} lines: {summary(trial)}")
-
-
-def check():
-    trial = stored()
-    for name, content in files_of(trial).items():
-        if (STORED / name).read_bytes() != content:
-            sys.exit(f"crates/trial/{name} is not what scripts/trial.py --write writes")
+def play_parts():
     if TABLE.read_bytes() != tables.START.text:
         sys.exit("crates/pagelog/data/t0.toml is not the start table of scripts/tables.py")
-    print(f"crates/trial has the {len(trial.lines)} lines that the model gives")
+    trial = parts()
+    for database in trial.databases:
+        check(database)
+    count = sum(len(database.asked) for database in trial.databases)
+    print(f"{count} lines to {len(trial.databases)} databases: each reply is the model's\n  {summary(trial)}")
 
 
-def play(count, seed):
-    file, table = ("t0.toml", TABLE) if seed % 3 else ("six.toml", SIX_TABLE)
-    trial = Trial(seed, is_stored=False, file=file)
-    for _ in range(count):
-        random_line(trial)
-    run = subprocess.run([ROOT / "scripts" / "pagelog", "play", "--table", table, "--primary", "2"],
-                         input=text_of(trial.lines), capture_output=True, text=True)
-    replies = run.stdout.splitlines()
-    for at, (line, reply) in enumerate(zip(trial.lines, trial.replies)):
-        if replies[at:at + 1] != [reply]:
-            FAILED.write_text(text_of(trial.lines[:at + 1]))
-            found = replies[at] if at < len(replies) else f"nothing, with status {run.returncode}: {run.stderr}"
-            sys.exit(f"seed {seed}, line {at + 1}: {line}\nthe model: {reply}\npagelog:   {found}\n"
-                     f"The shortest prefix that fails is left in {FAILED.relative_to(ROOT)}")
-    if run.returncode or len(replies) != count:
-        sys.exit(f"seed {seed}: status {run.returncode}, {len(replies)} replies to {count} lines: {run.stderr}")
+def play_random_lines(count, seed):
+    trial = random_lines(count, seed, tables.START if seed % 3 else tables.SIX_COPIES)
+    check(trial.databases[0])
     model = trial.model
     print(f"{count} lines, seed {seed}: each reply is the model's. Epoch {model.epoch}, {len(model.log)} blocks "
           f"hardened, {len(model.lines)} entries, of which the first {trial.swept} were asked for\n  {summary(trial)}")
@@ -200,14 +234,12 @@ def play(count, seed):
 
 def main():
     words = sys.argv[1:]
-    if words == ["--write"]:
-        store()
-    elif words == ["--check"]:
-        check()
-    elif len(words) <= 2 and all(word.isdigit() for word in words):
-        play(int(words[0]) if words else 20000, int(words[1]) if words[1:] else 1)
-    else:
+    if len(words) > 2 or not all(word.isdigit() for word in words):
         sys.exit(__doc__)
+    if words:
+        play_random_lines(int(words[0]), int(words[1]) if words[1:] else 1)
+    else:
+        play_parts()
 
 
 if __name__ == "__main__":

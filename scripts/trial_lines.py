@@ -1,6 +1,5 @@
-"""The lines of a trial with the replies of the model, and what its blocks are; used by trial.py and trial_parts.py."""
+"""What a trial sends to databases, with the replies of the model, and what its blocks are; used by trial.py and trial_parts.py."""
 
-import itertools
 import random
 from collections import Counter
 
@@ -10,46 +9,39 @@ from model import Model
 from wire import ADVANCE, AUDIT, FAILOVER, GET, OFFER, PULL, REPORT, SET_TABLE, STATUS, TIDY, WRITE
 from wire import OPERATOR, PAGE_SERVER, PAGES_OF_A_PARTITION, PRIMARY, SECONDARY
 
-LONG_RUN = 8
+# How many entries the audit list of `play` holds, and the pass of each of its requests.
+ENTRIES_OF_PLAY, PASS_OF_PLAY = 65536, 1
 
 
-def words_of(data):
-    """The bytes as words: hexadecimal digits, and COUNT*BYTE for eight or more equal bytes in a row."""
-    words = [""]
-    for byte, run in itertools.groupby(data):
-        count = len(list(run))
-        if count < LONG_RUN:
-            words[-1] += f"{byte:02x}" * count
-        else:
-            words += [f"{count}*{byte:02x}", ""]
-    return " ".join(filter(None, words))
+class Database:
+    """A database as it begins, and each body that it is sent with the reply of the model."""
+
+    def __init__(self, name, table, primary, limit):
+        self.name, self.table, self.primary, self.limit = name, table, primary, limit
+        self.asked, self.replies = [], []
 
 
 class Trial:
-    """Lines and their replies, and the model of the database that is open.
+    """Databases one after the other, and the model of the last one, which is asked."""
 
-    In pagelog each line is digits, under pass 1; in the stored trial it is words, under its own number.
-    """
+    def __init__(self, seed, part):
+        """The part names the databases that are opened from now on."""
+        self.chance, self.part = random.Random(seed), part
+        self.databases, self.met = [], Counter()
 
-    def __init__(self, seed, is_stored, file="t0.toml"):
-        self.chance, self.is_stored = random.Random(seed), is_stored
-        self.lines, self.replies, self.met = [], [], Counter()
-        self.model, self.swept = Model(tables.TEXTS, tables.FILES[file], 2), 0
-
-    def open(self, primary=2, limit=65536, file="t0.toml"):
-        self.model, self.swept = Model(tables.TEXTS, tables.FILES[file], primary, limit), 0
-        self.lines.append(f"open {file} {primary} {limit}")
-        self.replies.append("opened")
+    def open(self, primary=2, limit=ENTRIES_OF_PLAY, table=tables.START):
+        self.model, self.swept = Model(tables.TEXTS, table, primary, limit), 0
+        self.databases.append(Database(self.part, table, primary, limit))
 
     def play(self, body):
-        name, reply = self.model.reply(body, len(self.lines) + 1 if self.is_stored else 1)
+        name, reply = self.model.reply(body, PASS_OF_PLAY)
         self.met[name] += 1
-        self.lines.append(words_of(body) if self.is_stored else body.hex())
-        self.replies.append(words_of(reply) if self.is_stored else reply.hex())
+        self.databases[-1].asked.append(body)
+        self.databases[-1].replies.append(reply)
         return name
 
     def body(self, who, role, op, arguments=b"", epoch=None, key=None):
-        """A body of the present epoch; the number of the database decides nothing and varies."""
+        """A body of the present epoch; the number of the database decides nothing in `play`, and varies."""
         epoch = self.model.epoch if epoch is None else epoch
         return wire.head(who, role, op, epoch, self.chance.choice([0, 0, 1, 7, 2 ** 32 - 1]), key) + arguments
 

@@ -1,4 +1,7 @@
-"""The parts of the stored trial, each against a database of its own."""
+"""The parts of the trial, each against a database of its own: long runs, large sizes, and every fault.
+
+No part reaches epoch 2^32 - 1 (C9) or a reply NoMemory.
+"""
 
 import itertools
 
@@ -10,7 +13,7 @@ from wire import OPERATOR, PAGE_SERVER, PAGES_OF_A_PARTITION, PRIMARY, SECONDARY
 
 
 def full_windows(trial):
-    """A window filled in any order and emptied, three times, and pulled sixteen at a time."""
+    """A window of 64 filled in any order and emptied, three times, and pulled sixteen blocks at a time."""
     trial.open()
     for turn in range(3):
         hard = 64 * turn
@@ -27,7 +30,8 @@ def full_windows(trial):
 
 
 def three_hundred_blocks(trial):
-    """Written to two of three copies, some of them offered, reported ten at a time, and read to the end."""
+    """Written to two of three copies, each third one offered, hardened ten at a time, pulled to the end by ranges of partitions,
+    and pages of them."""
     trial.open(primary=5)
     for lsn in range(1, 301):
         if lsn % 3 == 0:
@@ -46,7 +50,7 @@ def three_hundred_blocks(trial):
 
 
 def pages(trial):
-    """Pages at each LSN as their partition is applied, up to the hardened end and one above it."""
+    """Pages at each LSN, exactly and as far as their partition is applied, at the hardened end and above it."""
     trial.open()
     for lsn in range(1, 21):
         if lsn in (1, 6, 12, 20):
@@ -80,7 +84,7 @@ def ask_for_pages(trial, hard):
 
 
 def offers(trial):
-    """Before and after writes, of other contents, hardened by a report or a failover, and offered alone."""
+    """Before and after writes, of other contents, hardened by a report and by a failover, and offered alone."""
     trial.open()
     for turn in range(4):
         hard = len(trial.model.log)
@@ -117,7 +121,7 @@ def offers(trial):
 
 
 def audits(trial):
-    """Lines of each operation, allowed and denied, from one entry on, up to the end and past it."""
+    """Each operation in each role, allowed and denied, and its lines from each place on, at the end and past it."""
     trial.open()
     trial.audit(1, 1024)
     for who in (1, 2, 3, 4):
@@ -143,7 +147,8 @@ def ask_each_operation(trial, who):
 
 
 def failovers(trial):
-    """Over thirty contents with a gap at the twenty-first, to each primary, and in the old epoch; with six copies in between."""
+    """Over thirty contents with a gap at the twenty-first, to each primary, with a late report of the old one; with six copies in
+    between."""
     trial.open()
     for primary in (5, 2, 2, 9, 3, 5):
         hard, old, zone = len(trial.model.log), trial.model.primary, trial.model.zone
@@ -164,7 +169,7 @@ def failovers(trial):
 
 def six_copies(trial):
     """Begins with six copies: blocks in none to six of them, reported, failed over, and copies that there are not."""
-    trial.open(file="six.toml")
+    trial.open(table=tables.SIX_COPIES)
     for lsn in range(1, 8):
         for copy in trial.chance.sample(range(6), lsn - 1):
             trial.write(copy, lsn, put(lsn))
@@ -251,7 +256,7 @@ def read_about_ends(trial):
 
 
 def large_blocks(trial):
-    """Blocks of 20,000 bytes, of 2,700 records and of the most bytes that one has, and a text of the most."""
+    """Blocks of 20,000 bytes, of 2,700 records, of the most bytes that one has and of one byte more, and a text of the most."""
     trial.open()
     many = [(at % 4096, at % 8192, bytes([at % 256])) for at in range(2700)]
     most = wire.puts_of(wire.LONGEST_BLOCK - 14 - 4 * 9, 0xEE)
@@ -275,7 +280,7 @@ def longest_text():
 
 
 def texts_of_tables(trial):
-    """Each text that is none changes nothing but the audit list, and each table is in force at once."""
+    """Each fault of a table's text, which changes nothing but the audit list, and each table in force at once."""
     trial.open()
     for text, found in list(tables.TEXTS.items()):
         if len(text) < 10000:
@@ -299,7 +304,7 @@ def ask_each(trial):
 
 
 def faults_of_bodies(trial):
-    """Each code of a malformed body, and the least code of those that hold."""
+    """Each code of a malformed body, and which comes first: the least of those that hold."""
     trial.open()
     status, report = trial.body(1, OPERATOR, STATUS), trial.body(2, PRIMARY, REPORT, wire.report(1))
     pull = trial.body(3, SECONDARY, PULL, wire.pull(0, 1, 1, 1))
@@ -354,7 +359,8 @@ def faulty_blocks():
 
 
 def full_audit_list(trial):
-    """Entries up to the limit, then the full list, which is asked before the token and changes nothing."""
+    """The list filled to its limit, of one entry and of 60; then each answer is that, before the token is looked at, and nothing
+    changes."""
     for limit in (1, 60):
         trial.open(limit=limit)
         for lsn in range(1, 15):

@@ -55,6 +55,11 @@ def head(principal, role, op, epoch=1, database=0, key=None):
     return number(principal, 4) + key + bytes([role]) + number(database, 4) + number(epoch, 4) + bytes([op])
 
 
+def to_database(body, database):
+    """The body as one to this database; of a body that ends before the number or in it, no byte more."""
+    return body[:21] + number(database, 4)[:len(body[21:25])] + body[25:]
+
+
 def write(copy, spelled):
     return bytes([copy]) + spelled
 

@@ -20,7 +20,7 @@ sys.path.insert(0, str(Path(__file__).resolve().parent.parent / "src"))
 PATIENCE = 3600 if os.environ.get("PAGELOG_TEST_LONG") else 600
 """How many seconds a test may take before it is taken to hang. Most take less than one where the machine is idle."""
 PARTS = {
-    "test_bytes": "blocks, requests and replies against the stored trial and the pages",
+    "test_bytes": "blocks, requests and replies against the trial and the pages",
     "test_replies": "every reply, rule and fault of the service",
     "test_connection": "connections that are cut, silent or refused",
     "test_primary": "commits, epochs and doubts",

@@ -1,9 +1,10 @@
-"""Blocks, requests and replies: bytes to values and back, against the stored trial, docs/FORMATS and each fault."""
+"""Blocks, requests and replies: bytes to values and back, against the trial of scripts/trial.py, docs/FORMATS and each fault."""
 
 from __future__ import annotations
 
 import json
 import re
+import sys
 import unittest
 from typing import Iterator
 
@@ -24,33 +25,33 @@ from pagelog.request import (
 )  # fmt: skip
 from pagelog.rules import Section
 
-TRIAL = TOP / "crates" / "trial"
+sys.path.insert(0, str(TOP / "scripts"))
+import trial  # noqa: E402
+
 FORMATS = (TOP / "docs" / "FORMATS.md").read_text()
 TOKEN = bytes.fromhex(token(2))
 AA = Block.of(1, [Put(0, 0, b"\xaa")])
-
-
-def body_of_words(line: str) -> bytes:
-    """The bytes of a line of the stored trial: hexadecimal digits, and COUNT*BYTE for equal bytes."""
-    parts = (word.split("*") for word in line.split())
-    return b"".join(bytes.fromhex(part[-1]) * int(part[0] if len(part) == 2 else 1) for part in parts)
 
 
 def hexadecimal(text: str) -> bytes:
     return bytes.fromhex(text.replace(" ", ""))
 
 
-class StoredTrial(unittest.TestCase):
-    def lines(self) -> Iterator[tuple[int, bytes, bytes]]:
-        pairs = zip((TRIAL / "stdin").read_text().splitlines(), (TRIAL / "stdout").read_text().splitlines(), strict=True)
-        for number, (asked, told) in enumerate(pairs, 1):
-            if not asked.startswith("open "):
-                yield number, body_of_words(asked), body_of_words(told)
+class Trial(unittest.TestCase):
+    @classmethod
+    def setUpClass(cls) -> None:
+        cls.databases = trial.parts().databases
+
+    def lines(self) -> Iterator[tuple[str, bytes, bytes]]:
+        """Each body of the trial, with its place and the model's reply."""
+        for database in self.databases:
+            for number, (asked, told) in enumerate(zip(database.asked, database.replies, strict=True), 1):
+                yield f"{database.name}, {number}", asked, told
 
     def test_its_requests_are_read_and_written_as_the_service_reads_them(self) -> None:
         seen = set()
-        for number, asked, told in self.lines():
-            with self.subTest(line=number):
+        for place, asked, told in self.lines():
+            with self.subTest(place):
                 if told[:1] == b"\x0a":
                     with self.assertRaises(faults.RequestFault) as raised:
                         decode_request(asked)
@@ -64,8 +65,8 @@ class StoredTrial(unittest.TestCase):
 
     def test_its_replies_are_read_and_written(self) -> None:
         seen = set()
-        for number, _, told in self.lines():
-            with self.subTest(line=number):
+        for place, _, told in self.lines():
+            with self.subTest(place):
                 reply = decode_reply(told)
                 self.assertEqual(encode_reply(reply), told)
                 seen.add(type(reply))
@@ -73,13 +74,13 @@ class StoredTrial(unittest.TestCase):
 
     def test_its_blocks_are_built_again_from_their_records(self) -> None:
         count = 0
-        for number, asked, told in self.lines():
+        for place, asked, told in self.lines():
             if told[:1] == b"\x0a":
                 continue
             act = decode_request(asked).act
             if isinstance(act, (Write, Offer)):
                 built = Block.of(act.block.lsn, act.block.records)
-                self.assertEqual(built, act.block, number)
+                self.assertEqual(built, act.block, place)
                 self.assertEqual(list(built.partitions), sorted({record.partition for record in built.records}))
                 count += 1
         self.assertGreater(count, 1000)
