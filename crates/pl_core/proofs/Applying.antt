@@ -70,7 +70,7 @@ holds_pages law h e kept pages log held follow =
     }
 
 -- the history is the same wherever the blocks lie, and whatever is kept of pages
-history-moved : (start : Start) (kept : Kept) (entries : List KeptEntry) (pages : PagesState) (in_broker : ℕ) → history_kept start kept entries ≡ history_kept start (with_unseen kept pages in_broker) entries
+pub history-moved : (start : Start) (kept : Kept) (entries : List KeptEntry) (pages : PagesState) (in_broker : ℕ) → history_kept start kept entries ≡ history_kept start (with_unseen kept pages in_broker) entries
 history-moved start kept entries pages in_broker = ap (λ (xs : List Entry). record { start = start; entries = xs }) (sym (entries-moved kept.log in_broker entries))
 
 -- and after one that had no memory
