@@ -49,7 +49,6 @@ impl Desk {
     /// A desk of the database, and its passes in the order of their numbers, from 1. All memory that
     /// the desk and its calls need is allocated here, but for what the database takes; where that
     /// fails, the database is given back.
-    #[tactic(auto, using(crate::proofs::Dealing::fresh_of))]
     pub fn new(alloc: Global, db: Db, seats: u32, turns: u64) -> Result<(Desk, Vec<Pass>), Db>
         // At least one seat.
         requires seats { 1 ≤ seats }
