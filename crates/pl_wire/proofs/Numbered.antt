@@ -1,6 +1,7 @@
 -- Roles, operations, sections and kinds of reply, each by its number.
-use Rattle.std.proofs.Common.{◌≡◌, ℕ, Option, Some, refl, arith}
-use Rattle.std.proofs.lemmas.Bool.Decides.{nat_tests}
+use Rattle.std.proofs.Common.{◌≡◌, ℕ, Bool, true, false, cond, List, [], ◌∷◌, Option, Some, None, refl, ap, ◌∙◌}
+use Rattle.std.proofs.Math.Dec.{eqb}
+use Rattle.std.proofs.lemmas.Bool.{eqb-true}
 use Rattle.pl_table.specs.Ops.{role_number, role_of_number, op_number, op_of_number}
 use Rattle.pl_table.specs.Section.{section_number}
 use Rattle.pl_table.specs.declared.op.Op.{Op}
@@ -19,11 +20,24 @@ pub record IsNumbered {X : Type 0} (of_number : ℕ → Option X) (number : X �
   pub told : (n : ℕ) (x : X) → of_number n ≡ Some x → n ≡ number x
   pub found : (x : X) → of_number (number x) ≡ Some x
 
+some_is : {X : Type 0} (y x : X) → Some y ≡ Some x → y ≡ x
+some_is y x e = cc
+
+-- the first of these that has the number
+abbrev first : {X : Type 0} → (X → ℕ) → List X → ℕ → Option X
+first number [] n = None
+first number (x ∷ xs) n = cond (eqb n (number x)) (Some x) (first number xs n)
+
+told_row : {X : Type 0} (number : X → ℕ) (x y : X) (rest : Option X) (n : ℕ) (b : Bool) → eqb n (number x) ≡ b → (rest ≡ Some y → n ≡ number y) → cond b (Some x) rest ≡ Some y → n ≡ number y
+told_row number x y rest n true same below e = eqb-true n (number x) same ∙ ap number (some_is x y e)
+told_row number x y rest n false other below e = below e
+
+told_first : {X : Type 0} (number : X → ℕ) (xs : List X) (n : ℕ) (y : X) → first number xs n ≡ Some y → n ≡ number y
+told_first number [] n y e = absurd cc
+told_first number (x ∷ xs) n y e = told_row number x y (first number xs n) n (eqb n (number x)) refl (told_first number xs n y) e
+
 role_told : (n : ℕ) (r : Role) → role_of_number n ≡ Some r → n ≡ role_number r
-role_told n roles.Primary e = grind (arith, nat_tests)
-role_told n roles.Secondary e = grind (arith, nat_tests)
-role_told n roles.PageServer e = grind (arith, nat_tests)
-role_told n roles.Operator e = grind (arith, nat_tests)
+role_told n r e = told_first role_number (roles.Primary ∷ roles.Secondary ∷ roles.PageServer ∷ roles.Operator ∷ []) n r e
 
 role_found : (r : Role) → role_of_number (role_number r) ≡ Some r
 role_found roles.Primary = refl
@@ -35,17 +49,7 @@ pub roles_numbered : IsNumbered role_of_number role_number
 roles_numbered = record { told = role_told; found = role_found }
 
 op_told : (n : ℕ) (op : Op) → op_of_number n ≡ Some op → n ≡ op_number op
-op_told n ops.Write e = grind (arith, nat_tests)
-op_told n ops.Offer e = grind (arith, nat_tests)
-op_told n ops.Report e = grind (arith, nat_tests)
-op_told n ops.Get e = grind (arith, nat_tests)
-op_told n ops.Pull e = grind (arith, nat_tests)
-op_told n ops.Advance e = grind (arith, nat_tests)
-op_told n ops.Status e = grind (arith, nat_tests)
-op_told n ops.Failover e = grind (arith, nat_tests)
-op_told n ops.SetTable e = grind (arith, nat_tests)
-op_told n ops.Audit e = grind (arith, nat_tests)
-op_told n ops.Tidy e = grind (arith, nat_tests)
+op_told n op e = told_first op_number (ops.Write ∷ ops.Offer ∷ ops.Report ∷ ops.Get ∷ ops.Pull ∷ ops.Advance ∷ ops.Status ∷ ops.Failover ∷ ops.SetTable ∷ ops.Audit ∷ ops.Tidy ∷ []) n op e
 
 op_found : (op : Op) → op_of_number (op_number op) ≡ Some op
 op_found ops.Write = refl
@@ -64,9 +68,7 @@ pub ops_numbered : IsNumbered op_of_number op_number
 ops_numbered = record { told = op_told; found = op_found }
 
 section_told : (n : ℕ) (s : Section) → section_of_number n ≡ Some s → n ≡ section_number s
-section_told n A e = grind (arith, nat_tests)
-section_told n B e = grind (arith, nat_tests)
-section_told n C e = grind (arith, nat_tests)
+section_told n s e = told_first section_number (A ∷ B ∷ C ∷ []) n s e
 
 section_found : (s : Section) → section_of_number (section_number s) ≡ Some s
 section_found A = refl
@@ -77,17 +79,7 @@ pub sections_numbered : IsNumbered section_of_number section_number
 sections_numbered = record { told = section_told; found = section_found }
 
 kind_told : (n : ℕ) (k : ReplyKind) → kind_of_number n ≡ Some k → n ≡ kind_number k
-kind_told n kinds.Done e = grind (arith, nat_tests)
-kind_told n kinds.Blocks e = grind (arith, nat_tests)
-kind_told n kinds.Page e = grind (arith, nat_tests)
-kind_told n kinds.Entries e = grind (arith, nat_tests)
-kind_told n kinds.Status e = grind (arith, nat_tests)
-kind_told n kinds.Denied e = grind (arith, nat_tests)
-kind_told n kinds.NoMemory e = grind (arith, nat_tests)
-kind_told n kinds.AuditFull e = grind (arith, nat_tests)
-kind_told n kinds.Spent e = grind (arith, nat_tests)
-kind_told n kinds.NoDatabase e = grind (arith, nat_tests)
-kind_told n kinds.Malformed e = grind (arith, nat_tests)
+kind_told n k e = told_first kind_number (kinds.Done ∷ kinds.Blocks ∷ kinds.Page ∷ kinds.Entries ∷ kinds.Status ∷ kinds.Denied ∷ kinds.NoMemory ∷ kinds.AuditFull ∷ kinds.Spent ∷ kinds.NoDatabase ∷ kinds.Malformed ∷ []) n k e
 
 kind_found : (k : ReplyKind) → kind_of_number (kind_number k) ≡ Some k
 kind_found kinds.Done = refl
