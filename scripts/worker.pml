@@ -261,9 +261,9 @@ inline turn_due() {
 inline open() {
                                                            // ..
     if                                                     // let is_heard = poll.registry()
-    :: ready[me]++                                         // .register(&mut line.socket, Token(place), interest);
-    :: skip                                                // if is_heard.is_err() { self.items.try_remove(place); }
-    fi                                                     // is_heard.is_ok()
+    :: ready[me]++                                         // .register(&mut line.socket, Token(place), interest).is_ok();
+    :: skip                                                // if !is_heard { self.items.try_remove(place); }
+    fi                                                     // is_heard
 }
 
 // worker.rt: take_new

@@ -44,10 +44,21 @@ none_fresh : (a n : ℕ) → replicate n [] ≡ map (fresh_at []) (range_with_le
 none_fresh a zero = refl
 none_fresh a (suc n) = ap (λ (ls : List (List Knowledge)). [] ∷ ls) (none_fresh (a + 1) n)
 
+-- a desk more, and its passes dealt out
+abbrev pub IsPut : (desks new : List DeskOrigin) → DeskOrigin → List Knowledge → (all dealt_out : List (List Knowledge)) → Type 0
+IsPut desks new desk passes all dealt_out = (new ≡ desks ++ desk ∷ []) × (dealt_out ≡ dealt_into passes all)
+
 -- the same, where a desk and the passes of all desks were added
-pub all_fresh-pushed : (desks new : List DeskOrigin) (desk : DeskOrigin) (seats : ℕ) (passes : List Knowledge) (all dealt_out : List (List Knowledge)) → new ≡ desks ++ desk ∷ [] → passes ≡ fresh_passes desk seats → all ≡ all_fresh desks seats → dealt_out ≡ dealt_into passes all → dealt_out ≡ all_fresh new seats
-all_fresh-pushed desks new desk seats passes all dealt_out pushed are so_far done =
-    done ∙ (λ i. dealt_into (are i) (so_far i)) ∙ all_fresh-more desks desk seats ∙ ap (λ (ds : List DeskOrigin). all_fresh ds seats) (sym pushed)
+pub all_fresh-put : (desks new : List DeskOrigin) (desk : DeskOrigin) (seats : ℕ) (passes : List Knowledge) (all dealt_out : List (List Knowledge)) → IsPut desks new desk passes all dealt_out
+    → passes ≡ fresh_passes desk seats → all ≡ all_fresh desks seats → dealt_out ≡ all_fresh new seats
+all_fresh-put desks new desk seats passes all dealt_out put are so_far =
+    put.1 ∙ (λ i. dealt_into (are i) (so_far i)) ∙ all_fresh-more desks desk seats ∙ ap (λ (ds : List DeskOrigin). all_fresh ds seats) (sym put.0)
+
+-- what the desks are made with then
+pub terms-put : (desks new : List DeskOrigin) (desk : DeskOrigin) (terms : Terms) (passes : List Knowledge) (all dealt_out : List (List Knowledge)) → IsPut desks new desk passes all dealt_out
+    → desk.terms ≡ terms → map (λ d. d.terms) new ≡ map (λ d. d.terms) desks ++ terms ∷ []
+terms-put desks new desk terms passes all dealt_out put are =
+    ap (λ (ds : List DeskOrigin). map (λ d. d.terms) ds) put.0 ∙ map-append (λ d. d.terms) desks (desk ∷ []) ∙ ap (λ (t : Terms). map (λ (d : DeskOrigin). d.terms) desks ++ t ∷ []) are
 
 -- with no desk, nobody has a pass
 pub all_fresh-none : (seats : ℕ) → replicate seats [] ≡ all_fresh [] seats

@@ -84,6 +84,21 @@ fn deal(all: &mut Vec<Passes>, mut passes: Vec<Pass>) -> Result<(), AllocError>
     Ok(())
 }
 
+// Puts a desk after the others, and deals its passes out.
+fn put_desk(
+    desk: Desk,
+    passes: Vec<Pass>,
+    desks: &mut Vec<Desk>,
+    all: &mut Vec<Passes>,
+) -> Result<(), AllocError>
+    requires { length passes.items ≤ length all.old.items }
+    ensures { OnOk result ((desks.new.items ≡ desks.old.items ++ desk ∷ []) ×
+        (all.new.items ≡ dealt_into passes.items all.old.items)) }
+{
+    desks.push(desk)?;
+    deal(all, passes)
+}
+
 // Opens the desk of one database more, and deals its passes out.
 fn open_one(
     alloc: Global,
@@ -105,8 +120,7 @@ fn open_one(
     let Ok((desk, passes)) = Desk::new(alloc, db, seats, turns) else {
         return Err(AllocError);
     };
-    desks.push(desk)?;
-    deal(all, passes)
+    put_desk(desk, passes, desks, all)
 }
 
 // At each desk the pass meets the other.

@@ -84,7 +84,7 @@ impl Model for Conversation {
 }
 
 // What a read brought.
-#[derive(Clone, Copy, Debug, PartialEq, Eq)]
+#[derive(Clone, Copy)]
 enum Heard {
     // There may be more.
     Some,
@@ -333,7 +333,6 @@ impl Conversation {
 
 /// Two turns of a conversation, one after the other, are as one: what both heard, and what both said. So all
 /// turns together answered the frames of all that they heard, in order, however it was cut.
-#[tactic(auto, using(crate::proofs::Turning::resumes_then))]
 pub fn turns_join<G: Gate>(_gate: &G)
     // Two turns, one after the other, are as one (`TurnsJoin`).
     ensures law { TurnsJoin (G.calls _gate.now) }

@@ -188,10 +188,10 @@ where
         if hired.is_empty() {
             break;
         }
-        let worker = hired.remove(0);
         let Some(post) = posts.get(workers.len()) else {
             break;
         };
+        let worker = hired.remove(0);
         let pass = passes.remove(0);
         let Some(handle) = start(scope, rt, alloc, worker, post, gate, pass) else {
             break;

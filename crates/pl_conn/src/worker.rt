@@ -164,7 +164,7 @@ impl Lines {
     // Takes a socket in, which does not wait from now on. Returns whether it could.
     fn open(&mut self, alloc: Global, poll: &Poll, socket: TcpStream) -> bool {
         // Small replies are not held back where the system lets that be set.
-        let _is_set = socket.set_nodelay(true);
+        let _is_set = socket.set_nodelay(true).is_ok();
         if socket.set_nonblocking(true).is_err() {
             return false;
         }
@@ -183,11 +183,12 @@ impl Lines {
         let interest = Interest::READABLE | Interest::WRITABLE;
         let is_heard = poll
             .registry()
-            .register(&mut line.socket, Token(place), interest);
-        if is_heard.is_err() {
+            .register(&mut line.socket, Token(place), interest)
+            .is_ok();
+        if !is_heard {
             self.items.try_remove(place);
         }
-        is_heard.is_ok()
+        is_heard
     }
 
     // Notes how the turn of a connection ended: whether another is due, or it is closed.
