@@ -1,16 +1,16 @@
 -- What the options of a subcommand leave where `clap` takes the words: each was found, and each number lies in its range.
 use Rattle.std.proofs.Common.{◌≡◌, ◌∙◌, ◌&&◌, ◌||◌, ◌∷◌, ◌++◌, ℕ, Bool, true, false, not, cond, refl, sym, ap, subst, true≢false, fold, List, [], Option, Some, None, codes}
 use Rattle.std.specs.Prelude.{IfSome, pos, unwrap_or, slice_get, option_and_then, option_map}
-use Rattle.std.specs.List.{find, list_any}
+use Rattle.std.specs.List.{find}
 use Rattle.std.specs.Option.{option_map_or}
 use Rattle.std.specs.Str.{bytes_eq}
 use Rattle.std.proofs.lemmas.Slice.Eq.{bytes_eq-Decides}
 use Rattle.clap.specs.Values.{IsSignedIn, read_as}
 use Rattle.clap.specs.Facts.{explicit_source}
-use Rattle.clap.specs.Walk.{Row, Rule, Text, all_of, at_row, default_rows, first_of, has_row, is_empty, more_values, one_of, reading_by, row_text, with_default, with_values, without}
+use Rattle.clap.specs.Walk.{Row, Rule, Text, at_row, default_rows, first_of, has_row, more_values, reading_by, row_text, with_default, with_values, without}
 use Rattle.clap.specs.Simple.{Shape, filled, help_rule, with_index}
 use Rattle.clap.specs.Takes.{is_given, use_passes, value_passes}
-use Rattle.clap.specs.declared.builder.action.ArgAction.TheVariants.{Append, Set}
+use Rattle.clap.specs.declared.builder.action.ArgAction.TheVariants.{Set}
 use Rattle.clap.specs.declared.builder.value_parser.ValueParser.TheVariants.{Signed}
 use Rattle.clap.specs.declared.builder.value_parser.Reading.{Reading}
 use Rattle.clap.specs.declared.builder.value_parser.Reading.TheVariants.{AsWritten, WithoutMinus}

@@ -1,12 +1,12 @@
 -- Words that `clap` takes name a subcommand of the program with all its options.
-use Rattle.std.proofs.Common.{◌≡◌, ◌∙◌, ◌&&◌, ◌||◌, ◌∷◌, ◌++◌, ℕ, Bool, true, false, not, cond, zero, suc, refl, sym, ap, true≢false, is_some, fold, take, drop, inl, inr, List, [], Option, Some, None, codes}
-use Rattle.std.specs.Prelude.{IfSome, pos, option_map}
+use Rattle.std.proofs.Common.{◌≡◌, ◌∙◌, ◌||◌, ◌∷◌, ℕ, Bool, true, false, cond, zero, suc, refl, sym, true≢false, is_some, take, drop, inl, inr, List, [], Option, Some, None, codes}
+use Rattle.std.specs.Prelude.{pos, option_map}
 use Rattle.std.specs.List.{list_all, list_any}
 use Rattle.std.specs.Option.{option_map_or}
 use Rattle.std.specs.Str.{bytes_eq}
 use Rattle.std.proofs.lemmas.Slice.Eq.{bytes_eq-Decides}
 use Rattle.clap.specs.Facts.{explicit_source}
-use Rattle.clap.specs.Walk.{Row, Rule, Text, answers_to, finished, has_row, nothing_held, rows_after, settled, walk, walk_from, with_default}
+use Rattle.clap.specs.Walk.{Rule, Text, answers_to, finished, has_row, nothing_held, rows_after, settled, walk, walk_from}
 use Rattle.clap.specs.Simple.{App, Shape, argument_words, built, entered, is_simple, label_of, names_of, rows_at, subcommand_of}
 use Rattle.clap.specs.Takes.{built_takes, default_passes, entered_passes, is_given, is_valid, level_passes, settle_passes, takes, walk_passes}
 use Rattle.clap.specs.declared.builder.value_parser.ValueParser.TheVariants.{Signed}
@@ -15,7 +15,7 @@ use Rattle.clap.proofs.ValueTestLemmas.{accepts-Accepts}
 use Rattle.clap.proofs.WalkLemmas.{both}
 use Rattle.pl_command.specs.CommandLine.{GivesAsk, GivesPlay, GivesServe, IsWholeCommand, most_u32, own_app, play_app}
 use Rattle.pl_command.proofs.Passes.{Each, NoHelpStop, settled_keeps, walk_keeps, walk_stop}
-use Rattle.pl_command.proofs.Rows.{AllGood, Defaulted, Found, Limits, Use, defaults_good, gives_number, gives_text, gives_words, given_row, help_use, kept_row, limits_in, no_default, number_use, text_use, there, keeps_default, words_use}
+use Rattle.pl_command.proofs.Rows.{AllGood, Defaulted, Limits, Use, defaults_good, gives_number, gives_text, gives_words, given_row, help_use, kept_row, limits_in, no_default, number_use, text_use, there, keeps_default, words_use}
 
 -- ---- the program, as `clap` builds it
 

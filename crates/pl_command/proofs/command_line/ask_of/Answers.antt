@@ -1,4 +1,4 @@
-use Rattle.std.proofs.Common.{◌≡◌, ◌∙◌, refl, codes}
+use Rattle.std.proofs.Common.{refl, codes}
 use Rattle.std.specs.Prelude.{string_bytes}
 use Rattle.clap.specs.Words.{found_of}
 use Rattle.pl_command.proofs.Matching.{has_text, text_missing}

@@ -1,6 +1,6 @@
-use Rattle.std.proofs.Common.{◌≡◌, ◌∙◌, ap, ap₂}
+use Rattle.std.proofs.Common.{◌∙◌, ap, ap₂}
 use Rattle.std.proofs.lemmas.Result.{IfOk-weaker}
-use Rattle.clap.specs.Simple.{App, app_of, with_subcommand}
+use Rattle.clap.specs.Simple.{App, with_subcommand}
 use Rattle.pl_command.proofs.Matching.{no_globals}
 use Rattle.pl_command.proofs.command_line.joined.Goals as goal
 

@@ -1,4 +1,4 @@
-use Rattle.std.proofs.Common.{◌≡◌, refl, codes, inl, inr}
+use Rattle.std.proofs.Common.{refl, codes, inl, inr}
 use Rattle.std.proofs.lemmas.Result.{IfOk-weaker}
 use Rattle.clap.specs.Words.{found_of, rows_of}
 use Rattle.pl_command.proofs.Matching.{ask_only, both_parts, named, not_there, play_only, serve_only}

@@ -1,7 +1,6 @@
-use Rattle.std.proofs.Common.{◌≡◌, ◌∙◌, refl, sym, ap, subst, codes}
+use Rattle.std.proofs.Common.{refl, codes}
 use Rattle.std.specs.Prelude.{string_bytes}
-use Rattle.clap.specs.Words.{found_of, rows_of}
-use Rattle.pl_command.specs.CommandLine.{HasText}
+use Rattle.clap.specs.Words.{found_of}
 use Rattle.pl_command.proofs.Matching.{has_text, none_of, text_missing}
 use Rattle.pl_command.proofs.command_line.play_of.Goals as goal
 
