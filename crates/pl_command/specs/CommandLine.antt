@@ -13,6 +13,8 @@ use Rattle.clap.specs.declared.error.kind.ErrorKind.TheVariants.{DisplayHelp}
 use Rattle.pl_command.specs.declared.command_line.CommandLine.{CommandLine}
 use Rattle.pl_command.specs.declared.command_line.CommandLine.TheVariants as lines
 use Rattle.pl_command.specs.declared.command_line.ServeNumbers.{ServeNumbers}
+use Rattle.pl_command.specs.declared.options.Takes.{Takes}
+use Rattle.pl_command.specs.declared.options.Takes.TheVariants as takes
 use Rattle.pl_command.specs.declared.command_line.CommandFault.{CommandFault}
 use Rattle.pl_command.specs.declared.command_line.CommandFault.TheVariants as faults
 
@@ -37,12 +39,22 @@ number_or default name most =
     record (number_option name 0 most) { required = false; defaults = default ∷ [] }
 
 -- words after the options, at least one
-abbrev pub words_rule : Rule
-words_rule = record (new_rule (codes "words")) {
+abbrev pub words_option : Text → Rule
+words_option name = record (new_rule name) {
   range = Some (record { start_inclusive = 1; end_inclusive = usize_max });
   value_names = 1;
   required = true;
 }
+
+abbrev pub words_rule : Rule
+words_rule = words_option (codes "words")
+
+-- the option that takes this
+abbrev pub rule_that : Text → Takes → Rule
+rule_that name (takes.Text value) = text_option name
+rule_that name (takes.Number least most) = number_option name least most
+rule_that name (takes.NumberOr default most) = number_or default.now name most
+rule_that name takes.Words = words_option name
 
 -- a subcommand with these options
 abbrev pub subcommand_with : Text → List Rule → App

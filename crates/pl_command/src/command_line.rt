@@ -1,12 +1,12 @@
 //! What the arguments of the program ask for, read with `clap`.
 
-ghost use Rattle.std.specs.Prelude.{◌≡◌, ◌≢◌, ◌≤◌, false, true, Some, None, codes, pos, IfErr, IfOk, IfSome, IsNone, map, string_bytes};
-ghost use Rattle.clap.specs.Words.{App, IsAmong, Rule, all_of, app_of, fault_of, found_of, kind_of, rows_of, rule_of, subcommand_of, subcommand_rows_of, takes, with_rule, with_subcommand};
-ghost use Rattle.pl_command.specs.CommandLine.{AsksFor, GivesAsk, GivesNumber, GivesPlay, GivesServe, GivesWords, Has, HasNumber, HasNumbers, HasWords, IsWholeCommand, IsHelp, IsUsage, Names, ask_app, number_option, number_or, own_app, play_app, serve_app, text_option, words_rule};
+ghost use Rattle.std.specs.Prelude.{◌≡◌, ◌≢◌, true, Some, None, codes, IfErr, IfOk, IfSome, IsErr, IsNone, map, string_bytes};
+ghost use Rattle.clap.specs.Words.{IsAmong, app_of, fault_of, found_of, kind_of, rows_of, subcommand_of, subcommand_rows_of, takes};
+ghost use Rattle.pl_command.specs.CommandLine.{AsksFor, GivesAsk, GivesNumber, GivesPlay, GivesServe, GivesWords, Has, HasNumber, HasNumbers, HasWords, IsWholeCommand, IsHelp, IsUsage, Names, own_app};
 
-use clap::builder::ValueParser;
+use crate::options::program;
 use clap::error::ErrorKind;
-use clap::{Arg, ArgMatches, Command};
+use clap::{ArgMatches, Command};
 use std::alloc::{AllocError, Global};
 use thiserror::Error;
 
@@ -46,7 +46,7 @@ pub enum CommandLine {
         partition: u16,
         /// How often it advances the partition of each database.
         rounds: u32,
-        /// How often a worker polls its sockets again before it sleeps, 0 to 10,000.
+        /// How often one worker at a time polls its sockets again before it sleeps, 0 to 10,000.
         idle_polls: u32,
     },
     /// `ask`: send one request of an operator, and show the reply.
@@ -86,181 +86,6 @@ impl From<AllocError> for CommandFault {
     fn from(_refused: AllocError) -> CommandFault {
         CommandFault::NoMemory
     }
-}
-
-// The option `--name VALUE`, which is always given.
-fn text<'a>(alloc: Global, name: &'a str, value: &'a str, help: &'a str) -> Arg<'a>
-    ensures rule { rule_of result ≡ text_option name.entry.now }
-    ensures local { result.global ≡ false }
-{
-    Arg::new(alloc, name)
-        .long(name)
-        .value_name(value)
-        .help(help)
-        .required(true)
-}
-
-// The option `--name N`, which is always given, with a number of this range.
-fn number<'a>(alloc: Global, name: &'a str, least: u32, most: u32, help: &'a str) -> Arg<'a>
-    ensures rule { rule_of result ≡ number_option name.entry.now least most }
-    ensures local { result.global ≡ false }
-{
-    let range = ValueParser::Signed(i64::from(least), i64::from(most));
-    text(alloc, name, "N", help).value_parser(range)
-}
-
-// The option `--name N`, with a number from 0 on, which is this one where it is not given.
-fn number_or<'a>(
-    alloc: Global,
-    default: &'a str,
-    name: &'a str,
-    most: u32,
-    help: &'a str,
-) -> Arg<'a>
-    ensures rule { rule_of result ≡ number_or default.entry.now name.entry.now most }
-    ensures local { result.global ≡ false }
-{
-    number(alloc, name, 0, most, help)
-        .required(false)
-        .default_value(default)
-}
-
-// The words after the options of `ask`.
-fn words<'a>(alloc: Global) -> Arg<'a>
-    ensures rule { rule_of result ≡ words_rule }
-    ensures local { result.global ≡ false }
-{
-    Arg::new(alloc, "words")
-        .value_name("WORDS")
-        .help("status, tidy, audit FIRST MAX, failover ID or set_table FILE")
-        .required(true)
-        .num_args(1..)
-}
-
-// A command that is being made. Where an allocation failed, it stays so.
-#[derive(Drop)]
-struct Making<'a> {
-    command: Result<Command<'a>, AllocError>,
-}
-
-// The command with this subcommand.
-fn joined<'a>(
-    command: Result<Command<'a>, AllocError>,
-    subcommand: Result<Command<'a>, AllocError>,
-) -> Result<Command<'a>, AllocError>
-    ensures app { (app sub : App) → IfOk command.entry (λ c. app_of c ≡ app) → IfOk subcommand.entry (λ c. app_of c ≡ sub) →
-        sub.top.is_plain ≡ true → IfOk result (λ c. app_of c ≡ with_subcommand app sub.top) }
-{
-    command?.subcommand(subcommand?)
-}
-
-impl<'a> Making<'a> {
-    fn new(command: Command<'a>) -> Making<'a>
-        ensures app { (app : App) → app_of command.entry ≡ app →
-            IfOk result.command (λ c. app_of c ≡ app) }
-    {
-        Making {
-            command: Ok(command),
-        }
-    }
-
-    // An option more.
-    fn option(self, option: Arg<'a>) -> Making<'a>
-        requires local { option.global ≡ false }
-        ensures app { (app : App) (rule : Rule) → IfOk self.entry.command (λ c. app_of c ≡ app) →
-            rule_of option.entry ≡ rule → IfOk result.command (λ c. app_of c ≡ with_rule app rule) }
-    {
-        let Making { command } = self;
-        Making {
-            command: match command {
-                Ok(command) => command.arg(option),
-                Err(refused) => Err(refused),
-            },
-        }
-    }
-
-    // A subcommand more.
-    fn subcommand(self, subcommand: Making<'a>) -> Making<'a>
-        ensures app { (app sub : App) → IfOk self.entry.command (λ c. app_of c ≡ app) →
-            IfOk subcommand.entry.command (λ c. app_of c ≡ sub) → sub.top.is_plain ≡ true →
-            IfOk result.command (λ c. app_of c ≡ with_subcommand app sub.top) }
-    {
-        let Making { command } = self;
-        let Making { command: other } = subcommand;
-        Making {
-            command: joined(command, other),
-        }
-    }
-}
-
-const TABLE: &str = "The file with the text of the table of who may do what";
-
-const PRIMARY: &str = "The id of the first primary";
-
-fn play_command<'a>(alloc: Global) -> Making<'a>
-    ensures ok { IfOk result.command (λ c. app_of c ≡ play_app) }
-{
-    let about = "Answers request bodies, each a line of hexadecimal digits of the standard input";
-    Making::new(Command::new(alloc, "play").about(about))
-        .option(text(alloc, "table", "FILE", TABLE))
-        .option(number(alloc, "primary", 0, u32::MAX, PRIMARY))
-}
-
-fn serve_command<'a>(alloc: Global) -> Making<'a>
-    ensures ok { IfOk result.command (λ c. app_of c ≡ serve_app) }
-{
-    let listen = "The address at which connections are accepted";
-    let dbs = "How many databases there are, 1 to 16";
-    let workers = "How many threads answer connections, 1 to 64";
-    let connections = "How many connections are accepted before the end";
-    let audit = "How many entries each audit list holds";
-    let pager = "The id of the page server that advances a partition";
-    let partition = "The partition that it advances";
-    let rounds = "How often it advances the partition of each database";
-    let idle_polls = "How often one worker at a time polls again before it sleeps, 0 to 10,000";
-    Making::new(Command::new(alloc, "serve").about("Answers the requests of connections"))
-        .option(text(alloc, "listen", "ADDRESS", listen))
-        .option(text(alloc, "table", "FILE", TABLE))
-        .option(number(alloc, "primary", 0, u32::MAX, PRIMARY))
-        .option(number(alloc, "dbs", 1, 16, dbs))
-        .option(number(alloc, "workers", 1, 64, workers))
-        .option(number(alloc, "connections", 1, u32::MAX, connections))
-        .option(number(alloc, "audit", 1, 16_777_216, audit))
-        .option(number_or(alloc, "0", "pager", u32::MAX, pager))
-        .option(number_or(alloc, "0", "partition", 65_535, partition))
-        .option(number_or(alloc, "0", "rounds", u32::MAX, rounds))
-        .option(number_or(alloc, "300", "idle-polls", 10_000, idle_polls))
-}
-
-fn ask_command<'a>(alloc: Global) -> Making<'a>
-    ensures ok { IfOk result.command (λ c. app_of c ≡ ask_app) }
-{
-    let about = "Sends one request of an operator, and shows the reply";
-    let token = "The operator's token, 32 hexadecimal digits";
-    let db = "The number of the database, from 0";
-    Making::new(Command::new(alloc, "ask").about(about))
-        .option(text(alloc, "to", "ADDRESS", "The address of the service"))
-        .option(number(alloc, "id", 0, u32::MAX, "The operator's id"))
-        .option(text(alloc, "token", "HEX", token))
-        .option(number(alloc, "db", 0, u32::MAX, db))
-        .option(number(alloc, "epoch", 0, u32::MAX, "The current epoch"))
-        .option(words(alloc))
-}
-
-// The program and its subcommands.
-fn program<'a>(alloc: Global) -> Result<Command<'a>, AllocError>
-    ensures ok { IfOk result (λ c. app_of c ≡ own_app) }
-{
-    let top = Command::new(alloc, "pagelog")
-        .about("A log service for databases")
-        .subcommand_required(true)
-        .arg_required_else_help(true);
-    let made = Making::new(top)
-        .subcommand(play_command(alloc))
-        .subcommand(serve_command(alloc))
-        .subcommand(ask_command(alloc));
-    let Making { command } = made;
-    command
 }
 
 // The number that was found for this option, where it is in the range.
@@ -324,7 +149,7 @@ pub struct ServeNumbers {
     pub partition: u16,
     /// How often it advances the partition of each database.
     pub rounds: u32,
-    /// How often a worker polls its sockets again before it sleeps, 0 to 10,000.
+    /// How often one worker at a time polls its sockets again before it sleeps, 0 to 10,000.
     pub idle_polls: u32,
 }
 
@@ -454,6 +279,32 @@ fn outcome_of(alloc: Global, error: &clap::Error) -> Result<CommandLine, Command
     Err(CommandFault::Usage(text))
 }
 
+// The fault of arguments that `clap` took and that have not all options. It refuses such itself.
+fn missing(alloc: Global, program: &mut Command<'_>) -> Result<CommandLine, CommandFault>
+    ensures err { IsErr result }
+{
+    let error = program.error(ErrorKind::MissingRequiredArgument, "an option is missing")?;
+    outcome_of(alloc, &error)
+}
+
+// What the arguments ask of the program.
+fn asked_of<'a>(
+    alloc: Global,
+    program: &mut Command<'a>,
+    arguments: &'a [String],
+) -> Result<CommandLine, CommandFault>
+    requires { app_of program.old ≡ own_app }
+    ensures ok { IfOk result (AsksFor (map string_bytes arguments.entry.now)) }
+    ensures usage { IfErr result (λ fault. IsUsage fault →
+        takes own_app (map string_bytes arguments.entry.now) ≢ true) }
+{
+    match match_arguments(alloc, program, arguments) {
+        Ok(Some(line)) => Ok(line),
+        Ok(None) => missing(alloc, program),
+        Err(error) => outcome_of(alloc, &error),
+    }
+}
+
 /// What the arguments ask for, the first of which is the program's name.
 ///
 /// `Usage` comes where `clap` does not take them, and `NoMemory` where an allocation failed.
@@ -465,13 +316,8 @@ pub fn command(alloc: Global, arguments: Vec<String>) -> Result<CommandLine, Com
         takes own_app (map string_bytes arguments.items) ≢ true) }
 {
     let mut program = program(alloc)?;
-    match match_arguments(alloc, &mut program, arguments.as_slice()) {
-        Ok(Some(line)) => Ok(line),
-        // `clap` refuses such arguments itself.
-        Ok(None) => {
-            let error = program.error(ErrorKind::MissingRequiredArgument, "an option is missing")?;
-            outcome_of(alloc, &error)
-        }
-        Err(error) => outcome_of(alloc, &error),
-    }
+    let asked = asked_of(alloc, &mut program, arguments.as_slice());
+    // In one step: what drops a command in place has branches.
+    drop(program);
+    asked
 }

@@ -6,6 +6,7 @@
 
 mod arguments;
 mod command_line;
+mod options;
 
 pub use arguments::{arguments_of, asked};
 pub use command_line::{CommandFault, CommandLine, ServeNumbers, command};
