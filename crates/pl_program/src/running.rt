@@ -125,7 +125,12 @@ fn play_by(
     primary: u32,
 ) -> Result<Ending, Failure> {
     match start_play(rt.alloc(), table, primary) {
-        Ok(mut db) => end_of(play_all(rt, &mut db)),
+        Ok(mut db) => {
+            let played = play_all(rt, &mut db);
+            // In one step: what drops a database in place has branches.
+            drop(db);
+            end_of(played)
+        }
         Err(fault) => Err(Failure::from(fault)),
     }
 }

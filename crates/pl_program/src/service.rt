@@ -143,9 +143,9 @@ fn serve_over<R: Threads + Wait + Net + Sync + Drop, W: Watch>(
 }
 
 /// Serves the databases to connections, with this many workers, until this many were accepted. Where
-/// there is a pager, it works at the same time, in a thread of its own, and is waited for. A worker that has nothing to
-/// do polls its sockets `idle_polls` times more before it sleeps. What the service cannot do while it goes on is reported
-/// to the watch.
+/// there is a pager, it works at the same time, in a thread of its own, and is waited for. One worker at a time that has
+/// nothing to do polls its sockets `idle_polls` times more before it sleeps. What the service cannot do while it goes on is
+/// reported to the watch.
 ///
 /// `NoMemory` where the desks found none, and `Threads` where the page server's thread could not be
 /// started.
