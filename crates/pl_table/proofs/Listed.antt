@@ -8,7 +8,7 @@ use Rattle.std.proofs.lemmas.Map.Keys.{sorted_from_strictly_increasing, non_decr
 use Rattle.std.specs.List.{list_any, filter_map, cons_option, dedup, AllByRecursion}
 use Rattle.std.proofs.lemmas.Bool.{cases_Bool, cases_eq, cases_lt, eq-eqb, ne_eqb}
 use Rattle.std.proofs.lemmas.Option.{slice_get_within, slice_get-map, slice_get-get_or, get_or_from_slice_get}
-use Rattle.std.proofs.lemmas.List.{drop_more, length-map, map-append, append_assoc, get_or_default}
+use Rattle.std.proofs.lemmas.List.{at_drop_more, drop_more, length-map, map-append, append_assoc, get_or_default}
 use Rattle.std.proofs.Math.ListN.{get_or-map}
 use Rattle.std.proofs.lemmas.List.Elements.{All-from_recursion, recursion_from_All}
 use Rattle.std.proofs.lemmas.List.Kept.{Contains-dedup_nat}
@@ -248,6 +248,20 @@ each-named rows ids sorted names are moved is =
     All-from_recursion (Named names) rows (named_within rows names (λ x w. rw is (Contains-dedup_nat sorted x (Contains-permutation ids sorted x moved (rw are w)))))
 
 -- ---- a list is as long as there are rows that can match
+
+-- one row more: its place is listed where it can match
+places-step : (test : Row → Bool) (rows : List Row) (i : ℕ) (row : Row) → i < length rows → row ≡ get_or rows i row → places_from i test (drop i rows) ≡ cond (test row) (i ∷ places_from (i + 1) test (drop (i + 1) rows)) (places_from (i + 1) test (drop (i + 1) rows))
+places-step test rows i row lt is = at_drop_more (places_from i test) rows i row lt ∙ rw (← is) refl
+
+pub places-listed : (asker : Option ℕ) (op : Op) (rows : List Row) (list : List ℕ) (i : ℕ) (row : Row) → i < length rows → row ≡ get_or rows i row → can_be asker op row ≡ true
+    → (list ++ i ∷ []) ++ places_from (i + 1) (can_be asker op) (drop (i + 1) rows) ≡ list ++ places_from i (can_be asker op) (drop i rows)
+places-listed asker op rows list i row lt is holds =
+    append_assoc list (i ∷ []) _ ∙ ap (λ (ps : List ℕ). list ++ ps) (sym (places-step (can_be asker op) rows i row lt is ∙ rw holds refl))
+
+pub places-passed : (asker : Option ℕ) (op : Op) (rows : List Row) (list : List ℕ) (i : ℕ) (row : Row) → i < length rows → row ≡ get_or rows i row → can_be asker op row ≡ false
+    → list ++ places_from (i + 1) (can_be asker op) (drop (i + 1) rows) ≡ list ++ places_from i (can_be asker op) (drop i rows)
+places-passed asker op rows list i row lt is fails =
+    ap (λ (ps : List ℕ). list ++ ps) (sym (places-step (can_be asker op) rows i row lt is ∙ rw fails refl))
 
 pub length-places : (k : ℕ) (test : Row → Bool) (rows : List Row) → length (places_from k test rows) ≡ length (filter test rows)
 length-places k test [] = refl

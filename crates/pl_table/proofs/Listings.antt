@@ -1,5 +1,6 @@
 -- The principals and rows that are read of two lists make a table.
-use Rattle.std.proofs.Common.{◌≡◌, ◌≤◌, ℕ, suc, Bool, true, false, not, eqb, ◌==◌, ◌||◌, List, [], ◌∷◌, length, map, Option, Some, None, is_some, Ok, Err, refl, ap, ◌∙◌, arith, if◌then◌else◌}
+use Rattle.std.proofs.Common.{◌≡◌, ◌≤◌, ℕ, suc, Bool, true, false, not, eqb, ◌==◌, ◌||◌, List, [], ◌∷◌, length, map, Option, Some, None, is_some, Ok, Err, refl, ap, ◌∙◌, arith, if◌then◌else◌, ◌<◌, ◌+◌, drop, get_or, sym, append_assoc, ◌++◌}
+use Rattle.std.proofs.lemmas.List.{at_drop_more}
 use Rattle.std.specs.List.{list_all, list_any, filter_map, cons_option, IsDistinct, AllByRecursion}
 use Rattle.std.proofs.lemmas.Bool.{and_parts}
 use Rattle.toml.specs.View.{view}
@@ -61,6 +62,16 @@ length-principals read (x ∷ xs) i t =
 length-at_most : {A : Type 0} (o : Option A) (xs : List A) (n : ℕ) → length xs ≤ n → length (cons_option o xs) ≤ suc n
 length-at_most (Some x) xs n h = omega arith
 length-at_most None xs n h = omega arith
+
+-- one item more: what it gives follows what those before it gave
+filter_map-step : {X Y : Type 0} (f : X → Option Y) (xs : List X) (i : ℕ) (x : X) (r : Option Y) → i < length xs → x ≡ get_or xs i x → f x ≡ r → filter_map f (drop i xs) ≡ cons_option r (filter_map f (drop (i + 1) xs))
+filter_map-step f xs i x r lt is gives = at_drop_more (filter_map f) xs i x lt ∙ rw (← is, gives) refl
+
+pub filter_map-given : {X Y : Type 0} (f : X → Option Y) (front : List Y) (xs : List X) (i : ℕ) (x : X) (y : Y) → i < length xs → x ≡ get_or xs i x → f x ≡ Some y → (front ++ y ∷ []) ++ filter_map f (drop (i + 1) xs) ≡ front ++ filter_map f (drop i xs)
+filter_map-given f front xs i x y lt is gives = append_assoc front (y ∷ []) _ ∙ ap (λ ys. front ++ ys) (sym (filter_map-step f xs i x (Some y) lt is gives))
+
+pub filter_map-passed : {X Y : Type 0} (f : X → Option Y) (front : List Y) (xs : List X) (i : ℕ) (x : X) → i < length xs → x ≡ get_or xs i x → f x ≡ None → front ++ filter_map f (drop (i + 1) xs) ≡ front ++ filter_map f (drop i xs)
+filter_map-passed f front xs i x lt is gives = ap (λ ys. front ++ ys) (sym (filter_map-step f xs i x None lt is gives))
 
 -- there are no more rows than values
 pub length-filter_map : {A B : Type 0} (f : A → Option B) (xs : List A) → length (filter_map f xs) ≤ length xs

@@ -7,7 +7,9 @@ use Rattle.pl_table.specs.declared.row.Row.{Row}
 use Rattle.pl_table.specs.declared.table.Principal.{Principal}
 use Rattle.pl_table.specs.declared.fault.TableFault.{TableFault}
 use Rattle.pl_table.specs.declared.fault.TableFault.TheVariants.{PrincipalCount, RowCount, PrincipalKeys, PrincipalId, PrincipalToken, RepeatedId, RowKeys, RowWord, RowNumber, NoOperator, BadZone}
-use Rattle.pl_block.specs.Faults.{◌>>=◌}
+use Rattle.pl_block.specs.Faults.{◌>>=◌, Fails}
+use Rattle.pl_block.specs.declared.fault.Failed.{Failed}
+use Rattle.pl_block.specs.declared.fault.Failed.TheVariants.{Malformed, NoMemory}
 use Rattle.pl_table.specs.Setting.{somebody_sets}
 use Rattle.pl_table.specs.Table.{WrittenTable, IsTable, IsRowOf}
 use Rattle.pl_table.specs.Tree.{tree_of, is_row}
@@ -20,6 +22,11 @@ use Rattle.pl_table.proofs.Rows.{All-IsRowOf}
 next : {A B : Type 0} (o : Result A TableFault) (f : A → Result B TableFault) (P : B → Type 0) → ((x : A) → o ≡ Ok x → IfOk (f x) P) → IfOk (o >>= f) P
 next (Ok x) f P each = each x refl
 next (Err e) f P each = tt
+
+-- the failure of the first step is the failure of all
+pub fails_first : {A B : Type 0} (e : Failed TableFault) (read : Result A TableFault) (f : A → Result B TableFault) → Fails e read → Fails e (read >>= f)
+fails_first NoMemory read f fails = tt
+fails_first (Malformed fault) read f fails = rw fails refl
 
 -- what holds where a fault is not there
 unless : {A : Type 0} (b : Bool) (e : TableFault) (o : Result A TableFault) (P : A → Type 0) → (b ≡ false → IfOk o P) → IfOk (if b then Err e else o) P
