@@ -1,5 +1,5 @@
 -- Cached verdicts: what a look-up and a put leave of them.
-use Rattle.std.proofs.Common.{◌≡◌, ℕ, ◌⊎◌, List, [], ◌∷◌, Some, Contains, All, sym, ap, subst, ◌∙◌, inl, inr}
+use Rattle.std.proofs.Common.{◌≡◌, ℕ, ◌⊎◌, List, [], ◌∷◌, Some, Contains, All, sym, ap, subst, ◌∙◌, inl, inr, arith}
 use Rattle.std.specs.Prelude.{IfSome}
 use Rattle.std.proofs.lemmas.List.Elements.{All-contains, All-contains_itself, All-nil, All-cons, Contains-append_right}
 use Rattle.lru.specs.LruCache.{LruCache}
@@ -75,6 +75,14 @@ cache-keeps was now new span keeps cap cache = record {
 }
 
 -- ---- a loop over the verdicts
+
+-- where all of them agree, the next one does
+pub next-agrees : (rows : List Row) (verdicts was now : List CachedVerdict) (e : CachedVerdict) → was ≡ e ∷ now → Stays verdicts was → All (IsOfRows rows) verdicts → IsOfRows rows e
+next-agrees rows verdicts was now e turn stays all = All-contains (IsOfRows rows) verdicts e all (stays e (subst (λ (es : List CachedVerdict). Contains es e) (sym turn) (All-contains_itself (e ∷ now) 0 e (omega arith))))
+
+-- where none is left, all of them agree
+pub none-left : (rows : List Row) (verdicts was : List CachedVerdict) → was ≡ [] → (All (IsOfRows rows) was → All (IsOfRows rows) verdicts) → All (IsOfRows rows) verdicts
+none-left rows verdicts was none before = before (subst (All (IsOfRows rows)) (sym none) (All-nil (IsOfRows rows)))
 
 -- the next of them agrees, and it goes on with the others
 pub passed-on : (rows : List Row) (verdicts was now : List CachedVerdict) (e : CachedVerdict) → was ≡ e ∷ now → IsOfRows rows e → Stays verdicts was × (All (IsOfRows rows) was → All (IsOfRows rows) verdicts) → Stays verdicts now × (All (IsOfRows rows) now → All (IsOfRows rows) verdicts)
