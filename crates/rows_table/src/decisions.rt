@@ -1,8 +1,7 @@
 //! Rows of the written order: epoch 7 of primary 2, and a log of 5 blocks.
 
+use crate::playing::row;
 use crate::rules::Rules;
-use std::test::Fail;
-use transcripts::transcript::plays;
 
 const KNOWN_BY_ID_AND_TOKEN: &str = "\
 table start                                                 = Ok
@@ -17,8 +16,8 @@ table start                                                 = Ok
 ";
 
 #[test]
-fn known_by_id_and_token(rt: HostRuntime) -> Result<(), Fail> {
-    plays::<Rules>(rt.alloc(), KNOWN_BY_ID_AND_TOKEN)
+fn known_by_id_and_token(rt: HostRuntime) {
+    row::<Rules>(&rt, rt.alloc(), KNOWN_BY_ID_AND_TOKEN);
 }
 
 const ROWS_OF_SECTION_A: &str = "\
@@ -34,8 +33,8 @@ table start                        = Ok
 ";
 
 #[test]
-fn rows_of_section_a(rt: HostRuntime) -> Result<(), Fail> {
-    plays::<Rules>(rt.alloc(), ROWS_OF_SECTION_A)
+fn rows_of_section_a(rt: HostRuntime) {
+    row::<Rules>(&rt, rt.alloc(), ROWS_OF_SECTION_A);
 }
 
 const ROWS_OF_THE_TABLE: &str = "\
@@ -47,8 +46,8 @@ table start                        = Ok
 ";
 
 #[test]
-fn rows_of_the_table(rt: HostRuntime) -> Result<(), Fail> {
-    plays::<Rules>(rt.alloc(), ROWS_OF_THE_TABLE)
+fn rows_of_the_table(rt: HostRuntime) {
+    row::<Rules>(&rt, rt.alloc(), ROWS_OF_THE_TABLE);
 }
 
 const LAST_EPOCH: &str = "\
@@ -61,8 +60,8 @@ epochs 4294967294 2                  = Ok
 ";
 
 #[test]
-fn last_epoch(rt: HostRuntime) -> Result<(), Fail> {
-    plays::<Rules>(rt.alloc(), LAST_EPOCH)
+fn last_epoch(rt: HostRuntime) {
+    row::<Rules>(&rt, rt.alloc(), LAST_EPOCH);
 }
 
 // A view gives how many blocks are hardened, whether a write agrees with the content of its number,
@@ -94,8 +93,8 @@ view 5 true 3 true                     = Ok
 ";
 
 #[test]
-fn rows_of_section_c(rt: HostRuntime) -> Result<(), Fail> {
-    plays::<Rules>(rt.alloc(), ROWS_OF_SECTION_C)
+fn rows_of_section_c(rt: HostRuntime) {
+    row::<Rules>(&rt, rt.alloc(), ROWS_OF_SECTION_C);
 }
 
 // C2 to C4 are asked of a write and of an offer, C5 of a write alone; C1 of a pull and of a get.
@@ -131,8 +130,8 @@ view 5 true 0 false                    = Ok
 ";
 
 #[test]
-fn rows_of_reads_and_offers(rt: HostRuntime) -> Result<(), Fail> {
-    plays::<Rules>(rt.alloc(), ROWS_OF_READS_AND_OFFERS)
+fn rows_of_reads_and_offers(rt: HostRuntime) {
+    row::<Rules>(&rt, rt.alloc(), ROWS_OF_READS_AND_OFFERS);
 }
 
 const ANOTHER_TABLE: &str = "\
@@ -148,6 +147,6 @@ table two_principals                   = Ok
 ";
 
 #[test]
-fn another_table(rt: HostRuntime) -> Result<(), Fail> {
-    plays::<Rules>(rt.alloc(), ANOTHER_TABLE)
+fn another_table(rt: HostRuntime) {
+    row::<Rules>(&rt, rt.alloc(), ANOTHER_TABLE);
 }

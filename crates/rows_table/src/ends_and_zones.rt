@@ -1,13 +1,13 @@
 //! Tables whose rows end at an LSN, and tables that say how many copies a landing zone has: their
 //! faults, and what is found in them.
 
+use crate::playing::row;
 use crate::rules::Rules;
-use crate::table_faults::{Case, Changed, walk, walk_changed};
+use crate::table_faults::{Case, Changed, walk};
 use pl_table::{Table, read_table};
 use std::alloc::Global;
-use std::test::Fail;
-use transcripts::table_text::START;
-use transcripts::transcript::{Stop, plays};
+use transcripts::table_text::{START, table_named};
+use transcripts::transcript::Stop;
 
 /// Rows that end at 0, 2, 3 and 5.
 const ENDS: &str = "
@@ -26,23 +26,29 @@ row = [
 ";
 
 /// The texts of this module, each by its name, in two pieces.
-const TEXTS: [(&str, [&str; 2]); 3] = [
-    ("ends", ["", ENDS]),
-    ("three_copies", ["copies = 3\nquorum = 2\n", START]),
-    ("six_copies", ["quorum = 4\ncopies = 6\n", START]),
+const TEXTS: &[(&str, &str, &str)] = &[
+    ("ends", "", ENDS),
+    ("three_copies", "copies = 3\nquorum = 2\n", START),
+    ("six_copies", "quorum = 4\ncopies = 6\n", START),
 ];
 
-/// The table of a text of this module, if it has one of the name.
-pub(crate) fn table_here(alloc: Global, name: &str) -> Result<Option<Table>, Stop> {
-    for (word, [first, second]) in &TEXTS {
+// The pieces of the text of the name, if it is one of this module.
+fn pieces_of(name: &str) -> Option<(&'static str, &'static str)> {
+    for (word, first, second) in TEXTS {
         if *word == name {
-            let mut text = Vec::new(alloc);
-            text.extend_from_slice(first.as_bytes())?;
-            text.extend_from_slice(second.as_bytes())?;
-            return Ok(Some(read_table(alloc, &text)?));
+            return Some((*first, *second));
         }
     }
-    Ok(None)
+    None
+}
+
+/// The table of a text of this module, or of another one.
+pub(crate) fn table_here(alloc: Global, name: &str) -> Result<Table, Stop> {
+    let Some((first, second)) = pieces_of(name) else {
+        return table_named(alloc, name);
+    };
+    let text = format!(in alloc; "{first}{second}")?;
+    Ok(read_table(alloc, text.as_bytes())?)
 }
 
 // The role of row 4 of the start table, which no other row has.
@@ -50,7 +56,7 @@ const SECONDARY: &str = "role = \"secondary\"\n";
 
 const FIRST_ROW: &str = "[[row]]\nverdict = \"allow\"\nwho = 1\nrole = \"operator\"\n";
 
-const ENDS_OF_ROW_4: [Changed; 5] = [
+const ENDS_OF_ROW_4: &[Changed] = &[
     (
         "-1",
         "",
@@ -83,12 +89,12 @@ const ENDS_OF_ROW_4: [Changed; 5] = [
 ];
 
 #[test]
-fn through_out_of_range(rt: HostRuntime) -> Result<(), Fail> {
-    walk_changed(&rt, rt.alloc(), &ENDS_OF_ROW_4)
+fn through_out_of_range(rt: HostRuntime) {
+    walk(&rt, rt.alloc(), &[], ENDS_OF_ROW_4, &[]);
 }
 
 // What is before the start table.
-const ZONES: [Case; 18] = [
+const ZONES: &[Case] = &[
     ("neither", &[], 0),
     ("3 and 2", &["copies = 3\n", "quorum = 2\n"], 0),
     ("6 and 4", &["copies = 6\n", "quorum = 4\n"], 0),
@@ -113,7 +119,7 @@ const ZONES: [Case; 18] = [
     ("another key", &["copies = 6\n", "Quorum = 4\n"], 2),
 ];
 
-const ZONES_WITH_OTHER_FAULTS: [Changed; 3] = [
+const ZONES_WITH_OTHER_FAULTS: &[Changed] = &[
     (
         "nobody sets the table",
         "copies = 6\nquorum = 4\n",
@@ -138,9 +144,14 @@ const ZONES_WITH_OTHER_FAULTS: [Changed; 3] = [
 ];
 
 #[test]
-fn copies_and_quorum_faults(rt: HostRuntime) -> Result<(), Fail> {
-    walk(&rt, rt.alloc(), &[(&[], &ZONES, &[START])])?;
-    walk_changed(&rt, rt.alloc(), &ZONES_WITH_OTHER_FAULTS)
+fn copies_and_quorum_faults(rt: HostRuntime) {
+    walk(
+        &rt,
+        rt.alloc(),
+        &[(&[], ZONES, &[START])],
+        ZONES_WITH_OTHER_FAULTS,
+        &[],
+    );
 }
 
 const ROWS_THAT_END: &str = "\
@@ -176,8 +187,8 @@ first 3 00 secondary 1 pull 0 0 4 1                     = 1 deny
 ";
 
 #[test]
-fn rows_that_end(rt: HostRuntime) -> Result<(), Fail> {
-    plays::<Rules>(rt.alloc(), ROWS_THAT_END)
+fn rows_that_end(rt: HostRuntime) {
+    row::<Rules>(&rt, rt.alloc(), ROWS_THAT_END);
 }
 
 const HOW_FAR_ROWS_ALLOW: &str = "\
@@ -203,8 +214,8 @@ alike 3 00 secondary 1 pull 0 0 1 1                     = 0 18446744073709551615
 ";
 
 #[test]
-fn how_far_rows_allow(rt: HostRuntime) -> Result<(), Fail> {
-    plays::<Rules>(rt.alloc(), HOW_FAR_ROWS_ALLOW)
+fn how_far_rows_allow(rt: HostRuntime) {
+    row::<Rules>(&rt, rt.alloc(), HOW_FAR_ROWS_ALLOW);
 }
 
 const COPIES_OF_A_TABLE: &str = "\
@@ -220,6 +231,6 @@ rows                = 6
 ";
 
 #[test]
-fn copies_of_a_table(rt: HostRuntime) -> Result<(), Fail> {
-    plays::<Rules>(rt.alloc(), COPIES_OF_A_TABLE)
+fn copies_of_a_table(rt: HostRuntime) {
+    row::<Rules>(&rt, rt.alloc(), COPIES_OF_A_TABLE);
 }

@@ -1,12 +1,12 @@
 //! An audit list on its own, asked line by line, and its rows.
 
+use crate::playing::row;
 use pl_audit::{Audit, AuditFault, Entry};
 use std::alloc::Global;
-use std::test::Fail;
 use transcripts::answer::{push_numbers, push_truth, push_word};
 use transcripts::line_text::{line_of, push_lines};
 use transcripts::table_text::table_named;
-use transcripts::transcript::{Stop, Subject, plays};
+use transcripts::transcript::{Stop, Subject};
 
 /// The audit list of a transcript.
 #[derive(Drop)]
@@ -22,7 +22,18 @@ fn open(alloc: Global, limit: u64) -> Result<Audit, Stop> {
     Ok(Audit::new(alloc, limit))
 }
 
-// Enters the line, with the table where one is named, and reports whether there was a place.
+// The entry of the line, with the table where one is named.
+fn entry_of(alloc: Global, line: &str, table: &[&str]) -> Result<Entry, Stop> {
+    let line = line_of(alloc, line)?;
+    let table = match table {
+        [] => None,
+        [name] => Some(table_named(alloc, name)?),
+        _ => return Err(Stop::Unread),
+    };
+    Ok(Entry { line, table })
+}
+
+// Makes the entry, and reports whether there was a place.
 fn enter(audit: &mut Audit, entry: Entry, refused: &mut bool) -> Result<&'static str, Stop> {
     let mut place = audit.reserve_one();
     if matches!(place, Err(AuditFault::NoMemory)) && !*refused {
@@ -39,15 +50,25 @@ fn enter(audit: &mut Audit, entry: Entry, refused: &mut bool) -> Result<&'static
     }
 }
 
+fn push_list(audit: &Audit, first: u64, max: u16, out: &mut String) -> Result<(), Stop> {
+    let lines = audit.list(first, max)?;
+    push_lines(out, &lines)
+}
+
+// Pushes how many rows the last table has.
+fn push_rows(audit: &Audit, out: &mut String) -> Result<(), Stop> {
+    match audit.last_table() {
+        Some(table) => push_numbers(out, &[table.rows().len() as u64]),
+        None => push_word(out, "none"),
+    }
+}
+
 fn push_state(audit: &Audit, words: &[&str], out: &mut String) -> Result<(), Stop> {
     match words {
         ["len"] => push_numbers(out, &[audit.len()]),
         ["full"] => push_truth(out, audit.is_full()),
-        ["list", first, max] => push_lines(out, &audit.list(first.parse()?, max.parse()?)?),
-        ["rows"] => match audit.last_table() {
-            Some(table) => push_numbers(out, &[table.rows().len() as u64]),
-            None => push_word(out, "none"),
-        },
+        ["list", first, max] => push_list(audit, first.parse()?, max.parse()?, out),
+        ["rows"] => push_rows(audit, out),
         _ => Err(Stop::Unread),
     }
 }
@@ -64,16 +85,13 @@ impl Subject for Listed {
             return push_word(out, "Ok");
         }
         let audit = self.audit.as_mut().ok_or(Stop::Unread)?;
-        let (line, table) = match words {
-            ["enter", line] => (line, None),
-            ["enter", line, table] => (line, Some(table_named(alloc, table)?)),
-            _ => return push_state(audit, words, out),
-        };
-        let entry = Entry {
-            line: line_of(alloc, line)?,
-            table,
-        };
-        push_word(out, enter(audit, entry, refused)?)
+        match words {
+            ["enter", line, table @ ..] => {
+                let entry = entry_of(alloc, line, table)?;
+                push_word(out, enter(audit, entry, refused)?)
+            }
+            _ => push_state(audit, words, out),
+        }
     }
 }
 
@@ -103,8 +121,8 @@ list 1 0                                              =
 ";
 
 #[test]
-fn entries_up_to_a_limit(rt: HostRuntime) -> Result<(), Fail> {
-    plays::<Listed>(rt.alloc(), ENTRIES_UP_TO_A_LIMIT)
+fn entries_up_to_a_limit(rt: HostRuntime) {
+    row::<Listed>(&rt, rt.alloc(), ENTRIES_UP_TO_A_LIMIT);
 }
 
 const TABLE_OF_THE_NEWEST_ENTRY: &str = "\
@@ -120,6 +138,6 @@ len                                                   = 4
 ";
 
 #[test]
-fn table_of_the_newest_entry(rt: HostRuntime) -> Result<(), Fail> {
-    plays::<Listed>(rt.alloc(), TABLE_OF_THE_NEWEST_ENTRY)
+fn table_of_the_newest_entry(rt: HostRuntime) {
+    row::<Listed>(&rt, rt.alloc(), TABLE_OF_THE_NEWEST_ENTRY);
 }

@@ -13,6 +13,8 @@ mod entries;
 #[cfg(test)]
 mod numbers;
 #[cfg(test)]
+mod playing;
+#[cfg(test)]
 mod principal_faults;
 #[cfg(test)]
 mod row_faults;

@@ -2,10 +2,8 @@
 
 use pl_table::{Op, Ops, Role};
 use std::alloc::{AllocError, Global};
-use std::process::Abort;
-use std::test::Fail;
 
-const ROLES: [(Role, u8, &str); 4] = [
+const ROLES: &[(Role, u8, &str)] = &[
     (Role::Primary, 1, "primary"),
     (Role::Secondary, 2, "secondary"),
     (Role::PageServer, 3, "page_server"),
@@ -14,7 +12,7 @@ const ROLES: [(Role, u8, &str); 4] = [
 
 // An operation, its number and word, and whether primary, secondary, page server and operator have
 // it.
-const OPS: [(Op, u8, &str, [bool; 4]); 11] = [
+const OPS: &[(Op, u8, &str, [bool; 4])] = &[
     (Op::Write, 1, "write", [true, false, false, false]),
     (Op::Offer, 2, "offer", [true, false, false, false]),
     (Op::Report, 3, "report", [true, false, false, false]),
@@ -28,32 +26,48 @@ const OPS: [(Op, u8, &str, [bool; 4]); 11] = [
     (Op::Tidy, 11, "tidy", [false, false, false, true]),
 ];
 
-fn roles_are_numbered(rt: &impl Abort, roles: &[(Role, u8, &str)]) {
+// Whether the role has the number and the word, and no other has.
+fn is_role(role: Role, number: u8, word: &str) -> bool {
+    let some = Some(role);
+    role.number() == number && Role::of_number(number) == some && Role::of_name(word) == some
+}
+
+// The first role that has another number or another word.
+fn wrong_role(roles: &[(Role, u8, &'static str)]) -> Option<&'static str> {
     for (role, number, word) in roles {
-        let numbered = role.number() == *number && Role::of_number(*number) == Some(*role);
-        assert!(rt; numbered && Role::of_name(word) == Some(*role), "{word}");
+        if !is_role(*role, *number, word) {
+            return Some(*word);
+        }
     }
+    None
 }
 
 #[test]
 fn numbers_of_roles(rt: HostRuntime) {
-    roles_are_numbered(&rt, &ROLES);
-    assert!(rt; Role::of_number(0).is_none());
-    assert!(rt; Role::of_number(5).is_none());
+    assert_eq!(rt; wrong_role(ROLES), None);
+    assert!(rt; Role::of_number(0).is_none() && Role::of_number(5).is_none());
 }
 
-fn ops_are_numbered(rt: &impl Abort, ops: &[(Op, u8, &str, [bool; 4])]) {
+// Whether the operation has the number and the word, and no other has.
+fn is_op(op: Op, number: u8, word: &str) -> bool {
+    let some = Some(op);
+    op.number() == number && Op::of_number(number) == some && Op::of_name(word) == some
+}
+
+// The first operation that has another number or another word.
+fn wrong_op(ops: &[(Op, u8, &'static str, [bool; 4])]) -> Option<&'static str> {
     for (op, number, word, _) in ops {
-        let numbered = op.number() == *number && Op::of_number(*number) == Some(*op);
-        assert!(rt; numbered && Op::of_name(word) == Some(*op), "{word}");
+        if !is_op(*op, *number, word) {
+            return Some(*word);
+        }
     }
+    None
 }
 
 #[test]
 fn numbers_of_operations(rt: HostRuntime) {
-    ops_are_numbered(&rt, &OPS);
-    assert!(rt; Op::of_number(0).is_none());
-    assert!(rt; Op::of_number(12).is_none());
+    assert_eq!(rt; wrong_op(OPS), None);
+    assert!(rt; Op::of_number(0).is_none() && Op::of_number(12).is_none());
 }
 
 // The words of all roles and operations, as they are printed.
@@ -72,17 +86,21 @@ fn printed(
     Ok(words)
 }
 
+const WORDS: &str = "primary secondary page_server operator write offer report get pull advance \
+    status failover set_table audit tidy ";
+
+fn prints_words(alloc: Global) -> Result<bool, AllocError> {
+    Ok(printed(alloc, ROLES, OPS)?.as_str() == WORDS)
+}
+
 #[test]
-fn words(rt: HostRuntime) -> Result<(), Fail> {
-    let words = match printed(rt.alloc(), &ROLES, &OPS) {
-        Ok(words) => words,
-        Err(_) => printed(rt.alloc(), &ROLES, &OPS)?,
-    };
-    let wanted = "primary secondary page_server operator write offer report get pull advance \
-        status failover set_table audit tidy ";
-    assert!(rt; words.as_str() == wanted);
+fn words(rt: HostRuntime) {
+    let mut prints = prints_words(rt.alloc());
+    if prints.is_err() {
+        prints = prints_words(rt.alloc());
+    }
+    assert!(rt; matches!(prints, Ok(true)));
     assert!(rt; Role::of_name("Primary").is_none() && Op::of_name("read").is_none());
-    Ok(())
 }
 
 fn which_have(op: Op) -> [bool; 4] {
@@ -94,18 +112,22 @@ fn which_have(op: Op) -> [bool; 4] {
     ]
 }
 
-fn ops_are_had(rt: &impl Abort, ops: &[(Op, u8, &str, [bool; 4])]) {
+// The first operation that others have.
+fn wrong_had(ops: &[(Op, u8, &'static str, [bool; 4])]) -> Option<&'static str> {
     for (op, _, word, have) in ops {
-        assert!(rt; which_have(*op) == *have, "{word}");
+        if which_have(*op) != *have {
+            return Some(*word);
+        }
     }
+    None
 }
 
 #[test]
 fn operations_of_roles(rt: HostRuntime) {
-    ops_are_had(&rt, &OPS);
+    assert_eq!(rt; wrong_had(OPS), None);
 }
 
-const LISTED: [Op; 3] = [Op::Pull, Op::Get, Op::Pull];
+const LISTED: &[Op] = &[Op::Pull, Op::Get, Op::Pull];
 
 fn goes_through(alloc: Global, listed: &[Op]) -> Result<bool, AllocError> {
     let ops = Ops::new(Vec::from_slice(alloc, listed)?);
@@ -114,11 +136,10 @@ fn goes_through(alloc: Global, listed: &[Op]) -> Result<bool, AllocError> {
 }
 
 #[test]
-fn operations_of_a_row(rt: HostRuntime) -> Result<(), Fail> {
-    let same = match goes_through(rt.alloc(), &LISTED) {
-        Ok(same) => same,
-        Err(_) => goes_through(rt.alloc(), &LISTED)?,
-    };
-    assert!(rt; same);
-    Ok(())
+fn operations_of_a_row(rt: HostRuntime) {
+    let mut same = goes_through(rt.alloc(), LISTED);
+    if same.is_err() {
+        same = goes_through(rt.alloc(), LISTED);
+    }
+    assert!(rt; matches!(same, Ok(true)));
 }

@@ -1,9 +1,8 @@
 //! Texts of tables whose rows are faulty, and the code of each one's first fault, or 0 for a table.
 
 use crate::table_faults::{ALLOW, Case, DENY, Group, ONE, TWO, walk};
-use std::test::Fail;
 
-const ROW_KEYS: [Case; 7] = [
+const ROW_KEYS: &[Case] = &[
     ("no verdict", &["[[row]]\n", "who = 1\n"], 9),
     ("no key", &["[[row]]\n"], 9),
     ("another key", &[ALLOW, "quorum = 2\n"], 9),
@@ -21,7 +20,7 @@ const ROW_KEYS: [Case; 7] = [
     ),
 ];
 
-const ROW_WORDS: [Case; 9] = [
+const ROW_WORDS: &[Case] = &[
     ("another verdict", &["[[row]]\nverdict = \"maybe\"\n"], 10),
     (
         "a verdict in upper case",
@@ -49,7 +48,7 @@ const ROW_WORDS: [Case; 9] = [
     ("a number for an operation", &[ALLOW, "op = [4]\n"], 10),
 ];
 
-const ROW_NUMBERS: [Case; 12] = [
+const ROW_NUMBERS: &[Case] = &[
     ("who is not listed", &["who = 2\n"], 11),
     ("who is negative", &["who = -1\n"], 11),
     ("who is 1 above 2^32", &["who = 4294967297\n"], 11),
@@ -68,18 +67,18 @@ const ROW_NUMBERS: [Case; 12] = [
     ),
 ];
 
-const ROWS: [Group; 3] = [
-    (&[ONE], &ROW_KEYS, &[]),
-    (&[ONE], &ROW_WORDS, &[]),
-    (&[ONE, ALLOW], &ROW_NUMBERS, &[]),
+const ROWS: &[Group] = &[
+    (&[ONE], ROW_KEYS, &[]),
+    (&[ONE], ROW_WORDS, &[]),
+    (&[ONE, ALLOW], ROW_NUMBERS, &[]),
 ];
 
 #[test]
-fn faults_of_rows(rt: HostRuntime) -> Result<(), Fail> {
-    walk(&rt, rt.alloc(), &ROWS)
+fn faults_of_rows(rt: HostRuntime) {
+    walk(&rt, rt.alloc(), ROWS, &[], &[]);
 }
 
-const SETTING: [Case; 13] = [
+const SETTING: &[Case] = &[
     ("no row", &[], 12),
     ("a row that denies all", &[DENY, ALLOW], 12),
     ("only the secondary", &[ALLOW, "role = \"secondary\"\n"], 12),
@@ -138,6 +137,6 @@ const SETTING: [Case; 13] = [
 ];
 
 #[test]
-fn who_may_set_the_table(rt: HostRuntime) -> Result<(), Fail> {
-    walk(&rt, rt.alloc(), &[(&[ONE, TWO], &SETTING, &[])])
+fn who_may_set_the_table(rt: HostRuntime) {
+    walk(&rt, rt.alloc(), &[(&[ONE, TWO], SETTING, &[])], &[], &[]);
 }

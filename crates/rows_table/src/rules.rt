@@ -1,14 +1,15 @@
 //! A table in force, and what is decided by it, asked line by line.
 
 use crate::ends_and_zones::table_here;
+use crate::table_faults::{code_kept, kept_of};
 use pl_decide::{Decider, Epochs, View, known};
-use pl_table::{Ops, Request, Row, Table, TableFault, TableText, Verdict};
+use pl_table::{LsnRange, Ops, PartitionRange, Request, Row, Table, TableText, Verdict};
 use std::alloc::Global;
 use transcripts::answer::{push_bytes, push_fault, push_numbers, push_word};
 use transcripts::asking::request_of;
 use transcripts::reply_text::push_verdict;
-use transcripts::table_text::{table_named, text_named};
-use transcripts::transcript::{Stop, Subject};
+use transcripts::table_text::text_named;
+use transcripts::transcript::{Stop, Subject, pushed};
 
 /// What is decided by: at first epoch 7 of primary 2, and a log of 5 blocks.
 #[derive(Drop)]
@@ -24,23 +25,19 @@ pub(crate) struct Rules {
 fn push_row(out: &mut String, row: &Row) -> Result<(), Stop> {
     push_word(out, if row.allows { "allow" } else { "deny" })?;
     if let Some(who) = row.who {
-        push_word(out, "who")?;
-        push_numbers(out, &[u64::from(who)])?;
+        write!(out, " who {who}")?;
     }
     if let Some(role) = row.role {
-        push_word(out, "role")?;
-        push_word(out, role.name())?;
+        write!(out, " role {role}")?;
     }
     if let Some(ops) = &row.op {
         push_ops(out, ops)?;
     }
-    if let Some(range) = row.range {
-        push_word(out, "partitions")?;
-        push_numbers(out, &[u64::from(range.from), u64::from(range.to)])?;
+    if let Some(PartitionRange { from, to }) = row.range {
+        write!(out, " partitions {from} {to}")?;
     }
     if let Some(lsn) = row.through {
-        push_word(out, "through")?;
-        push_numbers(out, &[lsn])?;
+        write!(out, " through {lsn}")?;
     }
     Ok(())
 }
@@ -86,6 +83,31 @@ fn push_part(out: &mut String, table: &Table, words: &[&str]) -> Result<(), Stop
     }
 }
 
+// Pushes the number of the row that matches first, and whether it allows.
+fn push_first(out: &mut String, found: Option<(u16, bool)>) -> Result<(), Stop> {
+    match found {
+        Some((row, true)) => pushed(write!(out, " {row} allow")),
+        Some((row, false)) => pushed(write!(out, " {row} deny")),
+        None => push_word(out, "none"),
+    }
+}
+
+// Pushes how far the rows allow the request, up to the most.
+fn push_reach(out: &mut String, table: &Table, request: &Request, most: u64) -> Result<(), Stop> {
+    match table.first_match(request) {
+        Some((_, true)) => push_numbers(out, &[table.reach(request, most)]),
+        _ => push_word(out, "denied"),
+    }
+}
+
+// Pushes the first and the last LSN at which the request finds the same row.
+fn push_alike(out: &mut String, lsns: Option<LsnRange>) -> Result<(), Stop> {
+    match lsns {
+        Some(lsns) => push_numbers(out, &[lsns.from, lsns.to]),
+        None => push_word(out, "none"),
+    }
+}
+
 impl Rules {
     fn table(&self) -> Result<&Table, Stop> {
         self.table.as_ref().ok_or(Stop::Unread)
@@ -98,8 +120,7 @@ impl Rules {
 
     // The verdict on the request. It is the same of a decider that was asked by an older table, and
     // where the principal is not looked up again.
-    fn decide(&self, request: &Request) -> Result<Verdict, Stop> {
-        let table = self.table()?;
+    fn decide(&self, table: &Table, request: &Request) -> Result<Verdict, Stop> {
         let mut decider = Decider::new(self.alloc)?;
         if let Some(older) = &self.older {
             let _before = decider.decide(older, &self.epochs, &self.view, request);
@@ -116,89 +137,70 @@ impl Rules {
         Ok(verdict)
     }
 
-    fn request(&self, words: &[&str]) -> Result<Option<Request>, Stop> {
-        request_of(self.alloc, 0, words)
-    }
-
-    // Pushes the number of the row that matches the request first, and whether it allows it.
-    fn push_first(&self, words: &[&str], out: &mut String) -> Result<(), Stop> {
-        let request = self.request(words)?.ok_or(Stop::Unread)?;
-        match self.table()?.first_match(&request) {
-            Some((row, allows)) => {
-                push_numbers(out, &[u64::from(row)])?;
-                push_word(out, if allows { "allow" } else { "deny" })
-            }
-            None => push_word(out, "none"),
+    // Pushes the answer to the question about the request, or what is decided on it. A reach is asked up to
+    // the most.
+    fn push_answer(
+        &self,
+        question: &str,
+        most: u64,
+        request: &Request,
+        out: &mut String,
+    ) -> Result<(), Stop> {
+        if question == "request" {
+            return push_word(out, "made");
         }
-    }
-
-    // How many rows can match the request.
-    fn push_candidates(&self, words: &[&str], out: &mut String) -> Result<(), Stop> {
-        let request = self.request(words)?.ok_or(Stop::Unread)?;
-        push_numbers(out, &[self.table()?.candidates(&request) as u64])
-    }
-
-    // Pushes how far the rows allow the request, up to the most.
-    fn push_reach(&self, most: u64, words: &[&str], out: &mut String) -> Result<(), Stop> {
-        let request = self.request(words)?.ok_or(Stop::Unread)?;
         let table = self.table()?;
-        match table.first_match(&request) {
-            Some((_, true)) => push_numbers(out, &[table.reach(&request, most)]),
-            _ => push_word(out, "denied"),
+        match question {
+            "first" => push_first(out, table.first_match(request)),
+            "candidates" => push_numbers(out, &[table.candidates(request) as u64]),
+            "reach" => push_reach(out, table, request, most),
+            "alike" => push_alike(out, table.lsns_alike(request)),
+            _ => push_verdict(out, self.decide(table, request)?),
         }
     }
 
-    // Pushes the first and the last LSN at which the request finds the same row.
-    fn push_alike(&self, words: &[&str], out: &mut String) -> Result<(), Stop> {
-        let request = self.request(words)?.ok_or(Stop::Unread)?;
-        match self.table()?.lsns_alike(&request) {
-            Some(lsns) => push_numbers(out, &[lsns.from, lsns.to]),
-            None => push_word(out, "none"),
+    // The same for the request of the words, where there is such a request.
+    fn ask(&self, question: &str, most: u64, words: &[&str], out: &mut String) -> Result<(), Stop> {
+        match request_of(self.alloc, 0, words)? {
+            Some(request) => self.push_answer(question, most, &request, out),
+            None => push_word(out, "out of range"),
         }
     }
 
-    fn push_decision(&self, words: &[&str], out: &mut String) -> Result<(), Stop> {
-        let request = self.request(words)?.ok_or(Stop::Unread)?;
-        push_verdict(out, self.decide(&request)?)
-    }
-
-    // Takes the table that the text gives up, or pushes the code of its fault; it is the one that
-    // the text keeps.
-    fn take_text(&mut self, name: &str, out: &mut String) -> Result<(), Stop> {
-        let bytes = text_named(self.alloc, name)?;
-        let text = TableText::new(self.alloc, bytes.to_vec(self.alloc)?)?;
-        if text.text() != bytes.as_slice() {
-            return Err(Stop::Changed);
-        }
-        let kept = fault_in(&text);
+    // Takes the table that the text of the bytes gives up, or pushes the code of its fault; it is the one
+    // that the text keeps.
+    fn take(&mut self, text: TableText, bytes: &[u8], out: &mut String) -> Result<(), Stop> {
+        let kept = code_kept(&text, bytes);
         match text.into_reading() {
-            Ok(table) => {
+            Ok(table) if kept == Some(0) => {
                 self.put(table);
                 push_word(out, "Ok")
             }
-            Err(fault) if kept == Some(fault) => push_fault(out, fault.code()),
-            Err(_) => Err(Stop::Changed),
+            Err(fault) if kept == Some(fault.code()) => push_fault(out, fault.code()),
+            _ => Err(Stop::Changed),
         }
     }
 
-    // Pushes whether there is such a request.
-    fn push_made(&self, words: &[&str], out: &mut String) -> Result<(), Stop> {
-        let made = self.request(words)?.is_some();
-        push_word(out, if made { "made" } else { "out of range" })
+    fn take_text(&mut self, name: &str, out: &mut String) -> Result<(), Stop> {
+        let bytes = text_named(self.alloc, name)?;
+        let text = kept_of(self.alloc, &bytes)?;
+        self.take(text, &bytes, out)
     }
 
-    fn push_part(&self, words: &[&str], out: &mut String) -> Result<(), Stop> {
-        push_part(out, self.table()?, words)
+    fn push_question(&mut self, words: &[&str], out: &mut String) -> Result<(), Stop> {
+        match words {
+            ["text", name] => self.take_text(name, out),
+            ["reach", most, request @ ..] => self.ask("reach", most.parse()?, request, out),
+            [question, request @ ..] => self.ask(question, 0, request, out),
+            [] => Err(Stop::Unread),
+        }
     }
 
     // The table of the words, which is a copy of the one in force, or has a name.
     fn table_of(&self, words: &[&str]) -> Result<Table, Stop> {
         match words {
             ["copy"] => Ok(self.table()?.clone_table()?),
-            ["table", name] => match table_here(self.alloc, name)? {
-                Some(table) => Ok(table),
-                None => table_named(self.alloc, name),
-            },
+            ["table", name] => table_here(self.alloc, name),
             _ => Err(Stop::Unread),
         }
     }
@@ -238,13 +240,12 @@ fn view_of(words: &[&str]) -> Result<View, Stop> {
     })
 }
 
-// The fault that the text keeps, if it is not a table.
-fn fault_in(text: &TableText) -> Option<TableFault> {
-    match text.reading() {
-        Ok(_) => None,
-        Err(fault) => Some(*fault),
-    }
-}
+// The first words of what sets something, of what is read of the table, and of questions.
+const SETTINGS: &[&str] = &["table", "copy", "epochs", "view"];
+
+const PARTS: &[&str] = &["principals", "token", "rows", "row", "zone"];
+
+const QUESTIONS: &[&str] = &["text", "reach", "first", "candidates", "alike", "request"];
 
 impl Subject for Rules {
     fn new(alloc: Global) -> Rules {
@@ -271,19 +272,18 @@ impl Subject for Rules {
         out: &mut String,
         _refused: &mut bool,
     ) -> Result<(), Stop> {
-        match words {
-            ["table" | "copy" | "epochs" | "view", ..] => {
-                self.set(words)?;
-                push_word(out, "Ok")
-            }
-            ["principals" | "token" | "rows" | "row" | "zone", ..] => self.push_part(words, out),
-            ["text", name] => self.take_text(name, out),
-            ["first", request @ ..] => self.push_first(request, out),
-            ["candidates", request @ ..] => self.push_candidates(request, out),
-            ["request", request @ ..] => self.push_made(request, out),
-            ["reach", most, request @ ..] => self.push_reach(most.parse()?, request, out),
-            ["alike", request @ ..] => self.push_alike(request, out),
-            _ => self.push_decision(words, out),
+        let Some(first) = words.first() else {
+            return Err(Stop::Unread);
+        };
+        if SETTINGS.contains(first) {
+            self.set(words)?;
+            push_word(out, "Ok")
+        } else if PARTS.contains(first) {
+            push_part(out, self.table()?, words)
+        } else if QUESTIONS.contains(first) {
+            self.push_question(words, out)
+        } else {
+            self.ask("", 0, words, out)
         }
     }
 }

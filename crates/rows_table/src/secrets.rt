@@ -1,8 +1,10 @@
 //! A token is a secret, and debug texts go into logs.
 
-use pl_table::{Head, Principal, Role, TableText};
-use std::alloc::{AllocError, Global};
+use crate::table_faults::kept_of;
+use pl_table::{Head, Principal, Role};
+use std::alloc::Global;
 use std::test::Fail;
+use transcripts::transcript::Stop;
 
 const HEAD: Head = Head {
     principal: 3,
@@ -26,9 +28,9 @@ role = "operator"
 "#;
 
 // The debug texts of a head, a principal and a table's text, each on its line.
-fn debug_texts(alloc: Global) -> Result<String, AllocError> {
-    let text = TableText::new(alloc, Vec::from_slice(alloc, ONE_OPERATOR.as_bytes())?)?;
-    format!(in alloc; "{HEAD:?}\n{PRINCIPAL:?}\n{text:?}")
+fn debug_texts(alloc: Global) -> Result<String, Stop> {
+    let text = kept_of(alloc, ONE_OPERATOR.as_bytes())?;
+    Ok(format!(in alloc; "{HEAD:?}\n{PRINCIPAL:?}\n{text:?}")?)
 }
 
 // Whether bytes of the token are in the text, in decimal or hexadecimal.

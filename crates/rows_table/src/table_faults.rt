@@ -7,7 +7,6 @@ use pl_core::{Db, Limits, Reply};
 use pl_table::{Act, Head, ReadFault, Request, Role, TableFault, TableText, read_table};
 use std::alloc::Global;
 use std::process::Abort;
-use std::test::Fail;
 use transcripts::table_text::{START, table_named};
 use transcripts::transcript::Stop;
 
@@ -38,8 +37,13 @@ fn code_read(alloc: Global, text: &[u8]) -> Result<u8, Stop> {
     }
 }
 
-// The code that the text keeps, which is still the text.
-fn code_kept(kept: &TableText, text: &[u8]) -> Option<u8> {
+/// The text with its reading.
+pub(crate) fn kept_of(alloc: Global, text: &[u8]) -> Result<TableText, Stop> {
+    Ok(TableText::new(alloc, text.to_vec(alloc)?)?)
+}
+
+/// The code that the text keeps, which is still the text.
+pub(crate) fn code_kept(kept: &TableText, text: &[u8]) -> Option<u8> {
     if kept.text() != text {
         return None;
     }
@@ -49,14 +53,15 @@ fn code_kept(kept: &TableText, text: &[u8]) -> Option<u8> {
     }
 }
 
-// A database with the start table and room for one entry.
-fn open(alloc: Global) -> Result<Db, Stop> {
-    let limits = Limits {
-        audit: 1,
-        chunks: 1,
-    };
-    let table = table_named(alloc, "start")?;
-    Db::new(alloc, table, 2, limits).map_err(|_| Stop::NoMemory)
+/// A database with the start table.
+pub(crate) fn open(alloc: Global, limits: Limits) -> Result<Db, Stop> {
+    if !limits.are_valid() {
+        return Err(Stop::Unread);
+    }
+    match Db::new(alloc, table_named(alloc, "start")?, 2, limits) {
+        Ok(db) => Ok(db),
+        Err(_) => Err(Stop::NoMemory),
+    }
 }
 
 // The code of the reply to a text.
@@ -69,35 +74,52 @@ fn code_in(reply: &Reply) -> Result<u64, Stop> {
     }
 }
 
-// The code that a database denies with where it is asked to put the text in force.
-fn code_denied(alloc: Global, text: TableText) -> Result<u64, Stop> {
+/// The code that the database denies with where it is asked to put the text in force.
+pub(crate) fn set_table(db: &mut Db, text: TableText) -> Result<u64, Stop> {
     let request = Request::new(OPERATOR, Act::SetTable { text }).ok_or(Stop::Unread)?;
-    let mut db = open(alloc)?;
     code_in(&db.step(1, request))
 }
 
+/// Room for one entry.
+const LIMITS: Limits = Limits {
+    audit: 1,
+    chunks: 1,
+};
+
 // The code that a text gives up with its reading.
 fn code_given(alloc: Global, text: &[u8]) -> Result<u8, Stop> {
-    match TableText::new(alloc, text.to_vec(alloc)?)?.into_reading() {
+    match kept_of(alloc, text)?.into_reading() {
         Ok(_) => Ok(0),
         Err(fault) => Ok(fault.code()),
     }
 }
 
-// The code that the text keeps, and the one that a database denies it with.
-fn codes_kept(alloc: Global, text: &[u8]) -> Result<(Option<u8>, u64), Stop> {
-    let kept = TableText::new(alloc, text.to_vec(alloc)?)?;
-    let code = code_kept(&kept, text);
-    Ok((code, code_denied(alloc, kept)?))
+// Whether the text keeps the code, and the database denies it with the code.
+fn is_kept_by(alloc: Global, text: &[u8], code: u8, db: &mut Db) -> Result<bool, Stop> {
+    let kept = kept_of(alloc, text)?;
+    if code_kept(&kept, text) != Some(code) {
+        return Ok(false);
+    }
+    Ok(set_table(db, kept)? == u64::from(code))
 }
 
-// Whether each way gives the code.
-fn has_code(alloc: Global, text: &[u8], code: u8) -> Result<bool, Stop> {
-    let read = code_read(alloc, text)?;
-    let given = code_given(alloc, text)?;
-    let (kept, denied) = codes_kept(alloc, text)?;
-    let by_itself = read == code && given == code;
-    Ok(by_itself && kept == Some(code) && denied == u64::from(code))
+fn is_kept(alloc: Global, text: &[u8], code: u8) -> Result<bool, Stop> {
+    let mut db = open(alloc, LIMITS)?;
+    is_kept_by(alloc, text, code, &mut db)
+}
+
+// Each way gives the code.
+fn have_code(
+    rt: &impl Abort,
+    alloc: Global,
+    text: &[u8],
+    case: &str,
+    code: u8,
+) -> Result<(), Stop> {
+    let by_itself = code_read(alloc, text)? == code && code_given(alloc, text)? == code;
+    let kept = is_kept(alloc, text, code)?;
+    assert!(rt; by_itself && kept, "{case}");
+    Ok(())
 }
 
 fn append(text: &mut Vec<u8>, pieces: &[&str]) -> Result<(), Stop> {
@@ -109,11 +131,10 @@ fn append(text: &mut Vec<u8>, pieces: &[&str]) -> Result<(), Stop> {
 
 // The text of all pieces.
 fn text_of(alloc: Global, pieces: [&[&str]; 3]) -> Result<Vec<u8>, Stop> {
-    let [before, between, after] = pieces;
     let mut text = Vec::new(alloc);
-    append(&mut text, before)?;
-    append(&mut text, between)?;
-    append(&mut text, after)?;
+    for pieces in pieces {
+        append(&mut text, pieces)?;
+    }
     Ok(text)
 }
 
@@ -121,47 +142,86 @@ fn text_of(alloc: Global, pieces: [&[&str]; 3]) -> Result<Vec<u8>, Stop> {
 /// that, and the code of the fault.
 pub(crate) type Changed = (&'static str, &'static str, &'static str, &'static str, u8);
 
-fn walk_changed_once(rt: &impl Abort, alloc: Global, cases: &[Changed]) -> Result<(), Stop> {
+// The start table with the new text in the place of the old one, and the head before it.
+fn text_changed(alloc: Global, head: &str, old: &str, new: &str) -> Result<Vec<u8>, Stop> {
+    let (before, after) = START.split_once(old).ok_or(Stop::Unread)?;
+    let mut text = Vec::new(alloc);
+    append(&mut text, &[head, before, new, after])?;
+    Ok(text)
+}
+
+fn walk_changed(rt: &impl Abort, alloc: Global, cases: &[Changed]) -> Result<(), Stop> {
     for (case, head, old, new, code) in cases {
-        let (before, after) = START.split_once(*old).ok_or(Stop::Unread)?;
-        let mut text = Vec::new(alloc);
-        append(&mut text, &[*head, before, *new, after])?;
-        let same = has_code(alloc, &text, *code)?;
-        assert!(rt; same, "{case}");
+        let text = text_changed(alloc, head, old, new)?;
+        have_code(rt, alloc, &text, case, *code)?;
     }
     Ok(())
 }
 
-/// Walks over the cases; and once more, where an allocation failed.
-pub(crate) fn walk_changed(rt: &impl Abort, alloc: Global, cases: &[Changed]) -> Result<(), Fail> {
-    match walk_changed_once(rt, alloc, cases) {
-        Err(Stop::NoMemory) => walk_changed_once(rt, alloc, cases)?,
-        walked => walked?,
-    }
-    Ok(())
-}
-
-fn walk_once(rt: &impl Abort, alloc: Global, groups: &[Group]) -> Result<(), Stop> {
+fn walk_groups(rt: &impl Abort, alloc: Global, groups: &[Group]) -> Result<(), Stop> {
     for (before, cases, after) in groups {
         for (case, pieces, code) in *cases {
             let text = text_of(alloc, [before, pieces, after])?;
-            let same = has_code(alloc, &text, *code)?;
-            assert!(rt; same, "{case}");
+            have_code(rt, alloc, &text, case, *code)?;
         }
     }
     Ok(())
 }
 
-/// Walks over the cases; and once more, where an allocation failed.
-pub(crate) fn walk(rt: &impl Abort, alloc: Global, groups: &[Group]) -> Result<(), Fail> {
-    match walk_once(rt, alloc, groups) {
-        Err(Stop::NoMemory) => walk_once(rt, alloc, groups)?,
-        walked => walked?,
+/// What a case is, how many principals, what follows the id of each, how many rows, and the
+/// code of the fault.
+type Many = (&'static str, u8, &'static str, u16, u8);
+
+fn text_of_many(alloc: Global, principals: u8, token: &str, rows: u16) -> Result<Vec<u8>, Stop> {
+    let mut text = String::new(alloc);
+    for id in 0..principals {
+        write!(text, "[[principal]]\nid = {id}\n{token}")?;
+    }
+    for _ in 0..rows {
+        text.push_str(ALLOW)?;
+    }
+    Ok(text.into_bytes())
+}
+
+fn walk_many(rt: &impl Abort, alloc: Global, cases: &[Many]) -> Result<(), Stop> {
+    for (case, principals, token, rows, code) in cases {
+        let text = text_of_many(alloc, *principals, token, *rows)?;
+        have_code(rt, alloc, &text, case, *code)?;
     }
     Ok(())
 }
 
-const FAULTS: [(TableFault, u8); 13] = [
+fn walk_once(
+    rt: &impl Abort,
+    alloc: Global,
+    groups: &[Group],
+    changed: &[Changed],
+    many: &[Many],
+) -> Result<(), Stop> {
+    walk_groups(rt, alloc, groups)?;
+    walk_changed(rt, alloc, changed)?;
+    walk_many(rt, alloc, many)
+}
+
+/// Walks over the cases of three kinds; and once more, where an allocation failed.
+pub(crate) fn walk(
+    rt: &impl Abort,
+    alloc: Global,
+    groups: &[Group],
+    changed: &[Changed],
+    many: &[Many],
+) {
+    let mut end = walk_once(rt, alloc, groups, changed, many);
+    if let Err(Stop::NoMemory) = end {
+        end = walk_once(rt, alloc, groups, changed, many);
+    }
+    assert!(rt;
+        end.is_ok(),
+        "a case is not read, or memory was refused twice"
+    );
+}
+
+const FAULTS: &[(TableFault, u8)] = &[
     (TableFault::NoDocument, 1),
     (TableFault::UnknownKey, 2),
     (TableFault::PrincipalCount, 3),
@@ -177,15 +237,19 @@ const FAULTS: [(TableFault, u8); 13] = [
     (TableFault::BadZone, 13),
 ];
 
-fn have_codes(rt: &impl Abort, faults: &[(TableFault, u8)]) {
+// The code of the first fault that has another one.
+fn wrong_code(faults: &[(TableFault, u8)]) -> Option<u8> {
     for (fault, code) in faults {
-        assert!(rt; fault.code() == *code, "{code}");
+        if fault.code() != *code {
+            return Some(*code);
+        }
     }
+    None
 }
 
 #[test]
 fn numbers_of_faults(rt: HostRuntime) {
-    have_codes(&rt, &FAULTS);
+    assert_eq!(rt; wrong_code(FAULTS), None);
 }
 
 /// A principal.
@@ -205,7 +269,7 @@ pub(crate) const ALLOW: &str = "[[row]]\nverdict = \"allow\"\n";
 /// The beginning of a row that denies.
 pub(crate) const DENY: &str = "[[row]]\nverdict = \"deny\"\n";
 
-const DOCUMENTS: [Case; 20] = [
+const DOCUMENTS: &[Case] = &[
     ("a word", &["x"], 1),
     ("a key without a value", &["principal =\n"], 1),
     ("a key twice", &["x = 1\nx = 2\n"], 1),
@@ -249,8 +313,8 @@ const DOCUMENTS: [Case; 20] = [
 ];
 
 #[test]
-fn faults_of_documents(rt: HostRuntime) -> Result<(), Fail> {
-    walk(&rt, rt.alloc(), &[(&[], &DOCUMENTS, &[])])
+fn faults_of_documents(rt: HostRuntime) {
+    walk(&rt, rt.alloc(), &[(&[], DOCUMENTS, &[])], &[], &[]);
 }
 
 const BAD_ID: &str = "[[principal]]\nid = -1\ntoken = \"11111111111111111111111111111111\"\n";
@@ -265,7 +329,7 @@ const BAD_WORD: &str = "[[row]]\nverdict = \"\"\n";
 
 const NO_VERDICT: &str = "[[row]]\nwho = 9\n";
 
-const TWO_FAULTS: [Case; 12] = [
+const TWO_FAULTS: &[Case] = &[
     ("an id, then no token", &[BAD_ID, NO_TOKEN], 5),
     ("a token, then no token", &[BAD_TOKEN, NO_TOKEN], 5),
     ("a token, then an id", &[BAD_TOKEN, BAD_ID], 6),
@@ -285,15 +349,11 @@ const TWO_FAULTS: [Case; 12] = [
 ];
 
 #[test]
-fn first_fault_of_two(rt: HostRuntime) -> Result<(), Fail> {
-    walk(&rt, rt.alloc(), &[(&[], &TWO_FAULTS, &[])])
+fn first_fault_of_two(rt: HostRuntime) {
+    walk(&rt, rt.alloc(), &[(&[], TWO_FAULTS, &[])], &[], &[]);
 }
 
-/// What a case is, how many principals, what follows the id of each, how many rows, and the
-/// code of the fault.
-type Many = (&'static str, u8, &'static str, u16, u8);
-
-const MANY: [Many; 7] = [
+const MANY: &[Many] = &[
     ("64 principals", 64, TOKEN, 1, 0),
     ("65 principals", 65, TOKEN, 1, 3),
     ("256 rows", 1, TOKEN, 256, 0),
@@ -303,31 +363,7 @@ const MANY: [Many; 7] = [
     ("no token, and 65 principals", 65, "", 1, 3),
 ];
 
-fn text_of_many(alloc: Global, principals: u8, token: &str, rows: u16) -> Result<Vec<u8>, Stop> {
-    let mut text = String::new(alloc);
-    for id in 0..principals {
-        write!(text, "[[principal]]\nid = {id}\n{token}")?;
-    }
-    for _ in 0..rows {
-        text.push_str(ALLOW)?;
-    }
-    Ok(text.into_bytes())
-}
-
-fn walk_many(rt: &impl Abort, alloc: Global, cases: &[Many]) -> Result<(), Stop> {
-    for (case, principals, token, rows, code) in cases {
-        let text = text_of_many(alloc, *principals, token, *rows)?;
-        let same = has_code(alloc, &text, *code)?;
-        assert!(rt; same, "{case}");
-    }
-    Ok(())
-}
-
 #[test]
-fn many_principals_and_rows(rt: HostRuntime) -> Result<(), Fail> {
-    match walk_many(&rt, rt.alloc(), &MANY) {
-        Err(Stop::NoMemory) => walk_many(&rt, rt.alloc(), &MANY)?,
-        walked => walked?,
-    }
-    Ok(())
+fn many_principals_and_rows(rt: HostRuntime) {
+    walk(&rt, rt.alloc(), &[], &[], MANY);
 }
