@@ -84,7 +84,7 @@ act 1 1 00 0000000000000001 0000 0001 01 00000000 0000 2001 = fault 12
 # A byte more, an annotation without a record, and 32,769 bytes of 0.
 act 1 1 00 0000000000000001 0000 0000 00                = fault 13
 act 1 1 00 0000000000000001 0001 0000 0000              = fault 14
-act 1 1 fill 00 32770                                   = fault 15
+act 1 1 32770*00                                        = fault 15
 # An offer's block is all that follows the head.
 act 1 2                                                 = fault 7
 act 1 2 0000000000000000                                = fault 8
@@ -93,7 +93,7 @@ act 1 2 0000000000000001 0000 0001 03 00000000          = fault 10
 act 1 2 0000000000000001 0000 0001 02 000000            = fault 7
 act 1 2 0000000000000001 0000 0001 02 00000000          = fault 14
 act 1 2 0000000000000001 0000 0000 00                   = fault 13
-act 1 2 fill 00 32769                                   = fault 15
+act 1 2 32769*00                                        = fault 15
 # Copy 255 is a request.
 act 1 1 ff 0000000000000001 0000 0000                   = write 1: 255
 ";
@@ -231,8 +231,8 @@ fn texts_are_read(rt: HostRuntime) -> Result<(), Fail> {
 
 // A frame holds at most 65,536 bytes, of which the head takes 30.
 const LONGEST_TEXT: &str = "\
-act 4 9 fill 20 65506           = set_table 65506 fault 3
-act 4 9 fill 20 65507           = fault 6
+act 4 9 65506*20                = set_table 65506 fault 3
+act 4 9 65507*20                = fault 6
 ";
 
 #[test]

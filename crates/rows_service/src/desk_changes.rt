@@ -4,20 +4,17 @@ ghost use Rattle.std.specs.Prelude.{IfOk};
 ghost use Rattle.std.specs.List.{All};
 ghost use Rattle.pl_desk.specs.Passes.{IsOf};
 
-use crate::desks::{HARDENS, TURNS, ask, desk_of, last_of, play};
-use pl_core::{Db, Line, Reply};
+use crate::desks::{HARDENS, TURNS, ask, desk_of, entries_of, last_of, note, play};
 use pl_desk::{Desk, Pass};
 use std::alloc::Global;
 use std::process::Abort;
 use std::sync::Wait;
 use std::thread;
 use std::thread::Threads;
-use transcripts::asking::request_of;
-use transcripts::line_text::push_lines;
 use transcripts::transcript::Stop;
 
 /// What one thread asks, again and again.
-#[derive(Clone, Copy, Drop)]
+#[derive(Drop)]
 struct Asked {
     times: u64,
     /// The words of the request. `BLOCK` is a block with the number of the question as its LSN
@@ -28,7 +25,7 @@ struct Asked {
 }
 
 /// A row of two threads.
-#[derive(Clone, Copy, Drop)]
+#[derive(Drop)]
 struct Row {
     audit: u64,
     /// What the first pass asks before the threads start.
@@ -39,46 +36,13 @@ struct Row {
     after: &'static str,
 }
 
-// The words, with the block of the number.
-fn line_of(alloc: Global, words: &str, number: u64) -> Result<String, Stop> {
-    let block = format!(in alloc; "{number}:{number:02x}")?;
-    Ok(words.replace(alloc, "BLOCK", &block)?)
-}
-
-// The same, and once more where memory is refused.
-fn line_on(alloc: Global, words: &str, number: u64, refused: &mut bool) -> Result<String, Stop> {
-    let line = line_of(alloc, words, number);
-    if *refused || !matches!(line, Err(Stop::NoMemory)) {
-        return line;
-    }
-    *refused = true;
-    line_of(alloc, words, number)
-}
-
-// The answer to the words, with the block of the number.
-fn ask_once(
-    rt: &impl Wait,
-    alloc: Global,
-    desk: &Desk,
-    pass: &mut Pass,
-    words: &str,
-    number: u64,
-    refused: &mut bool,
-) -> Result<String, Stop>
-    requires of { IsOf desk.now pass.old }
-    ensures of { IsOf desk.now pass.new }
-{
-    let line = line_on(alloc, words, number, refused)?;
-    ask(rt, alloc, desk, pass, &line, refused)
-}
-
 // Asks, and returns how many answers are those up to the change. All others have to come after it.
 fn ask_over_a_change(
     rt: &impl Wait,
     alloc: Global,
     desk: &Desk,
     pass: &mut Pass,
-    asked: Asked,
+    asked: &Asked,
     refused: &mut bool,
 ) -> Result<u64, Stop>
     requires of { IsOf desk.now pass.old }
@@ -87,7 +51,7 @@ fn ask_over_a_change(
     let [before, after] = asked.answers;
     let mut count: u64 = 0;
     for number in 1..=asked.times {
-        let text = ask_once(rt, alloc, desk, pass, asked.words, number, refused)?;
+        let text = ask(rt, alloc, desk, pass, asked.words, number, refused)?;
         if text.trim() == before && count == number - 1 {
             count = number;
         } else if text.trim() != after {
@@ -97,71 +61,88 @@ fn ask_over_a_change(
     Ok(count)
 }
 
-// The first pass takes in the second.
-fn meet(desk: &Desk, pass: &mut Pass, other: Pass)
-    requires of { IsOf desk.now pass.old }
-    requires other { IsOf desk.now other }
-    ensures of { IsOf desk.now pass.new }
+// Each pass asks in a thread of its own. How many answers of each are those up to the change.
+fn ask_apart<R: Threads + Wait + Abort + Sync>(
+    rt: &R,
+    alloc: Global,
+    desk: &Desk,
+    p: &mut Pass,
+    q: &mut Pass,
+    row: &Row,
+    refused: &mut bool,
+) -> Result<(u64, u64), Stop>
+    requires first { IsOf desk.now p.old }
+    requires second { IsOf desk.now q.old }
+    ensures first { IsOf desk.now p.new }
+    ensures second { IsOf desk.now q.new }
 {
-    desk.meet(pass, other);
+    let (mut by_first, mut by_second) = (*refused, *refused);
+    let (first, second) = thread::join_mut(
+        rt,
+        &mut || ask_over_a_change(rt, alloc, desk, p, &row.first, &mut by_first),
+        &mut || ask_over_a_change(rt, alloc, desk, q, &row.second, &mut by_second),
+    );
+    if !*refused && by_first && by_second {
+        return Err(Stop::NoMemory);
+    }
+    *refused = by_first || by_second;
+    Ok((first?, second?))
 }
 
-// Plays a row with the two passes. It returns the first of them, which has met the second.
+// Plays a row with the two passes, of which the first takes in the second.
+fn play_both<R: Threads + Wait + Abort + Sync>(
+    rt: &R,
+    alloc: Global,
+    desk: &Desk,
+    p: &mut Pass,
+    mut q: Pass,
+    row: &Row,
+    refused: &mut bool,
+) -> Result<(u64, u64), Stop>
+    requires first { IsOf desk.now p.old }
+    requires second { IsOf desk.now q }
+    ensures first { IsOf desk.now p.new }
+{
+    play(rt, alloc, desk, p, row.before, refused)?;
+    let ends = ask_apart(rt, alloc, desk, p, &mut q, row, refused)?;
+    desk.meet(p, q);
+    play(rt, alloc, desk, p, row.after, refused)?;
+    Ok(ends)
+}
+
+// The same with the last two of the passes. It returns the first of them.
 fn play_passes<R: Threads + Wait + Abort + Sync>(
     rt: &R,
     alloc: Global,
     desk: &Desk,
     mut passes: Vec<Pass>,
-    row: Row,
+    row: &Row,
     refused: &mut bool,
 ) -> Result<(u64, u64, Pass), Stop>
     requires of { All (IsOf desk.now) passes.items }
     ensures of { IfOk result (λ ends. IsOf desk.now ends.2) }
 {
-    let mut q = last_of(desk, &mut passes)?;
+    let q = last_of(desk, &mut passes)?;
     let mut p = last_of(desk, &mut passes)?;
-    play(rt, alloc, desk, &mut p, row.before, refused)?;
-    let (mut by_first, mut by_second) = (*refused, *refused);
-    let (first, second) = thread::join_mut(
-        rt,
-        &mut || ask_over_a_change(rt, alloc, desk, &mut p, row.first, &mut by_first),
-        &mut || ask_over_a_change(rt, alloc, desk, &mut q, row.second, &mut by_second),
-    );
-    let (first, second) = (first?, second?);
-    if !*refused && by_first && by_second {
-        return Err(Stop::NoMemory);
-    }
-    *refused = by_first || by_second;
-    meet(desk, &mut p, q);
-    play(rt, alloc, desk, &mut p, row.after, refused)?;
+    let (first, second) = play_both(rt, alloc, desk, &mut p, q, row, refused)?;
     Ok((first, second, p))
 }
 
-// Plays a row. It returns how many answers of each thread are those up to the change, and the
-// database. What memory is refused to, a request or the test itself, is asked again in its place.
-fn play_two<R: Threads + Wait + Abort + Sync>(
-    rt: &R,
-    alloc: Global,
-    row: Row,
-    refused: &mut bool,
-) -> Result<(u64, u64, Db), Stop> {
-    let (desk, passes) = desk_of(alloc, row.audit, 2, TURNS, refused)?;
-    let (first, second, pass) = play_passes(rt, alloc, &desk, passes, row, refused)?;
-    Ok((first, second, desk.close(pass).ok_or(Stop::Unread)?))
-}
-
-// How many answers of both threads are those up to the change, and how many entries there are in the
-// end.
+// Plays a row. How many answers of both threads are those up to the change, and how many entries there are
+// in the end. What memory is refused to, a request or the test itself, is asked again in its place.
 fn ends_of<R: Threads + Wait + Abort + Sync>(
     rt: &R,
     alloc: Global,
-    row: Row,
+    row: &Row,
 ) -> Result<(u64, u64), Stop> {
-    let (first, second, db) = play_two(rt, alloc, row, &mut false)?;
-    Ok((first.saturating_add(second), db.audit_len()))
+    let mut refused = false;
+    let (desk, passes) = desk_of(alloc, row.audit, 2, TURNS, &mut refused)?;
+    let (first, second, pass) = play_passes(rt, alloc, &desk, passes, row, &mut refused)?;
+    let entries = entries_of(desk, pass)?;
+    Ok((first.saturating_add(second), entries))
 }
 
-const TWO_THREADS_TWO_COPIES: Row = Row {
+const TWO_THREADS_TWO_COPIES: &Row = &Row {
     audit: 65_536,
     before: "",
     first: Asked {
@@ -186,7 +167,7 @@ fn two_threads_two_copies(rt: HostRuntime) {
     assert!(&rt; matches!(ends, Ok((64, 66))));
 }
 
-const FAILOVER_BENEATH_WRITES: Row = Row {
+const FAILOVER_BENEATH_WRITES: &Row = &Row {
     audit: 65_536,
     before: "",
     first: Asked {
@@ -206,96 +187,68 @@ fn push_write(out: &mut String, number: u64, lsn: u64, verdict: &str) -> Result<
     Ok(write!(out, " {number}/1/2/primary/1/write/{lsn}/0/{verdict}")?)
 }
 
-// The first 65 lines of the audit list, where this many writes were allowed.
-fn push_writes(out: &mut String, allowed: u64) -> Result<(), Stop> {
+// An audit of the first 65 entries, where this many writes were allowed.
+fn audit_of(alloc: Global, allowed: u64) -> Result<String, Stop> {
+    let mut row = String::new(alloc);
+    row.push_str("1 11 operator 2 audit 1 65 = Entries")?;
     for number in 1..=65 {
         if number <= allowed {
-            push_write(out, number, number, "allowed")?;
+            push_write(&mut row, number, number, "allowed")?;
         } else if number - 1 == allowed {
-            write!(out, " {number}/2/1/operator/1/failover/5/0/allowed")?;
+            write!(row, " {number}/2/1/operator/1/failover/5/0/allowed")?;
         } else {
-            push_write(out, number, number - 1, "A2:2")?;
+            push_write(&mut row, number, number - 1, "A2:2")?;
         }
     }
-    Ok(())
+    Ok(row)
 }
 
-// Whether the lines are those.
-fn are_writes(alloc: Global, lines: &[Line], allowed: u64) -> Result<bool, Stop> {
-    let (mut listed, mut wanted) = (String::new(alloc), String::new(alloc));
-    push_lines(&mut listed, lines)?;
-    push_writes(&mut wanted, allowed)?;
-    Ok(listed == wanted)
-}
-
-// Whether the reply is those lines.
-fn lists_writes(alloc: Global, reply: &Reply, allowed: u64) -> Result<bool, Stop> {
-    match reply {
-        Reply::Entries { lines } => are_writes(alloc, lines.as_slice(), allowed),
-        Reply::NoMemory => Err(Stop::NoMemory),
-        _ => Ok(false),
+// The same, and once more where memory is refused.
+fn audit_on(alloc: Global, allowed: u64, refused: &mut bool) -> Result<String, Stop> {
+    match audit_of(alloc, allowed) {
+        Ok(row) => Ok(row),
+        Err(stop) => {
+            note(stop, refused)?;
+            audit_of(alloc, allowed)
+        }
     }
 }
 
-// The reply to an audit of 65 lines.
-fn audited(alloc: Global, db: &mut Db) -> Result<Reply, Stop> {
-    let words = ["1", "11", "operator", "2", "audit", "1", "65"];
-    match request_of(alloc, 0, &words)? {
-        Some(request) => Ok(db.step(1, request)),
-        None => Err(Stop::Unread),
-    }
-}
-
-// Whether the first 65 lines of the audit list are those.
-fn has_writes(alloc: Global, db: &mut Db, allowed: u64) -> Result<bool, Stop> {
-    let reply = audited(alloc, db)?;
-    lists_writes(alloc, &reply, allowed)
-}
-
-// The same, and once more where memory is refused: the lines of the audits come after these.
-fn has_writes_on(
+// The list begins with the entries of both threads.
+fn fail_over_at<R: Threads + Wait + Abort + Sync>(
+    rt: &R,
     alloc: Global,
-    db: &mut Db,
-    allowed: u64,
+    desk: &Desk,
+    passes: Vec<Pass>,
     refused: &mut bool,
-) -> Result<bool, Stop> {
-    let has = has_writes(alloc, db, allowed);
-    if *refused || !matches!(has, Err(Stop::NoMemory)) {
-        return has;
-    }
-    *refused = true;
-    has_writes(alloc, db, allowed)
+) -> Result<Pass, Stop>
+    requires of { All (IsOf desk.now) passes.items }
+    ensures of { IfOk result (λ pass. IsOf desk.now pass) }
+{
+    let (allowed, _, mut pass) = play_passes(rt, alloc, desk, passes, FAILOVER_BENEATH_WRITES, refused)?;
+    let audit = audit_on(alloc, allowed, refused)?;
+    play(rt, alloc, desk, &mut pass, &audit, refused)?;
+    Ok(pass)
 }
 
-// Whether the audit list is as it has to be, and how many entries it had.
-fn has_writes_and_len(
-    alloc: Global,
-    db: &mut Db,
-    allowed: u64,
-    refused: &mut bool,
-) -> Result<(bool, u64), Stop> {
-    let entries = db.audit_len();
-    let has = has_writes_on(alloc, db, allowed, refused)?;
-    Ok((has, entries))
-}
-
-// The same of a database after a failover under writes.
+// A failover under writes, and an audit after both. How many entries there are in the end.
 fn fail_over_beneath_writes<R: Threads + Wait + Abort + Sync>(
     rt: &R,
     alloc: Global,
-) -> Result<(bool, u64), Stop> {
+) -> Result<u64, Stop> {
     let mut refused = false;
-    let (allowed, _, mut db) = play_two(rt, alloc, FAILOVER_BENEATH_WRITES, &mut refused)?;
-    has_writes_and_len(alloc, &mut db, allowed, &mut refused)
+    let (desk, passes) = desk_of(alloc, 65_536, 2, TURNS, &mut refused)?;
+    let pass = fail_over_at(rt, alloc, &desk, passes, &mut refused)?;
+    entries_of(desk, pass)
 }
 
 #[test]
 fn failover_beneath_writes(rt: HostRuntime) {
-    let ends = fail_over_beneath_writes(&rt, rt.alloc());
-    assert!(&rt; matches!(ends, Ok((true, 66))));
+    let entries = fail_over_beneath_writes(&rt, rt.alloc());
+    assert!(&rt; matches!(entries, Ok(67)));
 }
 
-const TABLE_BENEATH_PULLS: Row = Row {
+const TABLE_BENEATH_PULLS: &Row = &Row {
     audit: 65_536,
     before: HARDENS,
     first: Asked {
@@ -323,7 +276,7 @@ const STATUSES: Asked = Asked {
     answers: ["Status 1 2 0 0 0", "AuditFull"],
 };
 
-const AUDIT_LIMIT_BENEATH_THREADS: Row = Row {
+const AUDIT_LIMIT_BENEATH_THREADS: &Row = &Row {
     audit: 10,
     before: "",
     first: STATUSES,

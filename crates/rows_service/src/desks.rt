@@ -6,16 +6,26 @@ ghost use Rattle.pl_desk.specs.Passes.{IsOf};
 
 use pl_core::{Db, Limits, Reply};
 use pl_desk::{Desk, Pass};
+use pl_table::{Act, Request};
 use std::alloc::Global;
 use std::process::Abort;
 use std::sync::Wait;
-use transcripts::asking::request_of;
+use transcripts::asking::{head_of, request_of};
 use transcripts::reply_text::push_reply;
 use transcripts::table_text::table_named;
 use transcripts::transcript::Stop;
 
 /// As many turns as a desk may have.
 pub(crate) const TURNS: u64 = 1 << 62;
+
+/// Notes that memory was refused. Another stop, and a second refusal, end the test.
+pub(crate) fn note(stop: Stop, refused: &mut bool) -> Result<(), Stop> {
+    if *refused || !matches!(stop, Stop::NoMemory) {
+        return Err(stop);
+    }
+    *refused = true;
+    Ok(())
+}
 
 /// A database with the start table, primary 2 and this limit.
 pub(crate) fn open(alloc: Global, audit: u64) -> Result<Db, Stop> {
@@ -32,12 +42,18 @@ pub(crate) fn open(alloc: Global, audit: u64) -> Result<Db, Stop> {
 
 // The same, and once more where memory is refused.
 fn open_on(alloc: Global, audit: u64, refused: &mut bool) -> Result<Db, Stop> {
-    let db = open(alloc, audit);
-    if *refused || !matches!(db, Err(Stop::NoMemory)) {
-        return db;
+    match open(alloc, audit) {
+        Ok(db) => Ok(db),
+        Err(stop) => {
+            note(stop, refused)?;
+            open(alloc, audit)
+        }
     }
-    *refused = true;
-    open(alloc, audit)
+}
+
+// Gives a database up. How many entries it had.
+fn give_up(db: Db) -> u64 {
+    db.audit_len()
 }
 
 // A desk of the database that came back.
@@ -49,7 +65,10 @@ fn desk_again(alloc: Global, db: Db, seats: u32, turns: u64) -> Result<(Desk, Ve
 {
     match Desk::new(alloc, db, seats, turns) {
         Ok(opened) => Ok(opened),
-        Err(_) => Err(Stop::NoMemory),
+        Err(back) => {
+            give_up(back);
+            Err(Stop::NoMemory)
+        }
     }
 }
 
@@ -68,10 +87,13 @@ fn desk_over(
 {
     match Desk::new(alloc, db, seats, turns) {
         Ok(opened) => Ok(opened),
-        Err(_) if *refused => Err(Stop::NoMemory),
-        Err(back) => {
+        Err(back) if !*refused => {
             *refused = true;
             desk_again(alloc, back, seats, turns)
+        }
+        Err(back) => {
+            give_up(back);
+            Err(Stop::NoMemory)
         }
     }
 }
@@ -93,6 +115,20 @@ pub(crate) fn desk_of(
     desk_over(alloc, db, seats, turns, refused)
 }
 
+/// A status, which needs no memory.
+pub(crate) fn status() -> Result<Request, Stop> {
+    let head = head_of(0, ["2", "22", "primary", "1"])?;
+    Request::new(head, Act::Status).ok_or(Stop::Unread)
+}
+
+// The request of the line, in which `BLOCK` is a block with the number as its LSN and as its byte.
+fn asked_by(alloc: Global, line: &str, number: u64) -> Result<Option<Request>, Stop> {
+    let block = format!(in alloc; "{number}:{number:02x}")?;
+    let line = line.replace(alloc, "BLOCK", &block)?;
+    let words: Vec<&str> = line.split_whitespace().collect(alloc)?;
+    request_of(alloc, 0, &words)
+}
+
 // The reply to the request of the line. An error is that memory was refused.
 fn reply_to(
     rt: &impl Wait,
@@ -100,13 +136,18 @@ fn reply_to(
     desk: &Desk,
     pass: &mut Pass,
     line: &str,
+    number: u64,
 ) -> Result<Reply, Stop>
     requires of { IsOf desk.now pass.old }
     ensures of { IsOf desk.now pass.new }
 {
-    let words: Vec<&str> = line.split_whitespace().collect(alloc)?;
-    let request = request_of(alloc, 0, &words)?.ok_or(Stop::Unread)?;
-    Ok(desk.call(rt, pass, request))
+    let Some(request) = asked_by(alloc, line, number)? else {
+        return Err(Stop::Unread);
+    };
+    match desk.call(rt, pass, request) {
+        Reply::NoMemory => Err(Stop::NoMemory),
+        reply => Ok(reply),
+    }
 }
 
 fn text_of(alloc: Global, reply: &Reply) -> Result<String, Stop> {
@@ -117,12 +158,13 @@ fn text_of(alloc: Global, reply: &Reply) -> Result<String, Stop> {
 
 // The same, and once more where memory is refused.
 fn text_on(alloc: Global, reply: &Reply, refused: &mut bool) -> Result<String, Stop> {
-    let text = text_of(alloc, reply);
-    if *refused || !matches!(text, Err(Stop::NoMemory)) {
-        return text;
+    match text_of(alloc, reply) {
+        Ok(text) => Ok(text),
+        Err(stop) => {
+            note(stop, refused)?;
+            text_of(alloc, reply)
+        }
     }
-    *refused = true;
-    text_of(alloc, reply)
 }
 
 // The reply to the request of the line, which is asked again, in its place, where memory is refused to
@@ -133,20 +175,22 @@ fn reply_on(
     desk: &Desk,
     pass: &mut Pass,
     line: &str,
+    number: u64,
     refused: &mut bool,
 ) -> Result<Reply, Stop>
     requires of { IsOf desk.now pass.old }
     ensures of { IsOf desk.now pass.new }
 {
-    let reply = reply_to(rt, alloc, desk, pass, line);
-    if *refused || !matches!(reply, Ok(Reply::NoMemory) | Err(Stop::NoMemory)) {
-        return reply;
+    match reply_to(rt, alloc, desk, pass, line, number) {
+        Ok(reply) => Ok(reply),
+        Err(stop) => {
+            note(stop, refused)?;
+            reply_to(rt, alloc, desk, pass, line, number)
+        }
     }
-    *refused = true;
-    reply_to(rt, alloc, desk, pass, line)
 }
 
-/// The reply to the request of the line, as words. Where memory is refused, the request is asked again in
+/// The reply to the request of the line for the number, as words. Where memory is refused, the request is asked again in
 /// its place, unless memory was refused before. An error is that it was refused again.
 pub(crate) fn ask(
     rt: &impl Wait,
@@ -154,16 +198,39 @@ pub(crate) fn ask(
     desk: &Desk,
     pass: &mut Pass,
     line: &str,
+    number: u64,
     refused: &mut bool,
 ) -> Result<String, Stop>
     requires of { IsOf desk.now pass.old }
     ensures of { IsOf desk.now pass.new }
 {
-    let reply = reply_on(rt, alloc, desk, pass, line, refused)?;
-    if matches!(reply, Reply::NoMemory) {
-        return Err(Stop::NoMemory);
-    }
+    let reply = reply_on(rt, alloc, desk, pass, line, number, refused)?;
     text_on(alloc, &reply, refused)
+}
+
+// The words are those wanted.
+fn compare(rt: &impl Abort, line: &str, text: &str, wanted: &str) {
+    assert!(rt; text.trim() == wanted.trim(), "{line}, not {text}");
+}
+
+// The line is answered as it says.
+fn play_line<R: Wait + Abort>(
+    rt: &R,
+    alloc: Global,
+    desk: &Desk,
+    pass: &mut Pass,
+    line: &str,
+    refused: &mut bool,
+) -> Result<(), Stop>
+    requires of { IsOf desk.now pass.old }
+    ensures of { IsOf desk.now pass.new }
+{
+    let Some((asked, wanted)) = line.split_once('=') else {
+        return Err(Stop::Unread);
+    };
+    let text = ask(rt, alloc, desk, pass, asked, 0, refused)?;
+    compare(rt, line, &text, wanted);
+    Ok(())
 }
 
 /// Each line is answered as it says.
@@ -179,9 +246,7 @@ pub(crate) fn play<R: Wait + Abort>(
     ensures of { IsOf desk.now pass.new }
 {
     for line in row.lines() {
-        let (asked, wanted) = line.split_once('=').ok_or(Stop::Unread)?;
-        let text = ask(rt, alloc, desk, pass, asked, refused)?;
-        assert!(rt; text.trim() == wanted.trim(), "{line}, not {text}");
+        play_line(rt, alloc, desk, pass, line, refused)?;
     }
     Ok(())
 }
@@ -218,7 +283,7 @@ pub(crate) fn entries_of(desk: Desk, pass: Pass) -> Result<u64, Stop>
     requires of { IsOf desk pass }
 {
     match desk.close(pass) {
-        Some(db) => Ok(db.audit_len()),
+        Some(db) => Ok(give_up(db)),
         None => Err(Stop::Unread),
     }
 }
@@ -282,19 +347,24 @@ fn statuses(alloc: Global, count: u32) -> Result<String, Stop> {
     Ok(row)
 }
 
+// The same, and once more where memory is refused.
+fn statuses_on(alloc: Global, count: u32, refused: &mut bool) -> Result<String, Stop> {
+    match statuses(alloc, count) {
+        Ok(row) => Ok(row),
+        Err(stop) => {
+            note(stop, refused)?;
+            statuses(alloc, count)
+        }
+    }
+}
+
 fn ends_of_statuses<R: Wait + Abort>(
     rt: &R,
     alloc: Global,
     count: u32,
 ) -> Result<(u64, u64), Stop> {
     let mut refused = false;
-    let row = match statuses(alloc, count) {
-        Ok(row) => row,
-        Err(_) => {
-            refused = true;
-            statuses(alloc, count)?
-        }
-    };
+    let row = statuses_on(alloc, count, &mut refused)?;
     ends_of(rt, alloc, 1, &row, &mut refused)
 }
 
@@ -378,24 +448,6 @@ fn passes_that_meet(rt: HostRuntime) {
     assert!(&rt; matches!(entries, Ok(6)));
 }
 
-// Closes the desk by the last of the passes.
-fn close_by_last(desk: Desk, mut passes: Vec<Pass>) -> Option<Db>
-    requires of { All (IsOf desk) passes.items }
-{
-    match passes.pop() {
-        Some(pass) => desk.close(pass),
-        None => None,
-    }
-}
-
-// Opens a desk of the database, and closes it again. Where memory is refused, it comes back.
-fn through_a_desk(alloc: Global, db: Db) -> Result<Option<Db>, Db> {
-    match Desk::new(alloc, db, 2, TURNS) {
-        Ok((desk, passes)) => Ok(close_by_last(desk, passes)),
-        Err(back) => Err(back),
-    }
-}
-
 // What the reply to a status comes to.
 fn status_end(reply: &Reply) -> Result<(), Stop> {
     match reply {
@@ -405,46 +457,40 @@ fn status_end(reply: &Reply) -> Result<(), Stop> {
     }
 }
 
-fn enter_status(alloc: Global, db: &mut Db) -> Result<(), Stop> {
-    match request_of(alloc, 0, &["2", "22", "primary", "1", "status"])? {
-        Some(request) => status_end(&db.step(1, request)),
-        None => Err(Stop::Unread),
+// Enters a status, and once more where memory is refused.
+fn enter_status(db: &mut Db, refused: &mut bool) -> Result<(), Stop> {
+    match status_end(&db.step(1, status()?)) {
+        Ok(()) => Ok(()),
+        Err(stop) => {
+            note(stop, refused)?;
+            status_end(&db.step(1, status()?))
+        }
     }
 }
 
-// The same, and once more where memory is refused.
-fn enter_status_on(alloc: Global, db: &mut Db, refused: &mut bool) -> Result<(), Stop> {
-    let end = enter_status(alloc, db);
-    if *refused || !matches!(end, Err(Stop::NoMemory)) {
-        return end;
-    }
-    *refused = true;
-    enter_status(alloc, db)
-}
-
-// How many entries the database has after it went through a desk. Where memory is refused to the desk, it goes through
-// another one.
-fn entries_through_a_desk(alloc: Global, db: Db) -> Result<u64, Stop> {
-    let closed = match through_a_desk(alloc, db) {
-        Ok(closed) => closed,
-        Err(back) => through_a_desk(alloc, back).map_err(|_| Stop::NoMemory)?,
-    };
-    match closed {
-        Some(db) => Ok(db.audit_len()),
-        None => Err(Stop::Unread),
+// A database of one entry.
+fn db_of_one_entry(alloc: Global, refused: &mut bool) -> Result<Db, Stop> {
+    let mut db = open_on(alloc, 65_536, refused)?;
+    match enter_status(&mut db, refused) {
+        Ok(()) => Ok(db),
+        Err(stop) => {
+            give_up(db);
+            Err(stop)
+        }
     }
 }
 
-// The same of a database of one entry.
-fn entries_after_a_desk(alloc: Global) -> Result<u64, Stop> {
+// Opens a desk of such a database, and closes it again. The number of its last pass, and how many entries
+// there are then.
+fn ends_of_one_entry<R: Wait + Abort>(rt: &R, alloc: Global) -> Result<(u64, u64), Stop> {
     let mut refused = false;
-    let mut db = open_on(alloc, 65_536, &mut refused)?;
-    enter_status_on(alloc, &mut db, &mut refused)?;
-    entries_through_a_desk(alloc, db)
+    let db = db_of_one_entry(alloc, &mut refused)?;
+    let (desk, passes) = desk_over(alloc, db, 2, TURNS, &mut refused)?;
+    ends_at(rt, alloc, desk, passes, "", &mut refused)
 }
 
 #[test]
 fn database_comes_back(rt: HostRuntime) {
-    let entries = entries_after_a_desk(rt.alloc());
-    assert!(&rt; matches!(entries, Ok(1)));
+    let ends = ends_of_one_entry(&rt, rt.alloc());
+    assert!(&rt; matches!(ends, Ok((2, 1))));
 }

@@ -4,19 +4,17 @@ ghost use Rattle.std.specs.Prelude.{IfOk};
 ghost use Rattle.std.specs.List.{All};
 ghost use Rattle.pl_desk.specs.Passes.{IsOf};
 
-use crate::desks::{desk_of, entries_of, last_of};
+use crate::desks::{desk_of, entries_of, last_of, status};
 use pl_core::Reply;
 use pl_desk::{Desk, Pass};
-use pl_table::{Act, Request};
 use std::alloc::Global;
 use std::sync::Wait;
 use std::thread;
 use std::thread::Threads;
-use transcripts::asking::head_of;
 use transcripts::transcript::Stop;
 
 /// What became of calls: how many were answered, how many were refused memory, and how many had no turn.
-#[derive(Clone, Copy, Drop)]
+#[derive(Drop)]
 struct Calls {
     answered: u64,
     refused: u64,
@@ -44,12 +42,6 @@ impl Calls {
         }
         Ok(())
     }
-}
-
-// A status, which needs no memory.
-fn status() -> Result<Request, Stop> {
-    let head = head_of(0, ["2", "22", "primary", "1"])?;
-    Request::new(head, Act::Status).ok_or(Stop::Unread)
 }
 
 // Asks for this many statuses.
@@ -101,7 +93,7 @@ fn spend_two(rt: &impl Wait, alloc: Global) -> Result<(Calls, u64), Stop> {
 }
 
 // Two calls have a turn, and the third has none. An entry is what was answered.
-fn are_two(calls: Calls, entries: u64) -> bool {
+fn are_two(calls: &Calls, entries: u64) -> bool {
     let turns = calls.answered.saturating_add(calls.refused);
     turns == 2 && calls.spent == 1 && entries == calls.answered
 }
@@ -109,55 +101,63 @@ fn are_two(calls: Calls, entries: u64) -> bool {
 #[test]
 fn turns_run_out(rt: HostRuntime) {
     let ends = spend_two(&rt, rt.alloc());
-    assert!(&rt; matches!(ends, Ok((calls, entries)) if are_two(calls, entries)));
+    assert!(&rt; matches!(&ends, Ok((calls, entries)) if are_two(calls, *entries)));
 }
 
-// The first pass takes in the second.
-fn meet(desk: &Desk, pass: &mut Pass, other: Pass)
-    requires of { IsOf desk.now pass.old }
-    requires other { IsOf desk.now other }
-    ensures of { IsOf desk.now pass.new }
+// Two threads ask for ten statuses each.
+fn call_apart<R: Threads + Wait + Sync>(
+    rt: &R,
+    desk: &Desk,
+    p: &mut Pass,
+    q: &mut Pass,
+    refused: &mut bool,
+) -> Result<(Calls, Calls), Stop>
+    requires first { IsOf desk.now p.old }
+    requires second { IsOf desk.now q.old }
+    ensures first { IsOf desk.now p.new }
+    ensures second { IsOf desk.now q.new }
 {
-    desk.meet(pass, other);
+    let mut by_second = *refused;
+    let (first, second) = thread::join_mut(
+        rt,
+        &mut || call_each(rt, desk, p, 10, refused),
+        &mut || call_each(rt, desk, q, 10, &mut by_second),
+    );
+    Ok((first?, second?))
 }
 
-// Two threads ask for ten statuses each, and their passes meet. Then the turns are spent.
+// The same, and their passes meet. Then the turns are spent.
 fn call_by_two<R: Threads + Wait + Sync>(
     rt: &R,
     desk: &Desk,
     mut passes: Vec<Pass>,
-    refused: bool,
+    refused: &mut bool,
 ) -> Result<(Calls, Calls, Pass), Stop>
     requires of { All (IsOf desk.now) passes.items }
     ensures of { IfOk result (λ ends. IsOf desk.now ends.2) }
 {
     let mut q = last_of(desk, &mut passes)?;
     let mut p = last_of(desk, &mut passes)?;
-    let (mut by_first, mut by_second) = (refused, refused);
-    let (first, second) = thread::join_mut(
-        rt,
-        &mut || call_each(rt, desk, &mut p, 10, &mut by_first),
-        &mut || call_each(rt, desk, &mut q, 10, &mut by_second),
-    );
-    let (first, second) = (first?, second?);
-    meet(desk, &mut p, q);
-    let after = call_each(rt, desk, &mut p, 1, &mut by_first)?;
-    if after.spent != 1 {
-        return Err(Stop::Changed);
+    let (first, second) = call_apart(rt, desk, &mut p, &mut q, refused)?;
+    desk.meet(&mut p, q);
+    let after = call_each(rt, desk, &mut p, 1, refused)?;
+    if after.spent == 1 {
+        Ok((first, second, p))
+    } else {
+        Err(Stop::Changed)
     }
-    Ok((first, second, p))
 }
 
 fn spend_ten<R: Threads + Wait + Sync>(rt: &R, alloc: Global) -> Result<(Calls, Calls, u64), Stop> {
     let mut refused = false;
     let (desk, passes) = desk_of(alloc, 65_536, 2, 10, &mut refused)?;
-    let (first, second, pass) = call_by_two(rt, &desk, passes, refused)?;
+    let (first, second, pass) = call_by_two(rt, &desk, passes, &mut refused)?;
     let entries = entries_of(desk, pass)?;
     Ok((first, second, entries))
 }
 
 // Ten or eleven calls have a turn, and the others have none. An entry is what was answered.
-fn are_ten(first: Calls, second: Calls, entries: u64) -> bool {
+fn are_ten(first: &Calls, second: &Calls, entries: u64) -> bool {
     let answered = first.answered.saturating_add(second.answered);
     let refused = first.refused.saturating_add(second.refused);
     let turns = answered.saturating_add(refused);
@@ -167,5 +167,5 @@ fn are_ten(first: Calls, second: Calls, entries: u64) -> bool {
 #[test]
 fn turns_beneath_threads(rt: HostRuntime) {
     let ends = spend_ten(&rt, rt.alloc());
-    assert!(&rt; matches!(ends, Ok((first, second, entries)) if are_ten(first, second, entries)));
+    assert!(&rt; matches!(&ends, Ok((first, second, entries)) if are_ten(first, second, *entries)));
 }

@@ -1,12 +1,13 @@
 //! Frames, asked line by line.
 
-use crate::pieces::{Ending, Feed, Full, Sink};
+use crate::pieces::{Feed, Sink};
 use pl_core::Reply;
 use pl_wire::{
     BodyFault, FrameFault, ReplyFault, WriteFault, put_reply, read_body, read_frame, read_head,
     read_reply, write_reply, write_request,
 };
 use std::alloc::Global;
+use std::io::ErrorKind;
 use transcripts::answer::{push_bytes, push_fault, push_numbers, push_word};
 use transcripts::asking::request_of;
 use transcripts::codec::bytes_of;
@@ -16,14 +17,14 @@ use transcripts::transcript::{Stop, Subject};
 /// How many bytes a reader gives at once.
 const PIECES: [usize; 4] = [1, 2, 3, 5];
 
-/// How many bytes a writer takes at once, and what comes when its room is full.
-const WAYS: [(usize, Full); 6] = [
-    (1, Full::TakesNone),
-    (2, Full::Fails),
-    (3, Full::IsInterrupted),
-    (5, Full::Fails),
-    (usize::MAX, Full::TakesNone),
-    (usize::MAX, Full::IsInterrupted),
+/// How many bytes a writer takes at once, and the error when its room is full: none where it takes no more.
+const WAYS: [(usize, Option<ErrorKind>); 6] = [
+    (1, None),
+    (2, Some(ErrorKind::BrokenPipe)),
+    (3, Some(ErrorKind::Interrupted)),
+    (5, Some(ErrorKind::BrokenPipe)),
+    (usize::MAX, None),
+    (usize::MAX, Some(ErrorKind::Interrupted)),
 ];
 
 /// How many frames of an input are read at most.
@@ -67,7 +68,7 @@ fn push_body(out: &mut String, body: &[u8]) -> Result<(), Stop> {
 }
 
 /// What is read of an input.
-#[derive(Clone, Copy)]
+#[derive(Drop)]
 enum Asked {
     Head(u32),
     Body(u32),
@@ -121,38 +122,48 @@ impl Frames {
         Err(Stop::Unread)
     }
 
-    // What is read and how many bytes are left unread, as words, and the number of reads.
-    fn read(&self, asked: Asked, mut feed: Feed) -> Result<(String, u64), Stop> {
-        let mut out = String::new(self.alloc);
+    fn push_asked(&self, asked: &Asked, feed: &mut Feed, out: &mut String) -> Result<(), Stop> {
         match asked {
-            Asked::Head(limit) => self.push_head(limit, &mut feed, &mut out)?,
-            Asked::Body(len) => self.push_body_of(len, &mut feed, &mut out)?,
-            Asked::Frames(limit) => self.push_frames(limit, &mut feed, &mut out)?,
-            Asked::Replies => self.push_replies(&mut feed, &mut out)?,
+            Asked::Head(limit) => self.push_head(*limit, feed, out),
+            Asked::Body(len) => self.push_body_of(*len, feed, out),
+            Asked::Frames(limit) => self.push_frames(*limit, feed, out),
+            Asked::Replies => self.push_replies(feed, out),
         }
-        push_numbers(&mut out, &[feed.left.len() as u64])?;
-        if !feed.has_few_reads() {
-            return Err(Stop::Changed);
+    }
+
+    // Pushes what is read, and how many bytes are left unread.
+    fn push_fed(&self, asked: &Asked, feed: &mut Feed, out: &mut String) -> Result<(), Stop> {
+        self.push_asked(asked, feed, out)?;
+        push_numbers(out, &[feed.left.len() as u64])?;
+        if feed.has_few_reads() {
+            Ok(())
+        } else {
+            Err(Stop::Changed)
         }
-        Ok((out, feed.reads))
+    }
+
+    // Whether the same is read of this input, and as many bytes are left unread.
+    fn is_read(&self, asked: &Asked, mut feed: Feed, whole: &str) -> Result<bool, Stop> {
+        let mut text = String::new(self.alloc);
+        self.push_fed(asked, &mut feed, &mut text)?;
+        Ok(text.as_str() == whole)
     }
 
     // Pushes what is read, which is the same in any pieces.
     fn push_read(
         &self,
-        asked: Asked,
+        asked: &Asked,
         bytes: &[u8],
-        stop: (Option<usize>, Ending),
+        stop: (Option<usize>, bool),
         out: &mut String,
     ) -> Result<(), Stop> {
-        let (whole, _) = self.read(asked, Feed::new(bytes, usize::MAX, stop))?;
+        self.push_fed(asked, &mut Feed::new(bytes, usize::MAX, stop), out)?;
         for piece in PIECES {
-            let (text, _) = self.read(asked, Feed::new(bytes, piece, stop))?;
-            if text.as_str() != whole.as_str() {
+            if !self.is_read(asked, Feed::new(bytes, piece, stop), out.as_str())? {
                 return Err(Stop::Changed);
             }
         }
-        Ok(out.push_str(&whole)?)
+        Ok(())
     }
 
     fn write_request(&self, words: &[&str], sink: &mut Sink) -> Result<bool, Stop> {
@@ -168,18 +179,17 @@ impl Frames {
         is_whole(write_reply(self.alloc, sink, &reply))
     }
 
-    // What a writer holds in the end, and whether the whole frame was written.
-    fn written(&self, what: &[&str], mut sink: Sink) -> Result<(Vec<u8>, bool), Stop> {
-        let whole = match what {
-            ["request", words @ ..] => self.write_request(words, &mut sink)?,
-            ["reply", words @ ..] => self.write_reply(words, &mut sink)?,
-            _ => return Err(Stop::Unread),
-        };
-        Ok((sink.held, whole))
+    // Whether the whole frame was written.
+    fn write(&self, what: &[&str], sink: &mut Sink) -> Result<bool, Stop> {
+        match what {
+            ["request", words @ ..] => self.write_request(words, sink),
+            ["reply", words @ ..] => self.write_reply(words, sink),
+            _ => Err(Stop::Unread),
+        }
     }
 
     // A writer with this much room: how many bytes it takes at once, and what comes when the room is full.
-    fn sink(&self, room: usize, way: (usize, Full)) -> Result<Sink, Stop> {
+    fn sink(&self, room: usize, way: (usize, Option<ErrorKind>)) -> Result<Sink, Stop> {
         let (at_once, full) = way;
         Ok(Sink {
             held: Vec::with_capacity(self.alloc, ROOM)?,
@@ -189,16 +199,29 @@ impl Frames {
         })
     }
 
-    // What a writer with this much room holds in the end, in any pieces, and however it stops.
-    fn held(&self, what: &[&str], room: usize) -> Result<(Vec<u8>, bool), Stop> {
-        let (held, whole) = self.written(what, self.sink(room, (usize::MAX, Full::Fails))?)?;
+    // Whether this writer holds these bytes in the end, and as much of the frame was written.
+    fn holds(&self, what: &[&str], mut sink: Sink, held: &[u8], whole: bool) -> Result<bool, Stop> {
+        let as_whole = self.write(what, &mut sink)?;
+        Ok(as_whole == whole && sink.held.as_slice() == held)
+    }
+
+    // Writes to the sink, and whether the whole frame was written: the same in any pieces, and however a
+    // writer stops.
+    fn write_on_all(&self, what: &[&str], room: usize, sink: &mut Sink) -> Result<bool, Stop> {
+        let whole = self.write(what, sink)?;
         for way in WAYS {
-            let (again, as_whole) = self.written(what, self.sink(room, way)?)?;
-            if again.as_slice() != held.as_slice() || as_whole != whole {
+            if !self.holds(what, self.sink(room, way)?, &sink.held, whole)? {
                 return Err(Stop::Changed);
             }
         }
-        Ok((held, whole))
+        Ok(whole)
+    }
+
+    // What a writer with this much room holds in the end, and whether the whole frame was written.
+    fn held(&self, what: &[&str], room: usize) -> Result<(Vec<u8>, bool), Stop> {
+        let mut sink = self.sink(room, (usize::MAX, Some(ErrorKind::BrokenPipe)))?;
+        let whole = self.write_on_all(what, room, &mut sink)?;
+        Ok((sink.held, whole))
     }
 
     // Puts the frame of the reply after what was sent, as it was written elsewhere.
@@ -242,7 +265,7 @@ impl Frames {
     fn push_input(
         &self,
         words: &[&str],
-        stop: (Option<usize>, Ending),
+        stop: (Option<usize>, bool),
         out: &mut String,
     ) -> Result<(), Stop> {
         if let ["sent", words @ ..] = words {
@@ -250,29 +273,30 @@ impl Frames {
         }
         let (asked, bytes) = asked_in(words)?;
         let bytes = bytes_of(self.alloc, bytes)?;
-        self.push_read(asked, &bytes, stop, out)
+        self.push_read(&asked, &bytes, stop, out)
     }
 
     // Pushes what is read of the bytes that were sent.
     fn push_sent(
         &self,
         words: &[&str],
-        stop: (Option<usize>, Ending),
+        stop: (Option<usize>, bool),
         out: &mut String,
     ) -> Result<(), Stop> {
         let (asked, bytes) = asked_in(words)?;
         if !bytes.is_empty() {
             return Err(Stop::Unread);
         }
-        self.push_read(asked, &self.sent, stop, out)
+        self.push_read(&asked, &self.sent, stop, out)
     }
 
     // Pushes how many reads the input takes that gives one byte at once.
     fn push_reads(&self, words: &[&str], out: &mut String) -> Result<(), Stop> {
         let (asked, bytes) = asked_in(words)?;
         let bytes = bytes_of(self.alloc, bytes)?;
-        let (_, reads) = self.read(asked, Feed::new(&bytes, 1, (None, Ending::End)))?;
-        push_numbers(out, &[reads])
+        let mut feed = Feed::new(&bytes, 1, (None, false));
+        self.push_fed(&asked, &mut feed, &mut String::new(self.alloc))?;
+        push_numbers(out, &[feed.reads])
     }
 }
 
@@ -304,12 +328,12 @@ impl Subject for Frames {
         match words {
             ["send", what @ ..] => self.send(what, out),
             ["room", room, what @ ..] => self.push_stopped(room.parse()?, what, out),
-            ["failing", words @ ..] => self.push_input(words, (None, Ending::Failure), out),
+            ["failing", words @ ..] => self.push_input(words, (None, true), out),
             ["interrupted", given, words @ ..] => {
-                self.push_input(words, (Some(given.parse()?), Ending::End), out)
+                self.push_input(words, (Some(given.parse()?), false), out)
             }
             ["reads", words @ ..] => self.push_reads(words, out),
-            _ => self.push_input(words, (None, Ending::End), out),
+            _ => self.push_input(words, (None, false), out),
         }
     }
 }

@@ -2,15 +2,6 @@
 
 use std::io::{self, ErrorKind, Read, Write};
 
-/// What follows the bytes that a reader gives.
-#[derive(Clone, Copy)]
-pub(crate) enum Ending {
-    /// The end of input.
-    End,
-    /// A read that fails.
-    Failure,
-}
-
 /// Gives its bytes, at most this many at once, and counts its reads.
 #[derive(Drop)]
 pub(crate) struct Feed<'a> {
@@ -18,19 +9,20 @@ pub(crate) struct Feed<'a> {
     at_once: usize,
     /// How many bytes it gives before a read is interrupted. The reads after that one go on.
     interrupted: Option<usize>,
-    ending: Ending,
+    /// Whether a read after the bytes fails, where else the input ends.
+    fails: bool,
     pub(crate) reads: u64,
     given: u64,
 }
 
 impl<'a> Feed<'a> {
-    pub(crate) fn new(left: &'a [u8], at_once: usize, stop: (Option<usize>, Ending)) -> Feed<'a> {
-        let (interrupted, ending) = stop;
+    pub(crate) fn new(left: &'a [u8], at_once: usize, stop: (Option<usize>, bool)) -> Feed<'a> {
+        let (interrupted, fails) = stop;
         Feed {
             left,
             at_once,
             interrupted,
-            ending,
+            fails,
             reads: 0,
             given: 0,
         }
@@ -49,7 +41,7 @@ impl Read for Feed<'_> {
             self.interrupted = None;
             return Err(io::Error::from(ErrorKind::Interrupted));
         }
-        if self.left.is_empty() && matches!(self.ending, Ending::Failure) {
+        if self.left.is_empty() && self.fails {
             return Err(io::Error::from(ErrorKind::InvalidData));
         }
         let before = self.interrupted.unwrap_or(usize::MAX);
@@ -65,45 +57,27 @@ impl Read for Feed<'_> {
     }
 }
 
-/// What a write comes to where the room is full.
-#[derive(Clone, Copy)]
-pub(crate) enum Full {
-    /// It takes none.
-    TakesNone,
-    /// It fails.
-    Fails,
-    /// It is interrupted, once; those after it take all.
-    IsInterrupted,
-}
-
 /// Takes this many bytes in all, and at most this many at once.
 #[derive(Drop)]
 pub(crate) struct Sink {
     pub(crate) held: Vec<u8>,
     pub(crate) at_once: usize,
     pub(crate) room: usize,
-    pub(crate) full: Full,
-}
-
-impl Sink {
-    // The error of a write where the room is full, or `None` where it takes no byte.
-    fn error_at_end(&mut self) -> Option<ErrorKind> {
-        match self.full {
-            Full::TakesNone => None,
-            Full::Fails => Some(ErrorKind::BrokenPipe),
-            Full::IsInterrupted => {
-                self.room = usize::MAX;
-                Some(ErrorKind::Interrupted)
-            }
-        }
-    }
+    /// The error of a write where the room is full, or `None` where it takes no byte. `Interrupted` comes once;
+    /// the writes after it take all.
+    pub(crate) full: Option<ErrorKind>,
 }
 
 impl Write for Sink {
     fn write(&mut self, buf: &[u8]) -> io::Result<usize> {
         if self.room == 0 {
-            return match self.error_at_end() {
-                Some(kind) => Err(io::Error::from(kind)),
+            return match self.full {
+                Some(kind) => {
+                    if kind == ErrorKind::Interrupted {
+                        self.room = usize::MAX;
+                    }
+                    Err(io::Error::from(kind))
+                }
                 None => Ok(0),
             };
         }

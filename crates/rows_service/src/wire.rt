@@ -76,13 +76,15 @@ fn push_head(out: &mut String, head: &Head) -> Result<(), Stop> {
 // The bytes of an act's arguments.
 fn arguments_of(alloc: Global, words: &[&str]) -> Result<Vec<u8>, Stop> {
     match words {
-        ["fill", byte, count] => {
-            let byte = u8::from_str_radix(byte, 16)?;
-            Ok(vec![in alloc; byte; count.parse()?]?)
-        }
         ["text", name] => text_named(alloc, name),
         _ => bytes_of(alloc, words),
     }
+}
+
+// Puts the bytes of an act's arguments after the others.
+fn push_arguments(alloc: Global, body: &mut Vec<u8>, words: &[&str]) -> Result<(), Stop> {
+    let arguments = arguments_of(alloc, words)?;
+    Ok(body.extend_from_slice(&arguments)?)
 }
 
 impl Wire {
@@ -92,79 +94,97 @@ impl Wire {
             return Err(Stop::Unread);
         };
         let fixed = [role.parse()?, 0, 0, 0, 0, 0, 0, 0, 1, op.parse()?];
-        let arguments = arguments_of(self.alloc, arguments)?;
-        let token = "22222222222222222222222222222222";
-        let mut body = bytes_of(self.alloc, &["00000002", token])?;
+        let mut body = bytes_of(self.alloc, &["00000002", "16*22"])?;
         body.extend_from_slice(&fixed)?;
-        body.extend_from_slice(&arguments)?;
+        push_arguments(self.alloc, &mut body, arguments)?;
         Ok(body)
     }
 
-    // The request that the bytes spell, which is written as these bytes again; or their fault's code.
-    fn request_in(&self, body: &[u8]) -> Result<Result<Request, u8>, Stop> {
+    // Whether the request is written as these bytes.
+    fn is_written_as(&self, request: &Request, body: &[u8]) -> Result<bool, Stop> {
+        let again = encode_request(self.alloc, request)?;
+        Ok(again.as_slice() == body)
+    }
+
+    // Pushes the request that the bytes spelled, all of it or its act, and it is written as these bytes again.
+    fn push_asked(
+        &self,
+        request: Request,
+        body: &[u8],
+        out: &mut String,
+        whole: bool,
+    ) -> Result<(), Stop> {
+        if !self.is_written_as(&request, body)? {
+            return Err(Stop::Changed);
+        }
+        if whole {
+            push_request(out, request)
+        } else {
+            push_act(out, request.act())
+        }
+    }
+
+    // Pushes the request that the bytes spell, all of it or its act, or their fault's code.
+    fn push_request_in(&self, body: &[u8], out: &mut String, whole: bool) -> Result<(), Stop> {
         match decode_request(self.alloc, body) {
-            Ok(request) => {
-                let again = encode_request(self.alloc, &request)?;
-                let same = again.as_slice() == body;
-                if same {
-                    Ok(Ok(request))
-                } else {
-                    Err(Stop::Changed)
-                }
-            }
-            Err(BodyFault::Malformed(fault)) => Ok(Err(fault.code())),
+            Ok(request) => self.push_asked(request, body, out, whole),
+            Err(BodyFault::Malformed(fault)) => push_fault(out, fault.code()),
             Err(BodyFault::NoMemory) => Err(Stop::NoMemory),
         }
     }
 
-    // Pushes the act that the bytes spell, or their fault's code.
-    fn push_act_in(&self, body: &[u8], out: &mut String) -> Result<(), Stop> {
-        match self.request_in(body)? {
-            Ok(request) => push_act(out, request.act()),
-            Err(code) => push_fault(out, code),
-        }
+    // Pushes the bytes of the request.
+    fn push_spelling(&self, request: &Request, out: &mut String) -> Result<(), Stop> {
+        let body = encode_request(self.alloc, request)?;
+        push_bytes(out, &body)
     }
 
-    // Pushes the whole request that the bytes spell, or their fault's code.
-    fn push_request_in(&self, body: &[u8], out: &mut String) -> Result<(), Stop> {
-        match self.request_in(body)? {
-            Ok(request) => push_request(out, request),
-            Err(code) => push_fault(out, code),
-        }
-    }
-
-    // Pushes the bytes of the request, which is of database 7.
+    // Pushes the bytes of the request of the words, which is of database 7.
     fn push_body_of(&self, words: &[&str], out: &mut String) -> Result<(), Stop> {
-        let request = request_of(self.alloc, 7, words)?.ok_or(Stop::Unread)?;
-        push_bytes(out, &encode_request(self.alloc, &request)?)
+        match request_of(self.alloc, 7, words)? {
+            Some(request) => self.push_spelling(&request, out),
+            None => Err(Stop::Unread),
+        }
     }
 
-    // The bytes of the reply, which are read as it again; or none, where it does not fit.
-    fn reply_bytes(&self, reply: &Reply) -> Result<Option<Vec<u8>>, Stop> {
+    // Whether the reply, which was read, is written as these bytes.
+    fn is_spelled(&self, reply: &Reply, bytes: &[u8]) -> Result<bool, Stop> {
         if !reply.fits() {
-            return Ok(None);
+            return Ok(false);
+        }
+        let again = encode_reply(self.alloc, reply)?;
+        Ok(again.as_slice() == bytes)
+    }
+
+    // Whether the bytes are read as a reply that is written as they are.
+    fn goes_round(&self, bytes: &[u8]) -> Result<bool, Stop> {
+        match decode_reply(self.alloc, bytes) {
+            Ok(reply) => self.is_spelled(&reply, bytes),
+            Err(BodyFault::NoMemory) => Err(Stop::NoMemory),
+            Err(BodyFault::Malformed(_)) => Ok(false),
+        }
+    }
+
+    // Pushes the bytes of the reply, or how many these are. They are read as it again.
+    fn push_spelled(&self, reply: &Reply, out: &mut String, whole: bool) -> Result<(), Stop> {
+        if !reply.fits() {
+            return push_word(out, "does not fit");
         }
         let bytes = encode_reply(self.alloc, reply)?;
-        let again = match decode_reply(self.alloc, &bytes) {
-            Ok(read) if read.fits() => encode_reply(self.alloc, &read)?,
-            Err(BodyFault::NoMemory) => return Err(Stop::NoMemory),
-            _ => return Err(Stop::Changed),
-        };
-        let same = again.as_slice() == bytes.as_slice();
-        if same {
-            Ok(Some(bytes))
+        if !self.goes_round(&bytes)? {
+            return Err(Stop::Changed);
+        }
+        if whole {
+            push_bytes(out, &bytes)
         } else {
-            Err(Stop::Changed)
+            push_numbers(out, &[bytes.len() as u64])
         }
     }
 
-    // Pushes the bytes of the reply, or how many these are.
+    // The same of the reply of the words.
     fn push_reply_of(&self, words: &[&str], out: &mut String, whole: bool) -> Result<(), Stop> {
-        match self.reply_bytes(&reply_of(self.alloc, words)?)? {
-            Some(bytes) if whole => push_bytes(out, &bytes),
-            Some(bytes) => push_numbers(out, &[bytes.len() as u64]),
-            None => push_word(out, "does not fit"),
-        }
+        let reply = reply_of(self.alloc, words)?;
+        self.push_spelled(&reply, out, whole)
     }
 
     // Pushes the reply that the bytes spell, or their fault's code.
@@ -177,6 +197,12 @@ impl Wire {
     }
 }
 
+// Pushes the parts of a request.
+fn push_parts(out: &mut String, head: &Head, act: &Act) -> Result<(), Stop> {
+    push_head(out, head)?;
+    push_act(out, act)
+}
+
 // Pushes the parts of a request, of which the head is the one that it lends.
 fn push_request(out: &mut String, request: Request) -> Result<(), Stop> {
     let asks = *request.head();
@@ -184,8 +210,7 @@ fn push_request(out: &mut String, request: Request) -> Result<(), Stop> {
     if asks != head {
         return Err(Stop::Changed);
     }
-    push_head(out, &head)?;
-    push_act(out, &act)
+    push_parts(out, &head, &act)
 }
 
 impl Subject for Wire {
@@ -203,8 +228,8 @@ impl Subject for Wire {
             return Err(Stop::Unread);
         };
         match *name {
-            "act" => self.push_act_in(&self.body_of(words)?, out),
-            "body" => self.push_request_in(&bytes_of(self.alloc, words)?, out),
+            "act" => self.push_request_in(&self.body_of(words)?, out, false),
+            "body" => self.push_request_in(&bytes_of(self.alloc, words)?, out, true),
             "request" => self.push_body_of(words, out),
             "reply" => self.push_reply_of(words, out, true),
             "size" => self.push_reply_of(words, out, false),
