@@ -3,16 +3,15 @@
 ghost use Rattle.std.specs.List.{All};
 ghost use Rattle.pl_conn.specs.Desks.{ArePassesOf};
 
-use crate::connections::{Started, check_served, connect, listen, stop_of, unserved};
-use crate::conversations::{FRAMES, REPLIES, REPLY_ENDS, one_db};
-use crate::memory::{bytes_of_digits, may_be_refused};
+use crate::connections::{connect, serve_while, stop_of};
+use crate::conversations::{FRAMES, REPLIES, REPLY_ENDS, dbs_of};
+use crate::memory::may_be_refused;
 use crate::talking::TURNS;
-use pl_conn::{Desks, Passes, Served, Solo, SoloPass, Stop as Stopped, serve};
+use pl_conn::{Desks, Passes, Solo, SoloPass, Stop as Stopped, serve};
 use std::alloc::Global;
 use std::io::{Read, Write};
 use std::net::{Net, SocketAddr, TcpListener, TcpStream};
 use std::sync::Wait;
-use std::thread;
 use std::thread::Threads;
 use transcripts::transcript::Stop;
 
@@ -42,37 +41,13 @@ const TURNS_OF_RUN: [Part; 4] = [
 /// The last frame of the run, with its reply.
 const PULL: Part = ((160, 208), (3, 4));
 
-/// The stored run and its replies, and the clients; without them one client asks again and again. Whether memory was
-/// refused before, or cannot be.
-#[derive(Clone, Copy, Drop)]
-struct Asked<'a> {
-    frames: &'a [u8],
-    replies: &'a [u8],
-    clients: Option<[Part; 2]>,
-    refused: bool,
-}
-
-impl Asked<'_> {
-    // How many connections there are.
-    fn connections(&self) -> u32 {
-        if self.clients.is_some() { 2 } else { 1 }
-    }
-
-    // The reply of this number.
-    fn reply(&self, number: usize) -> Option<&[u8]> {
-        let first = match number.checked_sub(1) {
-            Some(before) => *REPLY_ENDS.get(before)?,
-            None => 0,
-        };
-        self.replies.get(first..*REPLY_ENDS.get(number)?)
-    }
-}
-
-/// Whether the clients got what they want, and whether one of them went on after a refusal.
-#[derive(Drop)]
-struct Told {
-    end: Result<(), Stop>,
-    went_on: bool,
+// The reply of this number to the stored run.
+fn reply_of(number: usize) -> Option<&'static [u8]> {
+    let first = match number.checked_sub(1) {
+        Some(before) => *REPLY_ENDS.get(before)?,
+        None => 0,
+    };
+    REPLIES.get(first..*REPLY_ENDS.get(number)?)
 }
 
 /// The reply that memory was refused.
@@ -95,11 +70,7 @@ fn next_reply<'a>(stream: &mut TcpStream, bytes: &'a mut [u8; 64]) -> Result<&'a
 
 // Reads these replies, each of which has to be that of the run, up to one that shows a refusal: its number. Those after
 // it are read too.
-fn first_refused(
-    stream: &mut TcpStream,
-    asked: &Asked<'_>,
-    replies: (usize, usize),
-) -> Result<Option<usize>, Stop> {
+fn first_refused(stream: &mut TcpStream, replies: (usize, usize)) -> Result<Option<usize>, Stop> {
     let (first, end) = replies;
     let mut refused = None;
     for number in first..end {
@@ -107,7 +78,7 @@ fn first_refused(
         let reply = next_reply(stream, &mut bytes)?;
         if refused.is_none() && reply == NO_MEMORY.as_slice() {
             refused = Some(number);
-        } else if refused.is_none() && Some(reply) != asked.reply(number) {
+        } else if refused.is_none() && Some(reply) != reply_of(number) {
             return Err(Stop::Changed);
         }
     }
@@ -115,30 +86,25 @@ fn first_refused(
 }
 
 // Writes some of the run and reads its replies.
-fn ask_once(stream: &mut TcpStream, asked: &Asked<'_>, part: Part) -> Result<Option<usize>, Stop> {
+fn ask_once(stream: &mut TcpStream, part: Part) -> Result<Option<usize>, Stop> {
     let ((from, to), replies) = part;
-    let frames = asked.frames.get(from..to).ok_or(Stop::Unread)?;
+    let frames = FRAMES.get(from..to).ok_or(Stop::Unread)?;
     stream.write_all(frames).map_err(stop_of)?;
-    first_refused(stream, asked, replies)
+    first_refused(stream, replies)
 }
 
 // The same, and after a refusal once more: the pull alone where it was refused, and otherwise all, since nothing is
 // hardened without the writes and the report.
-fn ask_on(
-    stream: &mut TcpStream,
-    asked: &Asked<'_>,
-    part: Part,
-    went_on: &mut bool,
-) -> Result<(), Stop> {
-    let Some(number) = ask_once(stream, asked, part)? else {
+fn ask_on(stream: &mut TcpStream, part: Part, refused: &mut bool) -> Result<(), Stop> {
+    let Some(number) = ask_once(stream, part)? else {
         return Ok(());
     };
-    if asked.refused || *went_on {
+    if *refused {
         return Err(Stop::Changed);
     }
-    *went_on = true;
+    *refused = true;
     let again = if number == 3 { PULL } else { part };
-    match ask_once(stream, asked, again)? {
+    match ask_once(stream, again)? {
         Some(_) => Err(Stop::Changed),
         None => Ok(()),
     }
@@ -148,12 +114,11 @@ fn ask_on(
 fn ask_one<R: Net<Stream = TcpStream>>(
     rt: &R,
     addr: SocketAddr,
-    asked: &Asked<'_>,
     part: Part,
-    went_on: &mut bool,
+    refused: &mut bool,
 ) -> Result<(), Stop> {
     let mut stream = connect(rt, addr).map_err(stop_of)?;
-    ask_on(&mut stream, asked, part, went_on)
+    ask_on(&mut stream, part, refused)
 }
 
 // The two clients, one after the other. Each connects, whatever came of the one before, so that the
@@ -161,13 +126,12 @@ fn ask_one<R: Net<Stream = TcpStream>>(
 fn ask_in_turn<R: Net<Stream = TcpStream>>(
     rt: &R,
     addr: SocketAddr,
-    asked: &Asked<'_>,
     clients: [Part; 2],
-    went_on: &mut bool,
+    refused: &mut bool,
 ) -> Result<(), Stop> {
     let mut end = Ok(());
     for part in clients {
-        let told = ask_one(rt, addr, asked, part, went_on);
+        let told = ask_one(rt, addr, part, refused);
         if end.is_ok() {
             end = told;
         }
@@ -179,12 +143,11 @@ fn ask_in_turn<R: Net<Stream = TcpStream>>(
 fn ask_again<R: Net<Stream = TcpStream>>(
     rt: &R,
     addr: SocketAddr,
-    asked: &Asked<'_>,
-    went_on: &mut bool,
+    refused: &mut bool,
 ) -> Result<(), Stop> {
     let mut stream = connect(rt, addr).map_err(stop_of)?;
     for part in TURNS_OF_RUN {
-        ask_on(&mut stream, asked, part, went_on)?;
+        ask_on(&mut stream, part, refused)?;
     }
     Ok(())
 }
@@ -193,76 +156,39 @@ fn ask_again<R: Net<Stream = TcpStream>>(
 fn ask_as<R: Net<Stream = TcpStream>>(
     rt: &R,
     addr: SocketAddr,
-    asked: &Asked<'_>,
-    started: &Started,
-) -> Told {
-    let mut went_on = false;
-    let end = match (started.waits(), asked.clients) {
-        (Err(stop), _) => Err(stop),
-        (Ok(()), Some(clients)) => ask_in_turn(rt, addr, asked, clients, &mut went_on),
-        (Ok(()), None) => ask_again(rt, addr, asked, &mut went_on),
-    };
-    Told { end, went_on }
+    clients: Option<[Part; 2]>,
+    refused: &mut bool,
+) -> Result<(), Stop> {
+    match clients {
+        Some(clients) => ask_in_turn(rt, addr, clients, refused),
+        None => ask_again(rt, addr, refused),
+    }
 }
 
-// Serves the clients over the desks, and whether they got what they want.
+// Serves the clients over the desks, and each client gets what it wants. Where one heard of a refusal, and went on, all
+// else has to be as if there had been none.
 fn serve_clients<R>(
     rt: &R,
     alloc: Global,
     desks: &Desks<R>,
     passes: Vec<Passes>,
-    asked: &Asked<'_>,
-) -> Result<(Served<Passes>, Told), Stop>
+    clients: Option<[Part; 2]>,
+    faults: u64,
+    refused: &mut bool,
+) -> Result<(), Stop>
 where
     R: Net<Listener = TcpListener, Stream = TcpStream> + Threads + Wait + Sync + Drop,
     requires own { All (ArePassesOf desks.now) passes.items }
 {
-    let (listener, addr) = listen(rt)?;
-    let connections = asked.connections();
-    let started = Started::new();
-    let started = &started;
-    Ok(thread::join(
-        rt,
-        move || -> Served<Passes>
-            requires own { All (ArePassesOf desks.now) passes.items }
-        {
-            if !started.begins() {
-                return unserved(passes);
-            }
-            let served = serve(rt, alloc, &listener, desks, passes, connections);
-            drop(listener);
-            served
-        },
-        || ask_as(rt, addr, asked, started),
-    ))
+    let connections = if clients.is_some() { 2 } else { 1 };
+    let counts = (connections, faults, 1);
+    let ((), _) = serve_while(rt, alloc, desks, passes, counts, |addr| {
+        ask_as(rt, addr, clients, refused)
+    })?;
+    Ok(())
 }
 
-// Serves the clients with one worker, over the desk of one database.
-fn serve_at_desk<R>(
-    rt: &R,
-    alloc: Global,
-    clients: Option<[Part; 2]>,
-    refused: bool,
-) -> Result<(Served<Passes>, Told), Stop>
-where
-    R: Net<Listener = TcpListener, Stream = TcpStream> + Threads + Wait + Sync + Copy + Drop,
-{
-    let (frames, replies) = (
-        bytes_of_digits(alloc, FRAMES)?,
-        bytes_of_digits(alloc, REPLIES)?,
-    );
-    let (desks, passes) = Desks::new(alloc, *rt, one_db(alloc)?, 1, TURNS)?;
-    let asked = Asked {
-        frames: &frames,
-        replies: &replies,
-        clients,
-        refused,
-    };
-    serve_clients(rt, alloc, &desks, passes, &asked)
-}
-
-// The same, and each client gets what it wants. Where a client heard of a refusal, and went on, all else has to be
-// as if there had been none.
+// The same with one worker, over the desk of one database.
 fn serve_in_turn<R>(
     rt: &R,
     alloc: Global,
@@ -273,12 +199,8 @@ fn serve_in_turn<R>(
 where
     R: Net<Listener = TcpListener, Stream = TcpStream> + Threads + Wait + Sync + Copy + Drop,
 {
-    let (served, told) = serve_at_desk(rt, alloc, clients, *refused)?;
-    let connections = if clients.is_some() { 2 } else { 1 };
-    let end = check_served(&served, connections, faults, 1);
-    *refused = *refused || told.went_on;
-    end?;
-    told.end
+    let (desks, passes) = Desks::new(alloc, *rt, dbs_of(alloc, 1)?, 1, TURNS)?;
+    serve_clients(rt, alloc, &desks, passes, clients, faults, refused)
 }
 
 // The same, and from its beginning, once, where memory was refused to the test itself or ended a conversation or a worker:

@@ -1,6 +1,7 @@
 //! Connections over the loopback: two at once, and a listener that fails.
 
 ghost use Rattle.std.specs.Prelude.{⊤};
+ghost use Rattle.std.specs.List.{All};
 
 use crate::memory::{check, may_be_refused};
 use pl_conn::{Gate, Served, Stop as Stopped, serve};
@@ -38,8 +39,8 @@ pub(crate) fn connect<R: Net<Stream = TcpStream>>(
     Ok(stream)
 }
 
-/// A listener on a free port, and its address.
-pub(crate) fn listen<R: Net<Listener = TcpListener, Stream = TcpStream>>(
+// A listener on a free port, and its address.
+fn listen<R: Net<Listener = TcpListener, Stream = TcpStream>>(
     rt: &R,
 ) -> Result<(TcpListener, SocketAddr), Stop> {
     let listener = TcpListener::bind(rt, "127.0.0.1:0").map_err(stop_of)?;
@@ -47,10 +48,10 @@ pub(crate) fn listen<R: Net<Listener = TcpListener, Stream = TcpStream>>(
     Ok((listener, addr))
 }
 
-/// This many connections were accepted, and this many ended in a fault, with a pass of each worker. A stop
-/// that shows a refusal is one; and so are more faults, or fewer passes, since these show no cause: who
-/// asks plays the test once more for them only where memory may be refused.
-pub(crate) fn check_served<P>(
+// This many connections were accepted, and this many ended in a fault, with a pass of each worker. A stop
+// that shows a refusal is one; and so are more faults, or fewer passes, since these show no cause: who
+// asks plays the test once more for them only where memory may be refused.
+fn check_served<P>(
     served: &Served<P>,
     accepted: u32,
     faults: u64,
@@ -64,27 +65,27 @@ pub(crate) fn check_served<P>(
     check(is_limit && served.accepted == accepted && served.faults == faults)
 }
 
-/// Tells a client that the thread of its service was started, and the service that its client waits.
+// Tells a client that the thread of its service was started, and the service that its client waits.
 #[derive(Drop)]
-pub(crate) struct Started {
+struct Started {
     word: AtomicU64,
 }
 
 impl Started {
-    pub(crate) fn new() -> Started {
+    fn new() -> Started {
         Started {
             word: AtomicU64::new(0),
         }
     }
 
-    /// For the service: whether its client has not given up. Where no thread could be started the service
-    /// begins after its client.
-    pub(crate) fn begins(&self) -> bool {
+    // For the service: whether its client has not given up. Where no thread could be started the service
+    // begins after its client.
+    fn begins(&self) -> bool {
         self.word.swap(1, Ordering::SeqCst) == 0
     }
 
-    /// For the client: whether the service begins. It is a refusal that it does not.
-    pub(crate) fn waits(&self) -> Result<(), Stop> {
+    // For the client: whether the service begins. It is a refusal that it does not.
+    fn waits(&self) -> Result<(), Stop> {
         if comes(&self.word) || self.word.swap(2, Ordering::SeqCst) == 1 {
             Ok(())
         } else {
@@ -93,14 +94,63 @@ impl Started {
     }
 }
 
-/// What is served where the client has given up.
-pub(crate) fn unserved<P>(passes: Vec<P>) -> Served<P> {
+// What is served where the client has given up.
+fn unserved<P>(passes: Vec<P>) -> Served<P> {
     Served {
         accepted: 0,
         faults: 0,
         stop: Stopped::Start,
         passes,
     }
+}
+
+/// How many connections a service accepts, how many of them end in a fault, and how many workers there are.
+pub(crate) type Counts = (u32, u64, usize);
+
+/// Serves the connections while the clients ask, once the service has begun. What they were told, and the passes
+/// of the workers.
+pub(crate) fn serve_while<R, G, T, A>(
+    rt: &R,
+    alloc: Global,
+    gate: &G,
+    passes: Vec<G::Pass>,
+    counts: Counts,
+    ask: A,
+) -> Result<(T, Vec<G::Pass>), Stop>
+where
+    R: Net<Listener = TcpListener, Stream = TcpStream> + Threads + Wait + Sync,
+    G: Gate + Sync,
+    G::Pass: Send + Drop,
+    T: Drop,
+    A: FnOnce(SocketAddr) -> Result<T, Stop> + Drop,
+    requires own { All (G.owns gate.now) passes.items }
+    requires asks { A.IsAlwaysCallable ask }
+{
+    let (connections, faults, workers) = counts;
+    let (listener, addr) = listen(rt)?;
+    let started = Started::new();
+    let started = &started;
+    let (served, told) = thread::join(
+        rt,
+        move || -> Served<G::Pass>
+            requires own { All (G.owns gate.now) passes.items }
+        {
+            if !started.begins() {
+                return unserved(passes);
+            }
+            let served = serve(rt, alloc, &listener, gate, passes, connections);
+            drop(listener);
+            served
+        },
+        move || -> Result<T, Stop>
+            requires asks { A.IsAlwaysCallable ask }
+        {
+            started.waits()?;
+            ask(addr)
+        },
+    );
+    check_served(&served, connections, faults, workers)?;
+    Ok((told?, served.passes))
 }
 
 /// A gate that answers a report of LSN 1 once it has answered another request, or Spent after many
@@ -154,33 +204,16 @@ impl Gate for Holds {
     }
 }
 
-// The frame of a report up to the LSN.
-const REPORT: &str = "00000026000000022222222222222222222222222222222201000000000000000103";
-
-// Puts the bytes of the digits there.
-fn put_digits(digits: &str, room: &mut [u8]) -> Option<()> {
-    hex::decode_to_slice(digits, room).ok()
-}
+// The frame of a report of LSN 0.
+const REPORT: &[u8; 42] = b"\
+\0\0\0\x26\0\0\0\x02\x22\x22\x22\x22\x22\x22\x22\x22\x22\x22\x22\x22\x22\x22\x22\x22\
+\x01\0\0\0\0\0\0\0\x01\x03\0\0\0\0\0\0\0\0";
 
 /// The frame of a report of the LSN.
-pub(crate) fn report(lsn: u8) -> Option<[u8; 42]> {
-    let mut frame = [0; 42];
-    let (front, back) = frame.split_at_mut(34);
-    put_digits(REPORT, front)?;
-    let last = back.last_mut()?;
-    *last = lsn;
-    Some(frame)
-}
-
-// Their replies, or that the service's thread was refused.
-fn ask_both<R: Net<Stream = TcpStream>>(
-    rt: &R,
-    addr: SocketAddr,
-    gate: &Holds,
-    started: &Started,
-) -> Result<Option<[[u8; 5]; 2]>, Stop> {
-    started.waits()?;
-    Ok(replies_to_both(rt, addr, gate))
+pub(crate) fn report(lsn: u8) -> [u8; 42] {
+    let mut frame = *REPORT;
+    frame[41] = lsn;
+    frame
 }
 
 // The second connection asks once the first one's request is in the gate. Their replies.
@@ -190,11 +223,11 @@ fn replies_on_both(
     gate: &Holds,
 ) -> Option<[[u8; 5]; 2]> {
     let (mut of_first, mut of_second) = ([0; 5], [0; 5]);
-    first.write_all(&report(1)?).ok()?;
+    first.write_all(&report(1)).ok()?;
     if !comes(&gate.entered) {
         return None;
     }
-    second.write_all(&report(2)?).ok()?;
+    second.write_all(&report(2)).ok()?;
     second.read_exact(&mut of_second).ok()?;
     first.read_exact(&mut of_first).ok()?;
     Some([of_first, of_second])
@@ -216,25 +249,13 @@ fn serve_both<R: Net<Listener = TcpListener, Stream = TcpStream> + Threads + Wai
     rt: &R,
     alloc: Global,
 ) -> Result<(), Stop> {
-    let (gate, started) = (Holds::new(), Started::new());
-    let (listener, addr) = listen(rt)?;
+    let gate = Holds::new();
     let passes = Vec::from_array(alloc, [5_u64, 8])?;
-    let (gate, started) = (&gate, &started);
-    let (served, replies) = thread::join(
-        rt,
-        move || {
-            if !started.begins() {
-                return unserved(passes);
-            }
-            let served = serve(rt, alloc, &listener, gate, passes, 2);
-            drop(listener);
-            served
-        },
-        || ask_both(rt, addr, gate, started),
-    );
-    check_served(&served, 2, 0, 2)?;
-    check(replies? == Some([[0, 0, 0, 1, 0]; 2]))?;
-    check(served.passes.as_slice() == [6, 9].as_slice())
+    let (replies, passes) = serve_while(rt, alloc, &gate, passes, (2, 0, 2), |addr| {
+        Ok(replies_to_both(rt, addr, &gate))
+    })?;
+    check(replies == Some([[0, 0, 0, 1, 0]; 2]))?;
+    check(passes.as_slice() == [6, 9].as_slice())
 }
 
 #[test]

@@ -1,10 +1,10 @@
 //! Conversations over memory: whole, cut anywhere, and with frames that are none.
 
-ghost use Rattle.std.specs.Prelude.{◌≡◌, IfOk, vec_len};
+ghost use Rattle.std.specs.Prelude.{◌≤◌, IfOk, vec_len};
 ghost use Rattle.pl_conn.specs.Solo.{HasDatabases};
 
 use crate::connections::stop_of;
-use crate::memory::{Input, Output, Telling, bytes_of_digits, check, ended_in_refusal};
+use crate::memory::{Input, Output, Telling, check, ended_in_refusal};
 use pl_conn::{Cause, ConnFault, SoloPass, Source, converse};
 use pl_core::{Db, Limits};
 use std::alloc::Global;
@@ -12,31 +12,33 @@ use std::io::{self, BufReader, ErrorKind, Read};
 use transcripts::table_text::table_named;
 use transcripts::transcript::Stop;
 
-// The four frames of the stored run: a block is written to two copies, reported and pulled.
-pub(crate) const FRAMES: &str = "\
-0000003700000002222222222222222222222222222222220100000000000000010100\
-0000000000000001000100000001010000000000000001aa\
-0000003700000002222222222222222222222222222222220100000000000000010101\
-0000000000000001000100000001010000000000000001aa\
-00000026000000022222222222222222222222222222222201000000000000000103\
-0000000000000001\
-0000002c000000033333333333333333333333333333333302000000000000000105\
-0000ffff00000000000000010010";
+/// The four frames of the stored run: a block is written to two copies, reported and pulled.
+pub(crate) const FRAMES: &[u8] = b"\
+\0\0\0\x37\0\0\0\x02\x22\x22\x22\x22\x22\x22\x22\x22\x22\x22\x22\x22\x22\x22\x22\x22\
+\x01\0\0\0\0\0\0\0\x01\x01\
+\0\0\0\0\0\0\0\0\x01\0\x01\0\0\0\x01\x01\0\0\0\0\0\0\0\x01\xaa\
+\0\0\0\x37\0\0\0\x02\x22\x22\x22\x22\x22\x22\x22\x22\x22\x22\x22\x22\x22\x22\x22\x22\
+\x01\0\0\0\0\0\0\0\x01\x01\
+\x01\0\0\0\0\0\0\0\x01\0\x01\0\0\0\x01\x01\0\0\0\0\0\0\0\x01\xaa\
+\0\0\0\x26\0\0\0\x02\x22\x22\x22\x22\x22\x22\x22\x22\x22\x22\x22\x22\x22\x22\x22\x22\
+\x01\0\0\0\0\0\0\0\x01\x03\0\0\0\0\0\0\0\x01\
+\0\0\0\x2c\0\0\0\x03\x33\x33\x33\x33\x33\x33\x33\x33\x33\x33\x33\x33\x33\x33\x33\x33\
+\x02\0\0\0\0\0\0\0\x01\x05\0\0\xff\xff\0\0\0\0\0\0\0\x01\0\x10";
 
 // Where each frame ends.
 pub(crate) const ENDS: [usize; 4] = [59, 118, 160, 208];
 
-// The frames of their replies.
-pub(crate) const REPLIES: &str = "\
-000000010000000001000000000100\
-00000027010000000000000002000100000018\
-0000000000000001000100000001010000000000000001aa";
+/// The frames of their replies.
+pub(crate) const REPLIES: &[u8] = b"\
+\0\0\0\x01\0\0\0\0\x01\0\0\0\0\x01\0\
+\0\0\0\x27\x01\0\0\0\0\0\0\0\x02\0\x01\0\0\0\x18\
+\0\0\0\0\0\0\0\x01\0\x01\0\0\0\x01\x01\0\0\0\0\0\0\0\x01\xaa";
 
 // Where the frame of each reply ends.
 pub(crate) const REPLY_ENDS: [usize; 4] = [5, 10, 15, 58];
 
 // A database with the start table and primary 2.
-pub(crate) fn open(alloc: Global) -> Result<Db, Stop> {
+fn open(alloc: Global) -> Result<Db, Stop> {
     let limits = Limits {
         audit: 65_536,
         chunks: 16,
@@ -51,71 +53,84 @@ pub(crate) fn open(alloc: Global) -> Result<Db, Stop> {
     }
 }
 
-// A list of the database alone.
-fn list_of(alloc: Global, db: Db) -> Result<Vec<Db>, Stop>
-    ensures one { IfOk result (λ dbs. vec_len dbs ≡ 1) }
-{
-    let mut dbs = Vec::with_capacity(alloc, 1)?;
-    dbs.push_reserved(db);
-    Ok(dbs)
+// Opens one more database.
+fn push_open(alloc: Global, dbs: &mut Vec<Db>) -> Result<(), Stop> {
+    dbs.push(open(alloc)?)?;
+    Ok(())
 }
 
-/// One database, with the start table and primary 2.
-pub(crate) fn one_db(alloc: Global) -> Result<Vec<Db>, Stop>
-    ensures one { IfOk result (λ dbs. vec_len dbs ≡ 1) }
+/// This many databases, 1 to 16, each with the start table and primary 2.
+pub(crate) fn dbs_of(alloc: Global, count: usize) -> Result<Vec<Db>, Stop>
+    ensures some { IfOk result (λ dbs. 1 ≤ vec_len dbs) }
+    ensures few { IfOk result (λ dbs. vec_len dbs ≤ 16) }
 {
-    list_of(alloc, open(alloc)?)
+    let mut dbs = Vec::new(alloc);
+    for _ in 0..count {
+        push_open(alloc, &mut dbs)?;
+    }
+    if dbs.is_empty() || dbs.len() > 16 {
+        return Err(Stop::Unread);
+    }
+    Ok(dbs)
 }
 
 /// A pass with one database, under the number 1.
 pub(crate) fn one_pass(alloc: Global) -> Result<SoloPass, Stop>
     ensures has { IfOk result (λ pass. HasDatabases pass) }
 {
-    Ok(SoloPass::new(one_db(alloc)?, 1))
+    Ok(SoloPass::new(dbs_of(alloc, 1)?, 1))
 }
 
-// What a conversation ended with, what it wrote, and how many entries it made.
-#[derive(Drop)]
-struct Talked {
-    end: Result<u64, ConnFault>,
-    output: Output,
-    entries: u64,
-}
-
-// A conversation of the pass, over these bytes. An error is that memory was refused.
-fn talk_by(
+// The conversation of the pass over these bytes ends so, and writes this, where the writer takes so many bytes at once
+// and so many in all.
+fn talks_by(
     alloc: Global,
     input: Input<'_>,
-    output: &mut Output,
+    room: (usize, usize),
     pass: &mut SoloPass,
-) -> Result<Result<u64, ConnFault>, Stop>
+    end: Result<u64, ConnFault>,
+    told: &[u8],
+) -> Result<(), Stop>
     requires has { HasDatabases pass.old }
 {
     let mut reader = input;
+    let mut output = Output::new(alloc, room.0, room.1);
     let gate = Telling::new();
-    let end = converse(alloc, &mut reader, output, &gate, pass);
-    if ended_in_refusal(&end) || gate.tells_refusal() || output.tells_refusal(alloc) {
+    let ended = converse(alloc, &mut reader, &mut output, &gate, pass);
+    if ended_in_refusal(&ended) || gate.tells_refusal() || output.tells_refusal(alloc) {
         return Err(Stop::NoMemory);
     }
-    Ok(end)
+    check(ended == end && output.taken() == told)
 }
 
-// How many entries the last database of the pass has.
-fn entries_of(pass: SoloPass) -> Result<u64, Stop> {
-    let db = pass.into_dbs().pop().ok_or(Stop::Unread)?;
-    Ok(db.audit_len())
+// How many entries the first of the databases has.
+fn entries_of(dbs: &[Db]) -> Option<u64> {
+    let db = dbs.first()?;
+    Some(db.audit_len())
 }
 
-// The same with a fresh database.
-fn talk(alloc: Global, input: Input<'_>, at_once: usize, room: usize) -> Result<Talked, Stop> {
+// The database of the pass has this many entries.
+fn has_entries(pass: SoloPass, entries: u64) -> Result<(), Stop> {
+    let dbs = pass.into_dbs();
+    let count = entries_of(&dbs);
+    drop(dbs);
+    check(count == Some(entries))
+}
+
+// The same with a fresh database, which has this many entries then.
+fn talks(
+    alloc: Global,
+    input: Input<'_>,
+    room: (usize, usize),
+    end: Result<u64, ConnFault>,
+    told: &[u8],
+    entries: u64,
+) -> Result<(), Stop> {
     let mut pass = one_pass(alloc)?;
-    let mut output = Output::new(alloc, at_once, room);
-    let end = talk_by(alloc, input, &mut output, &mut pass)?;
-    Ok(Talked {
-        end,
-        output,
-        entries: entries_of(pass)?,
-    })
+    let talked = talks_by(alloc, input, room, &mut pass, end, told);
+    let counted = has_entries(pass, entries);
+    talked?;
+    counted
 }
 
 // How many of these places are reached with this many bytes.
@@ -129,87 +144,102 @@ pub(crate) fn whole(ends: &[usize], count: usize) -> u64 {
     whole
 }
 
-// The conversation over these bytes, which are all there at once, ends with this fault, without a reply or an entry.
-fn ends_at_once(alloc: Global, bytes: &[u8], wanted: ConnFault) -> Result<(), Stop> {
-    let input = Input {
-        left: bytes,
-        at_once: 1_000,
-        fails: false,
+/// The replies to the frames of the run that are whole within this many bytes.
+pub(crate) fn told_by(len: usize) -> &'static [u8] {
+    let end = match whole(&ENDS, len) {
+        0 => 0,
+        1 => 5,
+        2 => 10,
+        3 => 15,
+        _ => 58,
     };
-    let talked = talk(alloc, input, 1_000, 1_000)?;
-    check(matches!(talked.end, Err(fault) if fault == wanted))?;
-    check(talked.output.taken().is_empty() && talked.entries == 0)
+    let (told, _) = REPLIES.split_at(REPLIES.len().min(end));
+    told
 }
 
-// A write to copy 0, whose block has a record on page 0 and names partition 1.
-const WRONG_PARTITION: &str = "\
-0000003700000002222222222222222222222222222222220100000000000000010100\
-0000000000000001000100010001010000000000000001aa";
+// Bytes, how the conversation over them ends, and its replies.
+type Case<'a> = (&'a [u8], Result<u64, ConnFault>, &'a [u8]);
 
-fn broken_frames(alloc: Global) -> Result<(), Stop> {
-    let short = ConnFault {
-        cause: Cause::Short,
-        answered: 0,
-    };
-    ends_at_once(alloc, &[0, 0, 0, 30, 1, 2, 3, 4, 5, 6, 7, 8, 9, 10], short)?;
-    let too_long = ConnFault {
-        cause: Cause::TooLong,
-        answered: 0,
-    };
-    ends_at_once(alloc, &[0, 1, 0, 1, 0, 0, 0, 0], too_long)?;
-    let frame = bytes_of_digits(alloc, WRONG_PARTITION)?;
+// The conversation over the bytes, which are all there at once, ends so, without an entry.
+fn ends_at_once(alloc: Global, case: &Case<'_>) -> Result<(), Stop> {
+    let (left, end, told) = *case;
     let input = Input {
-        left: &frame,
-        at_once: 1_000,
+        left,
+        at_once: 70_000,
         fails: false,
     };
-    let talked = talk(alloc, input, 1_000, 1_000)?;
-    check(matches!(talked.end, Ok(1)))?;
-    check(talked.output.taken() == [0, 0, 0, 2, 10, 14].as_slice() && talked.entries == 0)
+    talks(alloc, input, (1_000, 1_000), end, told, 0)
 }
+
+fn end_at_once(alloc: Global, cases: &[Case<'_>]) -> Result<(), Stop> {
+    for case in cases {
+        ends_at_once(alloc, case)?;
+    }
+    Ok(())
+}
+
+const SHORT: ConnFault = ConnFault {
+    cause: Cause::Short,
+    answered: 0,
+};
+
+const TOO_LONG: ConnFault = ConnFault {
+    cause: Cause::TooLong,
+    answered: 0,
+};
+
+// A frame that is cut, one that is too long, and a write to copy 0 whose block has a record on page 0 and names
+// partition 1.
+const BROKEN_FRAMES: [Case<'static>; 3] = [
+    (
+        &[0, 0, 0, 30, 1, 2, 3, 4, 5, 6, 7, 8, 9, 10],
+        Err(SHORT),
+        &[],
+    ),
+    (&[0, 1, 0, 1, 0, 0, 0, 0], Err(TOO_LONG), &[]),
+    (
+        b"\
+\0\0\0\x37\0\0\0\x02\x22\x22\x22\x22\x22\x22\x22\x22\x22\x22\x22\x22\x22\x22\x22\x22\
+\x01\0\0\0\0\0\0\0\x01\x01\
+\0\0\0\0\0\0\0\0\x01\0\x01\0\x01\0\x01\x01\0\0\0\0\0\0\0\x01\xaa",
+        Ok(1),
+        &[0, 0, 0, 2, 10, 14],
+    ),
+];
 
 #[test]
 fn converse_over_broken_frames(rt: HostRuntime) {
-    let mut done = broken_frames(rt.alloc());
+    let mut done = end_at_once(rt.alloc(), &BROKEN_FRAMES);
     if matches!(done, Err(Stop::NoMemory)) {
-        done = broken_frames(rt.alloc());
+        done = end_at_once(rt.alloc(), &BROKEN_FRAMES);
     }
     assert!(&rt; done.is_ok());
 }
 
 // A frame whose body is this many zeros, with this length before it.
 fn frame_of_zeros(alloc: Global, length: [u8; 4], count: usize) -> Result<Vec<u8>, Stop> {
-    let mut frame = Vec::with_capacity(alloc, 4 + count.min(100_000))?;
-    frame.extend_from_slice(&length)?;
-    for _ in 0..count {
-        frame.push(0)?;
-    }
+    let mut frame = vec![in alloc; 0; 4 + count.min(100_000)]?;
+    let (head, _) = frame.split_at_mut(4);
+    head.copy_from_slice(&length);
     Ok(frame)
+}
+
+// The conversation over such a frame ends so.
+fn zeros_end(
+    alloc: Global,
+    length: [u8; 4],
+    count: usize,
+    end: Result<u64, ConnFault>,
+    told: &[u8],
+) -> Result<(), Stop> {
+    let frame = frame_of_zeros(alloc, length, count)?;
+    ends_at_once(alloc, &(&frame, end, told))
 }
 
 // The longest body is read where all of it is there at once, and one byte more is too long.
 fn longest_body(alloc: Global) -> Result<(), Stop> {
-    let frame = frame_of_zeros(alloc, [0, 1, 0, 0], 65_536)?;
-    let input = Input {
-        left: &frame,
-        at_once: 70_000,
-        fails: false,
-    };
-    let talked = talk(alloc, input, 1_000, 1_000)?;
-    check(matches!(talked.end, Ok(1)))?;
-    check(talked.output.taken() == [0, 0, 0, 2, 10, 2].as_slice() && talked.entries == 0)?;
-    let frame = frame_of_zeros(alloc, [0, 1, 0, 1], 65_537)?;
-    let input = Input {
-        left: &frame,
-        at_once: 70_000,
-        fails: false,
-    };
-    let talked = talk(alloc, input, 1_000, 1_000)?;
-    let wanted = ConnFault {
-        cause: Cause::TooLong,
-        answered: 0,
-    };
-    check(matches!(talked.end, Err(fault) if fault == wanted) && talked.output.taken().is_empty())
+    zeros_end(alloc, [0, 1, 0, 0], 65_536, Ok(1), &[0, 0, 0, 2, 10, 2])?;
+    zeros_end(alloc, [0, 1, 0, 1], 65_537, Err(TOO_LONG), &[])
 }
 
 #[test]
@@ -278,17 +308,13 @@ fn buffered_bytes_are_taken(rt: HostRuntime) {
 
 // However few bytes come at once, and however many the reader holds, the replies are the same.
 fn any_cut(alloc: Global) -> Result<(), Stop> {
-    let frames = bytes_of_digits(alloc, FRAMES)?;
-    let replies = bytes_of_digits(alloc, REPLIES)?;
     for at_once in 1..=208 {
         let input = Input {
-            left: &frames,
+            left: FRAMES,
             at_once,
             fails: false,
         };
-        let talked = talk(alloc, input, at_once, 1_000)?;
-        check(matches!(talked.end, Ok(4)) && talked.entries == 4)?;
-        check(talked.output.taken() == replies.as_slice())?;
+        talks(alloc, input, (at_once, 1_000), Ok(4), REPLIES, 4)?;
     }
     Ok(())
 }
@@ -302,42 +328,44 @@ fn converse_any_cut(rt: HostRuntime) {
     assert!(&rt; done.is_ok());
 }
 
-// Where the input has this many bytes and then ends, or fails.
-fn cut_input(
-    alloc: Global,
-    frames: &[u8],
-    replies: &[u8],
-    len: usize,
-    way: (usize, bool),
-) -> Result<(), Stop> {
-    let (at_once, fails) = way;
-    let (left, _) = frames.split_at(len.min(frames.len()));
+// How a conversation ends whose input has this many bytes of the run and then ends, or fails.
+fn end_of_cut(len: usize, fails: bool) -> Result<u64, ConnFault> {
+    let answered = whole(&ENDS, len);
+    let cause = if fails {
+        Cause::Read
+    } else if len == 0 || ENDS.contains(&len) {
+        return Ok(answered);
+    } else {
+        Cause::Short
+    };
+    Err(ConnFault { cause, answered })
+}
+
+// Such a conversation.
+fn cut_input(alloc: Global, len: usize, at_once: usize, fails: bool) -> Result<(), Stop> {
+    let (left, _) = FRAMES.split_at(FRAMES.len().min(len));
     let input = Input {
         left,
         at_once,
         fails,
     };
-    let talked = talk(alloc, input, 1_000, 1_000)?;
-    let answered = whole(&ENDS, len);
-    let is_end = len == 0 || ENDS.contains(&len);
-    check(match talked.end {
-        Ok(count) => !fails && is_end && count == answered,
-        Err(fault) if fails => fault.cause == Cause::Read && fault.answered == answered,
-        Err(fault) => !is_end && fault.cause == Cause::Short && fault.answered == answered,
-    })?;
-    let told = [0, 5, 10, 15, 58];
-    let len = told.get(answered as usize).ok_or(Stop::Changed)?;
-    let (wanted, _) = replies.split_at((*len).min(replies.len()));
-    check(talked.output.taken() == wanted && talked.entries == answered)
+    let end = end_of_cut(len, fails);
+    talks(
+        alloc,
+        input,
+        (1_000, 1_000),
+        end,
+        told_by(len),
+        whole(&ENDS, len),
+    )
 }
 
 fn cut_inputs(alloc: Global) -> Result<(), Stop> {
-    let frames = bytes_of_digits(alloc, FRAMES)?;
-    let replies = bytes_of_digits(alloc, REPLIES)?;
     for len in 0..=208 {
-        for way in [(1, false), (1, true), (50, false), (50, true)] {
-            cut_input(alloc, &frames, &replies, len, way)?;
-        }
+        cut_input(alloc, len, 1, false)?;
+        cut_input(alloc, len, 1, true)?;
+        cut_input(alloc, len, 50, false)?;
+        cut_input(alloc, len, 50, true)?;
     }
     Ok(())
 }
@@ -351,46 +379,28 @@ fn input_cut_anywhere(rt: HostRuntime) {
     assert!(&rt; done.is_ok());
 }
 
-// Where the writer takes this many bytes in all, and then fails.
-fn cut_output(
-    alloc: Global,
-    frames: &[u8],
-    replies: &[u8],
-    room: usize,
-    at_once: usize,
-) -> Result<(), Stop> {
+// Where the writer takes this many bytes in all, and then fails. How many entries there are in the end.
+fn cut_output(alloc: Global, room: usize, at_once: usize, entries: u64) -> Result<(), Stop> {
     let input = Input {
-        left: frames,
+        left: FRAMES,
         at_once,
         fails: false,
     };
-    let talked = talk(alloc, input, at_once, room)?;
-    let wanted = ConnFault {
+    let fault = ConnFault {
         cause: Cause::Write,
         answered: whole(&REPLY_ENDS, room),
     };
-    check(matches!(talked.end, Err(fault) if fault == wanted))?;
-    check(
-        talked.entries
-            == if at_once == 1 {
-                wanted.answered.saturating_add(1)
-            } else {
-                4
-            },
-    )?;
-    let (wanted, _) = replies.split_at(room.min(replies.len()));
-    check(talked.output.taken() == wanted)
+    let (told, _) = REPLIES.split_at(REPLIES.len().min(room));
+    talks(alloc, input, (at_once, room), Err(fault), told, entries)
 }
 
 // The frames come one after the other, so that each reply is written before the next one is read, and
 // one step was taken after those that are answered; or all at once, so that the replies go out
 // together, after all of the steps.
 fn cut_outputs(alloc: Global) -> Result<(), Stop> {
-    let frames = bytes_of_digits(alloc, FRAMES)?;
-    let replies = bytes_of_digits(alloc, REPLIES)?;
     for room in 0..58 {
-        cut_output(alloc, &frames, &replies, room, 1)?;
-        cut_output(alloc, &frames, &replies, room, 208)?;
+        cut_output(alloc, room, 1, whole(&REPLY_ENDS, room).saturating_add(1))?;
+        cut_output(alloc, room, 208, 4)?;
     }
     Ok(())
 }
@@ -405,27 +415,19 @@ fn output_cut_anywhere(rt: HostRuntime) {
 }
 
 // A status of database 1.
-const OF_DATABASE_1: &str = "\
-0000001e00000002222222222222222222222222222222220100000001\
-0000000107";
-
-fn asks_no_database(alloc: Global) -> Result<(), Stop> {
-    let frame = bytes_of_digits(alloc, OF_DATABASE_1)?;
-    let input = Input {
-        left: &frame,
-        at_once: 1_000,
-        fails: false,
-    };
-    let talked = talk(alloc, input, 1_000, 1_000)?;
-    check(matches!(talked.end, Ok(1)) && talked.entries == 0)?;
-    check(talked.output.taken() == [0, 0, 0, 1, 9].as_slice())
-}
+const OF_DATABASE_1: [Case<'static>; 1] = [(
+    b"\
+\0\0\0\x1e\0\0\0\x02\x22\x22\x22\x22\x22\x22\x22\x22\x22\x22\x22\x22\x22\x22\x22\x22\
+\x01\0\0\0\x01\0\0\0\x01\x07",
+    Ok(1),
+    &[0, 0, 0, 1, 9],
+)];
 
 #[test]
 fn no_such_database(rt: HostRuntime) {
-    let mut done = asks_no_database(rt.alloc());
+    let mut done = end_at_once(rt.alloc(), &OF_DATABASE_1);
     if matches!(done, Err(Stop::NoMemory)) {
-        done = asks_no_database(rt.alloc());
+        done = end_at_once(rt.alloc(), &OF_DATABASE_1);
     }
     assert!(&rt; done.is_ok());
 }

@@ -1,25 +1,14 @@
 //! Crowds: the most databases, seats, workers, and many connections.
 
-ghost use Rattle.std.specs.Prelude.{◌≤◌, IfOk, vec_len};
-ghost use Rattle.std.specs.List.{All};
-ghost use Rattle.pl_conn.specs.Desks.{ArePassesOf};
-
-use crate::connections::{
-    Holds, Started, check_served, connect, listen, report, stop_of, unserved,
-};
-use crate::conversations::open;
+use crate::connections::{Holds, connect, report, serve_while, stop_of};
+use crate::gates::{Rows, desks_answer_on};
 use crate::memory::{check, may_be_refused};
-use crate::talking::{TURNS, last_of};
-use pl_conn::{Desks, Gate, Passes, Served, serve};
-use pl_core::{Db, Reply};
 use std::alloc::Global;
 use std::io::{Read, Write};
 use std::net::{Net, SocketAddr, TcpListener, TcpStream};
 use std::sync::Wait;
 use std::thread;
 use std::thread::Threads;
-use transcripts::asking::request_of;
-use transcripts::reply_text::push_reply;
 use transcripts::transcript::Stop;
 
 /// The most databases.
@@ -39,106 +28,29 @@ const IN_TURN: u32 = 59;
 
 const CONNECTIONS: u32 = 300;
 
-// As many databases as there may be.
-fn most_dbs(alloc: Global) -> Result<Vec<Db>, Stop>
-    ensures some { IfOk result (λ dbs. 1 ≤ vec_len dbs) }
-    ensures few { IfOk result (λ dbs. vec_len dbs ≤ 16) }
-{
-    let mut dbs = Vec::new(alloc);
-    for _ in 0..DATABASES {
-        dbs.push(open(alloc)?)?;
-    }
-    if dbs.is_empty() || dbs.len() > 16 {
-        return Err(Stop::Unread);
-    }
-    Ok(dbs)
-}
-
-// Asks the database, and says whether it is answered with these words.
-fn answers<G: Gate>(
-    alloc: Global,
-    gate: &G,
-    pass: &mut G::Pass,
-    database: u32,
-    line: (&str, &str),
-) -> Result<(), Stop>
-    requires own { G.owns gate.now pass.old }
-    ensures own { G.owns gate.now pass.new }
-{
-    let words: Vec<&str> = line.0.split_whitespace().collect(alloc)?;
-    let request = request_of(alloc, database, &words)?.ok_or(Stop::Unread)?;
-    let reply = gate.call(pass, request);
-    if matches!(reply, Reply::NoMemory) {
-        return Err(Stop::NoMemory);
-    }
-    let mut text = String::new(alloc);
-    push_reply(&mut text, &reply)?;
-    check(text.trim() == line.1)
-}
-
-const STATUS: (&str, &str) = ("2 22 primary 1 status", "Status 1 2 0 0 0");
-
-const NO_DATABASE: (&str, &str) = ("2 22 primary 1 status", "NoDatabase");
-
-const AUDIT: (&str, &str) = (
-    "1 11 operator 1 audit 1 9",
-    "Entries 1/65/2/primary/1/status/0/0/allowed 2/64/2/primary/1/status/0/0/allowed",
-);
-
-const NO_ENTRY: (&str, &str) = ("1 11 operator 1 audit 1 9", "Entries");
-
-// Two passes each ask the last database for its status, and one of them asks one that there is not.
-fn ask_statuses<R: Wait>(
-    alloc: Global,
-    desks: &Desks<R>,
-    last: &mut Passes,
-    before: &mut Passes,
-) -> Result<(), Stop>
-    requires last { ArePassesOf desks.now last.old }
-    requires before { ArePassesOf desks.now before.old }
-    ensures last { ArePassesOf desks.now last.new }
-    ensures before { ArePassesOf desks.now before.new }
-{
-    answers(alloc, desks, last, 15, STATUS)?;
-    answers(alloc, desks, last, 16, NO_DATABASE)?;
-    answers(alloc, desks, before, 15, STATUS)
-}
-
-// The pass finds both statuses in the last database, and none in the one before it.
-fn ask_audits<R: Wait>(alloc: Global, desks: &Desks<R>, last: &mut Passes) -> Result<(), Stop>
-    requires of { ArePassesOf desks.now last.old }
-{
-    answers(alloc, desks, last, 15, AUDIT)?;
-    answers(alloc, desks, last, 14, NO_ENTRY)
-}
-
-// The pass of the last seat, and that of the seat before it, each ask the last database. The first has
-// met the second then, and finds what both asked.
-fn ask_last<R: Wait>(alloc: Global, desks: &Desks<R>, mut passes: Vec<Passes>) -> Result<(), Stop>
-    requires of { All (ArePassesOf desks.now) passes.items }
-{
-    check(passes.len() == 65)?;
-    let mut last = last_of(desks, &mut passes)?;
-    let mut before = last_of(desks, &mut passes)?;
-    ask_statuses(alloc, desks, &mut last, &mut before)?;
-    desks.meet(&mut last, before);
-    ask_audits(alloc, desks, &mut last)
-}
-
-fn open_and_ask<R: Wait + Drop>(rt: R, alloc: Global) -> Result<(), Stop> {
-    let (desks, passes) = Desks::new(alloc, rt, most_dbs(alloc)?, SEATS, TURNS)?;
-    ask_last(alloc, &desks, passes)
-}
+// The pass of the last seat, and that of the seat before it, each ask the last database, and the first asks one that there
+// is not. It finds both statuses in the last database then, and none in the one before it.
+const MOST: Rows<'static> = [
+    &[
+        (15, "2 22 primary 1 status", "Status 1 2 0 0 0"),
+        (16, "2 22 primary 1 status", "NoDatabase"),
+    ],
+    &[(15, "2 22 primary 1 status", "Status 1 2 0 0 0")],
+    &[
+        (
+            15,
+            "1 11 operator 1 audit 1 9",
+            "Entries 1/65/2/primary/1/status/0/0/allowed 2/64/2/primary/1/status/0/0/allowed",
+        ),
+        (14, "1 11 operator 1 audit 1 9", "Entries"),
+    ],
+];
 
 /// Desks of 16 databases with 65 seats, called through the last seat and at the last database.
 #[test]
 fn sixteen_databases_and_65_seats(rt: HostRuntime) {
     let alloc = rt.alloc();
-    let mut done = open_and_ask(rt, alloc);
-    if matches!(done, Err(Stop::NoMemory)) {
-        done = open_and_ask(rt, alloc);
-    }
-    assert!(&rt; done.is_ok());
+    assert!(&rt; desks_answer_on(rt, alloc, DATABASES, SEATS, &MOST).is_ok());
 }
 
 // Reads the reply Done.
@@ -150,8 +62,7 @@ fn is_done(stream: &mut TcpStream) -> Result<bool, Stop> {
 
 // Sends a request.
 fn asks(stream: &mut TcpStream) -> Result<(), Stop> {
-    let frame = report(2).ok_or(Stop::Unread)?;
-    stream.write_all(&frame).map_err(stop_of)
+    stream.write_all(&report(2)).map_err(stop_of)
 }
 
 // One connection, which is closed again. Whether it is answered.
@@ -212,10 +123,8 @@ fn asks_by_two<R: Net<Listener = TcpListener, Stream = TcpStream> + Threads + Sy
 fn asks_all<R: Net<Listener = TcpListener, Stream = TcpStream> + Threads + Sync>(
     rt: &R,
     addr: SocketAddr,
-    started: &Started,
     room: Vec<TcpStream>,
 ) -> Result<bool, Stop> {
-    started.waits()?;
     let at_once = asks_at_once(rt, addr, room);
     let (first, second) = thread::join(rt, || asks_by_two(rt, addr), || asks_by_two(rt, addr));
     Ok(at_once? && first? && second?)
@@ -248,26 +157,14 @@ fn serve_crowd<R: Net<Listener = TcpListener, Stream = TcpStream> + Threads + Wa
     rt: &R,
     alloc: Global,
 ) -> Result<(), Stop> {
-    let (gate, started) = (Holds::new(), Started::new());
-    let (listener, addr) = listen(rt)?;
     let passes = passes_of(alloc)?;
     let room = Vec::with_capacity(alloc, AT_ONCE)?;
-    let (gate, started) = (&gate, &started);
-    let (served, are_done) = thread::join(
-        rt,
-        move || -> Served<u64> {
-            if !started.begins() {
-                return unserved(passes);
-            }
-            let served = serve(rt, alloc, &listener, gate, passes, CONNECTIONS);
-            drop(listener);
-            served
-        },
-        move || asks_all(rt, addr, started, room),
-    );
-    check_served(&served, CONNECTIONS, 0, WORKERS)?;
-    check(are_done?)?;
-    check_passes(&served.passes)
+    let counts = (CONNECTIONS, 0, WORKERS);
+    let (are_done, passes) = serve_while(rt, alloc, &Holds::new(), passes, counts, move |addr| {
+        asks_all(rt, addr, room)
+    })?;
+    check(are_done)?;
+    check_passes(&passes)
 }
 
 /// 300 connections with 64 workers: 64 that are open at the same time, so that each worker has one, and

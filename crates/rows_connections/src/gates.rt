@@ -1,139 +1,61 @@
-//! Gates: a page server that materialises a partition, and desks of one database and of two.
+//! Gates: a page server that materialises a partition, and desks that are asked by two passes.
 
-ghost use Rattle.std.specs.Prelude.{◌≡◌, ◌+◌, IfSome, OnOk, vec_len};
+ghost use Rattle.std.specs.Prelude.{◌≤◌};
 ghost use Rattle.std.specs.List.{All};
 ghost use Rattle.pl_conn.specs.Desks.{ArePassesOf};
 ghost use Rattle.pl_conn.specs.Solo.{HasDatabases};
 
-use crate::memory::Telling;
-use bytes::Bytes;
-use pl_block::{Block, Record};
+use crate::conversations::{dbs_of, one_pass};
+use crate::memory::{Telling, check};
+use crate::talking::{TURNS, last_of};
 use pl_conn::{Desks, Gate, Passes, SoloPass, Worked, materialise};
-use pl_core::{Db, Limits, Reply};
-use pl_table::{Act, Head, ReadFault, Request, Role, Section, Table, read_table};
-use std::alloc::{AllocError, AllocFailed, Global};
-use std::process::Abort;
+use pl_core::Reply;
+use pl_table::Request;
+use std::alloc::Global;
 use std::sync::Wait;
-use std::test::Fail;
-
-const TABLE: &str = "
-principal = [
-  { id = 1, token = '11111111111111111111111111111111' },
-  { id = 2, token = '22222222222222222222222222222222' },
-  { id = 3, token = '33333333333333333333333333333333' },
-  { id = 4, token = '44444444444444444444444444444444' },
-  { id = 5, token = '55555555555555555555555555555555' },
-]
-row = [
-  { verdict = 'allow', who = 1, role = 'operator' },
-  { verdict = 'allow', who = 2, role = 'primary' },
-  { verdict = 'allow', who = 3, role = 'secondary' },
-  { verdict = 'allow', who = 4, role = 'page_server', from = 0, to = 3 },
-  { verdict = 'allow', who = 5, role = 'primary' },
-]
-";
-
-const OPERATOR: Head = Head {
-    principal: 1,
-    token: [0x11; 16],
-    role: Role::Operator,
-    database: 0,
-    epoch: 1,
-};
-
-const PRIMARY: Head = Head {
-    principal: 2,
-    token: [0x22; 16],
-    role: Role::Primary,
-    database: 0,
-    epoch: 1,
-};
-
-const SECONDARY: Head = Head {
-    principal: 3,
-    token: [0x33; 16],
-    role: Role::Secondary,
-    database: 0,
-    epoch: 1,
-};
-
-/// The operator at the second database.
-const BESIDE: Head = Head {
-    principal: 1,
-    token: [0x11; 16],
-    role: Role::Operator,
-    database: 1,
-    epoch: 1,
-};
+use transcripts::asking::request_of;
+use transcripts::reply_text::push_reply;
+use transcripts::transcript::Stop;
 
 /// The token of the page server, whose number is 4.
 const PAGER_TOKEN: [u8; 16] = [0x44; 16];
 
 /// How many blocks are hardened.
-const BLOCKS: u8 = 40;
+const BLOCKS: u64 = 40;
 
-const TURNS: u64 = 1 << 62;
+/// A request of the database of this number, and its reply.
+type Asked<'a> = (u32, &'a str, &'a str);
 
-/// Why a test has nothing to compare.
-#[derive(Debug, Drop)]
-enum Stop {
-    /// An allocation failed.
-    NoMemory,
-    /// What the test asks for is refused.
-    Refused,
+// The request of the line.
+fn request_in(alloc: Global, database: u32, line: &str) -> Result<Option<Request>, Stop> {
+    let words: Vec<&str> = line.split_whitespace().collect(alloc)?;
+    request_of(alloc, database, &words)
 }
 
-impl From<AllocError> for Stop {
-    fn from(_refused: AllocError) -> Stop {
-        Stop::NoMemory
+// The reply has these words. An error of no memory is that memory was refused.
+fn is_told(alloc: Global, reply: &Reply, wanted: &str) -> Result<(), Stop> {
+    if matches!(reply, Reply::NoMemory) {
+        return Err(Stop::NoMemory);
     }
+    let mut text = String::new(alloc);
+    push_reply(&mut text, reply)?;
+    check(text.trim() == wanted)
 }
 
-impl<T: Drop> From<AllocFailed<T>> for Stop {
-    fn from(_refused: AllocFailed<T>) -> Stop {
-        Stop::NoMemory
-    }
-}
-
-// The table of the text.
-fn table_of(alloc: Global, text: &str) -> Result<Table, Stop> {
-    match read_table(alloc, text.as_bytes()) {
-        Ok(table) => Ok(table),
-        Err(ReadFault::NoMemory) => Err(Stop::NoMemory),
-        Err(ReadFault::Malformed(_)) => Err(Stop::Refused),
-    }
-}
-
-// A database with primary 2.
-fn open(alloc: Global) -> Result<Db, Stop> {
-    let table = table_of(alloc, TABLE)?;
-    let limits = Limits {
-        audit: 65_536,
-        chunks: 16,
-    };
-    match Db::new(alloc, table, 2, limits) {
-        Ok(db) => Ok(db),
-        Err(_) => Err(Stop::NoMemory),
-    }
-}
-
-// Opens one more database.
-fn push_open(alloc: Global, dbs: &mut Vec<Db>) -> Result<(), Stop>
-    ensures one { OnOk result (vec_len dbs.new ≡ vec_len dbs.old + 1) }
-{
-    dbs.push(open(alloc)?)?;
-    Ok(())
-}
-
-// The reply of the gate. An error is that memory was refused.
-fn ask<G: Gate>(gate: &G, pass: &mut G::Pass, head: Head, act: Act) -> Result<Reply, Stop>
+// The gate replies so.
+fn answers<G: Gate>(
+    alloc: Global,
+    gate: &G,
+    pass: &mut G::Pass,
+    asked: Asked<'_>,
+) -> Result<(), Stop>
     requires own { G.owns gate.now pass.old }
     ensures own { G.owns gate.now pass.new }
 {
-    let request = Request::new(head, act).ok_or(Stop::Refused)?;
-    match gate.call(pass, request) {
-        Reply::NoMemory => Err(Stop::NoMemory),
-        reply => Ok(reply),
+    let (database, line, wanted) = asked;
+    match request_in(alloc, database, line)? {
+        Some(request) => is_told(alloc, &gate.call(pass, request), wanted),
+        None => Err(Stop::Unread),
     }
 }
 
@@ -142,26 +64,18 @@ fn write<G: Gate>(
     alloc: Global,
     gate: &G,
     pass: &mut G::Pass,
-    lsn: u8,
+    lsn: u64,
     copy: u8,
-) -> Result<Reply, Stop>
+) -> Result<(), Stop>
     requires own { G.owns gate.now pass.old }
     ensures own { G.owns gate.now pass.new }
 {
-    let mut records = Vec::new(alloc);
-    records.push(Record::Put {
-        page: 0,
-        offset: 0,
-        bytes: Bytes::from_vec(vec![in alloc; lsn; 1]?)?,
-    })?;
-    let Ok(block) = Block::new(alloc, u64::from(lsn), records) else {
-        return Err(Stop::NoMemory);
-    };
-    ask(gate, pass, PRIMARY, Act::Write { copy, block })
+    let line = format!(in alloc; "2 22 primary 1 write {lsn}:{lsn:02x} {copy}")?;
+    answers(alloc, gate, pass, (0, &line, "Done"))
 }
 
 // Hardens forty blocks, each in two copies.
-fn harden<G: Gate>(alloc: Global, gate: &G, pass: &mut G::Pass) -> Result<Reply, Stop>
+fn harden<G: Gate>(alloc: Global, gate: &G, pass: &mut G::Pass) -> Result<(), Stop>
     requires own { G.owns gate.now pass.old }
     ensures own { G.owns gate.now pass.new }
 {
@@ -169,57 +83,44 @@ fn harden<G: Gate>(alloc: Global, gate: &G, pass: &mut G::Pass) -> Result<Reply,
         write(alloc, gate, pass, lsn, 0)?;
         write(alloc, gate, pass, lsn, 1)?;
     }
-    ask(gate, pass, PRIMARY, Act::Report { lsn: 40 })
+    answers(alloc, gate, pass, (0, "2 22 primary 1 report 40", "Done"))
 }
 
-// The LSN and the first byte of a page's reply.
-fn at_and_first(reply: &Reply) -> Result<(u64, u8), Stop> {
-    let Reply::Page { at, bytes } = reply else {
-        return Err(Stop::Refused);
-    };
-    let byte = bytes.as_slice().first().ok_or(Stop::Refused)?;
-    Ok((*at, *byte))
-}
-
-// What came of three rounds, the LSN and the first byte of the page then, and what came of three
-// rounds more after a failover.
+// What came of three rounds, after which the page is the newest, and what came of three rounds more after a failover.
 fn materialise_twice(
     alloc: Global,
     gate: &Telling,
     pass: &mut SoloPass,
-) -> Result<(Worked, u64, u8, Worked), Stop>
+) -> Result<(Worked, Worked), Stop>
     requires own { HasDatabases pass.old }
 {
     harden(alloc, gate, pass)?;
     let first = materialise(gate, pass, 4, PAGER_TOKEN, 0, 0, 3);
-    let get = Act::Get {
-        page: 0,
-        lsn: 1,
-        exact: false,
-    };
-    let (at, byte) = at_and_first(&ask(gate, pass, SECONDARY, get)?)?;
-    ask(gate, pass, OPERATOR, Act::Failover { primary: 5 })?;
+    answers(
+        alloc,
+        gate,
+        pass,
+        (0, "3 33 secondary 1 get 0 1", "Page 40 28+0"),
+    )?;
+    answers(alloc, gate, pass, (0, "1 11 operator 1 failover 5", "Done"))?;
     let second = materialise(gate, pass, 4, PAGER_TOKEN, 0, 0, 3);
-    Ok((first, at, byte, second))
+    Ok((first, second))
 }
 
 // The same of a fresh database. An error is that memory was refused, to the test or to a round.
-fn materialise_fresh(alloc: Global) -> Result<(Worked, u64, u8, Worked), Stop> {
-    let mut dbs = Vec::new(alloc);
-    push_open(alloc, &mut dbs)?;
+fn materialise_fresh(alloc: Global) -> Result<(Worked, Worked), Stop> {
+    let mut pass = one_pass(alloc)?;
     let gate = Telling::new();
-    let mut pass = SoloPass::new(dbs, 1);
     let seen = materialise_twice(alloc, &gate, &mut pass);
+    drop(pass);
     if gate.tells_refusal() {
         return Err(Stop::NoMemory);
     }
     seen
 }
 
-const AFTER_FAILOVER: (Worked, u64, u8, Worked) = (
+const AFTER_FAILOVER: (Worked, Worked) = (
     Worked { done: 3, epoch: 1 },
-    40,
-    40,
     Worked { done: 2, epoch: 2 },
 );
 
@@ -232,112 +133,113 @@ fn materialise_follows_epochs(rt: HostRuntime) {
     assert!(&rt; matches!(seen, Ok(AFTER_FAILOVER)));
 }
 
-// The last two of the passes, in the order of their numbers.
-fn two_of<R>(desks: &Desks<R>, mut passes: Vec<Passes>) -> Option<(Passes, Passes)>
-    requires of { All (ArePassesOf desks.now) passes.items }
-    ensures of { IfSome result (λ two. ArePassesOf desks.now two.0 × ArePassesOf desks.now two.1) }
+/// What the last of the passes asks, what the one before it asks then, and what the last asks once it has met the other.
+pub(crate) type Rows<'a> = [&'a [Asked<'a>]; 3];
+
+// The gate replies so to each.
+fn answers_all<G: Gate>(
+    alloc: Global,
+    gate: &G,
+    pass: &mut G::Pass,
+    asked: &[Asked<'_>],
+) -> Result<(), Stop>
+    requires own { G.owns gate.now pass.old }
+    ensures own { G.owns gate.now pass.new }
 {
-    let second = passes.pop()?;
-    let first = passes.pop()?;
-    Some((first, second))
+    for one in asked {
+        answers(alloc, gate, pass, *one)?;
+    }
+    Ok(())
 }
 
-// The reply for a database that there is not, and what the audit list has after the passes have met.
-fn none_and_audit<R: Wait>(
+// The two passes ask, and meet.
+fn ask_and_meet<R: Wait>(
+    alloc: Global,
     desks: &Desks<R>,
-    first: &mut Passes,
-    second: Passes,
-) -> Result<(Reply, Reply), Stop>
-    requires of { ArePassesOf desks.now first.old }
-    requires second { ArePassesOf desks.now second }
+    last: &mut Passes,
+    mut before: Passes,
+    rows: &Rows<'_>,
+) -> Result<(), Stop>
+    requires last { ArePassesOf desks.now last.old }
+    requires before { ArePassesOf desks.now before }
 {
-    let none = ask(desks, first, BESIDE, Act::Status)?;
-    desks.meet(first, second);
-    let audit = ask(desks, first, OPERATOR, Act::Audit { first: 1, max: 10 })?;
-    Ok((none, audit))
+    let [of_last, of_before, after] = *rows;
+    answers_all(alloc, desks, last, of_last)?;
+    answers_all(alloc, desks, &mut before, of_before)?;
+    desks.meet(last, before);
+    answers_all(alloc, desks, last, after)
 }
 
-// The same of two passes of one database.
-fn ask_beside<R: Wait + Drop>(rt: R, alloc: Global) -> Result<(Reply, Reply), Stop> {
-    let mut dbs = Vec::new(alloc);
-    push_open(alloc, &mut dbs)?;
-    let (desks, passes) = Desks::new(alloc, rt, dbs, 2, TURNS)?;
-    let (mut first, second) = two_of(&desks, passes).ok_or(Stop::Refused)?;
-    none_and_audit(&desks, &mut first, second)
+// The last two of the passes ask, of which there is one for each seat.
+fn ask_by_last<R: Wait>(
+    alloc: Global,
+    desks: &Desks<R>,
+    mut passes: Vec<Passes>,
+    seats: u32,
+    rows: &Rows<'_>,
+) -> Result<(), Stop>
+    requires of { All (ArePassesOf desks.now) passes.items }
+{
+    check(passes.len() == seats as usize)?;
+    let mut last = last_of(desks, &mut passes)?;
+    let before = last_of(desks, &mut passes)?;
+    ask_and_meet(alloc, desks, &mut last, before, rows)
 }
 
-fn is_empty_list(reply: &Reply) -> bool {
-    matches!(reply, Reply::Entries { lines } if lines.as_slice().is_empty())
+fn desks_answer<R: Wait + Drop>(
+    rt: R,
+    alloc: Global,
+    databases: usize,
+    seats: u32,
+    rows: &Rows<'_>,
+) -> Result<(), Stop>
+    requires seats { 1 ≤ seats }
+{
+    let (desks, passes) = Desks::new(alloc, rt, dbs_of(alloc, databases)?, seats, TURNS)?;
+    ask_by_last(alloc, &desks, passes, seats, rows)
 }
+
+/// Desks of this many databases and seats reply so. They are made again, once, where memory was refused.
+pub(crate) fn desks_answer_on<R: Wait + Drop + Copy>(
+    rt: R,
+    alloc: Global,
+    databases: usize,
+    seats: u32,
+    rows: &Rows<'_>,
+) -> Result<(), Stop>
+    requires seats { 1 ≤ seats }
+{
+    match desks_answer(rt, alloc, databases, seats, rows) {
+        Err(Stop::NoMemory) => desks_answer(rt, alloc, databases, seats, rows),
+        done => done,
+    }
+}
+
+// What is asked of a database that there is not makes no entry in the one that there is.
+const NONE: Rows<'static> = [
+    &[(1, "1 11 operator 1 status", "NoDatabase")],
+    &[],
+    &[(0, "1 11 operator 1 audit 1 10", "Entries")],
+];
 
 #[test]
 fn no_such_database(rt: HostRuntime) {
     let alloc = rt.alloc();
-    let mut replies = ask_beside(rt, alloc);
-    if matches!(replies, Err(Stop::NoMemory)) {
-        replies = ask_beside(rt, alloc);
-    }
-    assert!(&rt; matches!(&replies, Ok((Reply::NoDatabase, audit)) if is_empty_list(audit)));
+    assert!(&rt; desks_answer_on(rt, alloc, 1, 2, &NONE).is_ok());
 }
 
-// The second pass fails the second database over, and the first pass meets it.
-fn fail_over_and_meet<R: Wait>(
-    desks: &Desks<R>,
-    first: &mut Passes,
-    mut second: Passes,
-) -> Result<(), Stop>
-    requires of { ArePassesOf desks.now first.old }
-    requires second { ArePassesOf desks.now second }
-    ensures of { ArePassesOf desks.now first.new }
-{
-    ask(desks, &mut second, BESIDE, Act::Failover { primary: 5 })?;
-    desks.meet(first, second);
-    Ok(())
-}
-
-// The status of each of the two databases.
-fn statuses<R: Wait>(desks: &Desks<R>, pass: &mut Passes) -> Result<(Reply, Reply), Stop>
-    requires of { ArePassesOf desks.now pass.old }
-{
-    let here = ask(desks, pass, OPERATOR, Act::Status)?;
-    let there = ask(desks, pass, BESIDE, Act::Status)?;
-    Ok((here, there))
-}
-
-// A failover of the second of two databases, by one of two passes, and what the status of each is to
-// the other pass after they have met.
-fn fail_over_second<R: Wait + Drop>(rt: R, alloc: Global) -> Result<(Reply, Reply), Stop> {
-    let mut dbs = Vec::new(alloc);
-    push_open(alloc, &mut dbs)?;
-    push_open(alloc, &mut dbs)?;
-    let (desks, passes) = Desks::new(alloc, rt, dbs, 2, TURNS)?;
-    let (mut first, second) = two_of(&desks, passes).ok_or(Stop::Refused)?;
-    fail_over_and_meet(&desks, &mut first, second)?;
-    statuses(&desks, &mut first)
-}
+// A failover of the second of two databases, by one pass, and the status of each to the other pass.
+const APART: Rows<'static> = [
+    &[],
+    &[(1, "1 11 operator 1 failover 5", "Done")],
+    &[
+        (0, "1 11 operator 1 status", "Status 1 2 0 0 0"),
+        (1, "1 11 operator 1 status", "Denied A2 2"),
+    ],
+];
 
 #[test]
 fn databases_stand_apart(rt: HostRuntime) {
     let alloc = rt.alloc();
-    let mut replies = fail_over_second(rt, alloc);
-    if matches!(replies, Err(Stop::NoMemory)) {
-        replies = fail_over_second(rt, alloc);
-    }
-    assert!(&rt;
-        matches!(
-            &replies,
-            Ok((
-                Reply::Status {
-                    epoch: 1,
-                    primary: 2,
-                    ..
-                },
-                Reply::Denied {
-                    section: Section::A,
-                    row: 2,
-                    value: 2
-                },
-            ))
-        )
-    );
+    assert!(&rt; desks_answer_on(rt, alloc, 2, 2, &APART).is_ok());
 }

@@ -18,11 +18,6 @@ pub(crate) fn check(holds: bool) -> Result<(), Stop> {
     if holds { Ok(()) } else { Err(Stop::Changed) }
 }
 
-/// The bytes of these hexadecimal digits.
-pub(crate) fn bytes_of_digits(alloc: Global, digits: &str) -> Result<Vec<u8>, Stop> {
-    Ok(hex::decode(alloc, digits)?)
-}
-
 /// Whether the test runs under scripts/refuse-memory. Elsewhere nothing is taken for a refusal that is
 /// not reported as one.
 pub(crate) fn may_be_refused(rt: &impl Env) -> bool {

@@ -5,8 +5,8 @@ ghost use Rattle.std.specs.Prelude.{◌≡◌, IfOk, vec_len};
 ghost use Rattle.std.specs.List.{All};
 ghost use Rattle.pl_conn.specs.Desks.{ArePassesOf};
 
-use crate::conversations::{FRAMES, REPLIES, one_db, one_pass};
-use crate::memory::{Input, bytes_of_digits, check};
+use crate::conversations::{FRAMES, REPLIES, dbs_of, one_pass};
+use crate::memory::{Input, check};
 use crate::talking::{TURNS, last_of};
 use pl_conn::{Cause, ConnFault, Desks, Gate, Passes, Solo, SoloPass, converse};
 use pl_core::Db;
@@ -55,14 +55,6 @@ impl Write for Told {
     }
 }
 
-/// The stored run, and the conversation that may come after a refusal.
-#[derive(Clone, Copy, Drop)]
-struct Run<'a> {
-    frames: &'a [u8],
-    replies: &'a [u8],
-    at_once: usize,
-}
-
 /// What is asked once more: the frames from one place of the stored run to another, and those from a third
 /// to the end.
 type Frames = (usize, usize, usize);
@@ -73,21 +65,27 @@ type Again = (Frames, usize, (u64, u64));
 
 /// What was answered where one of the four frames was replied NoMemory, and what is asked once more: that
 /// frame, and those that are denied without it.
-const REFUSED: [(&str, Again); 4] = [
+const REFUSED: [(&[u8], Again); 4] = [
     (
-        "0000000106 0000000100 0000000c050300060000000000000000 0000000c050300010000000000000000",
+        b"\
+\0\0\0\x01\x06\0\0\0\x01\0\0\0\0\x0c\x05\x03\0\x06\0\0\0\0\0\0\0\0\
+\0\0\0\x0c\x05\x03\0\x01\0\0\0\0\0\0\0\0",
         ((0, 59, 118), 5, (6, 6)),
     ),
     (
-        "0000000100 0000000106 0000000c050300060000000000000000 0000000c050300010000000000000000",
+        b"\
+\0\0\0\x01\0\0\0\0\x01\x06\0\0\0\x0c\x05\x03\0\x06\0\0\0\0\0\0\0\0\
+\0\0\0\x0c\x05\x03\0\x01\0\0\0\0\0\0\0\0",
         ((59, 118, 118), 5, (6, 6)),
     ),
     (
-        "0000000100 0000000100 0000000106 0000000c050300010000000000000000",
+        b"\
+\0\0\0\x01\0\0\0\0\x01\0\0\0\0\x01\x06\0\0\0\x0c\x05\x03\0\x01\0\0\0\0\0\0\0\0",
         ((118, 118, 118), 10, (5, 5)),
     ),
     (
-        "0000000100 0000000100 0000000100 0000000106",
+        b"\
+\0\0\0\x01\0\0\0\0\x01\0\0\0\0\x01\0\0\0\0\x01\x06",
         ((160, 160, 160), 15, (4, 4)),
     ),
 ];
@@ -123,68 +121,46 @@ fn asks<G: Gate>(
     (end, told)
 }
 
-// Whether the bytes are those of the words.
-fn are_bytes(bytes: &[u8], words: &str) -> bool {
-    let mut left = bytes;
-    for word in words.split_whitespace() {
-        let mut wanted = [0; 16];
-        let (wanted, _) = wanted.split_at_mut((word.len() / 2).min(16));
-        if hex::decode_to_slice(word, wanted).is_err() {
-            return false;
-        }
-        let (now, later) = left.split_at(wanted.len().min(left.len()));
-        if *now != *wanted {
-            return false;
-        }
-        left = later;
-    }
-    left.is_empty()
-}
-
 // What is asked once more, by how the conversation ended and what was reported.
-fn again_of(
-    end: &Result<u64, ConnFault>,
-    told: &[u8],
-    run: Run<'_>,
-) -> Result<Option<Again>, Stop> {
+fn again_of(end: &Result<u64, ConnFault>, told: &[u8]) -> Result<Option<Again>, Stop> {
     match end {
-        Ok(4) if told == run.replies => Ok(None),
+        Ok(4) if told == REPLIES => Ok(None),
         Ok(4) => again_after(told).map(Some),
         Err(
             ConnFault {
                 cause: Cause::NoMemory,
                 answered,
             },
-        ) => again_from(*answered, told, run).map(Some),
+        ) => again_from(*answered, told).map(Some),
         _ => Err(Stop::Changed),
     }
 }
 
 // What is asked once more after a reply NoMemory.
 fn again_after(told: &[u8]) -> Result<Again, Stop> {
-    for (words, again) in REFUSED {
-        if are_bytes(told, words) {
-            return Ok(again);
+    for (replies, again) in &REFUSED {
+        if told == *replies {
+            return Ok(*again);
         }
     }
     Err(Stop::Changed)
 }
 
 // What is asked once more where it ended with this many replies, which are those of the run.
-fn again_from(answered: u64, told: &[u8], run: Run<'_>) -> Result<Again, Stop> {
+fn again_from(answered: u64, told: &[u8]) -> Result<Again, Stop> {
     let again = *ENDED.get(answered as usize).ok_or(Stop::Changed)?;
     let (_, replied, _) = again;
-    let (wanted, _) = run.replies.split_at(replied.min(run.replies.len()));
+    let (wanted, _) = REPLIES.split_at(replied.min(REPLIES.len()));
     check(told == wanted)?;
     Ok(again)
 }
 
 // The frames that are asked once more.
-fn frames_again(alloc: Global, run: Run<'_>, again: Frames) -> Result<Vec<u8>, Stop> {
+fn frames_again(alloc: Global, again: Frames) -> Result<Vec<u8>, Stop> {
     let (from, to, after) = again;
     let mut frames = Vec::with_capacity(alloc, 208)?;
-    frames.extend_from_slice(run.frames.get(from..to).ok_or(Stop::Unread)?)?;
-    frames.extend_from_slice(run.frames.get(after..).ok_or(Stop::Unread)?)?;
+    frames.extend_from_slice(FRAMES.get(from..to).ok_or(Stop::Unread)?)?;
+    frames.extend_from_slice(FRAMES.get(after..).ok_or(Stop::Unread)?)?;
     Ok(frames)
 }
 
@@ -192,76 +168,76 @@ fn frames_again(alloc: Global, run: Run<'_>, again: Frames) -> Result<Vec<u8>, S
 // the stored run. How many entries there are then, at least and at most, if there was a second.
 fn goes_on<G: Gate>(
     alloc: Global,
-    run: Run<'_>,
+    at_once: usize,
     gate: &G,
     pass: &mut G::Pass,
 ) -> Result<Option<(u64, u64)>, Stop>
     requires own { G.owns gate.now pass.old }
     ensures own { G.owns gate.now pass.new }
 {
-    let (end, told) = asks(alloc, run.frames, run.at_once, gate, pass);
-    let Some((again, replied, entries)) = again_of(&end, told.all(), run)? else {
+    let (end, told) = asks(alloc, FRAMES, at_once, gate, pass);
+    let Some((again, replied, entries)) = again_of(&end, told.all())? else {
         return Ok(None);
     };
-    let frames = frames_again(alloc, run, again)?;
-    let (end, told) = asks(alloc, &frames, run.at_once, gate, pass);
-    check(end.is_ok() && Some(told.all()) == run.replies.get(replied..))?;
+    let frames = frames_again(alloc, again)?;
+    let (end, told) = asks(alloc, &frames, at_once, gate, pass);
+    check(end.is_ok() && Some(told.all()) == REPLIES.get(replied..))?;
     Ok(Some(entries))
 }
 
-// Whether the block is hardened, and there are this many entries, at least and at most.
-fn is_hardened(db: &Db, entries: (u64, u64)) -> bool {
+// Whether the first of the databases has the block hardened, and this many entries, at least and at most.
+fn is_hardened(dbs: &[Db], entries: (u64, u64)) -> bool {
+    let Some(db) = dbs.first() else {
+        return false;
+    };
     let (least, most) = entries;
     let count = db.audit_len();
     db.hard() == 1 && db.log().counts() == (0, 1) && least <= count && count <= most
 }
 
-// The one database of the pass has the block hardened, and this many entries.
+// The database of the pass has the block hardened, and this many entries.
 fn ends_hardened(pass: SoloPass, entries: (u64, u64)) -> Result<(), Stop> {
-    match pass.into_dbs().pop() {
-        Some(db) => check(is_hardened(&db, entries)),
-        None => Err(Stop::Unread),
-    }
+    let dbs = pass.into_dbs();
+    let holds = is_hardened(&dbs, entries);
+    drop(dbs);
+    check(holds)
 }
 
 // Over one caller's gate. In the end the block is hardened, whatever was refused.
-fn goes_on_alone(alloc: Global, run: Run<'_>) -> Result<bool, Stop> {
+fn goes_on_alone(alloc: Global, at_once: usize) -> Result<bool, Stop> {
     let mut pass = one_pass(alloc)?;
-    let more = goes_on(alloc, run, &Solo, &mut pass)?;
-    ends_hardened(pass, more.unwrap_or((4, 4)))?;
-    Ok(more.is_some())
+    let more = goes_on(alloc, at_once, &Solo, &mut pass);
+    let entries = match &more {
+        Ok(Some(entries)) => *entries,
+        _ => (4, 4),
+    };
+    let ended = ends_hardened(pass, entries);
+    let more = more?.is_some();
+    ended?;
+    Ok(more)
 }
 
 fn goes_on_with_last<R: Wait>(
     alloc: Global,
-    run: Run<'_>,
+    at_once: usize,
     desks: &Desks<R>,
     mut passes: Vec<Passes>,
 ) -> Result<bool, Stop>
     requires of { All (ArePassesOf desks.now) passes.items }
 {
     let mut pass = last_of(desks, &mut passes)?;
-    Ok(goes_on(alloc, run, desks, &mut pass)?.is_some())
+    Ok(goes_on(alloc, at_once, desks, &mut pass)?.is_some())
 }
 
-fn goes_on_at_desk<R: Wait + Drop>(rt: R, alloc: Global, run: Run<'_>) -> Result<bool, Stop> {
-    let (desks, passes) = Desks::new(alloc, rt, one_db(alloc)?, 1, TURNS)?;
-    goes_on_with_last(alloc, run, &desks, passes)
+fn goes_on_at_desk<R: Wait + Drop>(rt: R, alloc: Global, at_once: usize) -> Result<bool, Stop> {
+    let (desks, passes) = Desks::new(alloc, rt, dbs_of(alloc, 1)?, 1, TURNS)?;
+    goes_on_with_last(alloc, at_once, &desks, passes)
 }
 
 // Both, over frames that come this many bytes at once. How many of them met a refusal.
 fn goes_on_twice<R: Wait + Drop>(rt: R, alloc: Global, at_once: usize) -> Result<u64, Stop> {
-    let (frames, replies) = (
-        bytes_of_digits(alloc, FRAMES)?,
-        bytes_of_digits(alloc, REPLIES)?,
-    );
-    let run = Run {
-        frames: &frames,
-        replies: &replies,
-        at_once,
-    };
-    let alone = goes_on_alone(alloc, run)?;
-    let at_desk = goes_on_at_desk(rt, alloc, run)?;
+    let alone = goes_on_alone(alloc, at_once)?;
+    let at_desk = goes_on_at_desk(rt, alloc, at_once)?;
     Ok(u64::from(alone).saturating_add(u64::from(at_desk)))
 }
 

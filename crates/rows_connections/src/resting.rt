@@ -1,9 +1,10 @@
 //! Conversations that rest: over readers and writers that would wait.
 
+ghost use Rattle.std.specs.Prelude.{IfOk};
 ghost use Rattle.pl_conn.specs.Solo.{HasDatabases};
 
-use crate::conversations::{ENDS, FRAMES, REPLIES, REPLY_ENDS, one_pass, whole};
-use crate::memory::{Telling, bytes_of_digits, check, has_refusal};
+use crate::conversations::{ENDS, FRAMES, REPLIES, one_pass, told_by};
+use crate::memory::{Telling, check, has_refusal};
 use pl_conn::{Cause, Conversation, Rest, Room, SoloPass};
 use std::alloc::Global;
 use std::io::{self, ErrorKind, Read, Write};
@@ -87,43 +88,62 @@ impl Write for Filling {
     }
 }
 
-// How many bytes of replies there are to the frames that are whole within this many bytes.
-fn told_by(len: usize) -> usize {
-    let count = whole(&ENDS, len) as usize;
-    match count.checked_sub(1).and_then(|at| REPLY_ENDS.get(at)) {
-        Some(end) => *end,
-        None => 0,
-    }
-}
-
 /// How many turns a conversation has at most before it rests.
 const MANY: u32 = 1_000;
 
+/// A conversation over the stored run, of which nothing has come, with all that it needs but its room.
+#[derive(Drop)]
+struct Talk {
+    pass: SoloPass,
+    talk: Conversation,
+    reader: Coming<'static>,
+    writer: Filling,
+}
+
+// A conversation whose writer has this much room.
+fn talk_of(alloc: Global, room: usize) -> Result<Talk, Stop>
+    ensures has { IfOk result (λ talk. HasDatabases talk.pass) }
+{
+    Ok(Talk {
+        pass: one_pass(alloc)?,
+        talk: Conversation::new(alloc),
+        reader: Coming::of(FRAMES),
+        writer: Filling::new(alloc, room),
+    })
+}
+
+// What comes of the end of a turn: what it rests for, or nothing where there is another turn.
+fn rest_of(end: Result<Rest, Cause>) -> Result<Option<Rest>, Stop> {
+    match end {
+        Ok(Rest::Again) => Ok(None),
+        Ok(rest) => Ok(Some(rest)),
+        // The writer does not fail by itself: there was no memory for the replies that it did not take.
+        Err(Cause::NoMemory | Cause::Write) => Err(Stop::NoMemory),
+        Err(Cause::Short) => Err(Stop::Unread),
+        Err(_) => Err(Stop::Changed),
+    }
+}
+
 // Turns, until one rests, or the conversation is over.
-fn turns(
-    alloc: Global,
-    talk: &mut Conversation,
-    reader: &mut Coming<'_>,
-    writer: &mut Filling,
-    pass: &mut SoloPass,
-    room: &mut Room,
-) -> Result<Rest, Stop>
-    requires has { HasDatabases pass.old }
-    ensures has { HasDatabases pass.new }
+fn turns(alloc: Global, at: &mut Talk, room: &mut Room) -> Result<Rest, Stop>
+    requires has { HasDatabases at.old.pass }
+    ensures has { HasDatabases at.new.pass }
 {
     let gate = Telling::new();
     for _ in 0..MANY {
-        let end = talk.resume(alloc, reader, writer, &gate, pass, room);
-        if gate.tells_refusal() || writer.is_refused || end == Err(Cause::NoMemory) {
+        let end = at.talk.resume(
+            alloc,
+            &mut at.reader,
+            &mut at.writer,
+            &gate,
+            &mut at.pass,
+            room,
+        );
+        if gate.tells_refusal() || at.writer.is_refused {
             return Err(Stop::NoMemory);
         }
-        match end {
-            Ok(Rest::Again) => {}
-            Ok(rest) => return Ok(rest),
-            Err(Cause::Short) => return Err(Stop::Unread),
-            // The writer does not fail by itself: there was no memory for the replies that it did not take.
-            Err(Cause::Write) => return Err(Stop::NoMemory),
-            Err(_) => return Err(Stop::Changed),
+        if let Some(rest) = rest_of(end)? {
+            return Ok(rest);
         }
     }
     Err(Stop::Changed)
@@ -140,86 +160,74 @@ fn went(alloc: Global, writer: &Filling, done: Result<(), Stop>) -> Result<(), S
 
 // The frames come this many bytes at once: at each point the replies to those that are whole are written, and no
 // more. In the end the input is over.
-fn in_pieces(
-    alloc: Global,
-    frames: &[u8],
-    replies: &[u8],
-    room: &mut Room,
-    writer: &mut Filling,
-    piece: usize,
-) -> Result<(), Stop> {
-    let mut pass = one_pass(alloc)?;
-    let mut talk = Conversation::new(alloc);
-    let mut reader = Coming::of(frames);
-    for _ in 0..=frames.len() / piece.max(1) {
-        reader.come(piece);
-        let rest = turns(alloc, &mut talk, &mut reader, writer, &mut pass, room)?;
-        let came = frames.len().saturating_sub(reader.left.len());
-        check(rest == Rest::Input && Some(&*writer.text) == replies.get(..told_by(came)))?;
+fn in_pieces(alloc: Global, at: &mut Talk, room: &mut Room, piece: usize) -> Result<(), Stop>
+    requires has { HasDatabases at.old.pass }
+    ensures has { HasDatabases at.new.pass }
+{
+    for _ in 0..=FRAMES.len() / piece.max(1) {
+        at.reader.come(piece);
+        let rest = turns(alloc, at, room)?;
+        let came = FRAMES.len().saturating_sub(at.reader.left.len());
+        check(rest == Rest::Input && at.writer.text.as_slice() == told_by(came))?;
     }
-    reader.is_over = true;
-    let rest = turns(alloc, &mut talk, &mut reader, writer, &mut pass, room)?;
-    check(rest == Rest::Over && writer.text.as_slice() == replies)
+    at.reader.is_over = true;
+    let rest = turns(alloc, at, room)?;
+    check(rest == Rest::Over && at.writer.text.as_slice() == REPLIES)
+}
+
+// The input ends, after this many bytes of the frames.
+fn is_over_at(alloc: Global, at: &mut Talk, room: &mut Room, place: usize) -> Result<(), Stop>
+    requires has { HasDatabases at.old.pass }
+{
+    at.reader.left = &[];
+    at.reader.is_over = true;
+    let is_whole = place == 0 || ENDS.contains(&place);
+    match turns(alloc, at, room) {
+        Ok(rest) => check(is_whole && rest == Rest::Over),
+        Err(Stop::Unread) => check(!is_whole),
+        Err(stop) => Err(stop),
+    }
 }
 
 // The frames come up to a place, and then the others, or the input ends there.
 fn cut_at(
     alloc: Global,
-    frames: &[u8],
-    replies: &[u8],
+    at: &mut Talk,
     room: &mut Room,
-    writer: &mut Filling,
     place: usize,
     is_over: bool,
-) -> Result<(), Stop> {
-    let mut pass = one_pass(alloc)?;
-    let mut talk = Conversation::new(alloc);
-    let mut reader = Coming::of(frames);
-    reader.come(place);
-    let rest = turns(alloc, &mut talk, &mut reader, writer, &mut pass, room)?;
-    check(rest == Rest::Input && Some(&*writer.text) == replies.get(..told_by(place)))?;
+) -> Result<(), Stop>
+    requires has { HasDatabases at.old.pass }
+{
+    at.reader.come(place);
+    let rest = turns(alloc, at, room)?;
+    check(rest == Rest::Input && at.writer.text.as_slice() == told_by(place))?;
     if is_over {
-        reader.left = &[];
-        reader.is_over = true;
-        let is_whole = place == 0 || ENDS.contains(&place);
-        return match turns(alloc, &mut talk, &mut reader, writer, &mut pass, room) {
-            Ok(rest) => check(is_whole && rest == Rest::Over),
-            Err(Stop::Unread) => check(!is_whole),
-            Err(stop) => Err(stop),
-        };
+        return is_over_at(alloc, at, room, place);
     }
-    reader.come(usize::MAX);
-    let rest = turns(alloc, &mut talk, &mut reader, writer, &mut pass, room)?;
-    check(rest == Rest::Input && writer.text.as_slice() == replies)
+    at.reader.come(usize::MAX);
+    let rest = turns(alloc, at, room)?;
+    check(rest == Rest::Input && at.writer.text.as_slice() == REPLIES)
 }
 
 // The writer takes this many bytes at each turn. While a reply waits, no more is read.
-fn in_turns_of(
-    alloc: Global,
-    replies: &[u8],
-    talk: &mut Conversation,
-    reader: &mut Coming<'_>,
-    writer: &mut Filling,
-    pass: &mut SoloPass,
-    room: &mut Room,
-    at_once: usize,
-) -> Result<(), Stop>
-    requires has { HasDatabases pass.old }
-    ensures has { HasDatabases pass.new }
+fn in_turns_of(alloc: Global, at: &mut Talk, room: &mut Room, at_once: usize) -> Result<(), Stop>
+    requires has { HasDatabases at.old.pass }
+    ensures has { HasDatabases at.new.pass }
 {
-    reader.come(160);
-    let rest = turns(alloc, talk, reader, writer, pass, room)?;
-    check(rest == Rest::Output && reader.left.len() == 48 && writer.text.is_empty())?;
-    reader.come(usize::MAX);
-    for _ in 0..replies.len() {
-        writer.room = at_once;
-        let rest = turns(alloc, talk, reader, writer, pass, room)?;
-        check(Some(&*writer.text) == replies.get(..writer.text.len()))?;
-        check((reader.left.len() == 48) == (writer.text.len() < 15))?;
+    at.reader.come(160);
+    let rest = turns(alloc, at, room)?;
+    check(rest == Rest::Output && at.reader.left.len() == 48 && at.writer.text.is_empty())?;
+    at.reader.come(usize::MAX);
+    for _ in 0..REPLIES.len() {
+        at.writer.room = at_once;
+        let rest = turns(alloc, at, room)?;
+        check(Some(&*at.writer.text) == REPLIES.get(..at.writer.text.len()))?;
+        check((at.reader.left.len() == 48) == (at.writer.text.len() < 15))?;
         if rest == Rest::Input {
-            return check(writer.text.as_slice() == replies);
+            return check(at.writer.text.as_slice() == REPLIES);
         }
-        check(rest == Rest::Output && writer.room == 0)?;
+        check(rest == Rest::Output && at.writer.room == 0)?;
     }
     Err(Stop::Changed)
 }
@@ -228,63 +236,65 @@ fn in_turns_of(
 // taken as well: it may say that a body found no memory.
 fn taken_in_pieces(
     alloc: Global,
-    frames: &[u8],
-    replies: &[u8],
+    at: &mut Talk,
     room: &mut Room,
-    writer: &mut Filling,
     at_once: usize,
-) -> Result<(), Stop> {
-    let mut pass = one_pass(alloc)?;
-    let mut talk = Conversation::new(alloc);
-    let mut reader = Coming::of(frames);
-    let done = in_turns_of(
-        alloc,
-        replies,
-        &mut talk,
-        &mut reader,
-        writer,
-        &mut pass,
-        room,
-        at_once,
-    );
+) -> Result<(), Stop>
+    requires has { HasDatabases at.old.pass }
+{
+    let done = in_turns_of(alloc, at, room, at_once);
     if matches!(done, Err(Stop::Changed)) {
-        writer.room = usize::MAX;
-        turns(alloc, &mut talk, &mut reader, writer, &mut pass, room)?;
+        at.writer.room = usize::MAX;
+        turns(alloc, at, room)?;
     }
     done
 }
 
+/// How the stored run comes, and its replies are taken.
+#[derive(Drop)]
+enum Way {
+    /// This many bytes come at once.
+    Pieces(usize),
+    /// Bytes come up to this place, and then the others, or the input is over.
+    Cut(usize, bool),
+    /// This many bytes are taken at each turn.
+    Taken(usize),
+}
+
+// A conversation that goes this way.
+fn goes(alloc: Global, room: &mut Room, way: &Way) -> Result<(), Stop> {
+    let room_at_first = if matches!(way, Way::Taken(_)) {
+        0
+    } else {
+        usize::MAX
+    };
+    let mut at = talk_of(alloc, room_at_first)?;
+    let done = match way {
+        Way::Pieces(piece) => in_pieces(alloc, &mut at, room, *piece),
+        Way::Cut(place, is_over) => cut_at(alloc, &mut at, room, *place, *is_over),
+        Way::Taken(at_once) => taken_in_pieces(alloc, &mut at, room, *at_once),
+    };
+    went(alloc, &at.writer, done)
+}
+
 // All cuts of the stored run, with one room for all conversations.
-fn any_pieces(alloc: Global) -> Result<(), Stop> {
-    let frames = bytes_of_digits(alloc, FRAMES)?;
-    let replies = bytes_of_digits(alloc, REPLIES)?;
-    let mut room = Room::new(alloc)?;
+fn goes_each_way(alloc: Global, room: &mut Room) -> Result<(), Stop> {
     for piece in 1..=208 {
-        let mut writer = Filling::new(alloc, usize::MAX);
-        let done = in_pieces(alloc, &frames, &replies, &mut room, &mut writer, piece);
-        went(alloc, &writer, done)?;
+        goes(alloc, room, &Way::Pieces(piece))?;
     }
     for place in 0..=208 {
-        for is_over in [false, true] {
-            let mut writer = Filling::new(alloc, usize::MAX);
-            let done = cut_at(
-                alloc,
-                &frames,
-                &replies,
-                &mut room,
-                &mut writer,
-                place,
-                is_over,
-            );
-            went(alloc, &writer, done)?;
-        }
+        goes(alloc, room, &Way::Cut(place, false))?;
+        goes(alloc, room, &Way::Cut(place, true))?;
     }
     for at_once in 1..=58 {
-        let mut writer = Filling::new(alloc, 0);
-        let done = taken_in_pieces(alloc, &frames, &replies, &mut room, &mut writer, at_once);
-        went(alloc, &writer, done)?;
+        goes(alloc, room, &Way::Taken(at_once))?;
     }
     Ok(())
+}
+
+fn any_pieces(alloc: Global) -> Result<(), Stop> {
+    let mut room = Room::new(alloc)?;
+    goes_each_way(alloc, &mut room)
 }
 
 /// A conversation over a reader and a writer that would wait: however the frames are cut, and however the

@@ -4,21 +4,19 @@ ghost use Rattle.std.specs.Prelude.{⊤};
 ghost use Rattle.std.specs.List.{All};
 ghost use Rattle.pl_conn.specs.Desks.{ArePassesOf};
 
-use crate::connections::{Started, check_served, connect, listen, report, stop_of, unserved};
-use crate::conversations::{FRAMES, one_db};
-use crate::memory::{bytes_of_digits, check, is_refused, may_be_refused};
-use crate::talking::{TURNS, push_frame};
-use pl_conn::{Desks, Gate, Passes, Served, serve};
+use crate::connections::{connect, report, serve_while, stop_of};
+use crate::conversations::{FRAMES, dbs_of};
+use crate::memory::{check, is_refused, may_be_refused};
+use crate::talking::{TURNS, body_of, push_frame};
+use pl_conn::{Desks, Gate, Passes};
 use pl_core::Reply;
 use pl_table::{Act, Request};
-use pl_wire::{encode_request, read_reply};
+use pl_wire::read_reply;
 use std::alloc::Global;
 use std::io::{Read, Write};
 use std::net::{Net, SocketAddr, TcpListener, TcpStream};
 use std::sync::Wait;
-use std::thread;
 use std::thread::Threads;
-use transcripts::asking::request_of;
 use transcripts::transcript::Stop;
 
 /// A gate that replies with the LSN of a report as the hardened end.
@@ -68,7 +66,7 @@ fn told_lsn(alloc: Global, stream: &mut TcpStream) -> Result<u64, Stop> {
 fn ask_on_each(alloc: Global, streams: &mut [TcpStream]) -> Result<(), Stop> {
     for more in [0, SPEAKING] {
         for (number, stream) in (0..SPEAKING).zip(streams.iter_mut()) {
-            let frame = report(number.saturating_add(more)).ok_or(Stop::Unread)?;
+            let frame = report(number.saturating_add(more));
             stream.write_all(&frame).map_err(stop_of)?;
         }
     }
@@ -97,7 +95,7 @@ fn ask_amid_a_frame(
     half: &mut TcpStream,
     streams: &mut [TcpStream],
 ) -> Result<(), Stop> {
-    let frame = report(250).ok_or(Stop::Unread)?;
+    let frame = report(250);
     let (front, back) = frame.split_at(20);
     half.write_all(front).map_err(stop_of)?;
     ask_on_each(alloc, streams)?;
@@ -122,10 +120,8 @@ fn ask_beside_silent<R: Net<Stream = TcpStream>>(
     rt: &R,
     alloc: Global,
     addr: SocketAddr,
-    started: &Started,
     room: Vec<TcpStream>,
 ) -> Result<(), Stop> {
-    started.waits()?;
     let silent = connect(rt, addr).map_err(stop_of)?;
     let mut streams = room;
     let told = ask_beside_half(rt, alloc, addr, &mut streams);
@@ -138,27 +134,13 @@ fn serve_hundred<R: Net<Listener = TcpListener, Stream = TcpStream> + Threads + 
     rt: &R,
     alloc: Global,
 ) -> Result<(), Stop> {
-    let started = Started::new();
-    let started = &started;
-    let (listener, addr) = listen(rt)?;
     let passes = Vec::from_array(alloc, [7_u64])?;
     let room = Vec::with_capacity(alloc, usize::from(SPEAKING))?;
-    let connections = u32::from(SPEAKING).saturating_add(2);
-    let (served, are_told) = thread::join(
-        rt,
-        move || {
-            if !started.begins() {
-                return unserved(passes);
-            }
-            let served = serve(rt, alloc, &listener, &Echoes, passes, connections);
-            drop(listener);
-            served
-        },
-        move || ask_beside_silent(rt, alloc, addr, started, room),
-    );
-    check_served(&served, connections, 0, 1)?;
-    are_told?;
-    check(served.passes.as_slice() == [208].as_slice())
+    let counts = (u32::from(SPEAKING).saturating_add(2), 0, 1);
+    let ((), passes) = serve_while(rt, alloc, &Echoes, passes, counts, move |addr| {
+        ask_beside_silent(rt, alloc, addr, room)
+    })?;
+    check(passes.as_slice() == [208].as_slice())
 }
 
 /// A hundred connections with one worker. Each has its own replies in order, while one stays silent and one
@@ -183,14 +165,11 @@ const NO_MEMORY: [u8; 5] = [0, 0, 0, 1, 6];
 
 // The frames of a block on page 0, hardened, and then of this many gets of it.
 fn gets_of_page(alloc: Global) -> Result<Vec<u8>, Stop> {
-    let run = bytes_of_digits(alloc, FRAMES)?;
-    let mut frames = Vec::new(alloc);
-    frames.extend_from_slice(run.get(..160).ok_or(Stop::Unread)?)?;
-    let words = ["3", "33", "secondary", "1", "get", "0", "1"];
-    let request = request_of(alloc, 0, &words)?.ok_or(Stop::Unread)?;
-    let body = encode_request(alloc, &request)?;
+    let (run, _) = FRAMES.split_at(FRAMES.len().min(160));
+    let get = body_of(alloc, &["3", "33", "secondary", "1", "get", "0", "1"])?;
+    let mut frames = Vec::from_slice(alloc, run)?;
     for _ in 0..GETS {
-        push_frame(&mut frames, &body)?;
+        push_frame(&mut frames, &get)?;
     }
     Ok(frames)
 }
@@ -207,10 +186,9 @@ fn is_page(head: [u8; 5], rest: &[u8]) -> bool {
 
 // The frame of a status.
 fn status_frame(alloc: Global) -> Result<Vec<u8>, Stop> {
-    let words = ["2", "22", "primary", "1", "status"];
-    let request = request_of(alloc, 0, &words)?.ok_or(Stop::Unread)?;
+    let body = body_of(alloc, &["2", "22", "primary", "1", "status"])?;
     let mut frame = Vec::new(alloc);
-    push_frame(&mut frame, &encode_request(alloc, &request)?)?;
+    push_frame(&mut frame, &body)?;
     Ok(frame)
 }
 
@@ -252,10 +230,8 @@ fn ask_beside_slow<R: Net<Stream = TcpStream>>(
     rt: &R,
     alloc: Global,
     addr: SocketAddr,
-    started: &Started,
     frames: (&[u8], &[u8]),
 ) -> Result<(), Stop> {
-    started.waits()?;
     let mut slow = connect(rt, addr).map_err(stop_of)?;
     let mut other = connect(rt, addr).map_err(stop_of)?;
     let (gets, status) = frames;
@@ -269,7 +245,7 @@ fn serve_slow<R>(rt: &R, alloc: Global) -> Result<(), Stop>
 where
     R: Net<Listener = TcpListener, Stream = TcpStream> + Threads + Wait + Sync + Copy + Drop,
 {
-    let (desks, passes) = Desks::new(alloc, *rt, one_db(alloc)?, 1, TURNS)?;
+    let (desks, passes) = Desks::new(alloc, *rt, dbs_of(alloc, 1)?, 1, TURNS)?;
     serve_both_at(rt, alloc, &desks, passes)
 }
 
@@ -285,25 +261,10 @@ where
 {
     let (gets, status) = (gets_of_page(alloc)?, status_frame(alloc)?);
     let frames = (gets.as_slice(), status.as_slice());
-    let (listener, addr) = listen(rt)?;
-    let started = Started::new();
-    let started = &started;
-    let (served, are_told) = thread::join(
-        rt,
-        move || -> Served<Passes>
-            requires own { All (ArePassesOf desks.now) passes.items }
-        {
-            if !started.begins() {
-                return unserved(passes);
-            }
-            let served = serve(rt, alloc, &listener, desks, passes, 2);
-            drop(listener);
-            served
-        },
-        || ask_beside_slow(rt, alloc, addr, started, frames),
-    );
-    check_served(&served, 2, 0, 1)?;
-    are_told
+    let ((), _) = serve_while(rt, alloc, desks, passes, (2, 0, 1), |addr| {
+        ask_beside_slow(rt, alloc, addr, frames)
+    })?;
+    Ok(())
 }
 
 /// One worker, and a connection that asks for 16 MB of pages before it reads any: another one is answered

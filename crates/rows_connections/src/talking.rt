@@ -5,7 +5,7 @@ ghost use Rattle.std.specs.Prelude.{IfOk};
 ghost use Rattle.std.specs.List.{All};
 ghost use Rattle.pl_conn.specs.Desks.{ArePassesOf};
 
-use crate::conversations::{one_db, one_pass};
+use crate::conversations::{dbs_of, one_pass};
 use crate::memory::{Input, Output, check, ended_in_refusal, is_refused};
 use pl_conn::{Desks, Gate, Passes, Solo, converse};
 use pl_core::Reply;
@@ -54,8 +54,8 @@ fn numbers_of(line: &str) -> Result<(u64, u64, &str), Stop> {
     Ok((first.parse()?, last.parse()?, line))
 }
 
-// The body of the words, `body BYTES` or a request, or `database NUMBER` and a request.
-fn body_of(alloc: Global, words: &[&str]) -> Result<Vec<u8>, Stop> {
+/// The body of the words, `body BYTES` or a request, or `database NUMBER` and a request.
+pub(crate) fn body_of(alloc: Global, words: &[&str]) -> Result<Vec<u8>, Stop> {
     let (database, words) = match words {
         ["body", bytes @ ..] => return bytes_of(alloc, bytes),
         ["database", number, words @ ..] => (number.parse()?, words),
@@ -103,14 +103,24 @@ impl Told {
         }
     }
 
+    fn push_request(&mut self, alloc: Global, asked: &str) -> Result<(), Stop> {
+        let words: Vec<&str> = asked.split_whitespace().collect(alloc)?;
+        let body = body_of(alloc, &words)?;
+        self.count = self.count.saturating_add(1);
+        push_frame(&mut self.requests, &body)
+    }
+
+    fn push_wanted(&mut self, alloc: Global, wanted: &str) -> Result<(), Stop> {
+        let words: Vec<&str> = wanted.split_whitespace().collect(alloc)?;
+        let reply = wanted_of(alloc, &words)?;
+        self.push_reply(&reply)
+    }
+
     // Puts the frames of a line after the others.
     fn push(&mut self, alloc: Global, line: &str) -> Result<(), Stop> {
         let (asked, wanted) = line.split_once('=').ok_or(Stop::Unread)?;
-        let asked: Vec<&str> = asked.split_whitespace().collect(alloc)?;
-        let wanted: Vec<&str> = wanted.split_whitespace().collect(alloc)?;
-        push_frame(&mut self.requests, &body_of(alloc, &asked)?)?;
-        self.count = self.count.saturating_add(1);
-        self.push_reply(&wanted_of(alloc, &wanted)?)
+        self.push_request(alloc, asked)?;
+        self.push_wanted(alloc, wanted)
     }
 
     fn push_reply(&mut self, reply: &Reply) -> Result<(), Stop> {
@@ -246,7 +256,7 @@ fn converses_at_desk<R: Wait + Drop>(
     told: &Told,
     at_once: usize,
 ) -> Result<Option<u64>, Stop> {
-    let (desks, passes) = Desks::new(alloc, rt, one_db(alloc)?, 1, TURNS)?;
+    let (desks, passes) = Desks::new(alloc, rt, dbs_of(alloc, 1)?, 1, TURNS)?;
     converses_with_last(alloc, told, at_once, &desks, passes)
 }
 

@@ -3,4 +3,4 @@ use Rattle.rows_connections.proofs.resting.in_pieces.Given as goal
 
 -- the pass has its databases
 abbrev pub invariant-loop : goal.invariant-loop
-invariant-loop l = HasDatabases l.pass
+invariant-loop l = HasDatabases l.at.pass
