@@ -2,9 +2,7 @@
 //!
 //! The passes of the requests are 1, 0 and 18446744073709551615, in turn.
 
-use crate::database::Database;
-use std::test::Fail;
-use transcripts::transcript::plays;
+use crate::playing::row;
 
 const AUDIT_OF_A_DENIAL: &str = "\
 open start 2 65536                    = Ok
@@ -15,8 +13,8 @@ audit                                 = 3
 ";
 
 #[test]
-fn audit_of_a_denial(rt: HostRuntime) -> Result<(), Fail> {
-    plays::<Database>(rt.alloc(), AUDIT_OF_A_DENIAL)
+fn audit_of_a_denial(rt: HostRuntime) {
+    row(&rt, rt.alloc(), AUDIT_OF_A_DENIAL);
 }
 
 // The same as bytes, under pass 1.
@@ -31,8 +29,8 @@ bytes 00000001 11111111111111111111111111111111 04 00000000 00000001 0a 00000000
 ";
 
 #[test]
-fn audit_of_a_denial_as_bytes(rt: HostRuntime) -> Result<(), Fail> {
-    plays::<Database>(rt.alloc(), AUDIT_OF_A_DENIAL_AS_BYTES)
+fn audit_of_a_denial_as_bytes(rt: HostRuntime) {
+    row(&rt, rt.alloc(), AUDIT_OF_A_DENIAL_AS_BYTES);
 }
 
 const LINES_OF_EACH_OPERATION: &str = "\
@@ -69,8 +67,8 @@ open start 2 65536                    = Ok
 ";
 
 #[test]
-fn lines_of_each_operation(rt: HostRuntime) -> Result<(), Fail> {
-    plays::<Database>(rt.alloc(), LINES_OF_EACH_OPERATION)
+fn lines_of_each_operation(rt: HostRuntime) {
+    row(&rt, rt.alloc(), LINES_OF_EACH_OPERATION);
 }
 
 // An unknown principal makes no entry. Reading the list makes one.
@@ -88,8 +86,8 @@ epochs                                = 1 2
 ";
 
 #[test]
-fn audits_are_entered(rt: HostRuntime) -> Result<(), Fail> {
-    plays::<Database>(rt.alloc(), AUDITS_ARE_ENTERED)
+fn audits_are_entered(rt: HostRuntime) {
+    row(&rt, rt.alloc(), AUDITS_ARE_ENTERED);
 }
 
 const AUDIT_OF_1024_LINES: &str = "\
@@ -104,6 +102,6 @@ open start 2 65536                    = Ok
 ";
 
 #[test]
-fn audit_of_1024_lines(rt: HostRuntime) -> Result<(), Fail> {
-    plays::<Database>(rt.alloc(), AUDIT_OF_1024_LINES)
+fn audit_of_1024_lines(rt: HostRuntime) {
+    row(&rt, rt.alloc(), AUDIT_OF_1024_LINES);
 }

@@ -171,15 +171,27 @@ impl Database {
             return Err(if same { Stop::NoMemory } else { Stop::Changed });
         };
         let (entries, _, _) = before;
-        if db.audit_len().wrapping_sub(entries) != entered_by(&replies) {
+        let entered = db.audit_len().wrapping_sub(entries);
+        self.push_run(&replies, entered, out, refused)
+    }
+
+    // Pushes the replies of a run that made this many entries.
+    fn push_run(
+        &mut self,
+        replies: &[Reply],
+        entered: u64,
+        out: &mut String,
+        refused: &mut bool,
+    ) -> Result<(), Stop> {
+        if entered != entered_by(replies) {
             return Err(Stop::Changed);
         }
         if !*refused && replies.iter().any(is_refused) {
             *refused = true;
-            return Err(self.amid(&replies)?);
+            return Err(self.amid(replies)?);
         }
         self.ran = self.queue.len();
-        push_replies(out, &replies)
+        push_replies(out, replies)
     }
 
     // What it is that a step of the run was refused memory: the others have to be as if it had not been asked. That is
@@ -363,7 +375,13 @@ fn is_reported(alloc: Global, told: &Reply, wanted: &Reply) -> Result<bool, Stop
 
 // How many entries the requests made that were replied so.
 fn entered_by(replies: &[Reply]) -> u64 {
-    replies.iter().filter(|reply| is_entered(reply)).count() as u64
+    let mut entered: u64 = 0;
+    for reply in replies {
+        if is_entered(reply) {
+            entered = entered.wrapping_add(1);
+        }
+    }
+    entered
 }
 
 // Pushes the replies of a run.

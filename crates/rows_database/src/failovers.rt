@@ -1,8 +1,6 @@
 //! Rows of one database with failovers.
 
-use crate::database::Database;
-use std::test::Fail;
-use transcripts::transcript::plays;
+use crate::playing::row;
 
 const FAILOVER_HARDENS_QUORUM_RUN: &str = "\
 open start 2 65536                 = Ok
@@ -29,8 +27,8 @@ annulled 2 3                       = none
 ";
 
 #[test]
-fn failover_hardens_quorum_run(rt: HostRuntime) -> Result<(), Fail> {
-    plays::<Database>(rt.alloc(), FAILOVER_HARDENS_QUORUM_RUN)
+fn failover_hardens_quorum_run(rt: HostRuntime) {
+    row(&rt, rt.alloc(), FAILOVER_HARDENS_QUORUM_RUN);
 }
 
 const FAILOVER_STOPS_AT_GAP: &str = "\
@@ -53,8 +51,8 @@ annulled 1 3                       = 3:03
 ";
 
 #[test]
-fn failover_stops_at_gap(rt: HostRuntime) -> Result<(), Fail> {
-    plays::<Database>(rt.alloc(), FAILOVER_STOPS_AT_GAP)
+fn failover_stops_at_gap(rt: HostRuntime) {
+    row(&rt, rt.alloc(), FAILOVER_STOPS_AT_GAP);
 }
 
 // What was written before a failover and not hardened is annulled, even where it is written again:
@@ -73,8 +71,8 @@ annulled 2 1                = 1:01
 ";
 
 #[test]
-fn old_copies_count_no_more(rt: HostRuntime) -> Result<(), Fail> {
-    plays::<Database>(rt.alloc(), OLD_COPIES_COUNT_NO_MORE)
+fn old_copies_count_no_more(rt: HostRuntime) {
+    row(&rt, rt.alloc(), OLD_COPIES_COUNT_NO_MORE);
 }
 
 // Ten contents are in two copies, and twenty in one, which are annulled.
@@ -98,8 +96,8 @@ annulled 1 31                       = none
 ";
 
 #[test]
-fn failover_over_thirty_contents(rt: HostRuntime) -> Result<(), Fail> {
-    plays::<Database>(rt.alloc(), FAILOVER_OVER_THIRTY_CONTENTS)
+fn failover_over_thirty_contents(rt: HostRuntime) {
+    row(&rt, rt.alloc(), FAILOVER_OVER_THIRTY_CONTENTS);
 }
 
 // The table of six copies is in force at once, and its copies from the next failover on.
@@ -126,8 +124,8 @@ open start 2 65536                   = Ok
 ";
 
 #[test]
-fn six_copies_after_failover(rt: HostRuntime) -> Result<(), Fail> {
-    plays::<Database>(rt.alloc(), SIX_COPIES_AFTER_FAILOVER)
+fn six_copies_after_failover(rt: HostRuntime) {
+    row(&rt, rt.alloc(), SIX_COPIES_AFTER_FAILOVER);
 }
 
 const COPIES_OF_START_TABLE: &str = "\
@@ -138,6 +136,6 @@ open six_copies 2 65536         = Ok
 ";
 
 #[test]
-fn copies_of_start_table(rt: HostRuntime) -> Result<(), Fail> {
-    plays::<Database>(rt.alloc(), COPIES_OF_START_TABLE)
+fn copies_of_start_table(rt: HostRuntime) {
+    row(&rt, rt.alloc(), COPIES_OF_START_TABLE);
 }

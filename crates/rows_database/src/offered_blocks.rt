@@ -1,8 +1,6 @@
 //! Rows of one database to which blocks are offered.
 
-use crate::database::Database;
-use std::test::Fail;
-use transcripts::transcript::plays;
+use crate::playing::row;
 
 const OFFERED_AND_LANDED: &str = "\
 open start 2 65536                    = Ok
@@ -18,8 +16,8 @@ log                                   = 2 3 1 1
 ";
 
 #[test]
-fn offered_and_landed(rt: HostRuntime) -> Result<(), Fail> {
-    plays::<Database>(rt.alloc(), OFFERED_AND_LANDED)
+fn offered_and_landed(rt: HostRuntime) {
+    row(&rt, rt.alloc(), OFFERED_AND_LANDED);
 }
 
 const OFFERS_END_WITH_EPOCH: &str = "\
@@ -38,8 +36,8 @@ annulled 1 1                          = 1:02
 ";
 
 #[test]
-fn offers_end_with_epoch(rt: HostRuntime) -> Result<(), Fail> {
-    plays::<Database>(rt.alloc(), OFFERS_END_WITH_EPOCH)
+fn offers_end_with_epoch(rt: HostRuntime) {
+    row(&rt, rt.alloc(), OFFERS_END_WITH_EPOCH);
 }
 
 const OFFERED_THEN_RECOVERED: &str = "\
@@ -53,8 +51,8 @@ annulled 1 1                          = none
 ";
 
 #[test]
-fn offered_then_recovered(rt: HostRuntime) -> Result<(), Fail> {
-    plays::<Database>(rt.alloc(), OFFERED_THEN_RECOVERED)
+fn offered_then_recovered(rt: HostRuntime) {
+    row(&rt, rt.alloc(), OFFERED_THEN_RECOVERED);
 }
 
 const OFFERS_FIX_THE_CONTENT: &str = "\
@@ -80,8 +78,8 @@ open start 2 65536                    = Ok
 ";
 
 #[test]
-fn offers_fix_the_content(rt: HostRuntime) -> Result<(), Fail> {
-    plays::<Database>(rt.alloc(), OFFERS_FIX_THE_CONTENT)
+fn offers_fix_the_content(rt: HostRuntime) {
+    row(&rt, rt.alloc(), OFFERS_FIX_THE_CONTENT);
 }
 
 // A write that is denied leaves no content.
@@ -96,8 +94,8 @@ open start 2 65536                    = Ok
 ";
 
 #[test]
-fn denied_offers_leave_nothing(rt: HostRuntime) -> Result<(), Fail> {
-    plays::<Database>(rt.alloc(), DENIED_OFFERS_LEAVE_NOTHING)
+fn denied_offers_leave_nothing(rt: HostRuntime) {
+    row(&rt, rt.alloc(), DENIED_OFFERS_LEAVE_NOTHING);
 }
 
 // 64 blocks are offered. Of these ten are hardened by a report, twenty by a failover, and the others
@@ -121,6 +119,6 @@ annulled 1 64                         = 64:40
 ";
 
 #[test]
-fn window_of_offers(rt: HostRuntime) -> Result<(), Fail> {
-    plays::<Database>(rt.alloc(), WINDOW_OF_OFFERS)
+fn window_of_offers(rt: HostRuntime) {
+    row(&rt, rt.alloc(), WINDOW_OF_OFFERS);
 }

@@ -3,9 +3,7 @@
 //! Each begins with the start table. 1 asks as operator, 2 and 5 as primary, 3 as secondary and 4 as
 //! page server.
 
-use crate::database::Database;
-use std::test::Fail;
-use transcripts::transcript::plays;
+use crate::playing::row;
 
 const WRITE_HARDEN_PULL: &str = "\
 open start 2 65536                 = Ok
@@ -20,8 +18,8 @@ log                                = 1 3 0 1
 ";
 
 #[test]
-fn write_harden_pull(rt: HostRuntime) -> Result<(), Fail> {
-    plays::<Database>(rt.alloc(), WRITE_HARDEN_PULL)
+fn write_harden_pull(rt: HostRuntime) {
+    row(&rt, rt.alloc(), WRITE_HARDEN_PULL);
 }
 
 // The bytes of `write_harden_pull`: the bodies of its requests, and after `=` those of the replies.
@@ -41,8 +39,8 @@ bytes 00000003 33333333333333333333333333333333 02 00000000 00000001 05 \
 ";
 
 #[test]
-fn stored_run(rt: HostRuntime) -> Result<(), Fail> {
-    plays::<Database>(rt.alloc(), STORED_RUN)
+fn stored_run(rt: HostRuntime) {
+    row(&rt, rt.alloc(), STORED_RUN);
 }
 
 const PULL_FROM_EMPTY_LOG: &str = "\
@@ -52,8 +50,8 @@ audit                              = 1
 ";
 
 #[test]
-fn pull_from_empty_log(rt: HostRuntime) -> Result<(), Fail> {
-    plays::<Database>(rt.alloc(), PULL_FROM_EMPTY_LOG)
+fn pull_from_empty_log(rt: HostRuntime) {
+    row(&rt, rt.alloc(), PULL_FROM_EMPTY_LOG);
 }
 
 const REPORT_BELOW_QUORUM: &str = "\
@@ -64,8 +62,8 @@ hard                        = 0
 ";
 
 #[test]
-fn report_below_quorum(rt: HostRuntime) -> Result<(), Fail> {
-    plays::<Database>(rt.alloc(), REPORT_BELOW_QUORUM)
+fn report_below_quorum(rt: HostRuntime) {
+    row(&rt, rt.alloc(), REPORT_BELOW_QUORUM);
 }
 
 const BLOCKS_IN_ANY_ORDER: &str = "\
@@ -80,8 +78,8 @@ hard                        = 2
 ";
 
 #[test]
-fn blocks_in_any_order(rt: HostRuntime) -> Result<(), Fail> {
-    plays::<Database>(rt.alloc(), BLOCKS_IN_ANY_ORDER)
+fn blocks_in_any_order(rt: HostRuntime) {
+    row(&rt, rt.alloc(), BLOCKS_IN_ANY_ORDER);
 }
 
 const WINDOW_OF_SIXTY_FOUR: &str = "\
@@ -91,8 +89,8 @@ open start 2 65536           = Ok
 ";
 
 #[test]
-fn window_of_sixty_four(rt: HostRuntime) -> Result<(), Fail> {
-    plays::<Database>(rt.alloc(), WINDOW_OF_SIXTY_FOUR)
+fn window_of_sixty_four(rt: HostRuntime) {
+    row(&rt, rt.alloc(), WINDOW_OF_SIXTY_FOUR);
 }
 
 const CONTENT_IS_FIXED: &str = "\
@@ -104,8 +102,8 @@ open start 2 65536          = Ok
 ";
 
 #[test]
-fn content_is_fixed(rt: HostRuntime) -> Result<(), Fail> {
-    plays::<Database>(rt.alloc(), CONTENT_IS_FIXED)
+fn content_is_fixed(rt: HostRuntime) {
+    row(&rt, rt.alloc(), CONTENT_IS_FIXED);
 }
 
 const TOKEN_THEN_EPOCH: &str = "\
@@ -122,8 +120,8 @@ audit                 = 2
 ";
 
 #[test]
-fn token_then_epoch(rt: HostRuntime) -> Result<(), Fail> {
-    plays::<Database>(rt.alloc(), TOKEN_THEN_EPOCH)
+fn token_then_epoch(rt: HostRuntime) {
+    row(&rt, rt.alloc(), TOKEN_THEN_EPOCH);
 }
 
 const NO_ROW_MATCHES: &str = "\
@@ -132,8 +130,8 @@ open start 2 65536               = Ok
 ";
 
 #[test]
-fn no_row_matches(rt: HostRuntime) -> Result<(), Fail> {
-    plays::<Database>(rt.alloc(), NO_ROW_MATCHES)
+fn no_row_matches(rt: HostRuntime) {
+    row(&rt, rt.alloc(), NO_ROW_MATCHES);
 }
 
 const PULL_IN_PARTS: &str = "\
@@ -152,8 +150,8 @@ hard                                = 20
 ";
 
 #[test]
-fn pull_in_parts(rt: HostRuntime) -> Result<(), Fail> {
-    plays::<Database>(rt.alloc(), PULL_IN_PARTS)
+fn pull_in_parts(rt: HostRuntime) {
+    row(&rt, rt.alloc(), PULL_IN_PARTS);
 }
 
 const BLOCK_WITHOUT_RECORDS: &str = "\
@@ -165,8 +163,8 @@ open start 2 65536                 = Ok
 ";
 
 #[test]
-fn block_without_records(rt: HostRuntime) -> Result<(), Fail> {
-    plays::<Database>(rt.alloc(), BLOCK_WITHOUT_RECORDS)
+fn block_without_records(rt: HostRuntime) {
+    row(&rt, rt.alloc(), BLOCK_WITHOUT_RECORDS);
 }
 
 const ROLES_AND_PRIMARIES: &str = "\
@@ -187,8 +185,8 @@ epochs                             = 1 2
 ";
 
 #[test]
-fn roles_and_primaries(rt: HostRuntime) -> Result<(), Fail> {
-    plays::<Database>(rt.alloc(), ROLES_AND_PRIMARIES)
+fn roles_and_primaries(rt: HostRuntime) {
+    row(&rt, rt.alloc(), ROLES_AND_PRIMARIES);
 }
 
 const AUDIT_LIST_FILLS: &str = "\
@@ -207,8 +205,8 @@ audit                           = 2
 ";
 
 #[test]
-fn audit_list_fills(rt: HostRuntime) -> Result<(), Fail> {
-    plays::<Database>(rt.alloc(), AUDIT_LIST_FILLS)
+fn audit_list_fills(rt: HostRuntime) {
+    row(&rt, rt.alloc(), AUDIT_LIST_FILLS);
 }
 
 const PRIMARY_NOT_LISTED: &str = "\
@@ -218,8 +216,8 @@ epochs             = 1 5
 ";
 
 #[test]
-fn primary_not_listed(rt: HostRuntime) -> Result<(), Fail> {
-    plays::<Database>(rt.alloc(), PRIMARY_NOT_LISTED)
+fn primary_not_listed(rt: HostRuntime) {
+    row(&rt, rt.alloc(), PRIMARY_NOT_LISTED);
 }
 
 const REPORTS_ABOVE_THE_WINDOW: &str = "\
@@ -231,6 +229,6 @@ hard                                  = 0
 ";
 
 #[test]
-fn reports_above_the_window(rt: HostRuntime) -> Result<(), Fail> {
-    plays::<Database>(rt.alloc(), REPORTS_ABOVE_THE_WINDOW)
+fn reports_above_the_window(rt: HostRuntime) {
+    row(&rt, rt.alloc(), REPORTS_ABOVE_THE_WINDOW);
 }

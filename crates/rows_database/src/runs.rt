@@ -1,8 +1,6 @@
 //! Runs: many requests in one call, each answered as in a step of its own.
 
-use crate::database::Database;
-use std::test::Fail;
-use transcripts::transcript::plays;
+use crate::playing::row;
 
 const RUN_OF_TWO: &str = "\
 open start 2 65536                = Ok
@@ -14,8 +12,8 @@ hard                              = 0
 ";
 
 #[test]
-fn run_of_two(rt: HostRuntime) -> Result<(), Fail> {
-    plays::<Database>(rt.alloc(), RUN_OF_TWO)
+fn run_of_two(rt: HostRuntime) {
+    row(&rt, rt.alloc(), RUN_OF_TWO);
 }
 
 const RUN_OF_NONE: &str = "\
@@ -25,8 +23,8 @@ audit              = 0
 ";
 
 #[test]
-fn run_of_none(rt: HostRuntime) -> Result<(), Fail> {
-    plays::<Database>(rt.alloc(), RUN_OF_NONE)
+fn run_of_none(rt: HostRuntime) {
+    row(&rt, rt.alloc(), RUN_OF_NONE);
 }
 
 const RUN_OF_THREE: &str = "\
@@ -44,8 +42,8 @@ audit                               = 5
 ";
 
 #[test]
-fn run_of_three(rt: HostRuntime) -> Result<(), Fail> {
-    plays::<Database>(rt.alloc(), RUN_OF_THREE)
+fn run_of_three(rt: HostRuntime) {
+    row(&rt, rt.alloc(), RUN_OF_THREE);
 }
 
 const RUN_OF_THIRTY: &str = "\
@@ -89,6 +87,6 @@ hard                               = 13
 ";
 
 #[test]
-fn run_of_thirty(rt: HostRuntime) -> Result<(), Fail> {
-    plays::<Database>(rt.alloc(), RUN_OF_THIRTY)
+fn run_of_thirty(rt: HostRuntime) {
+    row(&rt, rt.alloc(), RUN_OF_THIRTY);
 }

@@ -2,9 +2,7 @@
 //!
 //! A page is its LSN, and each byte that is not 0 with its offset.
 
-use crate::database::Database;
-use std::test::Fail;
-use transcripts::transcript::plays;
+use crate::playing::row;
 
 const PAGE_OF_EMPTY_LOG: &str = "\
 open start 2 65536                    = Ok
@@ -16,8 +14,8 @@ audit                                 = 4
 ";
 
 #[test]
-fn page_of_empty_log(rt: HostRuntime) -> Result<(), Fail> {
-    plays::<Database>(rt.alloc(), PAGE_OF_EMPTY_LOG)
+fn page_of_empty_log(rt: HostRuntime) {
+    row(&rt, rt.alloc(), PAGE_OF_EMPTY_LOG);
 }
 
 // Page 458752 is the first of partition 7, which row 3 of the table denies to 3.
@@ -34,8 +32,8 @@ open start 2 65536                    = Ok
 ";
 
 #[test]
-fn table_before_number(rt: HostRuntime) -> Result<(), Fail> {
-    plays::<Database>(rt.alloc(), TABLE_BEFORE_NUMBER)
+fn table_before_number(rt: HostRuntime) {
+    row(&rt, rt.alloc(), TABLE_BEFORE_NUMBER);
 }
 
 const ADVANCE_THEN_GET: &str = "\
@@ -54,8 +52,8 @@ applied 0                             = 5
 ";
 
 #[test]
-fn advance_then_get(rt: HostRuntime) -> Result<(), Fail> {
-    plays::<Database>(rt.alloc(), ADVANCE_THEN_GET)
+fn advance_then_get(rt: HostRuntime) {
+    row(&rt, rt.alloc(), ADVANCE_THEN_GET);
 }
 
 const RECORDS_OF_TWO_PARTITIONS: &str = "\
@@ -74,8 +72,8 @@ open start 2 65536                              = Ok
 ";
 
 #[test]
-fn records_of_two_partitions(rt: HostRuntime) -> Result<(), Fail> {
-    plays::<Database>(rt.alloc(), RECORDS_OF_TWO_PARTITIONS)
+fn records_of_two_partitions(rt: HostRuntime) {
+    row(&rt, rt.alloc(), RECORDS_OF_TWO_PARTITIONS);
 }
 
 const GET_AT_APPLIED_NUMBER: &str = "\
@@ -99,8 +97,8 @@ applied 4                             = 0
 ";
 
 #[test]
-fn get_at_applied_number(rt: HostRuntime) -> Result<(), Fail> {
-    plays::<Database>(rt.alloc(), GET_AT_APPLIED_NUMBER)
+fn get_at_applied_number(rt: HostRuntime) {
+    row(&rt, rt.alloc(), GET_AT_APPLIED_NUMBER);
 }
 
 // The blocks 3 to 5 are in one copy: the failover annuls them, and no page has shown them.
@@ -126,6 +124,6 @@ applied 0                             = 1
 ";
 
 #[test]
-fn pages_of_hardened_blocks(rt: HostRuntime) -> Result<(), Fail> {
-    plays::<Database>(rt.alloc(), PAGES_OF_HARDENED_BLOCKS)
+fn pages_of_hardened_blocks(rt: HostRuntime) {
+    row(&rt, rt.alloc(), PAGES_OF_HARDENED_BLOCKS);
 }

@@ -1,8 +1,6 @@
 //! Rows of one database at the sizes that users have.
 
-use crate::database::Database;
-use std::test::Fail;
-use transcripts::transcript::plays;
+use crate::playing::row;
 
 const THREE_HUNDRED_BLOCKS: &str = "\
 open start 2 65536                   = Ok
@@ -42,8 +40,8 @@ in_broker                            = 64
 ";
 
 #[test]
-fn three_hundred_blocks(rt: HostRuntime) -> Result<(), Fail> {
-    plays::<Database>(rt.alloc(), THREE_HUNDRED_BLOCKS)
+fn three_hundred_blocks(rt: HostRuntime) {
+    row(&rt, rt.alloc(), THREE_HUNDRED_BLOCKS);
 }
 
 const FIVE_THOUSAND_BLOCKS: &str = "\
@@ -71,8 +69,8 @@ audit                                 = 10205
 
 /// More hardened blocks than the first chunk of the index of destaged blocks has, read back.
 #[test]
-fn five_thousand_blocks(rt: HostRuntime) -> Result<(), Fail> {
-    plays::<Database>(rt.alloc(), FIVE_THOUSAND_BLOCKS)
+fn five_thousand_blocks(rt: HostRuntime) {
+    row(&rt, rt.alloc(), FIVE_THOUSAND_BLOCKS);
 }
 
 const WINDOW_FILLED_THREE_TIMES: &str = "\
@@ -96,8 +94,8 @@ audit                         = 390
 ";
 
 #[test]
-fn window_filled_three_times(rt: HostRuntime) -> Result<(), Fail> {
-    plays::<Database>(rt.alloc(), WINDOW_FILLED_THREE_TIMES)
+fn window_filled_three_times(rt: HostRuntime) {
+    row(&rt, rt.alloc(), WINDOW_FILLED_THREE_TIMES);
 }
 
 const AUDIT_LIST_OF_65536: &str = "\
@@ -110,6 +108,6 @@ audit                         = 65536
 ";
 
 #[test]
-fn audit_list_of_65536(rt: HostRuntime) -> Result<(), Fail> {
-    plays::<Database>(rt.alloc(), AUDIT_LIST_OF_65536)
+fn audit_list_of_65536(rt: HostRuntime) {
+    row(&rt, rt.alloc(), AUDIT_LIST_OF_65536);
 }

@@ -1,8 +1,6 @@
 //! Rows of one database whose table changes.
 
-use crate::database::Database;
-use std::test::Fail;
-use transcripts::transcript::plays;
+use crate::playing::row;
 
 const NEW_TABLE_IN_FORCE: &str = "\
 open start 2 65536                 = Ok
@@ -17,8 +15,8 @@ audit                              = 7
 ";
 
 #[test]
-fn new_table_in_force(rt: HostRuntime) -> Result<(), Fail> {
-    plays::<Database>(rt.alloc(), NEW_TABLE_IN_FORCE)
+fn new_table_in_force(rt: HostRuntime) {
+    row(&rt, rt.alloc(), NEW_TABLE_IN_FORCE);
 }
 
 const FIRST_TABLE_SET_AGAIN: &str = "\
@@ -35,8 +33,8 @@ open start 2 65536                 = Ok
 ";
 
 #[test]
-fn first_table_set_again(rt: HostRuntime) -> Result<(), Fail> {
-    plays::<Database>(rt.alloc(), FIRST_TABLE_SET_AGAIN)
+fn first_table_set_again(rt: HostRuntime) {
+    row(&rt, rt.alloc(), FIRST_TABLE_SET_AGAIN);
 }
 
 const TOKEN_OF_A_NEW_TABLE: &str = "\
@@ -55,8 +53,8 @@ audit                                   = 6
 ";
 
 #[test]
-fn token_of_a_new_table(rt: HostRuntime) -> Result<(), Fail> {
-    plays::<Database>(rt.alloc(), TOKEN_OF_A_NEW_TABLE)
+fn token_of_a_new_table(rt: HostRuntime) {
+    row(&rt, rt.alloc(), TOKEN_OF_A_NEW_TABLE);
 }
 
 const FAULTY_TABLES_CHANGE_NOTHING: &str = "\
@@ -77,8 +75,8 @@ audit                                      = 12
 ";
 
 #[test]
-fn faulty_tables_change_nothing(rt: HostRuntime) -> Result<(), Fail> {
-    plays::<Database>(rt.alloc(), FAULTY_TABLES_CHANGE_NOTHING)
+fn faulty_tables_change_nothing(rt: HostRuntime) {
+    row(&rt, rt.alloc(), FAULTY_TABLES_CHANGE_NOTHING);
 }
 
 // Rows of new tables that deny writes of partition 2, and pulls of partition 6. Page 131072 is the
@@ -103,8 +101,8 @@ open start 2 65536                      = Ok
 ";
 
 #[test]
-fn partitions_of_a_new_table(rt: HostRuntime) -> Result<(), Fail> {
-    plays::<Database>(rt.alloc(), PARTITIONS_OF_A_NEW_TABLE)
+fn partitions_of_a_new_table(rt: HostRuntime) {
+    row(&rt, rt.alloc(), PARTITIONS_OF_A_NEW_TABLE);
 }
 
 const ROWS_END_AT_A_NUMBER: &str = "\
@@ -123,8 +121,8 @@ open start 2 65536                    = Ok
 ";
 
 #[test]
-fn rows_end_at_a_number(rt: HostRuntime) -> Result<(), Fail> {
-    plays::<Database>(rt.alloc(), ROWS_END_AT_A_NUMBER)
+fn rows_end_at_a_number(rt: HostRuntime) {
+    row(&rt, rt.alloc(), ROWS_END_AT_A_NUMBER);
 }
 
 const DENY_ABOVE_A_NUMBER: &str = "\
@@ -139,6 +137,6 @@ open start 2 65536                           = Ok
 ";
 
 #[test]
-fn deny_above_a_number(rt: HostRuntime) -> Result<(), Fail> {
-    plays::<Database>(rt.alloc(), DENY_ABOVE_A_NUMBER)
+fn deny_above_a_number(rt: HostRuntime) {
+    row(&rt, rt.alloc(), DENY_ABOVE_A_NUMBER);
 }
