@@ -1,11 +1,12 @@
 //! An arena of frames on its own, asked line by line, and its rows.
 
+use crate::playing::row;
 use pl_arena::{FrameId, TakeFault, VersionArena};
 use std::alloc::Global;
 use std::test::Fail;
 use std::thread;
 use transcripts::answer::{push_numbers, push_truth, push_word};
-use transcripts::transcript::{Stop, Subject, plays};
+use transcripts::transcript::{Stop, Subject};
 
 /// The arena of a transcript. A frame has the number of its place in `names`: frames are named in the
 /// order in which they were first taken.
@@ -199,8 +200,8 @@ takes 5          = 0
 ";
 
 #[test]
-fn arena_fills(rt: HostRuntime) -> Result<(), Fail> {
-    plays::<Framed>(rt.alloc(), ARENA_FILLS)
+fn arena_fills(rt: HostRuntime) {
+    row::<Framed>(&rt, rt.alloc(), ARENA_FILLS);
 }
 
 const FRAMES_ARE_APART: &str = "\
@@ -225,8 +226,8 @@ bytes 129        = 33+4
 ";
 
 #[test]
-fn frames_are_apart(rt: HostRuntime) -> Result<(), Fail> {
-    plays::<Framed>(rt.alloc(), FRAMES_ARE_APART)
+fn frames_are_apart(rt: HostRuntime) {
+    row::<Framed>(&rt, rt.alloc(), FRAMES_ARE_APART);
 }
 
 /// Takes this many frames of an arena, gives back the last, and lets the arena go.
@@ -242,13 +243,14 @@ pub(crate) fn ends(alloc: Global, frames: u32, refused: &mut bool) -> Result<(),
     }
 }
 
+const FRAMES: &[u32] = &[0, 1, 64, 65, 192];
+
 #[test]
-fn arena_ends_with_frames_out(rt: HostRuntime) -> Result<(), Fail> {
+fn arena_ends_with_frames_out(rt: HostRuntime) {
     let mut refused = false;
-    for frames in [0u32, 1, 64, 65, 192] {
-        assert!(rt; ends(rt.alloc(), frames, &mut refused).is_ok());
+    for frames in FRAMES {
+        assert!(rt; ends(rt.alloc(), *frames, &mut refused).is_ok());
     }
-    Ok(())
 }
 
 #[test]

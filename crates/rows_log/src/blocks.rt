@@ -1,8 +1,7 @@
 //! Cases of the block codec: bytes spelled by hand from the format, and blocks made of records.
 
-use std::test::Fail;
+use crate::playing::row;
 use transcripts::codec::Codec;
-use transcripts::transcript::plays;
 
 const EACH_FAULT_HAS_ITS_CODE: &str = "\
 # Cut in the number.
@@ -34,8 +33,8 @@ decode zeros 32768                                                      = fault 
 ";
 
 #[test]
-fn each_fault_has_its_code(rt: HostRuntime) -> Result<(), Fail> {
-    plays::<Codec>(rt.alloc(), EACH_FAULT_HAS_ITS_CODE)
+fn each_fault_has_its_code(rt: HostRuntime) {
+    row::<Codec>(&rt, rt.alloc(), EACH_FAULT_HAS_ITS_CODE);
 }
 
 const FIRST_FAULT_IS_TOLD: &str = "\
@@ -56,8 +55,8 @@ decode 0000000000000001 0001 0000 0000 00                               = fault 
 ";
 
 #[test]
-fn first_fault_is_reported(rt: HostRuntime) -> Result<(), Fail> {
-    plays::<Codec>(rt.alloc(), FIRST_FAULT_IS_TOLD)
+fn first_fault_is_reported(rt: HostRuntime) {
+    row::<Codec>(&rt, rt.alloc(), FIRST_FAULT_IS_TOLD);
 }
 
 const PUT_AT_PAGE_END: &str = "\
@@ -67,8 +66,8 @@ decode 0000000000000001 0001 0000 0001 01 00000000 1fff 0000            = fault 
 ";
 
 #[test]
-fn put_at_page_end(rt: HostRuntime) -> Result<(), Fail> {
-    plays::<Codec>(rt.alloc(), PUT_AT_PAGE_END)
+fn put_at_page_end(rt: HostRuntime) {
+    row::<Codec>(&rt, rt.alloc(), PUT_AT_PAGE_END);
 }
 
 const READS_AND_WRITES_THE_BYTES: &str = "\
@@ -89,8 +88,8 @@ encode 2:zero@4294967295,aa@1,zero@1 \
 ";
 
 #[test]
-fn reads_and_writes_the_bytes(rt: HostRuntime) -> Result<(), Fail> {
-    plays::<Codec>(rt.alloc(), READS_AND_WRITES_THE_BYTES)
+fn reads_and_writes_the_bytes(rt: HostRuntime) {
+    row::<Codec>(&rt, rt.alloc(), READS_AND_WRITES_THE_BYTES);
 }
 
 const WRITES_BEHIND_WHAT_STANDS: &str = "\
@@ -102,8 +101,8 @@ onto 1:aa                     = 000000000000000100000000\
 ";
 
 #[test]
-fn block_is_appended(rt: HostRuntime) -> Result<(), Fail> {
-    plays::<Codec>(rt.alloc(), WRITES_BEHIND_WHAT_STANDS)
+fn block_is_appended(rt: HostRuntime) {
+    row::<Codec>(&rt, rt.alloc(), WRITES_BEHIND_WHAT_STANDS);
 }
 
 const MAKING_TELLS_THE_FIRST_FAULT: &str = "\
@@ -119,8 +118,8 @@ block 1:zero,zero@4294967295                     = 26 bytes
 ";
 
 #[test]
-fn making_reports_the_first_fault(rt: HostRuntime) -> Result<(), Fail> {
-    plays::<Codec>(rt.alloc(), MAKING_TELLS_THE_FIRST_FAULT)
+fn making_reports_the_first_fault(rt: HostRuntime) {
+    row::<Codec>(&rt, rt.alloc(), MAKING_TELLS_THE_FIRST_FAULT);
 }
 
 const LARGEST_BLOCK: &str = "\
@@ -129,8 +128,8 @@ block 1:8192*aa,8192*aa,8192*aa,8143*aa          = fault 9
 ";
 
 #[test]
-fn largest_block(rt: HostRuntime) -> Result<(), Fail> {
-    plays::<Codec>(rt.alloc(), LARGEST_BLOCK)
+fn largest_block(rt: HostRuntime) {
+    row::<Codec>(&rt, rt.alloc(), LARGEST_BLOCK);
 }
 
 const BLOCK_OF_20000_BYTES: &str = "\
@@ -138,8 +137,8 @@ block 5:8192*01,8192*02@70000,3571*03@4294967295 = 20000 bytes
 ";
 
 #[test]
-fn block_of_20000_bytes(rt: HostRuntime) -> Result<(), Fail> {
-    plays::<Codec>(rt.alloc(), BLOCK_OF_20000_BYTES)
+fn block_of_20000_bytes(rt: HostRuntime) {
+    row::<Codec>(&rt, rt.alloc(), BLOCK_OF_20000_BYTES);
 }
 
 // 12 bytes, 2 for the one partition, and 10 for each record.
@@ -150,8 +149,8 @@ records 3276                                     = fault 9
 ";
 
 #[test]
-fn block_of_2700_records(rt: HostRuntime) -> Result<(), Fail> {
-    plays::<Codec>(rt.alloc(), BLOCK_OF_2700_RECORDS)
+fn block_of_2700_records(rt: HostRuntime) {
+    row::<Codec>(&rt, rt.alloc(), BLOCK_OF_2700_RECORDS);
 }
 
 const TELLS_ITS_PARTITIONS: &str = "\
@@ -210,6 +209,6 @@ same 7:8192*aa 7:8191*aa                         = false
 ";
 
 #[test]
-fn tells_its_partitions(rt: HostRuntime) -> Result<(), Fail> {
-    plays::<Codec>(rt.alloc(), TELLS_ITS_PARTITIONS)
+fn tells_its_partitions(rt: HostRuntime) {
+    row::<Codec>(&rt, rt.alloc(), TELLS_ITS_PARTITIONS);
 }

@@ -35,17 +35,18 @@ fn get(destage: &mut Destage, lsn: u64, refused: &mut bool) -> Result<Block, Sto
     Ok(destage.get(lsn)?)
 }
 
-fn destaged(alloc: Global, count: u64, size: Size, refused: &mut bool) -> Result<Destage, Stop> {
-    let mut destage = new_destage(alloc, refused)?;
+fn append_each(
+    alloc: Global,
+    destage: &mut Destage,
+    count: u64,
+    size: Size,
+    refused: &mut bool,
+) -> Result<(), Stop> {
     for before in 0..count {
-        append(
-            &mut destage,
-            &block(alloc, before.saturating_add(1), size)?,
-            refused,
-        )?;
+        let next = block(alloc, before.saturating_add(1), size)?;
+        append(destage, &next, refused)?;
     }
-    wants(destage.len() == count, "the number of blocks")?;
-    Ok(destage)
+    wants(destage.len() == count, "the number of blocks")
 }
 
 // The block of the LSN is the one that was destaged.
@@ -63,17 +64,45 @@ fn reads(
     )
 }
 
-// Some are got twice in turn, so that the second time they are cached; the first ones are got again
-// when the cache has lost them.
-fn read_three_hundred(alloc: Global, refused: &mut bool) -> Result<(), Stop> {
-    let mut destage = destaged(alloc, 300, Size::Short, refused)?;
-    for lsn in 1..301u64 {
-        reads(alloc, &mut destage, lsn, Size::Short, refused)?;
-        reads(alloc, &mut destage, lsn, Size::Short, refused)?;
+fn read_each(
+    alloc: Global,
+    destage: &mut Destage,
+    lsns: &[u64],
+    refused: &mut bool,
+) -> Result<(), Stop> {
+    for lsn in lsns {
+        reads(alloc, destage, *lsn, Size::Short, refused)?;
     }
-    for lsn in [300, 237, 236, 1, 2, 300, 1] {
-        reads(alloc, &mut destage, lsn, Size::Short, refused)?;
+    Ok(())
+}
+
+// Each of the blocks from 1 on is got this many times in turn.
+fn read_all(
+    alloc: Global,
+    destage: &mut Destage,
+    times: u8,
+    size: Size,
+    refused: &mut bool,
+) -> Result<(), Stop> {
+    for before in 0..destage.len() {
+        for _ in 0..times {
+            reads(alloc, destage, before.saturating_add(1), size, refused)?;
+        }
     }
+    Ok(())
+}
+
+const AGAIN: &[u64] = &[300, 237, 236, 1, 2, 300, 1];
+
+// Each is got twice in turn, so that the second time it is cached; the first ones are got again when the
+// cache has lost them.
+fn read_three_hundred(
+    alloc: Global,
+    destage: &mut Destage,
+    refused: &mut bool,
+) -> Result<(), Stop> {
+    read_all(alloc, destage, 2, Size::Short, refused)?;
+    read_each(alloc, destage, AGAIN, refused)?;
     wants(destage.len() == 300, "300 blocks")
 }
 
@@ -85,7 +114,7 @@ fn touches(destage: &Destage, lsn: u64, lo: u16, hi: u16) -> Result<bool, Stop> 
 }
 
 /// LSN, first and last partition, and whether the block of the LSN touches one of them.
-const TOUCHED: [(u64, u16, u16, bool); 12] = [
+const TOUCHED: &[(u64, u16, u16, bool)] = &[
     (5, 5, 5, true),
     (5, 0, 4, false),
     (5, 6, 101, false),
@@ -100,34 +129,16 @@ const TOUCHED: [(u64, u16, u16, bool); 12] = [
     (300, 101, 65_535, false),
 ];
 
-fn touch_three_hundred(alloc: Global, refused: &mut bool) -> Result<(), Stop> {
-    let destage = destaged(alloc, 300, Size::Short, refused)?;
-    for (lsn, lo, hi, wanted) in TOUCHED {
-        wants(
-            touches(&destage, lsn, lo, hi)? == wanted,
-            "whether it touches",
-        )?;
-    }
-    Ok(())
-}
-
-// Thirty blocks of 24,000 bytes need three segments.
-fn read_long_blocks(alloc: Global, refused: &mut bool) -> Result<(), Stop> {
-    let mut destage = destaged(alloc, 30, Size::Long, refused)?;
-    for lsn in 1..31u64 {
-        reads(alloc, &mut destage, lsn, Size::Long, refused)?;
+fn touch_each(destage: &Destage, touched: &[(u64, u16, u16, bool)]) -> Result<(), Stop> {
+    for (lsn, lo, hi, wanted) in touched {
+        let same = touches(destage, *lsn, *lo, *hi)? == *wanted;
+        wants(same, "whether it touches")?;
     }
     Ok(())
 }
 
 // 4,096 places of the index are reserved at a time.
-fn read_past_a_chunk(alloc: Global, refused: &mut bool) -> Result<(), Stop> {
-    let mut destage = destaged(alloc, 8200, Size::Short, refused)?;
-    for lsn in [1, 4095, 4096, 4097, 8192, 8193, 8200] {
-        reads(alloc, &mut destage, lsn, Size::Short, refused)?;
-    }
-    Ok(())
-}
+const PAST_A_CHUNK: &[u64] = &[1, 4095, 4096, 4097, 8192, 8193, 8200];
 
 #[derive(Clone, Copy, Debug)]
 enum DestageRow {
@@ -137,14 +148,32 @@ enum DestageRow {
     ReadPastAChunk,
 }
 
+impl DestageRow {
+    // How many blocks are destaged, and their size. Thirty blocks of 24,000 bytes need three segments.
+    fn blocks(self) -> (u64, Size) {
+        match self {
+            DestageRow::ReadThreeHundred | DestageRow::TouchThreeHundred => (300, Size::Short),
+            DestageRow::ReadLongBlocks => (30, Size::Long),
+            DestageRow::ReadPastAChunk => (8200, Size::Short),
+        }
+    }
+
+    fn play_on(self, alloc: Global, destage: &mut Destage, refused: &mut bool) -> Result<(), Stop> {
+        let (count, size) = self.blocks();
+        append_each(alloc, destage, count, size, refused)?;
+        match self {
+            DestageRow::ReadThreeHundred => read_three_hundred(alloc, destage, refused),
+            DestageRow::TouchThreeHundred => touch_each(destage, TOUCHED),
+            DestageRow::ReadLongBlocks => read_all(alloc, destage, 1, size, refused),
+            DestageRow::ReadPastAChunk => read_each(alloc, destage, PAST_A_CHUNK, refused),
+        }
+    }
+}
+
 impl Row for DestageRow {
     fn play(self, alloc: Global, refused: &mut bool) -> Result<(), Stop> {
-        match self {
-            DestageRow::ReadThreeHundred => read_three_hundred(alloc, refused),
-            DestageRow::TouchThreeHundred => touch_three_hundred(alloc, refused),
-            DestageRow::ReadLongBlocks => read_long_blocks(alloc, refused),
-            DestageRow::ReadPastAChunk => read_past_a_chunk(alloc, refused),
-        }
+        let mut destage = new_destage(alloc, refused)?;
+        self.play_on(alloc, &mut destage, refused)
     }
 }
 

@@ -33,4 +33,6 @@ mod pages;
 #[cfg(test)]
 mod plain;
 #[cfg(test)]
+mod playing;
+#[cfg(test)]
 mod stores;

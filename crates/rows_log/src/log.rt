@@ -294,6 +294,11 @@ fn push_counts(out: &mut String, counts: (u64, u64)) -> Result<(), Stop> {
     push_numbers(out, &[pending, landing])
 }
 
+// The first words of what is taken out of the log or made of it, and of its changes.
+const READS: &[&str] = &["recover", "read", "pull"];
+
+const CHANGES: &[&str] = &["write", "offer", "report", "harden", "land", "tidy"];
+
 impl Log {
     fn open(&mut self, copies: &str, quorum: &str) -> Result<(), Stop> {
         self.driven = Some(open(self.alloc, zone(copies, quorum)?)?);
@@ -304,16 +309,14 @@ impl Log {
     fn ask(&mut self, words: &[&str], out: &mut String, refused: &mut bool) -> Result<(), Stop> {
         let alloc = self.alloc;
         let driven = self.driven.as_mut().ok_or(Stop::Unread)?;
-        match words {
-            ["recover" | "read" | "pull", ..] => driven.push_read(words, out, refused),
-            [
-                "write" | "offer" | "report" | "harden" | "land" | "tidy",
-                ..
-            ] => {
-                driven.change(alloc, words, refused)?;
-                push_word(out, "Ok")
-            }
-            _ => driven.push_state(alloc, words, out),
+        let first = words.first().ok_or(Stop::Unread)?;
+        if READS.contains(first) {
+            driven.push_read(words, out, refused)
+        } else if CHANGES.contains(first) {
+            driven.change(alloc, words, refused)?;
+            push_word(out, "Ok")
+        } else {
+            driven.push_state(alloc, words, out)
         }
     }
 }

@@ -1,8 +1,7 @@
 //! Rows of a log on its own: what is served of its hardened blocks.
 
 use crate::log::Log;
-use std::test::Fail;
-use transcripts::transcript::plays;
+use crate::playing::row;
 
 // Partition 0, partition 7, partition 0, none, partitions 7 and 0; then lo, hi, from, max and reach.
 const PULL_IN_PARTS: &str = "\
@@ -33,8 +32,8 @@ pull 0 65535 1 16 0      = 1
 ";
 
 #[test]
-fn pull_in_parts(rt: HostRuntime) -> Result<(), Fail> {
-    plays::<Log>(rt.alloc(), PULL_IN_PARTS)
+fn pull_in_parts(rt: HostRuntime) {
+    row::<Log>(&rt, rt.alloc(), PULL_IN_PARTS);
 }
 
 const READ_FROM_BOTH_STORES: &str = "\
@@ -78,6 +77,6 @@ annulled 1 304         = 304:bb
 ";
 
 #[test]
-fn read_from_both_stores(rt: HostRuntime) -> Result<(), Fail> {
-    plays::<Log>(rt.alloc(), READ_FROM_BOTH_STORES)
+fn read_from_both_stores(rt: HostRuntime) {
+    row::<Log>(&rt, rt.alloc(), READ_FROM_BOTH_STORES);
 }

@@ -5,15 +5,15 @@ ghost use Rattle.rows_log.specs.Fits.{is_record-prop};
 ghost use Rattle.std.proofs.Props.{props};
 ghost use Rattle.std.specs.List.{AllByRecursion-prop};
 
+use crate::playing::row;
 use pl_log::DbLog;
 use pl_log::laws::reports_harden_contents;
 use pl_pages::Pages;
 use pl_pages::laws::pages_fit_longer_logs;
 use std::alloc::Global;
-use std::test::Fail;
 use transcripts::answer::{push_numbers, push_word};
 use transcripts::block_text::block_of;
-use transcripts::transcript::{Stop, Subject, plays};
+use transcripts::transcript::{Stop, Subject};
 
 /// A log with its pages, as whoever serves pages keeps them.
 #[derive(Drop)]
@@ -105,18 +105,20 @@ impl Served {
     }
 }
 
+// The first words of changes.
+const CHANGES: &[&str] = &["harden", "advance"];
+
 impl Replayed {
     // Pushes the answer of the pages that are open.
     fn ask(&mut self, words: &[&str], out: &mut String) -> Result<(), Stop> {
         let alloc = self.alloc;
         let served = self.served.as_mut().ok_or(Stop::Unread)?;
-        match words {
-            ["harden" | "advance", ..] => {
-                served.change(alloc, words)?;
-                push_word(out, "Ok")
-            }
-            _ => served.push_state(words, out),
+        let first = words.first().ok_or(Stop::Unread)?;
+        if !CHANGES.contains(first) {
+            return served.push_state(words, out);
         }
+        served.change(alloc, words)?;
+        push_word(out, "Ok")
     }
 }
 
@@ -176,8 +178,8 @@ get 0 4                       = 4 4 0
 ";
 
 #[test]
-fn pages_at_each_lsn(rt: HostRuntime) -> Result<(), Fail> {
-    plays::<Replayed>(rt.alloc(), PAGES_AT_EACH_LSN)
+fn pages_at_each_lsn(rt: HostRuntime) {
+    row::<Replayed>(&rt, rt.alloc(), PAGES_AT_EACH_LSN);
 }
 
 // A block that makes the whole page is where a replay may begin: bytes from before it are gone, also
@@ -211,6 +213,6 @@ get 0 1 exact                         = 1 17 34
 ";
 
 #[test]
-fn replays_begin_at_images(rt: HostRuntime) -> Result<(), Fail> {
-    plays::<Replayed>(rt.alloc(), REPLAYS_BEGIN_AT_IMAGES)
+fn replays_begin_at_images(rt: HostRuntime) {
+    row::<Replayed>(&rt, rt.alloc(), REPLAYS_BEGIN_AT_IMAGES);
 }
