@@ -317,7 +317,7 @@ pub fn command(alloc: Global, arguments: Vec<String>) -> Result<CommandLine, Com
 {
     let mut program = program(alloc)?;
     let asked = asked_of(alloc, &mut program, arguments.as_slice());
-    // In one step: what drops a command in place has branches.
+    // By a call: where it went out of scope, its drop would be steps of this function's proof.
     drop(program);
     asked
 }

@@ -180,7 +180,7 @@ fn with_sub<'a>(command: Command<'a>, subcommand: Making<'a>) -> Result<Command<
     match made {
         Ok(made) => command.subcommand(made),
         Err(refused) => {
-            // In one step: what drops a command in place has branches.
+            // By a call: where it went out of scope, its drop would be steps of this function's proof.
             drop(command);
             Err(refused)
         }

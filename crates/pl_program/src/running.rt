@@ -127,7 +127,7 @@ fn play_by(
     match start_play(rt.alloc(), table, primary) {
         Ok(mut db) => {
             let played = play_all(rt, &mut db);
-            // In one step: what drops a database in place has branches.
+            // By a call: where it went out of scope, its drop would be steps of this function's proof.
             drop(db);
             end_of(played)
         }

@@ -225,7 +225,14 @@ fn fail_over_at<R: Threads + Wait + Abort + Sync>(
     requires of { All (IsOf desk.now) passes.items }
     ensures of { IfOk result (λ pass. IsOf desk.now pass) }
 {
-    let (allowed, _, mut pass) = play_passes(rt, alloc, desk, passes, FAILOVER_BENEATH_WRITES, refused)?;
+    let (allowed, _, mut pass) = play_passes(
+        rt,
+        alloc,
+        desk,
+        passes,
+        FAILOVER_BENEATH_WRITES,
+        refused,
+    )?;
     let audit = audit_on(alloc, allowed, refused)?;
     play(rt, alloc, desk, &mut pass, &audit, refused)?;
     Ok(pass)
