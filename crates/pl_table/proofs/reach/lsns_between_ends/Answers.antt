@@ -10,6 +10,9 @@ pub loop-row-preserved : goal.loop-row-preserved
 loop-row-preserved c =
     let more = rw (← c.row-item.is) at (take_more c.args.rows.now c.loop-row.row-index c.row-item.result c.loop-row-test.true) in
     let within = c.cut-lsns.ensures.within in
-    let before = c.loop-row.invariant.2 in
-    (c.cut-lsns.ensures.at.0, c.cut-lsns.ensures.at.1, λ other above below.
-      rw more (All-push (λ (row : Row). NoEndBetween c.args.lsn other row.through) _ c.row-item.result (before other (omega (arith, within.0, above)) (omega (arith, within.1, below))) (c.cut-lsns.ensures.apart other above below)))
+    let before = c.loop-row.invariant.2 in (
+      c.cut-lsns.ensures.at.0,
+      c.cut-lsns.ensures.at.1,
+      λ other above below.
+          rw more (All-push (λ (row : Row). NoEndBetween c.args.lsn other row.through) _ c.row-item.result (before other (omega (arith, within.0, above)) (omega (arith, within.1, below))) (c.cut-lsns.ensures.apart other above below)),
+    )
