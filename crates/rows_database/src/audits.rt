@@ -2,7 +2,8 @@
 //!
 //! The passes of the requests are 1, 0 and 18446744073709551615, in turn.
 
-use crate::playing::row;
+use crate::database::Database;
+use transcripts::transcript::plays;
 
 const AUDIT_OF_A_DENIAL: &str = "\
 open start 2 65536                    = Ok
@@ -14,7 +15,7 @@ audit                                 = 3
 
 #[test]
 fn audit_of_a_denial(rt: HostRuntime) {
-    row(&rt, rt.alloc(), AUDIT_OF_A_DENIAL);
+    assert!(rt; plays::<Database>(&rt, AUDIT_OF_A_DENIAL));
 }
 
 // The same as bytes, under pass 1.
@@ -30,7 +31,7 @@ bytes 00000001 11111111111111111111111111111111 04 00000000 00000001 0a 00000000
 
 #[test]
 fn audit_of_a_denial_as_bytes(rt: HostRuntime) {
-    row(&rt, rt.alloc(), AUDIT_OF_A_DENIAL_AS_BYTES);
+    assert!(rt; plays::<Database>(&rt, AUDIT_OF_A_DENIAL_AS_BYTES));
 }
 
 const LINES_OF_EACH_OPERATION: &str = "\
@@ -68,7 +69,7 @@ open start 2 65536                    = Ok
 
 #[test]
 fn lines_of_each_operation(rt: HostRuntime) {
-    row(&rt, rt.alloc(), LINES_OF_EACH_OPERATION);
+    assert!(rt; plays::<Database>(&rt, LINES_OF_EACH_OPERATION));
 }
 
 // An unknown principal makes no entry. Reading the list makes one.
@@ -87,7 +88,7 @@ epochs                                = 1 2
 
 #[test]
 fn audits_are_entered(rt: HostRuntime) {
-    row(&rt, rt.alloc(), AUDITS_ARE_ENTERED);
+    assert!(rt; plays::<Database>(&rt, AUDITS_ARE_ENTERED));
 }
 
 const AUDIT_OF_1024_LINES: &str = "\
@@ -103,5 +104,5 @@ open start 2 65536                    = Ok
 
 #[test]
 fn audit_of_1024_lines(rt: HostRuntime) {
-    row(&rt, rt.alloc(), AUDIT_OF_1024_LINES);
+    assert!(rt; plays::<Database>(&rt, AUDIT_OF_1024_LINES));
 }

@@ -1,6 +1,7 @@
 //! Rows of one database with failovers.
 
-use crate::playing::row;
+use crate::database::Database;
+use transcripts::transcript::plays;
 
 const FAILOVER_HARDENS_QUORUM_RUN: &str = "\
 open start 2 65536                 = Ok
@@ -28,7 +29,7 @@ annulled 2 3                       = none
 
 #[test]
 fn failover_hardens_quorum_run(rt: HostRuntime) {
-    row(&rt, rt.alloc(), FAILOVER_HARDENS_QUORUM_RUN);
+    assert!(rt; plays::<Database>(&rt, FAILOVER_HARDENS_QUORUM_RUN));
 }
 
 const FAILOVER_STOPS_AT_GAP: &str = "\
@@ -52,7 +53,7 @@ annulled 1 3                       = 3:03
 
 #[test]
 fn failover_stops_at_gap(rt: HostRuntime) {
-    row(&rt, rt.alloc(), FAILOVER_STOPS_AT_GAP);
+    assert!(rt; plays::<Database>(&rt, FAILOVER_STOPS_AT_GAP));
 }
 
 // What was written before a failover and not hardened is annulled, even where it is written again:
@@ -72,7 +73,7 @@ annulled 2 1                = 1:01
 
 #[test]
 fn old_copies_count_no_more(rt: HostRuntime) {
-    row(&rt, rt.alloc(), OLD_COPIES_COUNT_NO_MORE);
+    assert!(rt; plays::<Database>(&rt, OLD_COPIES_COUNT_NO_MORE));
 }
 
 // Ten contents are in two copies, and twenty in one, which are annulled.
@@ -97,7 +98,7 @@ annulled 1 31                       = none
 
 #[test]
 fn failover_over_thirty_contents(rt: HostRuntime) {
-    row(&rt, rt.alloc(), FAILOVER_OVER_THIRTY_CONTENTS);
+    assert!(rt; plays::<Database>(&rt, FAILOVER_OVER_THIRTY_CONTENTS));
 }
 
 // The table of six copies is in force at once, and its copies from the next failover on.
@@ -125,7 +126,7 @@ open start 2 65536                   = Ok
 
 #[test]
 fn six_copies_after_failover(rt: HostRuntime) {
-    row(&rt, rt.alloc(), SIX_COPIES_AFTER_FAILOVER);
+    assert!(rt; plays::<Database>(&rt, SIX_COPIES_AFTER_FAILOVER));
 }
 
 const COPIES_OF_START_TABLE: &str = "\
@@ -137,5 +138,5 @@ open six_copies 2 65536         = Ok
 
 #[test]
 fn copies_of_start_table(rt: HostRuntime) {
-    row(&rt, rt.alloc(), COPIES_OF_START_TABLE);
+    assert!(rt; plays::<Database>(&rt, COPIES_OF_START_TABLE));
 }

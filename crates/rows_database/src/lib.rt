@@ -17,8 +17,6 @@ mod offered_blocks;
 #[cfg(test)]
 mod one_database;
 #[cfg(test)]
-mod playing;
-#[cfg(test)]
 mod runs;
 #[cfg(test)]
 mod served_pages;

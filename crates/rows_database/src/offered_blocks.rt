@@ -1,6 +1,7 @@
 //! Rows of one database to which blocks are offered.
 
-use crate::playing::row;
+use crate::database::Database;
+use transcripts::transcript::plays;
 
 const OFFERED_AND_LANDED: &str = "\
 open start 2 65536                    = Ok
@@ -17,7 +18,7 @@ log                                   = 2 3 1 1
 
 #[test]
 fn offered_and_landed(rt: HostRuntime) {
-    row(&rt, rt.alloc(), OFFERED_AND_LANDED);
+    assert!(rt; plays::<Database>(&rt, OFFERED_AND_LANDED));
 }
 
 const OFFERS_END_WITH_EPOCH: &str = "\
@@ -37,7 +38,7 @@ annulled 1 1                          = 1:02
 
 #[test]
 fn offers_end_with_epoch(rt: HostRuntime) {
-    row(&rt, rt.alloc(), OFFERS_END_WITH_EPOCH);
+    assert!(rt; plays::<Database>(&rt, OFFERS_END_WITH_EPOCH));
 }
 
 const OFFERED_THEN_RECOVERED: &str = "\
@@ -52,7 +53,7 @@ annulled 1 1                          = none
 
 #[test]
 fn offered_then_recovered(rt: HostRuntime) {
-    row(&rt, rt.alloc(), OFFERED_THEN_RECOVERED);
+    assert!(rt; plays::<Database>(&rt, OFFERED_THEN_RECOVERED));
 }
 
 const OFFERS_FIX_THE_CONTENT: &str = "\
@@ -79,7 +80,7 @@ open start 2 65536                    = Ok
 
 #[test]
 fn offers_fix_the_content(rt: HostRuntime) {
-    row(&rt, rt.alloc(), OFFERS_FIX_THE_CONTENT);
+    assert!(rt; plays::<Database>(&rt, OFFERS_FIX_THE_CONTENT));
 }
 
 // A write that is denied leaves no content.
@@ -95,7 +96,7 @@ open start 2 65536                    = Ok
 
 #[test]
 fn denied_offers_leave_nothing(rt: HostRuntime) {
-    row(&rt, rt.alloc(), DENIED_OFFERS_LEAVE_NOTHING);
+    assert!(rt; plays::<Database>(&rt, DENIED_OFFERS_LEAVE_NOTHING));
 }
 
 // 64 blocks are offered. Of these ten are hardened by a report, twenty by a failover, and the others
@@ -120,5 +121,5 @@ annulled 1 64                         = 64:40
 
 #[test]
 fn window_of_offers(rt: HostRuntime) {
-    row(&rt, rt.alloc(), WINDOW_OF_OFFERS);
+    assert!(rt; plays::<Database>(&rt, WINDOW_OF_OFFERS));
 }

@@ -3,7 +3,8 @@
 //! Each begins with the start table. 1 asks as operator, 2 and 5 as primary, 3 as secondary and 4 as
 //! page server.
 
-use crate::playing::row;
+use crate::database::Database;
+use transcripts::transcript::plays;
 
 const WRITE_HARDEN_PULL: &str = "\
 open start 2 65536                 = Ok
@@ -19,7 +20,7 @@ log                                = 1 3 0 1
 
 #[test]
 fn write_harden_pull(rt: HostRuntime) {
-    row(&rt, rt.alloc(), WRITE_HARDEN_PULL);
+    assert!(rt; plays::<Database>(&rt, WRITE_HARDEN_PULL));
 }
 
 // The bytes of `write_harden_pull`: the bodies of its requests, and after `=` those of the replies.
@@ -40,7 +41,7 @@ bytes 00000003 33333333333333333333333333333333 02 00000000 00000001 05 \
 
 #[test]
 fn stored_run(rt: HostRuntime) {
-    row(&rt, rt.alloc(), STORED_RUN);
+    assert!(rt; plays::<Database>(&rt, STORED_RUN));
 }
 
 const PULL_FROM_EMPTY_LOG: &str = "\
@@ -51,7 +52,7 @@ audit                              = 1
 
 #[test]
 fn pull_from_empty_log(rt: HostRuntime) {
-    row(&rt, rt.alloc(), PULL_FROM_EMPTY_LOG);
+    assert!(rt; plays::<Database>(&rt, PULL_FROM_EMPTY_LOG));
 }
 
 const REPORT_BELOW_QUORUM: &str = "\
@@ -63,7 +64,7 @@ hard                        = 0
 
 #[test]
 fn report_below_quorum(rt: HostRuntime) {
-    row(&rt, rt.alloc(), REPORT_BELOW_QUORUM);
+    assert!(rt; plays::<Database>(&rt, REPORT_BELOW_QUORUM));
 }
 
 const BLOCKS_IN_ANY_ORDER: &str = "\
@@ -79,7 +80,7 @@ hard                        = 2
 
 #[test]
 fn blocks_in_any_order(rt: HostRuntime) {
-    row(&rt, rt.alloc(), BLOCKS_IN_ANY_ORDER);
+    assert!(rt; plays::<Database>(&rt, BLOCKS_IN_ANY_ORDER));
 }
 
 const WINDOW_OF_SIXTY_FOUR: &str = "\
@@ -90,7 +91,7 @@ open start 2 65536           = Ok
 
 #[test]
 fn window_of_sixty_four(rt: HostRuntime) {
-    row(&rt, rt.alloc(), WINDOW_OF_SIXTY_FOUR);
+    assert!(rt; plays::<Database>(&rt, WINDOW_OF_SIXTY_FOUR));
 }
 
 const CONTENT_IS_FIXED: &str = "\
@@ -103,7 +104,7 @@ open start 2 65536          = Ok
 
 #[test]
 fn content_is_fixed(rt: HostRuntime) {
-    row(&rt, rt.alloc(), CONTENT_IS_FIXED);
+    assert!(rt; plays::<Database>(&rt, CONTENT_IS_FIXED));
 }
 
 const TOKEN_THEN_EPOCH: &str = "\
@@ -121,7 +122,7 @@ audit                 = 2
 
 #[test]
 fn token_then_epoch(rt: HostRuntime) {
-    row(&rt, rt.alloc(), TOKEN_THEN_EPOCH);
+    assert!(rt; plays::<Database>(&rt, TOKEN_THEN_EPOCH));
 }
 
 const NO_ROW_MATCHES: &str = "\
@@ -131,7 +132,7 @@ open start 2 65536               = Ok
 
 #[test]
 fn no_row_matches(rt: HostRuntime) {
-    row(&rt, rt.alloc(), NO_ROW_MATCHES);
+    assert!(rt; plays::<Database>(&rt, NO_ROW_MATCHES));
 }
 
 const PULL_IN_PARTS: &str = "\
@@ -151,7 +152,7 @@ hard                                = 20
 
 #[test]
 fn pull_in_parts(rt: HostRuntime) {
-    row(&rt, rt.alloc(), PULL_IN_PARTS);
+    assert!(rt; plays::<Database>(&rt, PULL_IN_PARTS));
 }
 
 const BLOCK_WITHOUT_RECORDS: &str = "\
@@ -164,7 +165,7 @@ open start 2 65536                 = Ok
 
 #[test]
 fn block_without_records(rt: HostRuntime) {
-    row(&rt, rt.alloc(), BLOCK_WITHOUT_RECORDS);
+    assert!(rt; plays::<Database>(&rt, BLOCK_WITHOUT_RECORDS));
 }
 
 const ROLES_AND_PRIMARIES: &str = "\
@@ -186,7 +187,7 @@ epochs                             = 1 2
 
 #[test]
 fn roles_and_primaries(rt: HostRuntime) {
-    row(&rt, rt.alloc(), ROLES_AND_PRIMARIES);
+    assert!(rt; plays::<Database>(&rt, ROLES_AND_PRIMARIES));
 }
 
 const AUDIT_LIST_FILLS: &str = "\
@@ -206,7 +207,7 @@ audit                           = 2
 
 #[test]
 fn audit_list_fills(rt: HostRuntime) {
-    row(&rt, rt.alloc(), AUDIT_LIST_FILLS);
+    assert!(rt; plays::<Database>(&rt, AUDIT_LIST_FILLS));
 }
 
 const PRIMARY_NOT_LISTED: &str = "\
@@ -217,7 +218,7 @@ epochs             = 1 5
 
 #[test]
 fn primary_not_listed(rt: HostRuntime) {
-    row(&rt, rt.alloc(), PRIMARY_NOT_LISTED);
+    assert!(rt; plays::<Database>(&rt, PRIMARY_NOT_LISTED));
 }
 
 const REPORTS_ABOVE_THE_WINDOW: &str = "\
@@ -230,5 +231,5 @@ hard                                  = 0
 
 #[test]
 fn reports_above_the_window(rt: HostRuntime) {
-    row(&rt, rt.alloc(), REPORTS_ABOVE_THE_WINDOW);
+    assert!(rt; plays::<Database>(&rt, REPORTS_ABOVE_THE_WINDOW));
 }

@@ -1,6 +1,7 @@
 //! Runs: many requests in one call, each answered as in a step of its own.
 
-use crate::playing::row;
+use crate::database::Database;
+use transcripts::transcript::plays;
 
 const RUN_OF_TWO: &str = "\
 open start 2 65536                = Ok
@@ -13,7 +14,7 @@ hard                              = 0
 
 #[test]
 fn run_of_two(rt: HostRuntime) {
-    row(&rt, rt.alloc(), RUN_OF_TWO);
+    assert!(rt; plays::<Database>(&rt, RUN_OF_TWO));
 }
 
 const RUN_OF_NONE: &str = "\
@@ -24,7 +25,7 @@ audit              = 0
 
 #[test]
 fn run_of_none(rt: HostRuntime) {
-    row(&rt, rt.alloc(), RUN_OF_NONE);
+    assert!(rt; plays::<Database>(&rt, RUN_OF_NONE));
 }
 
 const RUN_OF_THREE: &str = "\
@@ -43,7 +44,7 @@ audit                               = 5
 
 #[test]
 fn run_of_three(rt: HostRuntime) {
-    row(&rt, rt.alloc(), RUN_OF_THREE);
+    assert!(rt; plays::<Database>(&rt, RUN_OF_THREE));
 }
 
 const RUN_OF_THIRTY: &str = "\
@@ -88,5 +89,5 @@ hard                               = 13
 
 #[test]
 fn run_of_thirty(rt: HostRuntime) {
-    row(&rt, rt.alloc(), RUN_OF_THIRTY);
+    assert!(rt; plays::<Database>(&rt, RUN_OF_THIRTY));
 }

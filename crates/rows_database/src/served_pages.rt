@@ -2,7 +2,8 @@
 //!
 //! A page is its LSN, and each byte that is not 0 with its offset.
 
-use crate::playing::row;
+use crate::database::Database;
+use transcripts::transcript::plays;
 
 const PAGE_OF_EMPTY_LOG: &str = "\
 open start 2 65536                    = Ok
@@ -15,7 +16,7 @@ audit                                 = 4
 
 #[test]
 fn page_of_empty_log(rt: HostRuntime) {
-    row(&rt, rt.alloc(), PAGE_OF_EMPTY_LOG);
+    assert!(rt; plays::<Database>(&rt, PAGE_OF_EMPTY_LOG));
 }
 
 // Page 458752 is the first of partition 7, which row 3 of the table denies to 3.
@@ -33,7 +34,7 @@ open start 2 65536                    = Ok
 
 #[test]
 fn table_before_number(rt: HostRuntime) {
-    row(&rt, rt.alloc(), TABLE_BEFORE_NUMBER);
+    assert!(rt; plays::<Database>(&rt, TABLE_BEFORE_NUMBER));
 }
 
 const ADVANCE_THEN_GET: &str = "\
@@ -53,7 +54,7 @@ applied 0                             = 5
 
 #[test]
 fn advance_then_get(rt: HostRuntime) {
-    row(&rt, rt.alloc(), ADVANCE_THEN_GET);
+    assert!(rt; plays::<Database>(&rt, ADVANCE_THEN_GET));
 }
 
 const RECORDS_OF_TWO_PARTITIONS: &str = "\
@@ -73,7 +74,7 @@ open start 2 65536                              = Ok
 
 #[test]
 fn records_of_two_partitions(rt: HostRuntime) {
-    row(&rt, rt.alloc(), RECORDS_OF_TWO_PARTITIONS);
+    assert!(rt; plays::<Database>(&rt, RECORDS_OF_TWO_PARTITIONS));
 }
 
 const GET_AT_APPLIED_NUMBER: &str = "\
@@ -98,7 +99,7 @@ applied 4                             = 0
 
 #[test]
 fn get_at_applied_number(rt: HostRuntime) {
-    row(&rt, rt.alloc(), GET_AT_APPLIED_NUMBER);
+    assert!(rt; plays::<Database>(&rt, GET_AT_APPLIED_NUMBER));
 }
 
 // The blocks 3 to 5 are in one copy: the failover annuls them, and no page has shown them.
@@ -125,5 +126,5 @@ applied 0                             = 1
 
 #[test]
 fn pages_of_hardened_blocks(rt: HostRuntime) {
-    row(&rt, rt.alloc(), PAGES_OF_HARDENED_BLOCKS);
+    assert!(rt; plays::<Database>(&rt, PAGES_OF_HARDENED_BLOCKS));
 }

@@ -1,6 +1,7 @@
 //! Rows of one database at the sizes that users have.
 
-use crate::playing::row;
+use crate::database::Database;
+use transcripts::transcript::plays;
 
 const THREE_HUNDRED_BLOCKS: &str = "\
 open start 2 65536                   = Ok
@@ -41,7 +42,7 @@ in_broker                            = 64
 
 #[test]
 fn three_hundred_blocks(rt: HostRuntime) {
-    row(&rt, rt.alloc(), THREE_HUNDRED_BLOCKS);
+    assert!(rt; plays::<Database>(&rt, THREE_HUNDRED_BLOCKS));
 }
 
 const FIVE_THOUSAND_BLOCKS: &str = "\
@@ -70,7 +71,7 @@ audit                                 = 10205
 /// More hardened blocks than the first chunk of the index of destaged blocks has, read back.
 #[test]
 fn five_thousand_blocks(rt: HostRuntime) {
-    row(&rt, rt.alloc(), FIVE_THOUSAND_BLOCKS);
+    assert!(rt; plays::<Database>(&rt, FIVE_THOUSAND_BLOCKS));
 }
 
 const WINDOW_FILLED_THREE_TIMES: &str = "\
@@ -95,7 +96,7 @@ audit                         = 390
 
 #[test]
 fn window_filled_three_times(rt: HostRuntime) {
-    row(&rt, rt.alloc(), WINDOW_FILLED_THREE_TIMES);
+    assert!(rt; plays::<Database>(&rt, WINDOW_FILLED_THREE_TIMES));
 }
 
 const AUDIT_LIST_OF_65536: &str = "\
@@ -109,5 +110,5 @@ audit                         = 65536
 
 #[test]
 fn audit_list_of_65536(rt: HostRuntime) {
-    row(&rt, rt.alloc(), AUDIT_LIST_OF_65536);
+    assert!(rt; plays::<Database>(&rt, AUDIT_LIST_OF_65536));
 }

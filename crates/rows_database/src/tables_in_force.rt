@@ -1,6 +1,7 @@
 //! Rows of one database whose table changes.
 
-use crate::playing::row;
+use crate::database::Database;
+use transcripts::transcript::plays;
 
 const NEW_TABLE_IN_FORCE: &str = "\
 open start 2 65536                 = Ok
@@ -16,7 +17,7 @@ audit                              = 7
 
 #[test]
 fn new_table_in_force(rt: HostRuntime) {
-    row(&rt, rt.alloc(), NEW_TABLE_IN_FORCE);
+    assert!(rt; plays::<Database>(&rt, NEW_TABLE_IN_FORCE));
 }
 
 const FIRST_TABLE_SET_AGAIN: &str = "\
@@ -34,7 +35,7 @@ open start 2 65536                 = Ok
 
 #[test]
 fn first_table_set_again(rt: HostRuntime) {
-    row(&rt, rt.alloc(), FIRST_TABLE_SET_AGAIN);
+    assert!(rt; plays::<Database>(&rt, FIRST_TABLE_SET_AGAIN));
 }
 
 const TOKEN_OF_A_NEW_TABLE: &str = "\
@@ -54,7 +55,7 @@ audit                                   = 6
 
 #[test]
 fn token_of_a_new_table(rt: HostRuntime) {
-    row(&rt, rt.alloc(), TOKEN_OF_A_NEW_TABLE);
+    assert!(rt; plays::<Database>(&rt, TOKEN_OF_A_NEW_TABLE));
 }
 
 const FAULTY_TABLES_CHANGE_NOTHING: &str = "\
@@ -76,7 +77,7 @@ audit                                      = 12
 
 #[test]
 fn faulty_tables_change_nothing(rt: HostRuntime) {
-    row(&rt, rt.alloc(), FAULTY_TABLES_CHANGE_NOTHING);
+    assert!(rt; plays::<Database>(&rt, FAULTY_TABLES_CHANGE_NOTHING));
 }
 
 // Rows of new tables that deny writes of partition 2, and pulls of partition 6. Page 131072 is the
@@ -102,7 +103,7 @@ open start 2 65536                      = Ok
 
 #[test]
 fn partitions_of_a_new_table(rt: HostRuntime) {
-    row(&rt, rt.alloc(), PARTITIONS_OF_A_NEW_TABLE);
+    assert!(rt; plays::<Database>(&rt, PARTITIONS_OF_A_NEW_TABLE));
 }
 
 const ROWS_END_AT_A_NUMBER: &str = "\
@@ -122,7 +123,7 @@ open start 2 65536                    = Ok
 
 #[test]
 fn rows_end_at_a_number(rt: HostRuntime) {
-    row(&rt, rt.alloc(), ROWS_END_AT_A_NUMBER);
+    assert!(rt; plays::<Database>(&rt, ROWS_END_AT_A_NUMBER));
 }
 
 const DENY_ABOVE_A_NUMBER: &str = "\
@@ -138,5 +139,5 @@ open start 2 65536                           = Ok
 
 #[test]
 fn deny_above_a_number(rt: HostRuntime) {
-    row(&rt, rt.alloc(), DENY_ABOVE_A_NUMBER);
+    assert!(rt; plays::<Database>(&rt, DENY_ABOVE_A_NUMBER));
 }

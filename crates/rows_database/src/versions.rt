@@ -6,7 +6,7 @@ ghost use Rattle.rows_database.specs.Fits.{is_record-prop};
 ghost use Rattle.std.proofs.Props.{props};
 ghost use Rattle.std.specs.List.{AllByRecursion-prop};
 
-use crate::playing::row;
+use crate::database::Database;
 use bytes::Bytes;
 use pl_block::{Block, PAGE_SIZE, Record};
 use pl_log::DbLog;
@@ -15,6 +15,7 @@ use pl_pages::laws::pages_fit_longer_logs;
 use pl_pages::{Pages, redo};
 use std::alloc::{AllocError, Global};
 use std::process::Abort;
+use transcripts::transcript::plays;
 
 /// A log with its pages.
 #[derive(Drop)]
@@ -201,7 +202,7 @@ open start 2 65536 1            = Ok
 
 #[test]
 fn pages_outgrow_arena(rt: HostRuntime) {
-    row(&rt, rt.alloc(), PAGES_OUTGROW_ARENA);
+    assert!(rt; plays::<Database>(&rt, PAGES_OUTGROW_ARENA));
 }
 
 // Hardens this many blocks of page 0, and returns whether each version is right.

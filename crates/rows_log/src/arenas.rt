@@ -1,12 +1,10 @@
 //! An arena of frames on its own, asked line by line, and its rows.
 
-use crate::playing::row;
 use pl_arena::{FrameId, TakeFault, VersionArena};
 use std::alloc::Global;
-use std::test::Fail;
 use std::thread;
 use transcripts::answer::{push_numbers, push_truth, push_word};
-use transcripts::transcript::{Stop, Subject};
+use transcripts::transcript::{Stop, Subject, plays};
 
 /// The arena of a transcript. A frame has the number of its place in `names`: frames are named in the
 /// order in which they were first taken.
@@ -201,7 +199,7 @@ takes 5          = 0
 
 #[test]
 fn arena_fills(rt: HostRuntime) {
-    row::<Framed>(&rt, rt.alloc(), ARENA_FILLS);
+    assert!(rt; plays::<Framed>(&rt, ARENA_FILLS));
 }
 
 const FRAMES_ARE_APART: &str = "\
@@ -227,7 +225,7 @@ bytes 129        = 33+4
 
 #[test]
 fn frames_are_apart(rt: HostRuntime) {
-    row::<Framed>(&rt, rt.alloc(), FRAMES_ARE_APART);
+    assert!(rt; plays::<Framed>(&rt, FRAMES_ARE_APART));
 }
 
 /// Takes this many frames of an arena, gives back the last, and lets the arena go.
@@ -254,7 +252,7 @@ fn arena_ends_with_frames_out(rt: HostRuntime) {
 }
 
 #[test]
-fn arena_ends_on_another_thread(rt: HostRuntime) -> Result<(), Fail> {
+fn arena_ends_on_another_thread(rt: HostRuntime) {
     let mut arena = VersionArena::new(rt.alloc(), 2);
     let mut refused = false;
     for _ in 0..100 {
@@ -263,8 +261,7 @@ fn arena_ends_on_another_thread(rt: HostRuntime) -> Result<(), Fail> {
     let child = match thread::spawn(&rt, move || drop(arena)) {
         Ok(child) => child,
         // No thread could be started, and the arena is still there: once more.
-        Err(none) => thread::spawn(&rt, none.value)?,
+        Err(none) => thread::spawn(&rt, none.value).expect(&rt, "no thread was started"),
     };
     child.join(&rt);
-    Ok(())
 }

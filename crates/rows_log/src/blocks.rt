@@ -1,7 +1,7 @@
 //! Cases of the block codec: bytes spelled by hand from the format, and blocks made of records.
 
-use crate::playing::row;
 use transcripts::codec::Codec;
+use transcripts::transcript::plays;
 
 const EACH_FAULT_HAS_ITS_CODE: &str = "\
 # Cut in the number.
@@ -34,7 +34,7 @@ decode zeros 32768                                                      = fault 
 
 #[test]
 fn each_fault_has_its_code(rt: HostRuntime) {
-    row::<Codec>(&rt, rt.alloc(), EACH_FAULT_HAS_ITS_CODE);
+    assert!(rt; plays::<Codec>(&rt, EACH_FAULT_HAS_ITS_CODE));
 }
 
 const FIRST_FAULT_IS_TOLD: &str = "\
@@ -56,7 +56,7 @@ decode 0000000000000001 0001 0000 0000 00                               = fault 
 
 #[test]
 fn first_fault_is_reported(rt: HostRuntime) {
-    row::<Codec>(&rt, rt.alloc(), FIRST_FAULT_IS_TOLD);
+    assert!(rt; plays::<Codec>(&rt, FIRST_FAULT_IS_TOLD));
 }
 
 const PUT_AT_PAGE_END: &str = "\
@@ -67,7 +67,7 @@ decode 0000000000000001 0001 0000 0001 01 00000000 1fff 0000            = fault 
 
 #[test]
 fn put_at_page_end(rt: HostRuntime) {
-    row::<Codec>(&rt, rt.alloc(), PUT_AT_PAGE_END);
+    assert!(rt; plays::<Codec>(&rt, PUT_AT_PAGE_END));
 }
 
 const READS_AND_WRITES_THE_BYTES: &str = "\
@@ -89,7 +89,7 @@ encode 2:zero@4294967295,aa@1,zero@1 \
 
 #[test]
 fn reads_and_writes_the_bytes(rt: HostRuntime) {
-    row::<Codec>(&rt, rt.alloc(), READS_AND_WRITES_THE_BYTES);
+    assert!(rt; plays::<Codec>(&rt, READS_AND_WRITES_THE_BYTES));
 }
 
 const WRITES_BEHIND_WHAT_STANDS: &str = "\
@@ -102,7 +102,7 @@ onto 1:aa                     = 000000000000000100000000\
 
 #[test]
 fn block_is_appended(rt: HostRuntime) {
-    row::<Codec>(&rt, rt.alloc(), WRITES_BEHIND_WHAT_STANDS);
+    assert!(rt; plays::<Codec>(&rt, WRITES_BEHIND_WHAT_STANDS));
 }
 
 const MAKING_TELLS_THE_FIRST_FAULT: &str = "\
@@ -119,7 +119,7 @@ block 1:zero,zero@4294967295                     = 26 bytes
 
 #[test]
 fn making_reports_the_first_fault(rt: HostRuntime) {
-    row::<Codec>(&rt, rt.alloc(), MAKING_TELLS_THE_FIRST_FAULT);
+    assert!(rt; plays::<Codec>(&rt, MAKING_TELLS_THE_FIRST_FAULT));
 }
 
 const LARGEST_BLOCK: &str = "\
@@ -129,7 +129,7 @@ block 1:8192*aa,8192*aa,8192*aa,8143*aa          = fault 9
 
 #[test]
 fn largest_block(rt: HostRuntime) {
-    row::<Codec>(&rt, rt.alloc(), LARGEST_BLOCK);
+    assert!(rt; plays::<Codec>(&rt, LARGEST_BLOCK));
 }
 
 const BLOCK_OF_20000_BYTES: &str = "\
@@ -138,7 +138,7 @@ block 5:8192*01,8192*02@70000,3571*03@4294967295 = 20000 bytes
 
 #[test]
 fn block_of_20000_bytes(rt: HostRuntime) {
-    row::<Codec>(&rt, rt.alloc(), BLOCK_OF_20000_BYTES);
+    assert!(rt; plays::<Codec>(&rt, BLOCK_OF_20000_BYTES));
 }
 
 // 12 bytes, 2 for the one partition, and 10 for each record.
@@ -150,7 +150,7 @@ records 3276                                     = fault 9
 
 #[test]
 fn block_of_2700_records(rt: HostRuntime) {
-    row::<Codec>(&rt, rt.alloc(), BLOCK_OF_2700_RECORDS);
+    assert!(rt; plays::<Codec>(&rt, BLOCK_OF_2700_RECORDS));
 }
 
 const TELLS_ITS_PARTITIONS: &str = "\
@@ -210,5 +210,5 @@ same 7:8192*aa 7:8191*aa                         = false
 
 #[test]
 fn tells_its_partitions(rt: HostRuntime) {
-    row::<Codec>(&rt, rt.alloc(), TELLS_ITS_PARTITIONS);
+    assert!(rt; plays::<Codec>(&rt, TELLS_ITS_PARTITIONS));
 }

@@ -33,6 +33,4 @@ mod pages;
 #[cfg(test)]
 mod plain;
 #[cfg(test)]
-mod playing;
-#[cfg(test)]
 mod stores;

@@ -1,7 +1,7 @@
 //! Rows of a log on its own: what is served of its hardened blocks.
 
 use crate::log::Log;
-use crate::playing::row;
+use transcripts::transcript::plays;
 
 // Partition 0, partition 7, partition 0, none, partitions 7 and 0; then lo, hi, from, max and reach.
 const PULL_IN_PARTS: &str = "\
@@ -33,7 +33,7 @@ pull 0 65535 1 16 0      = 1
 
 #[test]
 fn pull_in_parts(rt: HostRuntime) {
-    row::<Log>(&rt, rt.alloc(), PULL_IN_PARTS);
+    assert!(rt; plays::<Log>(&rt, PULL_IN_PARTS));
 }
 
 const READ_FROM_BOTH_STORES: &str = "\
@@ -78,5 +78,5 @@ annulled 1 304         = 304:bb
 
 #[test]
 fn read_from_both_stores(rt: HostRuntime) {
-    row::<Log>(&rt, rt.alloc(), READ_FROM_BOTH_STORES);
+    assert!(rt; plays::<Log>(&rt, READ_FROM_BOTH_STORES));
 }

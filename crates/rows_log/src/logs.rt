@@ -1,7 +1,7 @@
 //! Rows of a log on its own: what is written, hardened and annulled.
 
 use crate::log::Log;
-use crate::playing::row;
+use transcripts::transcript::plays;
 
 const WRITTEN_HARDENED_READ: &str = "\
 log 3 2          = Ok
@@ -30,7 +30,7 @@ counts           = 0 1
 
 #[test]
 fn written_hardened_read(rt: HostRuntime) {
-    row::<Log>(&rt, rt.alloc(), WRITTEN_HARDENED_READ);
+    assert!(rt; plays::<Log>(&rt, WRITTEN_HARDENED_READ));
 }
 
 const WINDOW_OF_SIXTY_FOUR: &str = "\
@@ -56,7 +56,7 @@ in_window 66     = false
 
 #[test]
 fn window_of_sixty_four(rt: HostRuntime) {
-    row::<Log>(&rt, rt.alloc(), WINDOW_OF_SIXTY_FOUR);
+    assert!(rt; plays::<Log>(&rt, WINDOW_OF_SIXTY_FOUR));
 }
 
 const CONTENT_IS_FIXED: &str = "\
@@ -69,7 +69,7 @@ agrees 2:ab      = true
 
 #[test]
 fn content_is_fixed(rt: HostRuntime) {
-    row::<Log>(&rt, rt.alloc(), CONTENT_IS_FIXED);
+    assert!(rt; plays::<Log>(&rt, CONTENT_IS_FIXED));
 }
 
 const FAILOVER_HARDENS_QUORUM_RUN: &str = "\
@@ -100,7 +100,7 @@ can_harden 3     = false
 
 #[test]
 fn failover_hardens_quorum_run(rt: HostRuntime) {
-    row::<Log>(&rt, rt.alloc(), FAILOVER_HARDENS_QUORUM_RUN);
+    assert!(rt; plays::<Log>(&rt, FAILOVER_HARDENS_QUORUM_RUN));
 }
 
 const FAILOVER_STOPS_AT_GAP: &str = "\
@@ -127,7 +127,7 @@ annulled 1 3     = 3:03
 
 #[test]
 fn failover_stops_at_gap(rt: HostRuntime) {
-    row::<Log>(&rt, rt.alloc(), FAILOVER_STOPS_AT_GAP);
+    assert!(rt; plays::<Log>(&rt, FAILOVER_STOPS_AT_GAP));
 }
 
 const TWO_FAILOVERS: &str = "\
@@ -154,7 +154,7 @@ annulled 0 1     = none
 
 #[test]
 fn two_failovers(rt: HostRuntime) {
-    row::<Log>(&rt, rt.alloc(), TWO_FAILOVERS);
+    assert!(rt; plays::<Log>(&rt, TWO_FAILOVERS));
 }
 
 // 1 and 3 are offered, 1 before it is written and 3 after it; 5 is in no copy.
@@ -199,7 +199,7 @@ annulled 2 5     = none
 
 #[test]
 fn offers_are_counted(rt: HostRuntime) {
-    row::<Log>(&rt, rt.alloc(), OFFERS_ARE_COUNTED);
+    assert!(rt; plays::<Log>(&rt, OFFERS_ARE_COUNTED));
 }
 
 const OTHER_COPIES_AND_QUORUMS: &str = "\
@@ -230,7 +230,7 @@ counts           = 0 1
 
 #[test]
 fn other_copies_and_quorums(rt: HostRuntime) {
-    row::<Log>(&rt, rt.alloc(), OTHER_COPIES_AND_QUORUMS);
+    assert!(rt; plays::<Log>(&rt, OTHER_COPIES_AND_QUORUMS));
 }
 
 // By the zone of the epoch that ends: two of three harden 1, three of six do not harden 3.
@@ -267,7 +267,7 @@ counts           = 0 3
 
 #[test]
 fn failovers_change_the_zone(rt: HostRuntime) {
-    row::<Log>(&rt, rt.alloc(), FAILOVERS_CHANGE_THE_ZONE);
+    assert!(rt; plays::<Log>(&rt, FAILOVERS_CHANGE_THE_ZONE));
 }
 
 const WINDOW_IN_FOUR_OF_SIX: &str = "\
@@ -295,7 +295,7 @@ annulled 1 128   = 128:80
 
 #[test]
 fn window_in_four_of_six(rt: HostRuntime) {
-    row::<Log>(&rt, rt.alloc(), WINDOW_IN_FOUR_OF_SIX);
+    assert!(rt; plays::<Log>(&rt, WINDOW_IN_FOUR_OF_SIX));
 }
 
 const EACH_GROWTH_ALONE: &str = "\
@@ -318,5 +318,5 @@ read 1           = 1:
 
 #[test]
 fn each_growth_alone(rt: HostRuntime) {
-    row::<Log>(&rt, rt.alloc(), EACH_GROWTH_ALONE);
+    assert!(rt; plays::<Log>(&rt, EACH_GROWTH_ALONE));
 }

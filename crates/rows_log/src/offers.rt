@@ -1,11 +1,10 @@
 //! The pending area, asked line by line, and its rows.
 
-use crate::playing::row;
 use pl_pending::Pending;
 use std::alloc::Global;
 use transcripts::answer::push_word;
 use transcripts::block_text::{block_of, push_block};
-use transcripts::transcript::{Stop, Subject};
+use transcripts::transcript::{Stop, Subject, plays};
 
 /// The pending area of a transcript.
 #[derive(Drop)]
@@ -74,5 +73,5 @@ get 3       = 3:dd
 
 #[test]
 fn offered_blocks_are_found_by_lsn(rt: HostRuntime) {
-    row::<Area>(&rt, rt.alloc(), OFFERED_BLOCKS_ARE_FOUND_BY_LSN);
+    assert!(rt; plays::<Area>(&rt, OFFERED_BLOCKS_ARE_FOUND_BY_LSN));
 }

@@ -5,7 +5,6 @@ ghost use Rattle.rows_log.specs.Fits.{is_record-prop};
 ghost use Rattle.std.proofs.Props.{props};
 ghost use Rattle.std.specs.List.{AllByRecursion-prop};
 
-use crate::playing::row;
 use pl_log::DbLog;
 use pl_log::laws::reports_harden_contents;
 use pl_pages::Pages;
@@ -13,7 +12,7 @@ use pl_pages::laws::pages_fit_longer_logs;
 use std::alloc::Global;
 use transcripts::answer::{push_numbers, push_word};
 use transcripts::block_text::block_of;
-use transcripts::transcript::{Stop, Subject};
+use transcripts::transcript::{Stop, Subject, plays};
 
 /// A log with its pages, as whoever serves pages keeps them.
 #[derive(Drop)]
@@ -179,7 +178,7 @@ get 0 4                       = 4 4 0
 
 #[test]
 fn pages_at_each_lsn(rt: HostRuntime) {
-    row::<Replayed>(&rt, rt.alloc(), PAGES_AT_EACH_LSN);
+    assert!(rt; plays::<Replayed>(&rt, PAGES_AT_EACH_LSN));
 }
 
 // A block that makes the whole page is where a replay may begin: bytes from before it are gone, also
@@ -214,5 +213,5 @@ get 0 1 exact                         = 1 17 34
 
 #[test]
 fn replays_begin_at_images(rt: HostRuntime) {
-    row::<Replayed>(&rt, rt.alloc(), REPLAYS_BEGIN_AT_IMAGES);
+    assert!(rt; plays::<Replayed>(&rt, REPLAYS_BEGIN_AT_IMAGES));
 }

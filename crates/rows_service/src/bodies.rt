@@ -3,7 +3,6 @@
 //! `act ROLE OP ARGUMENTS..` is a body of principal 2, by the numbers of its role and operation.
 
 use crate::wire::Wire;
-use std::test::Fail;
 use transcripts::transcript::plays;
 
 const FAULTS_OF_THE_BODY: &str = "\
@@ -67,8 +66,8 @@ act 4 11                                           = tidy
 ";
 
 #[test]
-fn faults_of_the_body(rt: HostRuntime) -> Result<(), Fail> {
-    plays::<Wire>(rt.alloc(), FAULTS_OF_THE_BODY)
+fn faults_of_the_body(rt: HostRuntime) {
+    assert!(rt; plays::<Wire>(&rt, FAULTS_OF_THE_BODY));
 }
 
 // The first byte is the copy.
@@ -99,8 +98,8 @@ act 1 1 ff 0000000000000001 0000 0000                   = write 1: 255
 ";
 
 #[test]
-fn faults_of_the_block(rt: HostRuntime) -> Result<(), Fail> {
-    plays::<Wire>(rt.alloc(), FAULTS_OF_THE_BLOCK)
+fn faults_of_the_block(rt: HostRuntime) {
+    assert!(rt; plays::<Wire>(&rt, FAULTS_OF_THE_BLOCK));
 }
 
 const LEAST_CODE_IS_TOLD: &str = "\
@@ -117,8 +116,8 @@ act 1 1 00 0000000000000000 00                          = fault 8
 ";
 
 #[test]
-fn least_code_is_reported(rt: HostRuntime) -> Result<(), Fail> {
-    plays::<Wire>(rt.alloc(), LEAST_CODE_IS_TOLD)
+fn least_code_is_reported(rt: HostRuntime) {
+    assert!(rt; plays::<Wire>(&rt, LEAST_CODE_IS_TOLD));
 }
 
 // Principal, token, role, database, epoch and operation; partitions, number and at most.
@@ -130,8 +129,8 @@ pull 53714 57826 266025777296886 7
 ";
 
 #[test]
-fn fields_at_their_places(rt: HostRuntime) -> Result<(), Fail> {
-    plays::<Wire>(rt.alloc(), FIELDS_AT_THEIR_PLACES)
+fn fields_at_their_places(rt: HostRuntime) {
+    assert!(rt; plays::<Wire>(&rt, FIELDS_AT_THEIR_PLACES));
 }
 
 // Block 1 in two copies, hardened, and pulled by another principal; each also cut by its last byte.
@@ -158,8 +157,8 @@ body 00000003 33333333333333333333333333333333 02 00000000 00000001 05 \
 ";
 
 #[test]
-fn run_is_read(rt: HostRuntime) -> Result<(), Fail> {
-    plays::<Wire>(rt.alloc(), RUN_IS_READ)
+fn run_is_read(rt: HostRuntime) {
+    assert!(rt; plays::<Wire>(&rt, RUN_IS_READ));
 }
 
 const OFFER_HAS_ITS_BLOCK: &str = "\
@@ -170,8 +169,8 @@ act 1 2 0001000000000000 0000 0000                      = offer 281474976710656:
 ";
 
 #[test]
-fn offer_has_its_block(rt: HostRuntime) -> Result<(), Fail> {
-    plays::<Wire>(rt.alloc(), OFFER_HAS_ITS_BLOCK)
+fn offer_has_its_block(rt: HostRuntime) {
+    assert!(rt; plays::<Wire>(&rt, OFFER_HAS_ITS_BLOCK));
 }
 
 // Of database 7: principal, token, role, database, epoch, operation, and the arguments.
@@ -201,8 +200,8 @@ request 1 11 operator 2 tidy = 0000000111111111111111111111111111111111040000000
 ";
 
 #[test]
-fn requests_as_bytes(rt: HostRuntime) -> Result<(), Fail> {
-    plays::<Wire>(rt.alloc(), REQUESTS_AS_BYTES)
+fn requests_as_bytes(rt: HostRuntime) {
+    assert!(rt; plays::<Wire>(&rt, REQUESTS_AS_BYTES));
 }
 
 const WRITE_HAS_ITS_COPY_AND_BLOCK: &str = "\
@@ -211,8 +210,8 @@ act 1 1 00 0000000000000007 0001 0001 0001 01 00010002 0003 0002 0a0b = write 7:
 ";
 
 #[test]
-fn write_has_its_copy_and_block(rt: HostRuntime) -> Result<(), Fail> {
-    plays::<Wire>(rt.alloc(), WRITE_HAS_ITS_COPY_AND_BLOCK)
+fn write_has_its_copy_and_block(rt: HostRuntime) {
+    assert!(rt; plays::<Wire>(&rt, WRITE_HAS_ITS_COPY_AND_BLOCK));
 }
 
 // A text is kept as it came, here its length, with the table that it writes down, here the count of
@@ -225,8 +224,8 @@ act 4 9 text without_operator   = set_table 609 fault 12
 ";
 
 #[test]
-fn texts_are_read(rt: HostRuntime) -> Result<(), Fail> {
-    plays::<Wire>(rt.alloc(), TEXTS_ARE_READ)
+fn texts_are_read(rt: HostRuntime) {
+    assert!(rt; plays::<Wire>(&rt, TEXTS_ARE_READ));
 }
 
 // A frame holds at most 65,536 bytes, of which the head takes 30.
@@ -236,8 +235,8 @@ act 4 9 65507*20                = fault 6
 ";
 
 #[test]
-fn longest_text(rt: HostRuntime) -> Result<(), Fail> {
-    plays::<Wire>(rt.alloc(), LONGEST_TEXT)
+fn longest_text(rt: HostRuntime) {
+    assert!(rt; plays::<Wire>(&rt, LONGEST_TEXT));
 }
 
 // No UTF-8: a byte that is none, a wrong second byte, and half of a character.
@@ -249,8 +248,8 @@ act 4 9 2320 c3a9 0a            = set_table 5 fault 3
 ";
 
 #[test]
-fn bytes_that_are_no_text(rt: HostRuntime) -> Result<(), Fail> {
-    plays::<Wire>(rt.alloc(), BYTES_THAT_ARE_NO_TEXT)
+fn bytes_that_are_no_text(rt: HostRuntime) {
+    assert!(rt; plays::<Wire>(&rt, BYTES_THAT_ARE_NO_TEXT));
 }
 
 // The head that a request lends is the one that it gives up.
@@ -261,6 +260,6 @@ body 00000003 00000000000000000000000000000000 02 00000000 00000001 05 \
 ";
 
 #[test]
-fn parts_of_a_request(rt: HostRuntime) -> Result<(), Fail> {
-    plays::<Wire>(rt.alloc(), PARTS_OF_A_REQUEST)
+fn parts_of_a_request(rt: HostRuntime) {
+    assert!(rt; plays::<Wire>(&rt, PARTS_OF_A_REQUEST));
 }

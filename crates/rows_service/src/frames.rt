@@ -1,7 +1,6 @@
 //! Frames: read in any pieces, written and read again, and their faults.
 
 use crate::framing::Frames;
-use std::test::Fail;
 use transcripts::transcript::plays;
 
 // The bodies, why there are no more frames, and how many bytes are left unread.
@@ -18,8 +17,8 @@ body 0 01                               = empty 1
 ";
 
 #[test]
-fn frames_in_any_pieces(rt: HostRuntime) -> Result<(), Fail> {
-    plays::<Frames>(rt.alloc(), FRAMES_IN_ANY_PIECES)
+fn frames_in_any_pieces(rt: HostRuntime) {
+    assert!(rt; plays::<Frames>(&rt, FRAMES_IN_ANY_PIECES));
 }
 
 const FAULTS_OF_FRAMES: &str = "\
@@ -49,8 +48,8 @@ failing body 0                          = empty 0
 ";
 
 #[test]
-fn faults_of_frames(rt: HostRuntime) -> Result<(), Fail> {
-    plays::<Frames>(rt.alloc(), FAULTS_OF_FRAMES)
+fn faults_of_frames(rt: HostRuntime) {
+    assert!(rt; plays::<Frames>(&rt, FAULTS_OF_FRAMES));
 }
 
 // A read is interrupted after this many bytes, and those after it would bring the others: the frame
@@ -73,8 +72,8 @@ interrupted 5 replies 0000000100 0000000106 = Done Io 5
 ";
 
 #[test]
-fn interrupted_frames(rt: HostRuntime) -> Result<(), Fail> {
-    plays::<Frames>(rt.alloc(), INTERRUPTED_FRAMES)
+fn interrupted_frames(rt: HostRuntime) {
+    assert!(rt; plays::<Frames>(&rt, INTERRUPTED_FRAMES));
 }
 
 // The reads of a reader that gives one byte at once: one for each byte, and one that finds the end.
@@ -97,8 +96,8 @@ reads replies 0000000100 0000000106     = 11
 ";
 
 #[test]
-fn reads_of_a_frame(rt: HostRuntime) -> Result<(), Fail> {
-    plays::<Frames>(rt.alloc(), READS_OF_A_FRAME)
+fn reads_of_a_frame(rt: HostRuntime) {
+    assert!(rt; plays::<Frames>(&rt, READS_OF_A_FRAME));
 }
 
 const LONGEST_FRAMES: &str = "\
@@ -108,8 +107,8 @@ body 65536 65536*ab                     = 65536*ab  0
 ";
 
 #[test]
-fn longest_frames(rt: HostRuntime) -> Result<(), Fail> {
-    plays::<Frames>(rt.alloc(), LONGEST_FRAMES)
+fn longest_frames(rt: HostRuntime) {
+    assert!(rt; plays::<Frames>(&rt, LONGEST_FRAMES));
 }
 
 const WRITTEN_FRAMES_ARE_READ_AGAIN: &str = "\
@@ -126,8 +125,8 @@ failing sent replies                    = \
 ";
 
 #[test]
-fn written_frames_are_read_again(rt: HostRuntime) -> Result<(), Fail> {
-    plays::<Frames>(rt.alloc(), WRITTEN_FRAMES_ARE_READ_AGAIN)
+fn written_frames_are_read_again(rt: HostRuntime) {
+    assert!(rt; plays::<Frames>(&rt, WRITTEN_FRAMES_ARE_READ_AGAIN));
 }
 
 const REQUESTS_IN_FRAMES: &str = "\
@@ -139,8 +138,8 @@ sent frames 65536                       = \
 ";
 
 #[test]
-fn requests_in_frames(rt: HostRuntime) -> Result<(), Fail> {
-    plays::<Frames>(rt.alloc(), REQUESTS_IN_FRAMES)
+fn requests_in_frames(rt: HostRuntime) {
+    assert!(rt; plays::<Frames>(&rt, REQUESTS_IN_FRAMES));
 }
 
 const REPLIES_FROM_FRAMES: &str = "\
@@ -158,8 +157,8 @@ replies 000000020a10 01                 = fault 6 1
 ";
 
 #[test]
-fn replies_from_frames(rt: HostRuntime) -> Result<(), Fail> {
-    plays::<Frames>(rt.alloc(), REPLIES_FROM_FRAMES)
+fn replies_from_frames(rt: HostRuntime) {
+    assert!(rt; plays::<Frames>(&rt, REPLIES_FROM_FRAMES));
 }
 
 const WRITERS_THAT_STOP: &str = "\
@@ -176,6 +175,6 @@ room 33 request 2 22 primary 1 status   = 0000001e000000022222222222222222222222
 ";
 
 #[test]
-fn writers_that_stop(rt: HostRuntime) -> Result<(), Fail> {
-    plays::<Frames>(rt.alloc(), WRITERS_THAT_STOP)
+fn writers_that_stop(rt: HostRuntime) {
+    assert!(rt; plays::<Frames>(&rt, WRITERS_THAT_STOP));
 }

@@ -1,7 +1,6 @@
 //! Cases of the bodies of replies, spelled by hand from the format.
 
 use crate::wire::Wire;
-use std::test::Fail;
 use transcripts::transcript::plays;
 
 // Of a status: epoch and primary, hard, pending and landing.
@@ -22,8 +21,8 @@ reply Malformed 16                           = does not fit
 ";
 
 #[test]
-fn replies_as_bytes(rt: HostRuntime) -> Result<(), Fail> {
-    plays::<Wire>(rt.alloc(), REPLIES_AS_BYTES)
+fn replies_as_bytes(rt: HostRuntime) {
+    assert!(rt; plays::<Wire>(&rt, REPLIES_AS_BYTES));
 }
 
 // The LSN, and 8,192 bytes.
@@ -39,8 +38,8 @@ size Page 5 of 0                             = does not fit
 ";
 
 #[test]
-fn pages_as_bytes(rt: HostRuntime) -> Result<(), Fail> {
-    plays::<Wire>(rt.alloc(), PAGES_AS_BYTES)
+fn pages_as_bytes(rt: HostRuntime) {
+    assert!(rt; plays::<Wire>(&rt, PAGES_AS_BYTES));
 }
 
 // A count; of each line number, pass, principal, role, epoch, operation, a, b, section, row and value.
@@ -61,8 +60,8 @@ size Entries times 1025 1/1/2/primary/0/status/0/0/A2:1 = does not fit
 ";
 
 #[test]
-fn entries_as_bytes(rt: HostRuntime) -> Result<(), Fail> {
-    plays::<Wire>(rt.alloc(), ENTRIES_AS_BYTES)
+fn entries_as_bytes(rt: HostRuntime) {
+    assert!(rt; plays::<Wire>(&rt, ENTRIES_AS_BYTES));
 }
 
 // Next and count; then each block's length and its bytes.
@@ -76,8 +75,8 @@ reply Blocks 3 2:                            = 0100000000000000030001\
 ";
 
 #[test]
-fn blocks_as_bytes(rt: HostRuntime) -> Result<(), Fail> {
-    plays::<Wire>(rt.alloc(), BLOCKS_AS_BYTES)
+fn blocks_as_bytes(rt: HostRuntime) {
+    assert!(rt; plays::<Wire>(&rt, BLOCKS_AS_BYTES));
 }
 
 // 11 bytes, and 28 for each block.
@@ -106,6 +105,6 @@ reply Blocks 18 1:01 2:02 3:03 4:04 5:05 6:06 7:07 8:08 \
 ";
 
 #[test]
-fn reply_of_sixteen_blocks(rt: HostRuntime) -> Result<(), Fail> {
-    plays::<Wire>(rt.alloc(), REPLY_OF_SIXTEEN_BLOCKS)
+fn reply_of_sixteen_blocks(rt: HostRuntime) {
+    assert!(rt; plays::<Wire>(&rt, REPLY_OF_SIXTEEN_BLOCKS));
 }

@@ -1,7 +1,6 @@
 //! Cases of the bodies of replies that are read, spelled by hand from the format.
 
 use crate::wire::Wire;
-use std::test::Fail;
 use transcripts::transcript::plays;
 
 const REPLIES_ARE_READ: &str = "\
@@ -29,8 +28,8 @@ answer 0a 0f                                            = Malformed 15
 ";
 
 #[test]
-fn replies_are_read(rt: HostRuntime) -> Result<(), Fail> {
-    plays::<Wire>(rt.alloc(), REPLIES_ARE_READ)
+fn replies_are_read(rt: HostRuntime) {
+    assert!(rt; plays::<Wire>(&rt, REPLIES_ARE_READ));
 }
 
 const FAULTS_OF_REPLIES: &str = "\
@@ -60,8 +59,8 @@ answer 0a 10 00                                         = fault 6
 ";
 
 #[test]
-fn faults_of_replies(rt: HostRuntime) -> Result<(), Fail> {
-    plays::<Wire>(rt.alloc(), FAULTS_OF_REPLIES)
+fn faults_of_replies(rt: HostRuntime) {
+    assert!(rt; plays::<Wire>(&rt, FAULTS_OF_REPLIES));
 }
 
 const FAULTS_OF_SERVED_BLOCKS: &str = "\
@@ -82,8 +81,8 @@ answer 01 0000000000000002 0002 0000000c 0000000000000001 0000 0000 = fault 4
 ";
 
 #[test]
-fn faults_of_served_blocks(rt: HostRuntime) -> Result<(), Fail> {
-    plays::<Wire>(rt.alloc(), FAULTS_OF_SERVED_BLOCKS)
+fn faults_of_served_blocks(rt: HostRuntime) {
+    assert!(rt; plays::<Wire>(&rt, FAULTS_OF_SERVED_BLOCKS));
 }
 
 // A field's fault comes before what follows is missed, that of a verdict once its value is whole.
@@ -105,6 +104,6 @@ answer 03 0001 0000000000000001 0000000000000001 00000002 04 ffffffff 0b 16*00 0
 ";
 
 #[test]
-fn faults_of_lines(rt: HostRuntime) -> Result<(), Fail> {
-    plays::<Wire>(rt.alloc(), FAULTS_OF_LINES)
+fn faults_of_lines(rt: HostRuntime) {
+    assert!(rt; plays::<Wire>(&rt, FAULTS_OF_LINES));
 }

@@ -1,7 +1,7 @@
 //! Rows of the written order: epoch 7 of primary 2, and a log of 5 blocks.
 
-use crate::playing::row;
 use crate::rules::Rules;
+use transcripts::transcript::plays;
 
 const KNOWN_BY_ID_AND_TOKEN: &str = "\
 table start                                                 = Ok
@@ -17,7 +17,7 @@ table start                                                 = Ok
 
 #[test]
 fn known_by_id_and_token(rt: HostRuntime) {
-    row::<Rules>(&rt, rt.alloc(), KNOWN_BY_ID_AND_TOKEN);
+    assert!(rt; plays::<Rules>(&rt, KNOWN_BY_ID_AND_TOKEN));
 }
 
 const ROWS_OF_SECTION_A: &str = "\
@@ -34,7 +34,7 @@ table start                        = Ok
 
 #[test]
 fn rows_of_section_a(rt: HostRuntime) {
-    row::<Rules>(&rt, rt.alloc(), ROWS_OF_SECTION_A);
+    assert!(rt; plays::<Rules>(&rt, ROWS_OF_SECTION_A));
 }
 
 const ROWS_OF_THE_TABLE: &str = "\
@@ -47,7 +47,7 @@ table start                        = Ok
 
 #[test]
 fn rows_of_the_table(rt: HostRuntime) {
-    row::<Rules>(&rt, rt.alloc(), ROWS_OF_THE_TABLE);
+    assert!(rt; plays::<Rules>(&rt, ROWS_OF_THE_TABLE));
 }
 
 const LAST_EPOCH: &str = "\
@@ -61,7 +61,7 @@ epochs 4294967294 2                  = Ok
 
 #[test]
 fn last_epoch(rt: HostRuntime) {
-    row::<Rules>(&rt, rt.alloc(), LAST_EPOCH);
+    assert!(rt; plays::<Rules>(&rt, LAST_EPOCH));
 }
 
 // A view gives how many blocks are hardened, whether a write agrees with the content of its number,
@@ -94,7 +94,7 @@ view 5 true 3 true                     = Ok
 
 #[test]
 fn rows_of_section_c(rt: HostRuntime) {
-    row::<Rules>(&rt, rt.alloc(), ROWS_OF_SECTION_C);
+    assert!(rt; plays::<Rules>(&rt, ROWS_OF_SECTION_C));
 }
 
 // C2 to C4 are asked of a write and of an offer, C5 of a write alone; C1 of a pull and of a get.
@@ -131,7 +131,7 @@ view 5 true 0 false                    = Ok
 
 #[test]
 fn rows_of_reads_and_offers(rt: HostRuntime) {
-    row::<Rules>(&rt, rt.alloc(), ROWS_OF_READS_AND_OFFERS);
+    assert!(rt; plays::<Rules>(&rt, ROWS_OF_READS_AND_OFFERS));
 }
 
 const ANOTHER_TABLE: &str = "\
@@ -148,5 +148,5 @@ table two_principals                   = Ok
 
 #[test]
 fn another_table(rt: HostRuntime) {
-    row::<Rules>(&rt, rt.alloc(), ANOTHER_TABLE);
+    assert!(rt; plays::<Rules>(&rt, ANOTHER_TABLE));
 }

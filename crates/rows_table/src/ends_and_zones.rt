@@ -1,13 +1,12 @@
 //! Tables whose rows end at an LSN, and tables that say how many copies a landing zone has: their
 //! faults, and what is found in them.
 
-use crate::playing::row;
 use crate::rules::Rules;
 use crate::table_faults::{Case, Changed, walk};
 use pl_table::{Table, read_table};
 use std::alloc::Global;
 use transcripts::table_text::{START, table_named};
-use transcripts::transcript::Stop;
+use transcripts::transcript::{Stop, plays};
 
 /// Rows that end at 0, 2, 3 and 5.
 const ENDS: &str = "
@@ -188,7 +187,7 @@ first 3 00 secondary 1 pull 0 0 4 1                     = 1 deny
 
 #[test]
 fn rows_that_end(rt: HostRuntime) {
-    row::<Rules>(&rt, rt.alloc(), ROWS_THAT_END);
+    assert!(rt; plays::<Rules>(&rt, ROWS_THAT_END));
 }
 
 const HOW_FAR_ROWS_ALLOW: &str = "\
@@ -215,7 +214,7 @@ alike 3 00 secondary 1 pull 0 0 1 1                     = 0 18446744073709551615
 
 #[test]
 fn how_far_rows_allow(rt: HostRuntime) {
-    row::<Rules>(&rt, rt.alloc(), HOW_FAR_ROWS_ALLOW);
+    assert!(rt; plays::<Rules>(&rt, HOW_FAR_ROWS_ALLOW));
 }
 
 const COPIES_OF_A_TABLE: &str = "\
@@ -232,5 +231,5 @@ rows                = 6
 
 #[test]
 fn copies_of_a_table(rt: HostRuntime) {
-    row::<Rules>(&rt, rt.alloc(), COPIES_OF_A_TABLE);
+    assert!(rt; plays::<Rules>(&rt, COPIES_OF_A_TABLE));
 }

@@ -1,12 +1,11 @@
 //! An audit list on its own, asked line by line, and its rows.
 
-use crate::playing::row;
 use pl_audit::{Audit, AuditFault, Entry};
 use std::alloc::Global;
 use transcripts::answer::{push_numbers, push_truth, push_word};
 use transcripts::line_text::{line_of, push_lines};
 use transcripts::table_text::table_named;
-use transcripts::transcript::{Stop, Subject};
+use transcripts::transcript::{Stop, Subject, plays};
 
 /// The audit list of a transcript.
 #[derive(Drop)]
@@ -122,7 +121,7 @@ list 1 0                                              =
 
 #[test]
 fn entries_up_to_a_limit(rt: HostRuntime) {
-    row::<Listed>(&rt, rt.alloc(), ENTRIES_UP_TO_A_LIMIT);
+    assert!(rt; plays::<Listed>(&rt, ENTRIES_UP_TO_A_LIMIT));
 }
 
 const TABLE_OF_THE_NEWEST_ENTRY: &str = "\
@@ -139,5 +138,5 @@ len                                                   = 4
 
 #[test]
 fn table_of_the_newest_entry(rt: HostRuntime) {
-    row::<Listed>(&rt, rt.alloc(), TABLE_OF_THE_NEWEST_ENTRY);
+    assert!(rt; plays::<Listed>(&rt, TABLE_OF_THE_NEWEST_ENTRY));
 }

@@ -13,8 +13,6 @@ mod entries;
 #[cfg(test)]
 mod numbers;
 #[cfg(test)]
-mod playing;
-#[cfg(test)]
 mod principal_faults;
 #[cfg(test)]
 mod row_faults;

@@ -3,7 +3,6 @@
 use crate::table_faults::kept_of;
 use pl_table::{Head, Principal, Role};
 use std::alloc::Global;
-use std::test::Fail;
 use transcripts::transcript::Stop;
 
 const HEAD: Head = Head {
@@ -39,14 +38,13 @@ fn has_token(text: &str) -> bool {
 }
 
 #[test]
-fn debug_texts_have_no_token(rt: HostRuntime) -> Result<(), Fail> {
+fn debug_texts_have_no_token(rt: HostRuntime) {
     let texts = match debug_texts(rt.alloc()) {
         Ok(texts) => texts,
-        Err(_) => debug_texts(rt.alloc())?,
+        Err(_) => debug_texts(rt.alloc()).expect(&rt, "no texts"),
     };
     let known = "Head { principal: 3, role: Secondary, database: 0, epoch: 1, .. }\n\
         Principal { id: 7, .. }\nTableText {";
     let texts = texts.as_str();
     assert!(rt; texts.starts_with(known) && !has_token(texts), "{texts}");
-    Ok(())
 }

@@ -1,7 +1,7 @@
 //! Tables that texts write down, and the first row of each that matches a request.
 
-use crate::playing::row;
 use crate::rules::Rules;
+use transcripts::transcript::plays;
 
 const TEXT_OF_START_TABLE: &str = "\
 table start  = Ok
@@ -24,7 +24,7 @@ row 6        = allow who 5 role primary
 
 #[test]
 fn text_of_start_table(rt: HostRuntime) {
-    row::<Rules>(&rt, rt.alloc(), TEXT_OF_START_TABLE);
+    assert!(rt; plays::<Rules>(&rt, TEXT_OF_START_TABLE));
 }
 
 const TEXT_WITH_ITS_READING: &str = "\
@@ -44,7 +44,7 @@ rows                 = 6
 
 #[test]
 fn text_with_its_reading(rt: HostRuntime) {
-    row::<Rules>(&rt, rt.alloc(), TEXT_WITH_ITS_READING);
+    assert!(rt; plays::<Rules>(&rt, TEXT_WITH_ITS_READING));
 }
 
 const COPY_OF_A_TABLE: &str = "\
@@ -63,7 +63,7 @@ row 6        = allow who 5 role primary
 
 #[test]
 fn copy_of_a_table(rt: HostRuntime) {
-    row::<Rules>(&rt, rt.alloc(), COPY_OF_A_TABLE);
+    assert!(rt; plays::<Rules>(&rt, COPY_OF_A_TABLE));
 }
 
 const TEXT_OF_OTHER_TABLE: &str = "\
@@ -78,7 +78,7 @@ row 4        = allow who 2 role primary
 
 #[test]
 fn text_of_other_table(rt: HostRuntime) {
-    row::<Rules>(&rt, rt.alloc(), TEXT_OF_OTHER_TABLE);
+    assert!(rt; plays::<Rules>(&rt, TEXT_OF_OTHER_TABLE));
 }
 
 const INLINE_TABLES: &str = "\
@@ -91,7 +91,7 @@ row 1             = allow op tidy set_table tidy
 
 #[test]
 fn inline_tables(rt: HostRuntime) {
-    row::<Rules>(&rt, rt.alloc(), INLINE_TABLES);
+    assert!(rt; plays::<Rules>(&rt, INLINE_TABLES));
 }
 
 const FIRST_MATCH_OF_START_TABLE: &str = "\
@@ -118,7 +118,7 @@ candidates 9 00 operator  1 status           = 0
 
 #[test]
 fn first_match_of_start_table(rt: HostRuntime) {
-    row::<Rules>(&rt, rt.alloc(), FIRST_MATCH_OF_START_TABLE);
+    assert!(rt; plays::<Rules>(&rt, FIRST_MATCH_OF_START_TABLE));
 }
 
 const A_ROW_THAT_DENIES_ONE_PARTITION: &str = "\
@@ -135,7 +135,7 @@ first 3 00 secondary 1 report 0              = 2 allow
 
 #[test]
 fn a_row_that_denies_one_partition(rt: HostRuntime) {
-    row::<Rules>(&rt, rt.alloc(), A_ROW_THAT_DENIES_ONE_PARTITION);
+    assert!(rt; plays::<Rules>(&rt, A_ROW_THAT_DENIES_ONE_PARTITION));
 }
 
 // Row 1 denies a write or a status that touches partition 5, row 2 allows all within 0 to 5. The
@@ -153,7 +153,7 @@ first 3 00 primary 1 write 1:aa@393216 0          = none
 
 #[test]
 fn rows_against_writes(rt: HostRuntime) {
-    row::<Rules>(&rt, rt.alloc(), ROWS_AGAINST_WRITES);
+    assert!(rt; plays::<Rules>(&rt, ROWS_AGAINST_WRITES));
 }
 
 // A request names no partition where its act does not: then each range matches.
@@ -169,7 +169,7 @@ first 1 00 secondary 1 pull 6 6 1 1               = none
 
 #[test]
 fn ranges_against_requests_without_partitions(rt: HostRuntime) {
-    row::<Rules>(&rt, rt.alloc(), RANGES_AGAINST_REQUESTS_WITHOUT_PARTITIONS);
+    assert!(rt; plays::<Rules>(&rt, RANGES_AGAINST_REQUESTS_WITHOUT_PARTITIONS));
 }
 
 // Row 1 of the second table lists write and status alone.
@@ -201,7 +201,7 @@ first 1 00 operator    1 tidy                     = 2 allow
 
 #[test]
 fn ranges_against_pages_and_offers(rt: HostRuntime) {
-    row::<Rules>(&rt, rt.alloc(), RANGES_AGAINST_PAGES_AND_OFFERS);
+    assert!(rt; plays::<Rules>(&rt, RANGES_AGAINST_PAGES_AND_OFFERS));
 }
 
 const STATUS_AND_SET_TABLE_BY_START_TABLE: &str = "\
@@ -220,7 +220,7 @@ first 4 00 operator    1 set_table spaces 1       = none
 
 #[test]
 fn status_and_set_table_by_start_table(rt: HostRuntime) {
-    row::<Rules>(&rt, rt.alloc(), STATUS_AND_SET_TABLE_BY_START_TABLE);
+    assert!(rt; plays::<Rules>(&rt, STATUS_AND_SET_TABLE_BY_START_TABLE));
 }
 
 const BOUNDS_OF_REQUESTS: &str = "\
@@ -263,5 +263,5 @@ request 3 00 secondary 1 audit 1 1025                      = out of range
 
 #[test]
 fn bounds_of_requests(rt: HostRuntime) {
-    row::<Rules>(&rt, rt.alloc(), BOUNDS_OF_REQUESTS);
+    assert!(rt; plays::<Rules>(&rt, BOUNDS_OF_REQUESTS));
 }

@@ -2,9 +2,9 @@
 
 use hex::FromHexError;
 use pl_block::BlockFault;
-use std::alloc::{AllocError, AllocFailed, Global};
+use std::alloc::{AllocError, AllocFailed, AllocGlobal, Global};
+use std::io::Eprint;
 use std::num::ParseIntError;
-use std::test::Fail;
 
 // What an answer may have beside the text that is wanted: a space before it, and one after it.
 const ROOM: usize = 2;
@@ -118,12 +118,6 @@ impl<S: Subject> Player<S> {
         }
     }
 
-    // The line, and what it was answered.
-    fn failed(&self, line: &str) -> Fail {
-        let shown = self.shown();
-        Fail::new(format_args!("{line}, not {shown}"))
-    }
-
     // Asks. There is room for a right answer before the question is asked, so that no allocation of
     // the test's own fails after it.
     fn asks(&mut self, asked: &str, wanted: &str) -> Result<String, Stop> {
@@ -170,21 +164,22 @@ impl<S: Subject> Player<S> {
     }
 }
 
-/// Plays the transcript of a subject, up to the first line that does not hold, which it reports with
-/// its answer.
+/// Whether each line of the transcript holds. The first that does not is printed to standard error with its answer, and those
+/// after it are not played. A print that fails is ignored.
 ///
 /// A test may meet one refused allocation and no more. The line that meets it is asked again in its
 /// place, and those after it go on from there. Only a run in which one step was refused has answers of
 /// its own: after it the transcript is played from its beginning.
-pub fn plays<S: Subject>(alloc: Global, row: &str) -> Result<(), Fail> {
-    let mut player: Player<S> = Player::new(alloc);
+pub fn plays<S: Subject>(rt: &(impl AllocGlobal + Eprint), row: &str) -> bool {
+    let mut player: Player<S> = Player::new(rt.alloc());
     let mut wrong = player.first_wrong(row);
     if matches!(player.answer, Err(Stop::Amid)) {
-        player.subject = S::new(alloc);
+        player.subject = S::new(rt.alloc());
         wrong = player.first_wrong(row);
     }
-    match wrong {
-        Some(line) => Err(player.failed(line)),
-        None => Ok(()),
-    }
+    let Some(line) = wrong else {
+        return true;
+    };
+    let _is_printed = eprintln!(rt; "{line}, not {}", player.shown());
+    false
 }
