@@ -10,9 +10,9 @@ use crate::memory::{Input, Output, check, ended_in_refusal, is_refused};
 use pl_conn::{Desks, Gate, Passes, Solo, converse};
 use pl_core::Reply;
 use pl_wire::{ReplyFault, encode_request, put_reply, read_reply};
-use std::alloc::{AllocError, Global};
+use std::alloc::{AllocGlobal, Global};
+use std::io::Eprint;
 use std::sync::Wait;
-use std::test::Fail;
 use transcripts::asking::request_of;
 use transcripts::codec::bytes_of;
 use transcripts::reply_text::reply_of;
@@ -290,23 +290,23 @@ fn first_wrong_of<R: Wait + Drop + Copy>(
     Ok(None)
 }
 
-/// Each request of the text is answered as it says, in a conversation with a fresh database, over one
-/// caller's gate and over a desk, in each of these pieces. It is held from the beginning, once, where
-/// memory was refused.
-pub(crate) fn converses_as<R: Wait + Drop + Copy>(
+/// Whether each request of the text is answered as it says, in a conversation with a fresh database,
+/// over one caller's gate and over a desk, in each of these pieces. What is wrong is printed to standard
+/// error. The conversation is held from the beginning, once, where memory was refused.
+pub(crate) fn converses_as<R: AllocGlobal + Eprint + Wait + Drop + Copy>(
     rt: R,
-    alloc: Global,
     text: &str,
     pieces: &[usize],
-) -> Result<(), Fail> {
-    let mut wrong = first_wrong_of(rt, alloc, text, pieces);
+) -> bool {
+    let mut wrong = first_wrong_of(rt, rt.alloc(), text, pieces);
     if matches!(wrong, Err(Stop::NoMemory)) {
-        wrong = first_wrong_of(rt, alloc, text, pieces);
+        wrong = first_wrong_of(rt, rt.alloc(), text, pieces);
     }
-    match wrong {
-        Ok(None) => Ok(()),
-        Ok(Some(number)) => Err(Fail::new(format!(in alloc; "the reply to frame {number}")?)),
-        Err(Stop::NoMemory) => Err(Fail::new("out of memory twice")),
-        Err(_) => Err(Fail::new("the conversation ended otherwise, or the text is not read")),
-    }
+    let _is_printed = match wrong {
+        Ok(None) => return true,
+        Ok(Some(number)) => eprintln!(rt; "the reply to frame {number}"),
+        Err(Stop::NoMemory) => eprintln!(rt; "out of memory twice"),
+        Err(_) => eprintln!(rt; "the conversation ended otherwise, or the text is not read"),
+    };
+    false
 }

@@ -1,7 +1,6 @@
 //! Conversations of each operation, of many frames and of long ones.
 
 use crate::talking::{PIECES, converses_as};
-use std::test::Fail;
 
 const ALL_OPERATIONS: &str = "\
 2 22 primary 1 offer 1:aa                  = Done
@@ -50,8 +49,8 @@ database 1 1 11 operator 2 status          = NoDatabase
 /// Each of the eleven operations over a connection, and bodies in between that are none; a get below
 /// the applied LSN is answered at that one.
 #[test]
-fn all_operations(rt: HostRuntime) -> Result<(), Fail> {
-    converses_as(rt, rt.alloc(), ALL_OPERATIONS, &PIECES)
+fn all_operations(rt: HostRuntime) {
+    assert!(&rt; converses_as(rt, ALL_OPERATIONS, &PIECES));
 }
 
 const THOUSAND_FRAMES: &str = "\
@@ -69,8 +68,8 @@ const THOUSAND_FRAMES: &str = "\
 
 /// A conversation of 1,240 frames.
 #[test]
-fn thousand_frames(rt: HostRuntime) -> Result<(), Fail> {
-    converses_as(rt, rt.alloc(), THOUSAND_FRAMES, &PIECES)
+fn thousand_frames(rt: HostRuntime) {
+    assert!(&rt; converses_as(rt, THOUSAND_FRAMES, &PIECES));
 }
 
 const BURST_OF_2000: &str = "\
@@ -79,8 +78,8 @@ const BURST_OF_2000: &str = "\
 
 /// Two thousand small requests that are all there at once, so that their replies wait together.
 #[test]
-fn burst_of_2000(rt: HostRuntime) -> Result<(), Fail> {
-    converses_as(rt, rt.alloc(), BURST_OF_2000, &[usize::MAX])
+fn burst_of_2000(rt: HostRuntime) {
+    assert!(&rt; converses_as(rt, BURST_OF_2000, &[usize::MAX]));
 }
 
 const PAGES_AT_HAND: &str = "\
@@ -93,8 +92,8 @@ const PAGES_AT_HAND: &str = "\
 
 /// Seventy gets that are all there at once: more than twice 256 KiB of replies.
 #[test]
-fn buffered_pages(rt: HostRuntime) -> Result<(), Fail> {
-    converses_as(rt, rt.alloc(), PAGES_AT_HAND, &[65_540, usize::MAX])
+fn buffered_pages(rt: HostRuntime) {
+    assert!(&rt; converses_as(rt, PAGES_AT_HAND, &[65_540, usize::MAX]));
 }
 
 const LARGE_REPLIES: &str = "\
@@ -119,8 +118,8 @@ const LARGE_REPLIES: &str = "\
 
 /// The longest list of lines, the longest list of the longest blocks, and a page.
 #[test]
-fn large_replies(rt: HostRuntime) -> Result<(), Fail> {
-    converses_as(rt, rt.alloc(), LARGE_REPLIES, &[4_096, usize::MAX])
+fn large_replies(rt: HostRuntime) {
+    assert!(&rt; converses_as(rt, LARGE_REPLIES, &[4_096, usize::MAX]));
 }
 
 const LARGEST_BLOCK_AND_TEXT: &str = "\
@@ -148,6 +147,6 @@ body 00000003 16*33 02 00000000 00000001 05 0000 ffff 0000000000000001 00 = Malf
 
 /// The largest block and one byte more, the longest text, and bodies without their last byte.
 #[test]
-fn largest_block_and_text(rt: HostRuntime) -> Result<(), Fail> {
-    converses_as(rt, rt.alloc(), LARGEST_BLOCK_AND_TEXT, &PIECES)
+fn largest_block_and_text(rt: HostRuntime) {
+    assert!(&rt; converses_as(rt, LARGEST_BLOCK_AND_TEXT, &PIECES));
 }

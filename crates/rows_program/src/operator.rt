@@ -6,7 +6,6 @@ use pl_play::{AdminFault, Credentials, admin, answer_text};
 use pl_table::Request;
 use pl_wire::{decode_request, encode_request};
 use std::alloc::{AllocError, Global};
-use std::test::Fail;
 
 // Principal 1 is the operator, and principal 2 the primary.
 const TABLE: &str = "[[principal]]
@@ -155,13 +154,12 @@ fn refuses_each(alloc: Global) -> Option<bool> {
 
 // A second run meets no failed allocation, whichever one fails.
 #[test]
-fn admin_words(rt: HostRuntime) -> Result<(), Fail> {
+fn admin_words(rt: HostRuntime) {
     let alloc = rt.alloc();
     let answered = answers_each(alloc) == Some(true) || answers_each(alloc) == Some(true);
     assert!(rt; answered);
     let refused = refuses_each(alloc) == Some(true) || refuses_each(alloc) == Some(true);
     assert!(rt; refused);
-    Ok(())
 }
 
 // The lines of the two requests before it; its own comes after its answer.
@@ -196,9 +194,8 @@ fn lists_two(alloc: Global) -> Option<bool> {
 }
 
 #[test]
-fn audit_as_text(rt: HostRuntime) -> Result<(), Fail> {
+fn audit_as_text(rt: HostRuntime) {
     let alloc = rt.alloc();
     let listed = lists_two(alloc) == Some(true) || lists_two(alloc) == Some(true);
     assert!(rt; listed);
-    Ok(())
 }

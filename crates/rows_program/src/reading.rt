@@ -6,7 +6,6 @@ use pl_play::{FileFault, PlayFault, play, read_text};
 use std::alloc::{AllocError, Global};
 use std::io::{self, BufReader, ErrorKind, Read};
 use std::process::Abort;
-use std::test::Fail;
 
 /// Gives this many zeros, and then fails at each read.
 #[derive(Drop)]
@@ -96,43 +95,34 @@ fn ends_as(
     Some(end == Err(ended_by(left, is_long)))
 }
 
-// This many empty lines and this many digits are read before a read fails, or the line of the digits is too long.
-fn stops_at(
-    rt: &impl Abort,
-    alloc: Global,
-    lines: u16,
-    digits: usize,
-    is_long: bool,
-) -> Result<(), Fail> {
+// This many empty lines are answered and this many digits read, before a read fails or the line of the digits is too long.
+fn stops_at(rt: &impl Abort, alloc: Global, lines: u16, digits: usize, is_long: bool) {
     let given = Given {
         lines: usize::from(lines),
         digits,
     };
     let mut refused = false;
-    let mut output = room_on(alloc, 5 * given.lines, &mut refused)?;
+    let mut output = room_on(alloc, 5 * given.lines, &mut refused).expect(rt, "no room");
     let is_right = ends_as(alloc, given, is_long, &mut output, &mut refused);
-    assert!(rt; is_right == Some(true), "{lines} lines and {digits} digits");
     assert!(rt;
-        output.len() == 5 * given.lines,
+        is_right == Some(true) && output.len() == 5 * given.lines,
         "{lines} lines and {digits} digits"
     );
-    Ok(())
 }
 
 #[test]
-fn a_failed_read_ends_it(rt: HostRuntime) -> Result<(), Fail> {
+fn a_failed_read_ends_it(rt: HostRuntime) {
     for lines in 0..4 {
-        stops_at(&rt, rt.alloc(), lines, 0, false)?;
-        stops_at(&rt, rt.alloc(), lines, 3, false)?;
+        stops_at(&rt, rt.alloc(), lines, 0, false);
+        stops_at(&rt, rt.alloc(), lines, 3, false);
     }
-    Ok(())
 }
 
 // The end of a line that is too long is not looked for.
 #[test]
-fn a_line_is_read_to_its_limit(rt: HostRuntime) -> Result<(), Fail> {
-    stops_at(&rt, rt.alloc(), 1, 131_072, false)?;
-    stops_at(&rt, rt.alloc(), 1, 131_073, true)
+fn a_line_is_read_to_its_limit(rt: HostRuntime) {
+    stops_at(&rt, rt.alloc(), 1, 131_072, false);
+    stops_at(&rt, rt.alloc(), 1, 131_073, true);
 }
 
 // Reads a text of this many zeros, after which a read fails; and once more where memory is refused.
@@ -146,13 +136,12 @@ fn text_on(alloc: Global, len: usize, refused: &mut bool) -> Result<Vec<u8>, Fil
 }
 
 #[test]
-fn a_text_is_read_to_its_limit(rt: HostRuntime) -> Result<(), Fail> {
+fn a_text_is_read_to_its_limit(rt: HostRuntime) {
     let mut refused = false;
     let read = text_on(rt.alloc(), 65_506, &mut refused);
     assert!(rt; matches!(read, Err(FileFault::Read)));
     let read = text_on(rt.alloc(), 65_507, &mut refused);
     assert!(rt; matches!(read, Err(FileFault::Long)));
-    Ok(())
 }
 
 // This many empty lines, which are made again where memory is refused.
@@ -192,12 +181,11 @@ fn answers_more(
 }
 
 #[test]
-fn more_lines_than_the_audit_list_holds(rt: HostRuntime) -> Result<(), Fail> {
+fn more_lines_than_the_audit_list_holds(rt: HostRuntime) {
     let mut refused = false;
-    let feeds = feeds_on(rt.alloc(), 65_537, &mut refused)?;
-    let mut output = room_on(rt.alloc(), 327_685, &mut refused)?;
+    let feeds = feeds_on(rt.alloc(), 65_537, &mut refused).expect(&rt, "no lines");
+    let mut output = room_on(rt.alloc(), 327_685, &mut refused).expect(&rt, "no room");
     let are_answered = answers_more(rt.alloc(), &feeds, &mut output, &mut refused);
     assert!(rt; are_answered == Some(true));
     assert!(rt; output.len() == 327_685);
-    Ok(())
 }
