@@ -1,13 +1,12 @@
 //! Frames, asked line by line.
 
-use crate::pieces::{Feed, Sink};
+use crate::pieces::{Feed, Full, Sink, Trouble};
 use pl_core::Reply;
 use pl_wire::{
     BodyFault, FrameFault, ReplyFault, WriteFault, put_reply, read_body, read_frame, read_head,
     read_reply, write_reply, write_request,
 };
 use std::alloc::Global;
-use std::io::ErrorKind;
 use transcripts::answer::{push_bytes, push_fault, push_numbers, push_word};
 use transcripts::asking::request_of;
 use transcripts::codec::bytes_of;
@@ -17,14 +16,14 @@ use transcripts::transcript::{Stop, Subject};
 /// How many bytes a reader gives at once.
 const PIECES: [usize; 4] = [1, 2, 3, 5];
 
-/// How many bytes a writer takes at once, and the error when its room is full: none where it takes no more.
-const WAYS: [(usize, Option<ErrorKind>); 6] = [
-    (1, None),
-    (2, Some(ErrorKind::BrokenPipe)),
-    (3, Some(ErrorKind::Interrupted)),
-    (5, Some(ErrorKind::BrokenPipe)),
-    (usize::MAX, None),
-    (usize::MAX, Some(ErrorKind::Interrupted)),
+/// How many bytes a writer takes at once, and what comes when its room is full.
+const WAYS: [(usize, Full); 6] = [
+    (1, Full::TakesNone),
+    (2, Full::Fails),
+    (3, Full::IsInterrupted),
+    (5, Full::Fails),
+    (usize::MAX, Full::TakesNone),
+    (usize::MAX, Full::IsInterrupted),
 ];
 
 /// How many frames of an input are read at most.
@@ -154,12 +153,12 @@ impl Frames {
         &self,
         asked: &Asked,
         bytes: &[u8],
-        stop: (Option<usize>, bool),
+        trouble: &Trouble,
         out: &mut String,
     ) -> Result<(), Stop> {
-        self.push_fed(asked, &mut Feed::new(bytes, usize::MAX, stop), out)?;
+        self.push_fed(asked, &mut Feed::new(bytes, usize::MAX, trouble), out)?;
         for piece in PIECES {
-            if !self.is_read(asked, Feed::new(bytes, piece, stop), out.as_str())? {
+            if !self.is_read(asked, Feed::new(bytes, piece, trouble), out.as_str())? {
                 return Err(Stop::Changed);
             }
         }
@@ -189,7 +188,7 @@ impl Frames {
     }
 
     // A writer with this much room: how many bytes it takes at once, and what comes when the room is full.
-    fn sink(&self, room: usize, way: (usize, Option<ErrorKind>)) -> Result<Sink, Stop> {
+    fn sink(&self, room: usize, way: (usize, Full)) -> Result<Sink, Stop> {
         let (at_once, full) = way;
         Ok(Sink {
             held: Vec::with_capacity(self.alloc, ROOM)?,
@@ -219,7 +218,7 @@ impl Frames {
 
     // What a writer with this much room holds in the end, and whether the whole frame was written.
     fn held(&self, what: &[&str], room: usize) -> Result<(Vec<u8>, bool), Stop> {
-        let mut sink = self.sink(room, (usize::MAX, Some(ErrorKind::BrokenPipe)))?;
+        let mut sink = self.sink(room, (usize::MAX, Full::Fails))?;
         let whole = self.write_on_all(what, room, &mut sink)?;
         Ok((sink.held, whole))
     }
@@ -262,39 +261,29 @@ impl Frames {
 
 impl Frames {
     // Pushes what is read of the input that the words spell.
-    fn push_input(
-        &self,
-        words: &[&str],
-        stop: (Option<usize>, bool),
-        out: &mut String,
-    ) -> Result<(), Stop> {
+    fn push_input(&self, words: &[&str], trouble: &Trouble, out: &mut String) -> Result<(), Stop> {
         if let ["sent", words @ ..] = words {
-            return self.push_sent(words, stop, out);
+            return self.push_sent(words, trouble, out);
         }
         let (asked, bytes) = asked_in(words)?;
         let bytes = bytes_of(self.alloc, bytes)?;
-        self.push_read(&asked, &bytes, stop, out)
+        self.push_read(&asked, &bytes, trouble, out)
     }
 
     // Pushes what is read of the bytes that were sent.
-    fn push_sent(
-        &self,
-        words: &[&str],
-        stop: (Option<usize>, bool),
-        out: &mut String,
-    ) -> Result<(), Stop> {
+    fn push_sent(&self, words: &[&str], trouble: &Trouble, out: &mut String) -> Result<(), Stop> {
         let (asked, bytes) = asked_in(words)?;
         if !bytes.is_empty() {
             return Err(Stop::Unread);
         }
-        self.push_read(&asked, &self.sent, stop, out)
+        self.push_read(&asked, &self.sent, trouble, out)
     }
 
     // Pushes how many reads the input takes that gives one byte at once.
     fn push_reads(&self, words: &[&str], out: &mut String) -> Result<(), Stop> {
         let (asked, bytes) = asked_in(words)?;
         let bytes = bytes_of(self.alloc, bytes)?;
-        let mut feed = Feed::new(&bytes, 1, (None, false));
+        let mut feed = Feed::new(&bytes, 1, &Trouble::Nothing);
         self.push_fed(&asked, &mut feed, &mut String::new(self.alloc))?;
         push_numbers(out, &[feed.reads])
     }
@@ -328,12 +317,12 @@ impl Subject for Frames {
         match words {
             ["send", what @ ..] => self.send(what, out),
             ["room", room, what @ ..] => self.push_stopped(room.parse()?, what, out),
-            ["failing", words @ ..] => self.push_input(words, (None, true), out),
+            ["failing", words @ ..] => self.push_input(words, &Trouble::Failure, out),
             ["interrupted", given, words @ ..] => {
-                self.push_input(words, (Some(given.parse()?), false), out)
+                self.push_input(words, &Trouble::Interruption(given.parse()?), out)
             }
             ["reads", words @ ..] => self.push_reads(words, out),
-            _ => self.push_input(words, (None, false), out),
+            _ => self.push_input(words, &Trouble::Nothing, out),
         }
     }
 }

@@ -2,6 +2,17 @@
 
 use std::io::{self, ErrorKind, Read, Write};
 
+/// What a reader meets beside its bytes.
+#[derive(Drop)]
+pub(crate) enum Trouble {
+    /// Nothing: the input ends after its bytes.
+    Nothing,
+    /// A read after the bytes fails.
+    Failure,
+    /// A read after this many bytes is interrupted. The reads after that one go on, to the end of the input.
+    Interruption(usize),
+}
+
 /// Gives its bytes, at most this many at once, and counts its reads.
 #[derive(Drop)]
 pub(crate) struct Feed<'a> {
@@ -16,8 +27,12 @@ pub(crate) struct Feed<'a> {
 }
 
 impl<'a> Feed<'a> {
-    pub(crate) fn new(left: &'a [u8], at_once: usize, stop: (Option<usize>, bool)) -> Feed<'a> {
-        let (interrupted, fails) = stop;
+    pub(crate) fn new(left: &'a [u8], at_once: usize, trouble: &Trouble) -> Feed<'a> {
+        let (interrupted, fails) = match trouble {
+            Trouble::Nothing => (None, false),
+            Trouble::Failure => (None, true),
+            Trouble::Interruption(given) => (Some(*given), false),
+        };
         Feed {
             left,
             at_once,
@@ -57,28 +72,36 @@ impl Read for Feed<'_> {
     }
 }
 
+/// What a write comes to where the room is full.
+#[derive(Drop)]
+pub(crate) enum Full {
+    /// It takes no byte.
+    TakesNone,
+    /// It fails.
+    Fails,
+    /// It is interrupted, once; the writes after it take all.
+    IsInterrupted,
+}
+
 /// Takes this many bytes in all, and at most this many at once.
 #[derive(Drop)]
 pub(crate) struct Sink {
     pub(crate) held: Vec<u8>,
     pub(crate) at_once: usize,
     pub(crate) room: usize,
-    /// The error of a write where the room is full, or `None` where it takes no byte. `Interrupted` comes once;
-    /// the writes after it take all.
-    pub(crate) full: Option<ErrorKind>,
+    pub(crate) full: Full,
 }
 
 impl Write for Sink {
     fn write(&mut self, buf: &[u8]) -> io::Result<usize> {
         if self.room == 0 {
             return match self.full {
-                Some(kind) => {
-                    if kind == ErrorKind::Interrupted {
-                        self.room = usize::MAX;
-                    }
-                    Err(io::Error::from(kind))
+                Full::TakesNone => Ok(0),
+                Full::Fails => Err(io::Error::from(ErrorKind::BrokenPipe)),
+                Full::IsInterrupted => {
+                    self.room = usize::MAX;
+                    Err(io::Error::from(ErrorKind::Interrupted))
                 }
-                None => Ok(0),
             };
         }
         let count = buf.len().min(self.at_once).min(self.room);
