@@ -1,5 +1,5 @@
 use Rattle.std.proofs.Common.{rules, arith}
-use Rattle.pl_conn.proofs.Gathered.{takes_read}
+use Rattle.pl_conn.proofs.Gathered.{takes_buffered, takes_read}
 use Rattle.pl_conn.proofs.conversing.take_next.Goals as goal
 
 pub returns-in-Ok-Some-clause-value : goal.returns-in-Ok-Some-clause-value
@@ -7,3 +7,6 @@ returns-in-Ok-Some-clause-value g c =
     let some = rw c.in-Ok-Some.field-0-is at c.in-Ok-Some.ensures.some in
     takes_read _ _ _ _ _ _ c.in-Ok-Some.body.items _ _ _ _ _ (search rules) (search rules) (omega (arith, some.0, c.in-Ok-Some.body.ok)) some.1 c.request_in.ensures.exact c.request_in.ensures.no_memory
     c.answer-reply.ensures.reply c.answer-reply.ensures.fits (search rules) c.put.ensures.value
+
+pub returns-in-Some-clause-value : goal.returns-in-Some-clause-value
+returns-in-Some-clause-value g c = grind (arith, takes_buffered)

@@ -1,3 +1,4 @@
+use Rattle.std.proofs.lemmas.Grind.{common_steps}
 use Rattle.std.proofs.Common.{◌≡◌, ◌+◌, ℕ, [], ◌∷◌, ◌++◌, sym, ap, ◌∙◌, arith}
 use Rattle.pl_desk.specs.Rule.{terms_of}
 use Rattle.pl_desk.specs.Steps.{HeldSlot, dealing, dealt}
@@ -31,3 +32,6 @@ loop-number-preserved c =
       size = let some = i.some in omega (arith, sizes, before, some);
       room = omega (arith, room, capacity);
     }
+
+pub invariant_of-push : goal.invariant_of-push
+invariant_of-push c = grind (arith, common_steps)

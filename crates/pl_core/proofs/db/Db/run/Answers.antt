@@ -1,3 +1,4 @@
+use Rattle.std.proofs.lemmas.Grind.{common_steps}
 use Rattle.std.proofs.Common.{◌≡◌, ℕ, [], ◌∷◌, ◌++◌, List, reverse, refl, sym, ap, subst, ◌∙◌, append_assoc, arith}
 use Rattle.std.specs.List.{All}
 use Rattle.std.proofs.lemmas.List.{append-nil, nil_from_length, reverse-append}
@@ -37,3 +38,6 @@ loop-pass_no-preserved c =
           let held = rw c.unwrap.ensures at c.push.ensures.len in
           omega (arith, left, held, c.push.ensures.capacity, known.room);
     }
+
+pub loop-pass_no-init : goal.loop-pass_no-init
+loop-pass_no-init c = grind (arith, common_steps)

@@ -1,4 +1,5 @@
-use Rattle.std.proofs.Common.{◌≡◌, sym, ap, ◌∙◌}
+use Rattle.std.proofs.lemmas.Grind.{common_steps}
+use Rattle.std.proofs.Common.{◌≡◌, sym, ap, ◌∙◌, arith}
 use Rattle.pl_decide.specs.declared.view.Epochs.{Epochs}
 use Rattle.pl_table.specs.declared.request.Act.{Act}
 use Rattle.pl_table.specs.declared.request.Act.TheVariants as acts
@@ -23,3 +24,6 @@ returns-clause-can_harden c =
           ∙ ap (λ (a : Act). can_harden a c.args.self.now) (sym w.in-Report.is ∙ c.act-2.ensures.value)
       | in_default-act w ↦ w.can_harden-is ∙ sym (can_harden_other c.args.request.now.act c.args.self.now (λ lsn e. w.in_default-act.not-Report lsn (c.act-2.ensures.value ∙ e)))
     ]
+
+pub returns-clause-copies : goal.returns-clause-copies
+returns-clause-copies c = grind (arith, common_steps)
