@@ -400,8 +400,9 @@ static enum pagelog_outcome touched_pages(struct pagelog_file *file, uint64_t en
 /* Adds what makes up to 64 pages again what they were at the end mark. */
 static enum pagelog_outcome add_repairs(struct pagelog_file *file, uint64_t end, const uint32_t *pages,
                                         size_t count) {
-    uint8_t *old = malloc(2 * GROUP * PAGELOG_PAGE_BYTES), *now = old + GROUP * PAGELOG_PAGE_BYTES;
+    uint8_t *old = malloc(2 * GROUP * PAGELOG_PAGE_BYTES);
     if (!old) return out_of_memory(file);
+    uint8_t *now = old + GROUP * PAGELOG_PAGE_BYTES;
     enum pagelog_outcome outcome = pagelog_get(file->log, PAGELOG_PRIMARY, file->mark.lsn, pages, count, old);
     if (outcome == PAGELOG_DONE) outcome = pagelog_get(file->log, PAGELOG_PRIMARY, end, pages, count, now);
     for (size_t i = 0; i < count && outcome == PAGELOG_DONE; i++) {
