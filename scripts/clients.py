@@ -1,4 +1,4 @@
-"""Services that scripts start, and connections to them: frames out, frames in. Used by hostile and served."""
+"""Services that scripts start, and connections to them: frames out, frames in. Used by scripts that ask services."""
 
 import atexit
 import socket
@@ -61,6 +61,16 @@ def read_reply(client):
     if not head:
         return None
     return exactly(client, struct.unpack(">I", head)[0])
+
+
+def whole_frames(data):
+    """The bodies of the whole frames that a bytearray begins with. They are taken out of it."""
+    bodies, at = [], 0
+    while len(data) >= at + 4 and len(data) >= (end := at + 4 + struct.unpack_from(">I", data, at)[0]):
+        bodies.append(bytes(data[at + 4:end]))
+        at = end
+    del data[:at]
+    return bodies
 
 
 def asked(client, body):
