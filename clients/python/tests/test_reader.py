@@ -167,6 +167,18 @@ class PageServers(unittest.TestCase):
                 operator.failover(2)
             self.assertEqual(second.step(), 0)
 
+    def test_it_begins_anew_with_a_service_that_was_restarted_and_filled_again(self) -> None:
+        with Service() as service, service.page_server() as server, service.reader() as reader:
+            for more in (0, 5):
+                with service.primary() as primary:
+                    list(primary.stream([Put(0, 0, b"x")] for _ in range(10 + more)))
+                server.step()
+                reader.forget()
+                self.assertEqual((server.applied, reader.applied(0)), (10 + more, 10 + more))
+                service.restart()
+            server.forget()
+            self.assertEqual((server.step(), server.applied), (0, 0))
+
 
 class Operators(unittest.TestCase):
     def test_failovers(self) -> None:

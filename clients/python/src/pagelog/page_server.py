@@ -18,7 +18,8 @@ class PageServer(Client):
     """Keeps partitions applied up to the hardened end, so that gets that are not exact find their pages there.
 
     It begins without knowing how far a partition is applied, and takes it to be 0: advances that are too many do no
-    harm, since none goes above the hardened end.
+    harm, since none goes above the hardened end. So it does where the connection was made anew, since the service may
+    have been too, and restored.
     """
 
     role = Role.PAGE_SERVER
@@ -30,6 +31,7 @@ class PageServer(Client):
         self.partitions = tuple(partitions)
         self.applied = 0
         """All partitions are applied at least so far."""
+        self._connects = 0
 
     def step(self) -> int:
         """Advances all partitions to the hardened end. Returns by how many LSNs it had moved, 0 if not at all.
@@ -37,6 +39,8 @@ class PageServer(Client):
         It costs one request where there is nothing to do, and one more for each 1,024 LSNs of each partition.
         """
         hard = self.status().hard
+        if self._connects != self.connection.connects:
+            self.applied, self._connects = 0, self.connection.connects
         moved = hard - self.applied
         if moved:
             acts = [Advance(partition, steps) for partition in self.partitions for steps in _steps(moved)]
@@ -48,6 +52,11 @@ class PageServer(Client):
                 return 0
         self.applied = hard
         return moved
+
+    def forget(self) -> None:
+        """Takes the service to be a new one, of which nothing was seen, and whose partitions are not applied."""
+        super().forget()
+        self.applied = 0
 
     def run(self, *, idle: float = 0.5, stop: Callable[[], bool] = lambda: False) -> None:
         """Advances as blocks come, until `stop` says so, and sleeps, at most `idle` seconds, while none do."""
