@@ -130,9 +130,18 @@ class Looks(unittest.TestCase):
         writes = [(one["a"], one["b"]) for one in fields if one["op"] == "write"]
         self.assertEqual(writes, [(1, 0), (1, 1), (2, 0), (2, 1)])
         self.assertEqual(len(ends(words("audit", "--credentials", self.file, "--denied")).splitlines()), 1)
+        before = len(list(self.operator.entries(1))) + 1  # with the question for them
         last = ends(words("audit", "--credentials", self.file, "--first", "-3")).splitlines()
-        self.assertGreaterEqual(len(last), 3)
-        self.assertGreater(int(last[0].split()[0]), 10)
+        self.assertEqual([int(line.split()[0]) for line in last], [before - 2, before - 1, before])
+        self.assertEqual(ends(words("audit", "--credentials", self.file, "--first", "0")), "")
+
+    def test_what_cannot_be_done_is_one_line(self) -> None:
+        for place in ("127.0.0.1:65536", self.service.address):
+            out = ends(words("metrics", "--credentials", self.file, "--listen", place), status=1)
+            self.assertRegex(out, rf"\Apagelogctl: {place}: .*\n\Z")
+        for line in ("status --seconds", "audit --follow --idle", "top --interval", "archive --follow --idle"):
+            out = ends(words(*line.split(), "-1", "--credentials", self.file), status=2)
+            self.assertNotIn("Traceback", out)
 
     def test_audit_follows_until_it_is_told(self) -> None:
         process = words("audit", "--credentials", self.file, "--follow", "--idle", "0.05", "--denied", "--json", PYTHONUNBUFFERED="1")
@@ -350,6 +359,13 @@ class Help(unittest.TestCase):
             self.assertRegex(result.output, r"Examples?:")
         self.assertEqual(CliRunner().invoke(pagelogctl, ["completion", "bash"]).exit_code, 0)
         self.assertEqual(CliRunner().invoke(pagelogctl, ["nothing"]).exit_code, 2)
+
+    def test_what_is_not_installed_is_named(self) -> None:
+        code = "import sys; sys.path.insert(0, sys.argv[1]); sys.modules['sqlalchemy'] = None; sys.argv[:] = ['', 'verify', '--offline']; " \
+               "from pagelog.command import main; main()"  # fmt: skip
+        done = subprocess.run([sys.executable, "-B", "-c", code, str(SOURCE)], capture_output=True, text=True)
+        self.assertEqual(done.returncode, 1)
+        self.assertRegex(done.stderr, r"\Apagelogctl needs sqlalchemy.*: apt-get install .*\n\Z")
 
     def test_the_library_needs_nothing(self) -> None:
         code = "import sys; sys.path.insert(0, sys.argv[1]); import pagelog; print(sorted(m for m in sys.modules if m.split('.')[0] in " \

@@ -212,10 +212,12 @@ class Operators(unittest.TestCase):
         with Service() as service, service.operator() as operator, service.reader() as reader:
             for more in (0, 1, 2, 1100):
                 reader.answers([Pull(9)] * more)
-                found = operator.count_of_entries()
-                there = len(list(operator.entries(1)))
-                self.assertLess(found, there)
-                self.assertLess(there - found, 40)
+                before = len(list(operator.entries(1))) + 1  # with the last question for them
+                self.assertEqual(operator.count_of_entries(), before)
+                self.assertLess(len(list(operator.entries(1))) - before, 40)
+        with Service() as service, service.operator() as operator, service.operator() as second:
+            operator.failover(2)
+            self.assertEqual(second.count_of_entries(), 2)
 
     def test_following_the_audit_list(self) -> None:
         with Service() as service, service.operator() as operator, service.reader() as reader:

@@ -12,7 +12,8 @@ def main() -> None:
     """Runs a word. Exit status: 0 done, 1 a fault or a difference, 2 wrong arguments, 130 interrupted."""
     try:
         from pagelog.desk.words import pagelogctl
+
+        pagelogctl(prog_name="pagelogctl")
     except ModuleNotFoundError as error:
         print(f"pagelogctl needs {error.name}: {LACKS}", file=sys.stderr)
         sys.exit(1)
-    pagelogctl(prog_name="pagelogctl")

@@ -45,13 +45,26 @@ class Operator(Client):
         return expect(Entries, self._ask(Audit(first, max))).entries
 
     def count_of_entries(self) -> int:
-        """How many entries the audit list has, before this call; which costs some 25 entries itself, found by halves."""
+        """How many entries the audit list had before this call, which costs some 25 entries itself: found by halves.
+
+        What others ask meanwhile may be counted too.
+        """
+        epoch = self.epoch
+        self.status()
+        own = 1 if epoch == self.epoch else 2
+
+        def has(number: int) -> bool:
+            nonlocal own
+            found = self.audit(number + own, 1)
+            own += 1
+            return bool(found)
+
         low, high = 0, 1
-        while self.audit(high, 1):
+        while has(high):
             low, high = high, high * 4
         while high - low > 1:
             middle = (low + high) // 2
-            low, high = (middle, high) if self.audit(middle, 1) else (low, middle)
+            low, high = (middle, high) if has(middle) else (low, middle)
         return low
 
     def entries(

@@ -25,7 +25,8 @@ from pagelog.reader import Reader
 @db_option
 @url_options
 @click.option("--follow", is_flag=True, help="Go on with what comes, until SIGTERM or SIGINT.")
-@click.option("--idle", default=1.0, show_default=True, metavar="SECONDS", help="The longest wait before the service is asked again.")
+@click.option("--idle", default=1.0, show_default=True, type=click.FloatRange(0), metavar="SECONDS",
+              help="The longest wait before the service is asked again.")  # fmt: skip
 @faults
 def archive_word(accounts: Accounts, db: int, url: str | None, log: str | None, follow: bool, idle: float) -> None:
     """Keep every hardened block of a database in an archive. Needs [secondary].
@@ -133,7 +134,8 @@ def _words(done: Verified) -> str:
 @click.option("--fence-to", metavar="ID", type=int, help="Who gets the source's last epoch: a principal that its table lists and that "
               "does not write. [default: the operator]")  # fmt: skip
 @click.option("--within", default=WINDOW, show_default=True, metavar="BLOCKS", help="How near the target has to be before the fence.")
-@click.option("--patience", default=600.0, show_default=True, metavar="SECONDS", help="How long it may take to come so near.")
+@click.option("--patience", default=600.0, show_default=True, type=click.FloatRange(0), metavar="SECONDS",
+              help="How long it may take to come so near.")  # fmt: skip
 @quorum_option
 @faults
 def move_word(

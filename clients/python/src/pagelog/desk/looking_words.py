@@ -38,7 +38,7 @@ def watch_of(accounts: Accounts, db: int, limit: int | None, stack: ExitStack, *
 @dbs_option
 @limit_option
 @click.option("--json", "as_json", is_flag=True, help="One JSON object a line.")
-@click.option("--seconds", default=0.5, show_default=True, metavar="S", help="How long rates are measured.")
+@click.option("--seconds", default=0.5, show_default=True, type=click.FloatRange(0), metavar="S", help="How long rates are measured.")
 @faults
 def status_word(accounts: Accounts, dbs: tuple[int, ...], limit: int | None, as_json: bool, seconds: float) -> None:
     """Show epoch, primary and hardened end of databases, and when their audit lists are full. Needs [operator].
@@ -85,7 +85,7 @@ def _status_line(db: int, look: Look) -> str:
 @db_option
 @click.option("--first", default=1, show_default=True, metavar="N", help="The number of the first entry; -N for the last N.")
 @click.option("--follow", is_flag=True, help="Go on with what comes. Each question is an entry too.")
-@click.option("--idle", default=1.0, show_default=True, metavar="SECONDS", help="How often to ask for more.")
+@click.option("--idle", default=1.0, show_default=True, type=click.FloatRange(0), metavar="SECONDS", help="How often to ask for more.")
 @click.option("--denied", is_flag=True, help="Only what was denied.")
 @click.option("--json", "as_json", is_flag=True, help="One JSON object a line.")
 @faults
@@ -98,9 +98,14 @@ def audit_word(accounts: Accounts, db: int, first: int, follow: bool, idle: floa
       pagelogctl audit --credentials c.toml --follow --denied --json
     """
     with client(Operator, accounts, db) as operator, stopping() as stop:
+        last = None
         if first < 1:
-            first = max(1, operator.count_of_entries() + 1 + first)
+            # The questions by which the end is found are entries too.
+            last = operator.count_of_entries()
+            first = max(1, last + 1 + first)
         for entry in operator.entries(first, follow=follow, idle=idle, stop=stop):
+            if last is not None and entry.number > last and not follow:
+                return
             if denied and entry.is_allowed:
                 continue
             click.echo(json.dumps(entry_fields(entry)) if as_json else entry_line(entry))
@@ -131,7 +136,7 @@ def entry_fields(entry: Entry) -> dict[str, object]:
 @dbs_option
 @url_options
 @limit_option
-@click.option("--interval", default=2.0, show_default=True, metavar="SECONDS", help="How often to look.")
+@click.option("--interval", default=2.0, show_default=True, type=click.FloatRange(0), metavar="SECONDS", help="How often to look.")
 @click.option("--from-start", is_flag=True, help="Read the audit list from its beginning, for all denials there were.")
 @click.option("--count", default=0, metavar="N", help="End after N looks. [default: never]")
 @faults
@@ -250,8 +255,11 @@ def metrics_word(
             archives = {db: stack.enter_context(Archive(url_of(url, accounts), log or str(db))) for db in dbs}
         registry = CollectorRegistry()
         registry.register(DatabaseCollector(watches, archives))
-        bound = _free_port(host) if int(port) == 0 else int(port)
-        start_http_server(bound, addr=host, registry=registry)
+        try:
+            bound = _free_port(host) if int(port) == 0 else int(port)
+            start_http_server(bound, addr=host, registry=registry)
+        except (OSError, OverflowError) as error:
+            fail(f"{listen}: {error}")
         click.echo(f"listening {host}:{bound}")
         while not stop():
             time.sleep(0.1)
