@@ -129,6 +129,7 @@ class Keeping(Folder):
             Archive(self.url, "three")
         with self.assertRaises(NoArchive):
             Archive(f"sqlite:///{self.folder}/none.db")
+        self.assertFalse((self.folder / "none.db").exists())
 
     def test_damage_is_found(self) -> None:
         fill(self.primary, 30, empties=False)

@@ -7,6 +7,7 @@ archiver, all blocks up to the archived LSN are there, and none twice.
 
 from __future__ import annotations
 
+import os
 import time
 import zlib
 from dataclasses import dataclass
@@ -81,8 +82,14 @@ class Archive:
     def __init__(self, url: str, log: str = "0", *, create: bool = False) -> None:
         """Opens the archive of the log of this name; with `create` makes what is not there. Raises `NoArchive`."""
         self.log = log
+        if not create and _file_is_missing(url):
+            raise NoArchive("there is no archive at this URL")
         self.engine = _engine(url)
-        self._id = self._make() if create else self._find(False)
+        try:
+            self._id = self._make() if create else self._find(False)
+        except BaseException:
+            self.close()
+            raise
 
     def close(self) -> None:
         """Closes all connections to the database."""
@@ -230,6 +237,13 @@ def _prepare_sqlite(connection: Any, _: object) -> None:
     cursor.execute("PRAGMA journal_mode=WAL")
     cursor.execute("PRAGMA synchronous=FULL")
     cursor.close()
+
+
+def _file_is_missing(url: str) -> bool:
+    """Whether it is a file of SQLite that is not there. To look into it would make it."""
+    parsed = sql.engine.make_url(url)
+    file = parsed.database if parsed.get_backend_name() == "sqlite" else None
+    return bool(file) and file != ":memory:" and not str(file).startswith("file:") and not os.path.exists(str(file))
 
 
 def _tables_are_missing(engine: Engine) -> bool:
