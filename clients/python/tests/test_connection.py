@@ -158,6 +158,11 @@ class Refused(unittest.TestCase):
                 self.assertIsInstance(second.ask(Request(PRIMARY, Status())), State)
                 self.assertIsInstance(first.ask(Request(PRIMARY, Status())), State)
 
+    def test_a_host_that_is_no_name(self) -> None:
+        for host in ("a" * 64, "a..b"):
+            with Connection(Address(host, 7400), attempts=1) as connection, self.assertRaises(pagelog.Unreachable):
+                connection.ask(Request(PRIMARY, Status()))
+
     def test_a_service_that_ends_its_connections(self) -> None:
         with Service(connections=1) as service, Connection(service.address, attempts=2, pause=0.01) as connection:
             connection.ask(Request(PRIMARY, Status()))

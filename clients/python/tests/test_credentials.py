@@ -45,6 +45,7 @@ class Files(unittest.TestCase):
             "a key too many": GOOD + "more = 1\n", "a short token": GOOD.replace("22", "2"), "an id that is a word": GOOD.replace("= 2", '= "2x"'),
             "no address": GOOD.replace(":7400", ""), "a token of other digits": GOOD.replace("22", "2g", 1),
             "no section": 'primary = "x"\n', "an audit list of nothing": GOOD + "[service]\naudit = 0\n",
+            "a quorum that is no whole number": GOOD + "[service]\nquorum = 2.0\n", "a quorum that is a list": GOOD + "[service]\nquorum = [2]\n",
         }  # fmt: skip
         for name, text in cases.items():
             with self.subTest(name), self.assertRaises(CredentialsError):
@@ -67,6 +68,10 @@ class Files(unittest.TestCase):
         for id, digits in ((-1, token(1)), (1 << 32, token(1)), (True, token(1)), (1, token(1)[:-2]), (1, " " + token(1)[1:])):
             with self.assertRaises(CredentialsError):
                 Credentials.of(id, digits)
+        with self.assertRaises(CredentialsError):
+            Credentials.of(1, None)  # type: ignore[arg-type]
+        with self.assertRaises(CredentialsError):
+            Credentials(1, "0123456789abcdef")  # type: ignore[arg-type]
 
     def test_a_file_that_is_not_there_is_named(self) -> None:
         with self.assertRaisesRegex(CredentialsError, "No such file"):

@@ -53,6 +53,12 @@ class Commits(unittest.TestCase):
         for record, kind in ((put(0, b""), faults.EmptyPut), (put(0, b"ab", 8191), faults.PutPastPage), (Zero(-1), ValueError)):
             with self.assertRaises(kind):
                 self.primary.append(record)
+        for record in (put(0, b"x", 1.5), Zero(1.5)):  # type: ignore[arg-type]
+            with self.assertRaises(ValueError):
+                self.primary.append(record)
+        for data in (bytearray(b"may change"), memoryview(b"twolongs").cast("I"), "text", None):
+            with self.assertRaises(TypeError):
+                self.primary.append(put(0, data))  # type: ignore[arg-type]
         self.primary.append(put(0, b"good"))
         self.assertEqual(self.primary.commit(), 1)
 
@@ -76,6 +82,16 @@ class Commits(unittest.TestCase):
         with self.assertRaises(ValueError):
             list(self.primary.harden([Block.of(132)]))
         self.assertEqual([block.lsn for block in self.reader.blocks(1, follow=False)], [lsn for lsn in range(1, 131) if lsn % 4])
+
+    def test_none_in_flight_and_none_in_a_group_are_refused(self) -> None:
+        blocks = [Block.of(1, [Zero(1)])]
+        for most in (0, -1):
+            with self.assertRaises(ValueError):
+                list(self.primary.stream([[put(0, b"x")]], in_flight=most))
+        for group in (0, 65):
+            with self.assertRaises(ValueError):
+                list(self.primary.harden(blocks, group=group))
+        self.assertEqual(list(self.primary.harden(blocks)), [1])
 
     def test_all_three_copies(self) -> None:
         with self.service.primary(copies=(2, 0, 1)) as three:

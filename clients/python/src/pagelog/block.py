@@ -41,7 +41,7 @@ ZERO_SIZE = _ZERO.size
 class Put:
     """Replaces the bytes of a page from `offset` on by `data`.
 
-    `page` is 0 to 2^32 - 1; `data` has at least one byte and ends at or before byte 8,192 of the page.
+    `page` is 0 to 2^32 - 1; `data` is of the type bytes, has at least one and ends at or before byte 8,192 of the page.
     """
 
     page: int
@@ -84,7 +84,8 @@ class Block:
         """The block with this LSN and these records.
 
         Raises `LsnOutOfRange`; then `EmptyPut` or `PutPastPage` for the first faulty Put; then `BlockTooLong`.
-        A page or an offset that is not a number of its size is a `ValueError`.
+        A page or an offset that is not a whole number of its size is a `ValueError`; data of another type than bytes, as a
+        bytearray, which may change before it is sent, is a `TypeError`.
         """
         _check_lsn(lsn)
         listed = list(records)
@@ -93,8 +94,11 @@ class Block:
         partitions = sorted({record.partition for record in listed})
         if len(listed) > 65535:
             raise BlockTooLong(f"{len(listed)} records")
-        parts = [_START.pack(lsn, len(partitions)), *map(_SHORT.pack, partitions), _SHORT.pack(len(listed))]
-        parts.extend(map(encode_record, listed))
+        try:
+            parts = [_START.pack(lsn, len(partitions)), *map(_SHORT.pack, partitions), _SHORT.pack(len(listed))]
+            parts.extend(map(encode_record, listed))
+        except struct.error as error:
+            raise ValueError(f"an LSN, a page or an offset is no whole number: {error}") from error
         data = b"".join(parts)
         if len(data) > BLOCK_SIZE:
             raise BlockTooLong(f"{len(data)} bytes")
@@ -142,6 +146,8 @@ def _check_record(record: Record) -> None:
     if isinstance(record, Put):
         if not 0 <= record.offset <= 65535:
             raise ValueError(f"offset {record.offset} is not 0 to 65535")
+        if not isinstance(record.data, bytes):
+            raise TypeError(f"the data of a Put is bytes, and not {type(record.data).__name__}")
         if not record.data:
             raise EmptyPut(f"page {record.page}")
         if record.offset + len(record.data) > PAGE_SIZE:

@@ -117,13 +117,16 @@ class Connection:
         The next request is taken from `requests` when there is room for it. An iterator that is left before its end
         closes the connection, since replies would still come.
 
-        Raises `Unreachable`, `ConnectionLost`, `TimedOut`, `InDoubt`, and a `Fault` for a reply that is none.
+        Raises `Unreachable`, `ConnectionLost`, `TimedOut`, `InDoubt`, and a `Fault` for a reply that is none; a
+        `ValueError` where `in_flight` is below 1.
         """
         for answer in self.answers(requests, in_flight):
             yield answer.reply
 
     def answers(self, requests: Iterable[Request], in_flight: int = 64) -> Iterator[Answer]:
         """As `exchange`, and says of each reply whether its request was repeated."""
+        if in_flight < 1:
+            raise ValueError(f"{in_flight} requests in flight: at least 1 is")
         if self._in_use:
             raise RuntimeError("the connection is in use: end the exchange that was begun on it first")
         self._in_use = True
@@ -183,7 +186,7 @@ class Connection:
     def _connect(self) -> None:
         try:
             made = socket.create_connection((self.address.host, self.address.port), self.timeout)
-        except OSError as error:
+        except (OSError, UnicodeError) as error:  # UnicodeError: the host is no name that can be looked up
             raise Unreachable(f"{self.address}: {error}") from error
         made.setsockopt(socket.IPPROTO_TCP, socket.TCP_NODELAY, 1)
         made.setblocking(False)

@@ -38,17 +38,17 @@ class Credentials:
     def __post_init__(self) -> None:
         if isinstance(self.id, bool) or not isinstance(self.id, int) or not 0 <= self.id < 1 << 32:
             raise CredentialsError("an id is a number from 0 to 4294967295")
-        if len(self.token) != 16:
+        if not isinstance(self.token, bytes) or len(self.token) != 16:
             raise CredentialsError("a token has 32 hexadecimal digits")
 
     @classmethod
     def of(cls, id: int, token: str) -> Credentials:
         """From the token's 32 hexadecimal digits. Raises `CredentialsError`."""
         try:
-            digits = bytes.fromhex(token)
+            digits = bytes.fromhex(token) if len(token) == 32 else b""
         except (TypeError, ValueError):
             digits = b""
-        return cls(id, digits if len(token) == 32 else b"")
+        return cls(id, digits)
 
 
 @dataclass(frozen=True)
@@ -95,9 +95,9 @@ def load(file: str | Path | None = None, environment: Mapping[str, str] | None =
     accounts = {role: _account(role, section) for role, section in sections.items() if section}
     service = _section(document, "service")
     limit, quorum = service.get("audit"), service.get("quorum", QUORUM)
-    if limit is not None and (not isinstance(limit, int) or not 1 <= limit <= 1 << 24):
+    if limit is not None and (type(limit) is not int or not 1 <= limit <= 1 << 24):
         raise CredentialsError("[service]: audit is a number from 1 to 16777216")
-    if quorum not in COPIES_OF_QUORUM:
+    if type(quorum) is not int or quorum not in COPIES_OF_QUORUM:
         raise CredentialsError("[service]: quorum is 2 or 4")
     return Accounts(accounts, _section(document, "archive").get("url"), limit, quorum)
 

@@ -75,9 +75,9 @@ class Primary(PageClient):
     Records are appended to a block, and a commit writes the blocks to the copies and hardens them: it returns the LSN
     at which they are in the log of the service, which a failover does not take away. The service keeps it in memory.
 
-    `OlderEpoch`, `OtherPrimary` and `UnknownPrincipal` end it: each later append or commit raises the same. After any
-    other exception `commit` may be called again; it sends the same blocks once more, which changes nothing for those
-    that are there.
+    Once it has begun, `OlderEpoch`, `OtherPrimary` and `UnknownPrincipal` end it: each later append or commit raises the
+    same. One that has not begun begins with a later call, once a failover has named it. After any other exception
+    `commit` may be called again; it sends the same blocks once more, which changes nothing for those that are there.
 
     An epoch belongs to a principal and not to a process. Two processes that write as one principal in one epoch mix
     their blocks, so begin with `take_over`, unless nobody else has the credentials. Where a connection is lost, its
@@ -203,8 +203,11 @@ class Primary(PageClient):
     def harden(self, blocks: Iterable[Block], *, group: int = WINDOW, in_flight: int = 2 * WINDOW) -> Iterator[int]:
         """Writes blocks that have their LSNs, which follow on the log's end, with a report after each `group`, 1 to 64.
 
-        Yields the LSN of each group's last block once it is hardened. A `ValueError` for an LSN that is not the next.
+        Yields the LSN of each group's last block once it is hardened. A `ValueError` for an LSN that is not the next, and
+        for another `group`.
         """
+        if not 1 <= group <= WINDOW:
+            raise ValueError(f"a group is 1 to {WINDOW} blocks")
         self.commit()
         return self._harden(_groups(self._in_order(blocks), group), in_flight)
 
