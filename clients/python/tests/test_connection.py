@@ -179,6 +179,15 @@ class Refused(unittest.TestCase):
                     with self.assertRaises(kind):
                         connection.ask(Request(PRIMARY, Status()))
 
+    def test_a_denial_for_an_epoch_that_is_the_current_one_is_not_asked_again_for_ever(self) -> None:
+        for row in (2, 3):
+            with socket.create_server(("127.0.0.1", 0)) as listener:
+                words = bytes.fromhex(f"0000000c 05 01 {row:04x} 0000000000000001")
+                threading.Thread(target=answer_once, args=(listener, words * 2), daemon=True).start()
+                with pagelog.Reader.at(f"127.0.0.1:{listener.getsockname()[1]}", 3, token(3)) as reader:
+                    with self.assertRaises(pagelog.UnexpectedReply):
+                        reader.status()
+
     def test_addresses(self) -> None:
         self.assertEqual(Address.parse("127.0.0.1:7400"), Address("127.0.0.1", 7400))
         self.assertEqual(str(Address.parse("[::1]:7400")), "[::1]:7400")

@@ -8,7 +8,7 @@ from typing import Iterable, Iterator, Sequence, TypeVar
 from pagelog.block import HIGHEST_PARTITION
 from pagelog.connection import Address, Connection
 from pagelog.credentials import Account, Credentials
-from pagelog.errors import LogWentBack
+from pagelog.errors import LogWentBack, UnexpectedReply
 from pagelog.reply import Denied, Page, Reply, State, expect
 from pagelog.request import Act, Get, Head, Request, Role, Status
 from pagelog.rules import Section
@@ -117,6 +117,8 @@ class Client:
                 else:
                     epoch = told
             if epoch is not None:
+                if epoch == self.epoch:
+                    raise UnexpectedReply(f"a denial for the sake of epoch {epoch}, in which it was asked")
                 self._take_over(epoch)
 
     def _stream(self, acts: Iterable[Act], in_flight: int) -> Iterator[Reply]:
