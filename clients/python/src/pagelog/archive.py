@@ -185,8 +185,15 @@ class Archive:
         wanted = sql.select(_blocks.c.lsn, _blocks.c.crc, _blocks.c.data).where(
             _blocks.c.log == self._id, _blocks.c.lsn >= first, _blocks.c.lsn <= last
         )
-        with self.engine.begin() as connection:
-            rows = connection.execute(wanted.order_by(_blocks.c.lsn)).fetchall()
+        try:
+            with self.engine.begin() as connection:
+                rows = connection.execute(wanted.order_by(_blocks.c.lsn)).fetchall()
+        except TypeError as error:  # of a block that SQLite has as a text, by a bit that is wrong
+            if first == last:
+                raise BrokenArchive(first, "it is no bytes") from error
+            for lsn in range(first, last + 1):
+                yield from self._read(lsn, lsn)
+            return
         for lsn, row in zip(range(first, last + 1), rows):
             yield _block(lsn, row)
         if len(rows) != last - first + 1:

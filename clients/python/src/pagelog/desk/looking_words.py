@@ -231,10 +231,10 @@ def _sleep(seconds: float) -> bool:
 def metrics_word(
     accounts: Accounts, dbs: tuple[int, ...], url: str | None, log: str | None, limit: int | None, listen: str, from_start: bool
 ) -> None:
-    """Serve metrics for Prometheus, until SIGTERM or SIGINT. Needs [operator], and holds a worker for each database.
+    """Serve metrics for Prometheus, until SIGTERM or SIGINT. Needs [operator], and holds a connection for each database.
 
-    Prints `listening ADDRESS`. With [secondary] applied LSNs are among them, with --url the archived LSN. The folder
-    clients/python/prometheus has an example of a scrape and four alert rules.
+    Prints `listening ADDRESS`. With [secondary] applied LSNs are among them, by a second connection, with --url the
+    archived LSN. The folder clients/python/prometheus has an example of a scrape and four alert rules.
 
     \b
     Example:
