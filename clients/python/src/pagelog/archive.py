@@ -249,8 +249,10 @@ def _prepare_sqlite(connection: Any, _: object) -> None:
 def _file_is_missing(url: str) -> bool:
     """Whether it is a file of SQLite that is not there. To look into it would make it."""
     parsed = sql.engine.make_url(url)
-    file = parsed.database if parsed.get_backend_name() == "sqlite" else None
-    return bool(file) and file != ":memory:" and not str(file).startswith("file:") and not os.path.exists(str(file))
+    if parsed.get_backend_name() != "sqlite" or not parsed.database:
+        return False
+    file = str(parsed.database)
+    return file != ":memory:" and not file.startswith("file:") and not os.path.exists(file)
 
 
 def _tables_are_missing(engine: Engine) -> bool:
