@@ -193,6 +193,18 @@ class Operators(unittest.TestCase):
             with self.assertRaises(pagelog.UnlistedPrimary):
                 operator.failover(9)
 
+    def test_a_failover_of_the_current_epoch_goes_on_where_another_came_first(self) -> None:
+        with Service() as service, service.operator() as operator, service.operator() as second:
+            ask = operator.connection.ask
+
+            def after_another(request):  # type: ignore[no-untyped-def]
+                operator.connection.ask = ask  # type: ignore[method-assign]
+                self.assertEqual(second.failover(5), 2)
+                return ask(request)
+
+            operator.connection.ask = after_another  # type: ignore[method-assign]
+            self.assertEqual((operator.failover(2), operator.status().primary), (3, 2))
+
     def test_the_audit_list(self) -> None:
         with Service() as service, service.operator() as operator, service.primary() as primary:
             self.assertEqual(operator.count_of_entries(), 0)

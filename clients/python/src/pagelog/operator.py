@@ -21,15 +21,19 @@ class Operator(Client):
         Without `epoch` the current one is ended, whichever it is. With it that very one: raises `OlderEpoch` where it
         is over already. Raises `UnlistedPrimary`, `LastEpoch`, and `InDoubt` where the connection was lost before the reply.
         """
-        if epoch is None:
-            epoch = self.status().epoch
-        head = Head(self.credentials.id, self.credentials.token, self.role, self.database, epoch)
-        reply = self.connection.ask(Request(head, Failover(to)))
-        told = reported_epoch(reply)
-        if told is not None:
+        ended = self.status().epoch if epoch is None else epoch
+        while True:
+            head = Head(self.credentials.id, self.credentials.token, self.role, self.database, ended)
+            reply = self.connection.ask(Request(head, Failover(to)))
+            told = reported_epoch(reply)
+            if told is None:
+                break
             self._take_over(told)
+            if epoch is not None or told == ended:
+                break
+            ended = told  # another failover came between
         expect(Done, reply)
-        self.epoch = epoch + 1
+        self.epoch = ended + 1
         return self.epoch
 
     def set_table(self, text: str | bytes) -> None:
