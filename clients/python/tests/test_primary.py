@@ -178,6 +178,24 @@ class Epochs(unittest.TestCase):
             with self.assertRaises(pagelog.HardenedAlready):
                 second.commit()
 
+    def test_what_a_report_hardens_of_another_is_not_taken_for_ones_own(self) -> None:
+        """Another process of the principal has written LSN 1 to two copies: the report of LSN 1 is Done, and hardens that."""
+        for is_hardened in (False, True):
+            with Service(table=WIDE_TABLE) as service, service.primary() as first, service.primary() as second, service.reader() as reader:
+                second.begin()
+                for copy in (0, 1):
+                    first._ask(Write(copy, Block.of(1, [put(0, b"first")])))
+                if is_hardened:
+                    first._ask(Report(1))
+                lsns = []
+                with self.assertRaises(pagelog.HardenedAlready if is_hardened else pagelog.OtherContent):
+                    for lsn in second.stream([[put(0, b"second")], [put(0, b"third")]]):
+                        lsns.append(lsn)
+                self.assertEqual((lsns, reader.page(0, 1).data[:5]), ([], b"first"))
+                for _ in range(2):
+                    with self.assertRaises(pagelog.HardenedAlready):
+                        second.commit()
+
     def test_what_stands_in_two_copies_is_kept_by_the_failover(self) -> None:
         """The failover comes between the writes of a commit and its report: the commit succeeds, the next one ends."""
         requests = self.primary._requests
@@ -200,6 +218,23 @@ class Epochs(unittest.TestCase):
         self.assertEqual(self.reader.page(0, 2).data[:4], b"kept")
         with self.assertRaises(pagelog.OlderEpoch):
             self.primary.append(put(0, b"no"))
+
+    def test_a_stream_of_which_a_part_was_not_sent_does_not_end_as_if_it_were(self) -> None:
+        """The failover keeps all that was sent. What comes after it was not sent, and is not in the log."""
+        requests = self.primary._requests
+
+        def with_a_failover(*arguments):  # type: ignore[no-untyped-def]
+            for request in requests(*arguments):
+                if isinstance(request.act, Report) and request.act.lsn == 3:
+                    self.operator.failover(5)
+                yield request
+
+        self.primary._requests = with_a_failover  # type: ignore[method-assign]
+        lsns = []
+        with self.assertRaises(pagelog.OlderEpoch):
+            for lsn in self.primary.stream(([put(0, bytes([at]))] for at in range(1, 9)), in_flight=1):
+                lsns.append(lsn)
+        self.assertEqual((lsns, self.primary.durable, self.reader.status().hard), ([1, 2, 3], 3, 3))
 
     def test_before_a_commit_has_shown_the_quorum_the_log_is_asked(self) -> None:
         """Whatever quorum the primary was given: a block in two or three copies may be in the log, or not."""

@@ -4,7 +4,7 @@ from __future__ import annotations
 
 from collections import deque
 from dataclasses import dataclass, field
-from itertools import islice
+from itertools import islice, takewhile
 from typing import Iterable, Iterator, Sequence
 
 from pagelog.block import BLOCK_SIZE, EMPTY_BLOCK_SIZE, Block, Record, encode_record
@@ -17,7 +17,7 @@ from pagelog.reader import Reader
 from pagelog.reply import Done, State, expect, refusal_of
 from pagelog.request import COPIES_OF_QUORUM, QUORUM, Report, Request, Role, Status, Write
 from pagelog.rules import (
-    AboveTheWindow, BelowQuorum, HardenedAlready, NewerEpoch, OlderEpoch, OtherPrimary, Section, UnknownPrincipal,
+    AboveTheWindow, BelowQuorum, HardenedAlready, NewerEpoch, OlderEpoch, OtherContent, OtherPrimary, Section, UnknownPrincipal,
 )  # fmt: skip
 
 WINDOW = 64
@@ -49,12 +49,14 @@ class Packer:
 class _Sent:
     """A block that is not known to be hardened: which copies it is in, and whether it may be in others too.
 
-    `copies` has for each copy over which connection, counted from 1, the service said so.
+    `copies` has for each copy over which connection, counted from 1, the service said so. `is_anothers`: the service has
+    another block at its LSN.
     """
 
     block: Block
     copies: dict[int, int] = field(default_factory=dict)
     attempts: int = 0
+    is_anothers: bool = False
 
     def stands(self, connection: int, quorum: int) -> bool:
         """Whether it is in `quorum` copies of the service that this connection leads to. Another may be a new one."""
@@ -120,6 +122,8 @@ class Primary(PageClient):
         self._is_fixed = epoch is not None
         self._has_begun = False
         self._is_quorum_shown = False
+        self._is_cut_short = False
+        """Whether the last hardening was refused with a group left that was not sent."""
         self._ended: Refusal | None = None
         self._packer = Packer()
         self._unhardened: deque[_Sent] = deque()
@@ -244,6 +248,7 @@ class Primary(PageClient):
         plan: deque[_Step] = deque()
         told: list[tuple[Refusal, bool]] = []
         reports: list[int] = []
+        self._is_cut_short = False
         for answer in self.connection.answers(self._requests(groups, plan, told), in_flight):
             step = plan.popleft()
             refusal = self._refusal(step, answer)
@@ -252,16 +257,21 @@ class Primary(PageClient):
                 told.append((refusal, answer.repeated))
                 if step.copy is None:
                     reports.append(step.sent.block.lsn)
+                elif isinstance(refusal, OtherContent) or (isinstance(refusal, HardenedAlready) and not step.sent.copies):
+                    step.sent.is_anothers = True
+                    step.sent.copies.clear()
             elif step.copy is not None:
                 step.sent.copies[step.copy] = self.connection.connects
                 # Only with a quorum of 4 there is such a copy.
                 self._is_quorum_shown |= step.copy >= COPIES_OF_QUORUM[QUORUM]
-            else:
+            elif self._are_ours(step.sent.block.lsn):
                 self._is_quorum_shown |= self.quorum == QUORUM
                 yield self._hardened(step.sent.block.lsn)
         if told:
             error = self._settle(*told[0])
             yield from (lsn for lsn in reports if lsn <= self.durable)
+            if error is None and self._is_cut_short:
+                error = told[0][0]  # what was sent is in the log, and the rest was not sent
             if error is not None:
                 raise error
 
@@ -272,6 +282,7 @@ class Primary(PageClient):
         known = {sent.block.lsn: sent for sent in self._unhardened}
         for group in groups:
             if told:
+                self._is_cut_short = True
                 return
             sending = [known.get(block.lsn) or self._new(block) for block in group]
             for sent in sending:
@@ -286,6 +297,10 @@ class Primary(PageClient):
         sent = _Sent(block)
         self._unhardened.append(sent)
         return sent
+
+    def _are_ours(self, lsn: int) -> bool:
+        """Whether a copy has taken each block up to this LSN. What a report hardens may be another's, and is refused above."""
+        return all(sent.copies for sent in takewhile(lambda sent: sent.block.lsn <= lsn, self._unhardened))
 
     def _hardened(self, lsn: int) -> int:
         while self._unhardened and self._unhardened[0].block.lsn <= lsn:
@@ -307,6 +322,8 @@ class Primary(PageClient):
 
     def _is_ours(self, sent: _Sent) -> bool:
         """Whether the hardened block of this LSN, which was written in this epoch or before, is the one we sent."""
+        if sent.is_anothers:
+            return False
         if self._alone or sent.copies:
             return True
         if self.witness is None:
