@@ -171,7 +171,8 @@ class Primary(PageClient):
     def append(self, *records: Record) -> int:
         """Puts records into the open block, and into further ones where it is full. Returns the LSN of the last.
 
-        Nothing is sent before `commit`. Raises `EmptyPut` or `PutPastPage` for a faulty record, which is not taken.
+        Nothing is sent before `commit`. Raises `EmptyPut` or `PutPastPage`, a `ValueError` or a `TypeError` for a faulty
+        record, which is not taken; those before it are.
         """
         self._prepare()
         for record in records:
