@@ -332,6 +332,10 @@ uint64_t pagelog_file_losses(const struct pagelog_file *file) {
     return file->losses;
 }
 
+uint64_t pagelog_file_lsn(const struct pagelog_file *file) {
+    return file->mark.lsn;
+}
+
 void pagelog_file_set_check(struct pagelog_file *file, unsigned check_ms) {
     file->options.check_ms = check_ms;
 }

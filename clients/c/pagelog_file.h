@@ -131,8 +131,9 @@ const struct pagelog_reply *pagelog_file_refused(const struct pagelog_file *file
 /* Whether a commit is allowed, as far as is known: it is a writer's, and the one before came to its end. */
 bool pagelog_file_may_commit(const struct pagelog_file *file);
 
-/* As `losses` of the state. */
+/* As `losses` and `lsn` of the state. */
 uint64_t pagelog_file_losses(const struct pagelog_file *file);
+uint64_t pagelog_file_lsn(const struct pagelog_file *file);
 
 /* Changes `check_ms`, `unwaited`, and `spin_us` of the service's options. */
 void pagelog_file_set_check(struct pagelog_file *file, unsigned check_ms);

@@ -60,7 +60,10 @@
  * then changes `unwaited`.
  *
  * Connections of one process that write as one principal to one database share a file, and lock as SQLite
- * expects. Between processes there are no locks: there is the epoch.
+ * expects. Between processes there are no locks: there is the epoch. A connection that keeps the lock
+ * (locking_mode=exclusive) is in one transaction of the file for as long. So after a commit that was in doubt
+ * or lost it neither sees what became of it nor commits again, until `PRAGMA locking_mode = normal` and one
+ * statement more have given the lock back.
  */
 #include "pagelog_file.h"
 
@@ -116,8 +119,9 @@ struct connection {
     sqlite3_file base;
     struct database *database;
     int lock;
-    uint64_t losses; /* of the file, when SQLite last asked whether its own cache is old */
-    bool is_sized;   /* SQLite has asked for the size of a sector */
+    /* Of the file, as SQLite's own cache has it: commits that were lost, and the transaction. */
+    uint64_t losses, lsn;
+    bool is_sized; /* SQLite has asked for the size of a sector */
     /* What was set by `PRAGMA locking_mode` and `journal_mode`. */
     bool is_exclusive;
     const char *journal_mode;
@@ -421,12 +425,22 @@ static int file_close(sqlite3_file *file) {
     return SQLITE_OK;
 }
 
+/* SQLite's own cache has what the file has now. */
+static void note_cache(struct connection *connection) {
+    connection->losses = pagelog_file_losses(connection->database->file);
+    connection->lsn = pagelog_file_lsn(connection->database->file);
+}
+
 /* By these bytes of the database's first page SQLite sees whether its own cache is old. A counter among them
- * may come to the same number twice where commits were lost, so they are none of any page then. */
-static bool is_cache_lost(struct connection *connection, int length, sqlite3_int64 offset) {
-    uint64_t losses = pagelog_file_losses(connection->database->file);
-    if (length != VERSION_BYTES || offset != VERSION_OFFSET || connection->losses == losses) return false;
-    connection->losses = losses;
+ * may come to the same number twice where commits were lost, and a writer that keeps the lock
+ * (locking_mode=exclusive) does not count its commits. So they are none of any page where the file has
+ * another transaction than the cache. */
+static bool is_cache_old(struct connection *connection, int length, sqlite3_int64 offset) {
+    const struct pagelog_file *file = connection->database->file;
+    if (length != VERSION_BYTES || offset != VERSION_OFFSET) return false;
+    if (connection->losses == pagelog_file_losses(file) && connection->lsn == pagelog_file_lsn(file))
+        return false;
+    note_cache(connection);
     return true;
 }
 
@@ -454,7 +468,7 @@ static void forget_wal(struct connection *connection, const unsigned char *bytes
 static int file_read(sqlite3_file *file, void *bytes, int length, sqlite3_int64 offset) {
     struct database *database = enter(file);
     size_t count = 0;
-    if (is_cache_lost((struct connection *)file, length, offset)) {
+    if (is_cache_old((struct connection *)file, length, offset)) {
         memset(bytes, 0xff, (size_t)length);
         return leave(database, SQLITE_OK);
     }
@@ -675,20 +689,23 @@ static int answer_pragma(struct connection *connection, char **arguments) {
 }
 
 static int file_control(sqlite3_file *file, int operation, void *argument) {
+    struct connection *connection = (struct connection *)file;
     struct database *database = enter(file);
     int code = SQLITE_NOTFOUND;
     switch (operation) {
     case SQLITE_FCNTL_SYNC: /* a commit, or the end of a rollback, after which nothing differs */
         code = result(database, pagelog_file_commit(database->file));
+        connection->lsn = pagelog_file_lsn(database->file);
         break;
     case SQLITE_FCNTL_COMMIT_PHASETWO: /* a VACUUM makes the file shorter after its commit */
         pagelog_file_commit(database->file);
+        connection->lsn = pagelog_file_lsn(database->file);
         break;
     case SQLITE_FCNTL_PRAGMA:
-        code = answer_pragma((struct connection *)file, argument);
+        code = answer_pragma(connection, argument);
         break;
     case SQLITE_FCNTL_LOCKSTATE:
-        *(int *)argument = ((struct connection *)file)->lock;
+        *(int *)argument = connection->lock;
         code = SQLITE_OK;
         break;
     case SQLITE_FCNTL_VFSNAME:
@@ -834,7 +851,7 @@ static int open_database(sqlite3_filename name, struct connection *connection, i
     if (code != SQLITE_OK) return code;
     connection->lock = SQLITE_LOCK_NONE;
     connection->is_sized = connection->is_exclusive = false;
-    connection->losses = pagelog_file_losses(connection->database->file);
+    note_cache(connection);
     connection->journal_mode = "delete";
     connection->base.pMethods = &file_methods;
     if (out_flags && options.reads_only)

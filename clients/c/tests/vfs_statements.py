@@ -161,6 +161,24 @@ def test_journal_and_locking_modes():
         same("rows", 12, one(reader(service.address), "select count(*) from t"))
 
 
+def test_a_follower_of_a_writer_that_keeps_the_lock():
+    """Its commits do not raise the change counter of the database. A follower that has pages in SQLite's own cache sees each of
+    them nevertheless, and no mixture."""
+    with Service() as service:
+        writer, follower = connect(service.address), reader(service.address)
+        same("exclusive", "exclusive", one(writer, "pragma locking_mode = exclusive"))
+        writer.execute("create table account(id integer primary key, money int, pad blob)")
+        writer.execute("with recursive g(v) as (select 1 union all select v + 1 from g where v < 50)"
+                       "insert into account select v, 100, zeroblob(5000) from g")
+        for number in range(1, 21):
+            same("before", 101 - number, one(follower, "select money from account where id = 1"))
+            version = one(follower, "pragma data_version")
+            writer.execute(f"update account set money = case id when 1 then money - 1 else money + 1 end where id in (1, {2 * number})")
+            same("after", (100 - number, 5000), (one(follower, "select money from account where id = 1"),
+                                                 one(follower, "select sum(money) from account")))
+            true("another version", one(follower, "pragma data_version") != version)
+
+
 def test_connections_of_one_process_lock():
     with Service() as service:
         first, second = connect(service.address, busy=0), connect(service.address, busy=0)
@@ -522,6 +540,33 @@ def test_a_commit_in_doubt():
                 found.add((is_carried, len(rows)))
                 writer.close()
     true(f"a report that was carried out is a commit: {found}", (True, 2) in found)
+
+
+def test_a_commit_in_doubt_of_a_writer_that_keeps_the_lock():
+    """It is in the log. The writer does not see it while it keeps the lock, and cannot commit; once it has let go it sees the
+    commit, and builds on it."""
+    with Service() as service, service.operator() as operator:
+        is_armed, is_away = [False], [False]
+
+        def between(frame):
+            if is_armed[0] and frame[33] == wire.REPORT:
+                is_away[0] = True
+                operator.carry(frame)
+            return None if is_away[0] else frame
+
+        with Proxy(service.address, between=between) as proxy:
+            writer = connect(proxy.address, patience=300, check=3600000)
+            writer.executescript("create table t(a); pragma locking_mode = exclusive; insert into t values (1);")
+            is_armed[0] = True
+            same("in doubt", "SQLITE_IOERR_FSYNC", code_of(lambda: writer.execute("insert into t values (2)")))
+            is_armed[0] = is_away[0] = False
+            same("no commit", "SQLITE_PROTOCOL", code_of(lambda: writer.execute("insert into t values (3)")))
+            same("lets go", "normal", one(writer, "pragma locking_mode = normal"))
+            same("after this statement", [(1,)], writer.execute("select a from t").fetchall())
+            writer.execute("insert into t values (4)")
+            for connection in (writer, reader(service.address)):
+                same("rows", [(1,), (2,), (4,)], connection.execute("select a from t").fetchall())
+            writer.close()
 
 
 def test_replies_of_a_service_at_its_end():
