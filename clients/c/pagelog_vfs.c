@@ -53,6 +53,8 @@
  *   SQLITE_PROTOCOL      another session writes in this epoch, or what answers is no such service
  *   SQLITE_NOTADB        page 0 of the database has something else
  *   SQLITE_MISUSE        the URI lacks a parameter, or has one that cannot be read
+ *   SQLITE_CANTOPEN      of a COMMIT to several databases: one of them is a plain file with a journal, which
+ *                        a crash would leave half written; nothing is committed
  *
  * `PRAGMA pagelog` reports the state of the connection; `PRAGMA pagelog_lsn` and the like one number of it;
  * `PRAGMA pagelog_error` the last error in words; `PRAGMA pagelog_check = 50` changes `check`, and
@@ -117,6 +119,8 @@ struct database {
 
 struct connection {
     sqlite3_file base;
+    struct connection *next;
+    const char *journal; /* its name, where SQLite keeps it */
     struct database *database;
     int lock;
     /* Of the file, as SQLite's own cache has it: commits that were lost, and the transaction. */
@@ -127,16 +131,18 @@ struct connection {
     const char *journal_mode;
 };
 
-/* A journal. */
+/* A journal, or the super-journal of several databases, which has the names of their journals. */
 struct memory {
     sqlite3_file base;
-    struct database *database; /* whose journal it is; NULL: of several */
+    struct database *database; /* whose journal it is, or the first one of several; NULL: not known */
+    bool is_super;
     unsigned char *bytes;
     sqlite3_int64 size, room;
 };
 
 static sqlite3_vfs *real_vfs; /* for what is not kept in the service: temporary files, time, random numbers */
 static struct database *databases;
+static struct connection *connections;
 
 static sqlite3_mutex *list_mutex(void) {
     return sqlite3_mutex_alloc(SQLITE_MUTEX_STATIC_VFS1);
@@ -390,6 +396,36 @@ static int find_or_open(const struct pagelog_file_options *options, struct datab
     return code;
 }
 
+/* ---- Connections ---- */
+
+static void list_connection(struct connection *connection, sqlite3_filename name) {
+    connection->journal = sqlite3_filename_journal(name);
+    sqlite3_mutex_enter(list_mutex());
+    connection->next = connections;
+    connections = connection;
+    sqlite3_mutex_leave(list_mutex());
+}
+
+static void unlist_connection(struct connection *connection) {
+    struct connection **at = &connections;
+    sqlite3_mutex_enter(list_mutex());
+    while (*at != connection)
+        at = &(*at)->next;
+    *at = connection->next;
+    sqlite3_mutex_leave(list_mutex());
+}
+
+/* The database whose journal's name SQLite keeps here; NULL: it is none of ours, whatever the name. */
+static struct database *database_of_name(const void *name) {
+    sqlite3_mutex_enter(list_mutex());
+    struct connection *connection = connections;
+    while (connection && connection->journal != name)
+        connection = connection->next;
+    struct database *database = connection ? connection->database : NULL;
+    sqlite3_mutex_leave(list_mutex());
+    return database;
+}
+
 /* ---- The methods of a database's file ---- */
 
 static struct database *enter(sqlite3_file *file) {
@@ -421,6 +457,7 @@ static int file_close(sqlite3_file *file) {
     struct database *database = enter(file);
     lower_lock(database, connection, SQLITE_LOCK_NONE);
     leave(database, result(database, pagelog_file_settle(database->file)));
+    unlist_connection(connection);
     release(database);
     return SQLITE_OK;
 }
@@ -757,7 +794,7 @@ static void give_back_room(struct memory *memory) {
 
 static int memory_close(sqlite3_file *file) {
     struct memory *memory = (struct memory *)file;
-    if (memory->database) give_back_room(memory);
+    if (memory->database && !memory->is_super) give_back_room(memory);
     sqlite3_free(memory->bytes);
     memory->bytes = NULL;
     return SQLITE_OK;
@@ -772,9 +809,33 @@ static int memory_read(sqlite3_file *file, void *bytes, int length, sqlite3_int6
     return count < (size_t)length ? SQLITE_IOERR_SHORT_READ : SQLITE_OK;
 }
 
+/* A plain file that is written to together with others is rolled back after a crash only if the super-journal
+ * is still there, and this one never is. So there is no COMMIT to a file whose journal is on the disk. */
+static int refuse_plain_file(struct database *database, const char *journal) {
+    static const char reason[] = "a plain file that is attached is not written to in one COMMIT with others";
+    int is_there = 0;
+    int code = real_vfs->xAccess(real_vfs, journal, SQLITE_ACCESS_EXISTS, &is_there);
+    if (code != SQLITE_OK || !is_there) return code;
+    sqlite3_log(SQLITE_CANTOPEN, "pagelog: %s", reason);
+    if (!database) return SQLITE_CANTOPEN;
+    sqlite3_mutex_enter(database->mutex);
+    strcpy(database->error, reason);
+    return leave(database, SQLITE_CANTOPEN);
+}
+
+/* Takes the name of a journal into a super-journal. */
+static int take_name(struct memory *memory, const char *name) {
+    struct database *database = database_of_name(name);
+    if (!database) return refuse_plain_file(memory->database, name);
+    if (!memory->database) memory->database = database;
+    return SQLITE_OK;
+}
+
 static int memory_write(sqlite3_file *file, const void *bytes, int length, sqlite3_int64 offset) {
     struct memory *memory = (struct memory *)file;
     sqlite3_int64 end = offset + length;
+    int code = memory->is_super ? take_name(memory, bytes) : SQLITE_OK;
+    if (code != SQLITE_OK) return code;
     if (end > memory->room) {
         sqlite3_int64 room = memory->room > 0 ? 2 * memory->room : JOURNAL_BYTES;
         if (room < end) room = end + SECTOR_BYTES;
@@ -851,6 +912,7 @@ static int open_database(sqlite3_filename name, struct connection *connection, i
     if (code != SQLITE_OK) return code;
     connection->lock = SQLITE_LOCK_NONE;
     connection->is_sized = connection->is_exclusive = false;
+    list_connection(connection, name);
     note_cache(connection);
     connection->journal_mode = "delete";
     connection->base.pMethods = &file_methods;
@@ -877,7 +939,8 @@ static int vfs_open(sqlite3_vfs *vfs, sqlite3_filename name, sqlite3_file *file,
     struct memory *memory = (struct memory *)file;
     memset(memory, 0, sizeof *memory);
     memory->base.pMethods = &memory_methods;
-    if (flags & SQLITE_OPEN_MAIN_JOURNAL) memory->database = database_of_journal(name);
+    memory->is_super = flags & SQLITE_OPEN_SUPER_JOURNAL;
+    if (!memory->is_super) memory->database = database_of_journal(name);
     if (memory->database) take_room(memory);
     return SQLITE_OK;
 }

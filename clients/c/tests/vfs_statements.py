@@ -480,6 +480,49 @@ def test_several_databases_in_one_statement():
             same("each", 1, one(reader(service.address, db=db), "select count(*) from t"))
 
 
+def test_a_plain_file_that_is_attached():
+    """A crash in the midst of a COMMIT to it and to others would leave it half written, where the database of the service is
+    `main`: its super-journal is gone with the process. So there is no such COMMIT, unless the plain file has no journal. It is
+    known as a plain file whatever its name."""
+    with Service() as service, tempfile.TemporaryDirectory() as folder:
+        path = os.path.join(folder, "plain.db")
+
+        def insert(connection):
+            connection.execute("begin")
+            for name in ("service", "plain"):
+                connection.execute(f"insert into {name}_t values (1)")
+            connection.execute("commit")
+
+        def rows(connection):
+            return tuple(one(connection, f"select count(*) from {name}_t") for name in ("service", "plain"))
+
+        plain = sqlite3.connect(path, isolation_level=None, uri=True)
+        plain.execute("create table plain_t(a)")
+        plain.execute("attach ? as service", (uri(service.address),))
+        plain.execute("create table service.service_t(a)")
+        insert(plain)
+        same("the plain file first", (1, 1), rows(plain))
+        plain.close()
+        for name in ("test", path):
+            connection = connect(service.address, name=name)
+            connection.execute("attach ? as plain", (f"file:{path}?vfs=unix",))
+            for mode in ("delete", "truncate", "persist"):
+                same("mode", mode, one(connection, f"pragma plain.journal_mode = {mode}"))
+                same(mode, "SQLITE_CANTOPEN", code_of(lambda: insert(connection)))
+                true("why", "plain file" in one(connection, "pragma pagelog_error"))
+                same("rolled back", (False, (1, 1)), (connection.in_transaction, rows(connection)))
+            connection.close()
+        connection = connect(service.address)
+        connection.execute("attach ? as plain", (f"file:{path}?vfs=unix",))
+        for name in ("service", "plain"):
+            connection.execute(f"insert into {name}_t values (1)")
+        same("one after the other", (2, 2), rows(connection))
+        same("mode", "wal", one(connection, "pragma plain.journal_mode = wal"))
+        insert(connection)
+        same("without a journal", (3, 3), rows(connection))
+        connection.close()
+
+
 def test_at_the_limits():
     with Service(audit=300) as service:
         connection = connect(service.address, check=1000)
