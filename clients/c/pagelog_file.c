@@ -114,7 +114,9 @@ static enum pagelog_outcome renew(struct pagelog_file *file) {
 static enum pagelog_outcome check_epoch(struct pagelog_file *file) {
     struct pagelog_reply status;
     enum pagelog_outcome outcome = pagelog_status(file->log, PAGELOG_PRIMARY, &status);
-    if (outcome == PAGELOG_DONE && status.hard != file->mark.lsn) outcome = recover(file);
+    if (outcome != PAGELOG_DONE || status.hard == file->mark.lsn) return outcome;
+    outcome = recover(file);
+    file->is_broken = pagelog_is_stuck(file->log); /* the repair did not come to its end */
     return outcome;
 }
 

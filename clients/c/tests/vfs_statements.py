@@ -701,6 +701,29 @@ def test_another_session_in_the_epoch_is_a_protocol_error():
             same("integrity", "ok", one(connection, "pragma integrity_check"))
 
 
+def test_a_repair_that_is_cut_off():
+    """Another session left half a transaction in the epoch, and the service goes away while the writer undoes it. Once it is
+    there again the writer begins another epoch, and goes on."""
+    for operation, count in ((wire.GET, 1), (wire.WRITE, 1), (wire.WRITE, 2), (wire.REPORT, 1)):
+        is_armed, left = [False], [count]
+
+        def between(frame):
+            left[0] -= is_armed[0] and frame[33] == operation
+            return frame if left[0] > 0 else None
+
+        with Service() as service, Proxy(service.address, between=between) as proxy:
+            writer = connect(proxy.address, patience=200)
+            writer.executescript("create table t(a); insert into t values (1);")
+            write_as_another(service.address, number_of(writer, "end") + 1, (2, 100, b"other"))
+            is_armed[0] = True
+            true("cut off", code_of(lambda: one(writer, "select count(*) from t")) in ("SQLITE_IOERR", "SQLITE_IOERR_FSYNC"))
+            is_armed[0], left[0] = False, count
+            same(f"on, after request {count} of {operation}", None, code_of(lambda: writer.execute("insert into t values (2)")))
+            for connection in (writer, reader(service.address)):
+                same("rows", [(1,), (2,)], connection.execute("select a from t").fetchall())
+                same("integrity", "ok", one(connection, "pragma integrity_check"))
+
+
 # What no service replies to a request of this client: a body, and what the client says of it.
 NONSENSE = (("no byte", b"", "malformed"), ("an unknown kind", b"\x0b", "malformed"), ("a byte too many", b"\6\0", "malformed"),
             ("half a page", b"\2" + bytes(4104), "malformed"), ("no section", b"\5\4\0\1" + bytes(8), "malformed"),
