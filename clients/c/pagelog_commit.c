@@ -200,6 +200,8 @@ static enum pagelog_outcome settle_doubt(struct pagelog_file *file, const struct
     if (outcome != PAGELOG_DONE && !is_fenced) return pagelog_restore(file->log, PAGELOG_IN_DOUBT, &refused);
     if (is_fenced) pagelog_become_follower(file);
     outcome = find_mark(file, role_of(file), mark);
+    /* Where a failover's reply was lost, another writer may have gone on from there before this epoch. */
+    if (outcome == PAGELOG_DONE && !is_fenced) file->is_broken = pagelog_end(file->log) != mark->lsn;
     if (outcome == PAGELOG_DONE) return PAGELOG_DONE;
     if (outcome != PAGELOG_CONFLICT) return pagelog_restore(file->log, PAGELOG_IN_DOUBT, &refused);
     if (is_fenced) return PAGELOG_FENCED;

@@ -585,6 +585,49 @@ def test_a_commit_in_doubt():
     true(f"a report that was carried out is a commit: {found}", (True, 2) in found)
 
 
+def test_another_writer_between_a_commit_in_doubt_and_its_failover():
+    """The connection is cut after the writes of a commit, and until the writer's own failover is lost too. Another writer begins an
+    epoch meanwhile and commits. The first one begins the next epoch, in which its commit is found to be in the log, and goes on
+    from what the other has committed."""
+    for check, unwaited in ((0, 0), (3600000, 0), (3600000, 64)):
+        with Service() as service:
+            is_away, failovers = [False], [0]
+
+            def between(frame):
+                if not is_away[0] or frame[33] == wire.WRITE:
+                    return frame
+                failovers[0] += frame[33] == wire.FAILOVER
+                if frame[33] == wire.FAILOVER and failovers[0] == 1:
+                    other = connect(service.address, 5)
+                    other.execute("insert into t select a + 1000, 'other' from t")
+                    other.close()
+                is_away[0] = failovers[0] < 2
+                return None if is_away[0] else frame
+
+            with Proxy(service.address, between=between) as proxy:
+                writer = connect(proxy.address, patience=200, check=check, unwaited=unwaited)
+                writer.execute("create table t(a integer primary key, b)")
+                writer.execute("create index i on t(b)")
+                writer.execute("with recursive g(v) as (select 1 union all select v + 1 from g where v < 90)"
+                               "insert into t select v, 'x' || v from g")
+                if unwaited:
+                    writer.execute("pragma synchronous = off")
+                writer.execute("begin immediate")
+                writer.execute("insert into t values (200, 'first')")
+                is_away[0] = True
+                writer.execute("commit")
+                if unwaited:
+                    same("waited for", "64", one(writer, "pragma pagelog_unwaited = 64"))
+                same("two failovers", (2, 4), (failovers[0], number_of(writer, "writing_epoch")))
+                writer.execute("insert into t values (201, 'next')")
+                writer.execute("pragma pagelog_unwaited = 0")
+                for connection in (writer, reader(service.address)):
+                    same("integrity", "ok", one(connection, "pragma integrity_check"))
+                    same("rows", (183, 91, 1, 1), tuple(one(connection, f"select count(*) from t {which}") for which in
+                                                        ("", "where b = 'other'", "where b = 'first'", "where b = 'next'")))
+                writer.close()
+
+
 def test_a_commit_in_doubt_of_a_writer_that_keeps_the_lock():
     """It is in the log. The writer does not see it while it keeps the lock, and cannot commit; once it has let go it sees the
     commit, and builds on it."""
