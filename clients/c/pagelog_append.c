@@ -88,6 +88,15 @@ static bool are_done(struct append *append, size_t count, unsigned copies) {
     return true;
 }
 
+/* Whether each of `count` blocks from the first one on was sent, to a copy that may have taken it. */
+static bool were_sent(struct append *append, size_t count) {
+    for (size_t i = append->first; i < append->first + count; i++) {
+        const struct marks *marks = marks_of(append, i);
+        if (i >= append->first + PAGELOG_WINDOW || (marks->done | marks->unsure) == 0) return false;
+    }
+    return true;
+}
+
 /* The next `count` blocks are in the log. */
 static void advance(struct append *append, size_t count) {
     for (size_t i = 0; i < count && i < PAGELOG_WINDOW; i++)
@@ -261,7 +270,10 @@ static enum pagelog_outcome catch_up(struct append *append) {
     size_t count = append->count - append->first;
     if (status.hard - next + 1 < count) count = (size_t)(status.hard - next + 1);
     outcome = look(append, append->first, count);
-    /* Who may not pull knows it by an epoch of its own, or by writes that were Done. */
+    /* Who may not pull knows it by an epoch of its own, or by writes that were Done. What was never sent is
+     * another's, whosever epoch it is. */
+    if (outcome == PAGELOG_DENIED && !were_sent(append, count))
+        return pagelog_restore(append->log, PAGELOG_CONFLICT, &append->refused);
     if (outcome == PAGELOG_DENIED && (append->log->owns_epoch || are_done(append, count, 1)))
         outcome = PAGELOG_DONE;
     if (outcome == PAGELOG_DONE) advance(append, count);

@@ -855,6 +855,29 @@ def test_a_writer_under_the_start_table():
         same("rows", 2, one(other, "select count(*) from t"))
 
 
+def test_another_session_in_the_epoch_of_a_writer_that_may_not_look():
+    """Under the start table a writer cannot see whose block is at the LSN of its own. It has not sent that one before, so it is
+    another's: no commit is reported that is not in the log."""
+    for unwaited in (0, 64):
+        with Service(table=START_TABLE) as service:
+            writer = connect(service.address, check=3600000, unwaited=unwaited)
+            writer.executescript("create table t(a); insert into t values (1); pragma synchronous = off;")
+            lsn = number_of(writer, "end") + 1
+            write_as_another(service.address, lsn, (2, 100, b"other"))
+            code = code_of(lambda: writer.execute("insert into t values (2)"))
+            if unwaited:
+                same("not known yet", None, code)
+                code = code_of(lambda: one(writer, "pragma pagelog_unwaited = 0"))
+            same("another's", "SQLITE_IOERR_FSYNC" if unwaited else "SQLITE_PROTOCOL", code)
+            if not unwaited:
+                same("why", f"conflict: denied C2, value {lsn}", one(writer, "pragma pagelog_error"))
+            writer.execute("insert into t values (3)")
+            writer.execute("pragma pagelog_unwaited = 0")
+            for connection in (writer, reader(service.address)):
+                same("rows", [(1,), (3,)], connection.execute("select a from t").fetchall())
+                same("integrity", "ok", one(connection, "pragma integrity_check"))
+
+
 def test_the_shell():
     with Service() as service:
         text = (f".load {EXTENSION}\n.open '{uri(service.address)}'\ncreate table t(a, b);\n"
