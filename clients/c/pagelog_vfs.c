@@ -831,9 +831,18 @@ static int take_name(struct memory *memory, const char *name) {
     return SQLITE_OK;
 }
 
+/* Whether these bytes end the name of a super-journal in a journal. SQLite finds the name by them. */
+static bool is_end_of_name(const struct memory *memory, const void *bytes, int length) {
+    static const unsigned char magic[] = {0xd9, 0xd5, 0x05, 0xf9, 0x20, 0xa1, 0x63, 0xd7};
+    return !memory->is_super && length == sizeof magic && memcmp(bytes, magic, sizeof magic) == 0;
+}
+
+/* A journal that names a super-journal is not rolled back where that is gone, as it always is here. So it
+ * does not keep the end of that name. */
 static int memory_write(sqlite3_file *file, const void *bytes, int length, sqlite3_int64 offset) {
     struct memory *memory = (struct memory *)file;
     sqlite3_int64 end = offset + length;
+    if (is_end_of_name(memory, bytes, length)) return SQLITE_OK;
     int code = memory->is_super ? take_name(memory, bytes) : SQLITE_OK;
     if (code != SQLITE_OK) return code;
     if (end > memory->room) {

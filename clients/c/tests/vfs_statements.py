@@ -11,7 +11,7 @@ import time
 
 from check import LONG, MODEL, run, same, true
 from database import EXTENSION, TOKENS, code_of, connect, one, reader, uri
-from service import CLIENT, Answer, Asker, Peer, Proxy, START_TABLE, Service, failing_over, plain_environment, wire
+from service import CLIENT, Answer, Asker, Peer, Proxy, START_TABLE, TABLE, Service, failing_over, plain_environment, wire
 
 COUNT = 40000 if LONG else 300 if MODEL else 10000
 
@@ -478,6 +478,42 @@ def test_several_databases_in_one_statement():
         connection.execute("commit")
         for db in (0, 1):
             same("each", 1, one(reader(service.address, db=db), "select count(*) from t"))
+
+
+def test_a_commit_to_two_databases_that_the_second_one_refuses():
+    """It is an error, and in none of them: the first one is changed back. What the connection reads while it keeps the lock is
+    what is there, and so is what it builds upon."""
+    for mode in ("delete", "persist"):
+        for refusal in ("another writer", "the table"):
+            with Service(dbs=2) as service, service.operator(1) as operator:
+                connection = connect(service.address)
+                connection.execute("attach ? as other", (uri(service.address, db=1),))
+                for name in ("main", "other"):
+                    connection.execute(f"pragma {name}.journal_mode = {mode}")
+                    connection.execute(f"create table {name}.{name}_t(a)")
+                    connection.execute(f"insert into {name}_t values (0), (1)")
+                reads = connection.execute("select a from other_t")
+                same("it keeps the lock", (0,), reads.fetchone())
+                connection.execute("begin")
+                for name in ("main", "other"):
+                    connection.execute(f"insert into {name}_t values (2)")
+                if refusal == "another writer":
+                    operator.failover(5)
+                else:
+                    operator.set_table("".join(TABLE.read_text().split('[[row]]\nverdict = "allow"\nwho = 2\nrole = "primary"\n')))
+                wanted = "SQLITE_READONLY" if refusal == "another writer" else "SQLITE_PERM"
+                same(f"{refusal}, {mode}", wanted, code_of(lambda: connection.execute("commit")))
+                operator.set_table(TABLE.read_text())
+                for db, name in enumerate(("main", "other")):
+                    for who in (connection, reader(service.address, db=db)):
+                        same(f"rows of {name}", [(0,), (1,)], who.execute(f"select a from {name}_t").fetchall())
+                        same("integrity", "ok", one(who, "pragma integrity_check"))
+                for db, name in enumerate(("main", "other")[: 1 if refusal == "another writer" else 2]):
+                    connection.execute(f"insert into {name}_t values (3)")
+                    rows = reader(service.address, db=db).execute(f"select a from {name}_t").fetchall()
+                    same("and on", [(0,), (1,), (3,)], rows)
+                reads.close()
+                connection.close()
 
 
 def test_a_plain_file_that_is_attached():
