@@ -61,11 +61,11 @@
  * `PRAGMA pagelog_spin = 0` changes `spin`. `PRAGMA pagelog_unwaited = N` waits for what is on its way, and
  * then changes `unwaited`.
  *
- * Connections of one process that write as one principal to one database share a file, and lock as SQLite
- * expects. Between processes there are no locks: there is the epoch. A connection that keeps the lock
- * (locking_mode=exclusive) is in one transaction of the file for as long. So after a commit that was in doubt
- * or lost it neither sees what became of it nor commits again, until `PRAGMA locking_mode = normal` and one
- * statement more have given the lock back.
+ * Connections of one process that write as one principal to one database share a file, with the settings of
+ * the one that opened it, and lock as SQLite expects. Between processes there are no locks: there is the
+ * epoch. A connection that keeps the lock (locking_mode=exclusive) is in one transaction of the file for as
+ * long. So after a commit that was in doubt or lost it neither sees what became of it nor commits again,
+ * until `PRAGMA locking_mode = normal` and one statement more have given the lock back.
  */
 #include "pagelog_file.h"
 
