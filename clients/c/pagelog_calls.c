@@ -188,10 +188,24 @@ static enum pagelog_outcome fail_over(struct pagelog *log, uint32_t principal, c
                                       .operation = PAGELOG_FAILOVER,
                                       .to = log->options.principal};
     memcpy(request.token, token, PAGELOG_TOKEN_BYTES);
+    uint64_t sent = log->counts.bytes_sent;
     enum pagelog_outcome outcome = pagelog_send_as(log, &request);
     if (outcome == PAGELOG_DONE) outcome = pagelog_receive(log, &reply);
-    if (outcome == PAGELOG_LOST) log->lost_failovers++;
+    if (outcome == PAGELOG_LOST && log->counts.bytes_sent > sent) log->lost_failovers++;
     return outcome;
+}
+
+/* Asks for the status as the primary of the newest epoch: FENCED where that is another principal. */
+static enum pagelog_outcome ask_as_primary(struct pagelog *log) {
+    struct pagelog_reply status;
+    struct pagelog_request request = {.principal = log->options.principal,
+                                      .role = PAGELOG_PRIMARY,
+                                      .database = log->options.database,
+                                      .epoch = log->epoch,
+                                      .operation = PAGELOG_STATUS};
+    memcpy(request.token, log->options.token, PAGELOG_TOKEN_BYTES);
+    enum pagelog_outcome outcome = pagelog_send_as(log, &request);
+    return outcome == PAGELOG_DONE ? pagelog_receive(log, &status) : outcome;
 }
 
 /* Whether the last denial reports which epoch is the current one. */
@@ -201,7 +215,8 @@ static bool is_epoch_told(const struct pagelog *log) {
            (reply->row == 2 || reply->row == 3);
 }
 
-/* A failover whose reply was lost may have begun the epoch that was reported. */
+/* A failover whose reply was lost may have begun the epoch that was reported, if this object's principal is
+ * its primary. */
 static bool may_be_ours(const struct pagelog *log, uint32_t expected) {
     return log->epoch > expected && log->epoch - expected <= log->lost_failovers;
 }
@@ -216,7 +231,13 @@ enum pagelog_outcome pagelog_take_over(struct pagelog *log, uint32_t operator_pr
         if (outcome == PAGELOG_DONE) break;
         if (outcome == PAGELOG_LOST && pagelog_may_try_again(&patience)) continue;
         if (outcome != PAGELOG_FENCED || !is_epoch_told(log) || ++epochs > MOST_EPOCHS) return outcome;
-        if (expected && !may_be_ours(log, expected)) return outcome;
+        if (expected) {
+            if (!may_be_ours(log, expected)) return outcome;
+            outcome = ask_as_primary(log);
+            if (outcome == PAGELOG_LOST && pagelog_may_try_again(&patience)) continue;
+            if (outcome == PAGELOG_FENCED && is_epoch_told(log)) continue;
+            if (outcome != PAGELOG_DONE) return outcome;
+        }
         epoch = log->epoch;
     }
     log->lost_failovers = 0;

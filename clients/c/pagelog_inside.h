@@ -64,7 +64,7 @@ struct pagelog {
     uint64_t end;                 /* the highest LSN known to be in the log */
     struct pagelog_zone zone;     /* of the writing epoch, as far as is known */
     bool owns_epoch;              /* it was begun for this object alone */
-    uint32_t lost_failovers;      /* whose replies were lost since the writing epoch began */
+    uint32_t lost_failovers;      /* sent since the writing epoch began, whose replies were lost */
     bool anew;                    /* the service was started anew */
     bool stuck;                   /* the window may hold blocks of an append that is not DONE */
     struct ahead ahead;           /* of the append to come */

@@ -175,12 +175,12 @@ class Proxy:
     A second rule beside it, `holds`, is called once the service has answered all frames that have come. While it is true the
     replies stay here: they go to the client together with later ones."""
 
-    def __init__(self, address, plan=None, between=None, holds=lambda: False):
+    def __init__(self, address, plan=None, between=None, holds=lambda: False, at="127.0.0.1"):
         host, port = address.rsplit(":", 1)
         self.target = host, int(port)
         self.plan, self.between, self.holds = plan, between, holds
-        self.listener = socket.create_server(("127.0.0.1", 0), backlog=64)
-        self.address = "127.0.0.1:%d" % self.listener.getsockname()[1]
+        self.listener = socket.create_server((at, 0), backlog=64)
+        self.address = "%s:%d" % self.listener.getsockname()
         self.cuts = self.accepted = 0
         self.is_on = True
         self.thread = threading.Thread(target=self.accept, daemon=True)
@@ -193,10 +193,21 @@ class Proxy:
         self.is_on = False
         self.listener.close()
 
+    def go_away(self):
+        """From now on each connect is refused, where no other server is at this address: at 127.0.0.1 one may be soon."""
+        self.listener.shutdown(socket.SHUT_RDWR)
+        self.listener.close()
+
+    def come_back(self):
+        host, port = self.address.rsplit(":", 1)
+        self.listener = socket.create_server((host, int(port)), backlog=64)
+        threading.Thread(target=self.accept, daemon=True).start()
+
     def accept(self):
+        listener = self.listener
         while self.is_on:
             try:
-                client, _ = self.listener.accept()
+                client, _ = listener.accept()
             except OSError:
                 return
             self.accepted += 1

@@ -659,6 +659,42 @@ def test_an_old_writer_is_fenced():
         same("end", 6, operator.status()[2])
 
 
+def test_a_failover_that_was_lost_takes_nobody_elses_epoch():
+    """Its reply is lost, or it is not even sent, and then another writer begins the epoch after: that one keeps it. What the
+    lost one has begun itself is taken over."""
+    for who, is_sent, is_carried in ((5, False, False), (2, False, False), (5, True, False), (5, True, True), (None, True, True)):
+        with Service() as service, service.operator() as operator:
+            is_cut = [False]
+
+            def between(frame):
+                if not is_cut[0]:
+                    return frame
+                is_cut[0] = False
+                proxy.go_away()
+                if is_carried:
+                    operator.carry(frame)
+                return None
+
+            with Proxy(service.address, between=between, at="127.0.0.2") as proxy, \
+                    Log(proxy.address, 2, patience_ms=100) as old, Log(service.address, who or 5) as new:
+                same("old", (DONE, DONE, 2), (old.take_over(), old.append(numbered(1, 1)), old.writing_epoch))
+                if is_sent:
+                    is_cut[0] = True
+                else:
+                    old.disconnect()
+                    proxy.go_away()
+                same("away", LOST, old.take_over(expected=2))
+                if who:
+                    same("new", (DONE, DONE), (new.take_over(), new.append(numbered(2, 1))))
+                proxy.come_back()
+                before = operator.status()[0]
+                if who:
+                    same(f"after {who, is_sent, is_carried}", (FENCED, before), (old.take_over(expected=2), operator.status()[0]))
+                    same("new goes on", DONE, new.append(numbered(3, 1)))
+                else:
+                    same("its own", (DONE, DONE), (old.take_over(expected=2), old.append(numbered(2, 1))))
+
+
 def test_blocks_in_two_copies_are_in_the_log_when_their_report_is_denied():
     for copies in (2, 3):
         with Service() as service, Proxy(service.address, between=failing_over(service, wire.REPORT, 1, 5)) as proxy, \
