@@ -128,7 +128,7 @@ static bool are_pulled(const struct pagelog_reply *blocks, uint64_t from, unsign
         if (lsn <= last) return false;
         last = lsn;
     }
-    return blocks->count <= max && blocks->next > last;
+    return blocks->count <= max && blocks->next > last && blocks->next > from;
 }
 
 enum pagelog_outcome pagelog_pull(struct pagelog *log, uint64_t from, unsigned max,

@@ -4,7 +4,7 @@ import random
 import time
 
 from binding import (AUDIT_FULL, CONFLICT, DENIED, DONE, FENCED, IN_DOUBT, LOST, MALFORMED, File, Log, PRIMARY, SECONDARY,
-                     Blocks, records_of)
+                     Blocks, numbered, records_of)
 from check import LONG, MODEL, run, same, true
 from service import Answer, Asker, Proxy, Service, START_TABLE, TABLE, failing_over, random_plan, wire
 
@@ -527,6 +527,25 @@ def test_a_database_of_something_else():
             same("open", MALFORMED, file.open())
             true("words", "no end mark" in file.words)
             same("not open", MALFORMED, file.begin())
+
+
+def test_a_peer_that_never_comes_to_the_end_of_the_log():
+    """It answers each pull with no blocks, and says that the next one goes on at the same place."""
+    with Service() as service:
+        pulls = [0]
+
+        def between(frame):
+            if frame[33] != wire.PULL:
+                return frame
+            pulls[0] += 1
+            return Answer(b"\1" + frame[38:46] + b"\0\0") if pulls[0] < 100 else None
+
+        with Log(service.address, 2) as log:
+            same("a block without an end", (DONE, DONE), (log.take_over(), log.append(numbered(1, 1, page=1))))
+        with Proxy(service.address, between=between) as proxy:
+            file = File(proxy.address, 2, operator=1, patience_ms=100)
+            with file:
+                same("no service", (MALFORMED, 1), (file.open(), pulls[0]))
 
 
 def test_limits_of_a_file():
