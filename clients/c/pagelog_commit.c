@@ -220,7 +220,7 @@ static void note_failure(struct pagelog_file *file, enum pagelog_outcome outcome
 
 /* Commits that nobody waited for are not in the log, or may not be: the file is what it was before them. */
 static enum pagelog_outcome lose(struct pagelog_file *file, enum pagelog_outcome outcome) {
-    if (pagelog_in_flight(file->log) > 0) pagelog_disconnect(file->log);
+    pagelog_disconnect(file->log); /* their append is given up, even if all replies to it were read */
     pagelog_cache_clear(file->cache);
     file->mark = file->settled;
     file->size = file->least = file->mark.size;

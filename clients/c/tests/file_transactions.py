@@ -1,12 +1,14 @@
 """The file with transactions, against the real service, beside a plain bytearray."""
 
 import random
+import subprocess
 import time
 
 from binding import (AUDIT_FULL, CONFLICT, DENIED, DONE, FENCED, IN_DOUBT, LOST, MALFORMED, File, Log, PRIMARY, SECONDARY,
                      Blocks, numbered, records_of)
 from check import LONG, MODEL, run, same, true
-from service import Answer, Asker, Proxy, Service, START_TABLE, TABLE, failing_over, random_plan, wire
+from service import (CLIENT, Answer, Asker, Proxy, Service, START_TABLE, TABLE, failing_over, plain_environment, random_plan,
+                     wire)
 
 
 def opened(address, principal=2, **more):
@@ -801,6 +803,15 @@ def test_lost_commits_are_told_by_the_next_begin():
                 same("it follows", (DONE, b"n" + b"a" * 9), (old.begin(), old.whole()))
                 same("and writes nothing", (DONE, FENCED), (old.write(0, b"x"), old.commit()))
             same("as a reader", (DONE, b"n" + b"a" * 9), (reader.begin(), reader.whole()))
+
+
+def test_refused_allocations():
+    """Of commits that nobody waits for: what was answered before one is refused is not taken for what comes after."""
+    with Service() as service:
+        ran = subprocess.run([CLIENT / "out" / "checked" / "refused", service.address], capture_output=True, text=True,
+                             env=plain_environment())
+        same("refused", (0, ""), (ran.returncode, ran.stderr[-2000:]))
+        return ran.stdout.strip()
 
 
 if __name__ == "__main__":
