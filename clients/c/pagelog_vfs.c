@@ -112,6 +112,7 @@ struct database {
     unsigned sharing;            /* connections with a lock, SQLITE_LOCK_SHARED or above */
     struct connection *reserved; /* the one with SQLITE_LOCK_RESERVED or above, or NULL */
     bool is_pending;             /* it waits for the others to go, or has gone on to SQLITE_LOCK_EXCLUSIVE */
+    bool is_loss_untold;         /* the file has lost commits, and no statement has told it */
     unsigned char *room;         /* of the last journal, for the next one; NULL: none */
     sqlite3_int64 room_bytes;
     char error[ERROR_BYTES];
@@ -181,6 +182,7 @@ static int code_of(const struct pagelog_file *file, enum pagelog_outcome outcome
 static int result(struct database *database, enum pagelog_outcome outcome) {
     if (outcome == PAGELOG_DONE) return SQLITE_OK;
     int code = code_of(database->file, outcome);
+    if (code == SQLITE_IOERR_FSYNC) database->is_loss_untold = false;
     pagelog_file_explain(database->file, database->error, sizeof database->error);
     sqlite3_log(code, "pagelog: %s", database->error);
     return code;
@@ -545,6 +547,10 @@ static int file_size(sqlite3_file *file, sqlite3_int64 *size) {
 static int lock_shared(struct database *database) {
     if (database->is_pending) return SQLITE_BUSY;
     if (database->sharing > 0 && pagelog_file_state_of(database->file).is_over) return SQLITE_BUSY;
+    if (database->is_loss_untold) {
+        database->is_loss_untold = false;
+        return SQLITE_IOERR_FSYNC;
+    }
     int code = database->sharing > 0 ? SQLITE_OK : result(database, pagelog_file_begin(database->file));
     if (code == SQLITE_OK) database->sharing++;
     return code;
@@ -725,6 +731,13 @@ static int answer_pragma(struct connection *connection, char **arguments) {
     return arguments[0] ? SQLITE_OK : SQLITE_NOTFOUND;
 }
 
+/* A VACUUM makes the file shorter after its commit. Whether that is done or not, the commit is; but where
+ * commits before it are lost meanwhile, the next statement has to tell it. */
+static void shorten_after_commit(struct database *database) {
+    bool is_done = result(database, pagelog_file_commit(database->file)) == SQLITE_OK;
+    if (!is_done && pagelog_file_state_of(database->file).is_over) database->is_loss_untold = true;
+}
+
 static int file_control(sqlite3_file *file, int operation, void *argument) {
     struct connection *connection = (struct connection *)file;
     struct database *database = enter(file);
@@ -734,8 +747,8 @@ static int file_control(sqlite3_file *file, int operation, void *argument) {
         code = result(database, pagelog_file_commit(database->file));
         connection->lsn = pagelog_file_lsn(database->file);
         break;
-    case SQLITE_FCNTL_COMMIT_PHASETWO: /* a VACUUM makes the file shorter after its commit */
-        pagelog_file_commit(database->file);
+    case SQLITE_FCNTL_COMMIT_PHASETWO:
+        shorten_after_commit(database);
         connection->lsn = pagelog_file_lsn(database->file);
         break;
     case SQLITE_FCNTL_PRAGMA:

@@ -340,6 +340,29 @@ def test_a_cache_of_lost_commits_is_not_believed():
         same("fenced", "SQLITE_READONLY", code_of(lambda: old.execute("insert into t values (4)")))
 
 
+def test_commits_that_are_lost_while_the_file_is_made_shorter():
+    """That is done once a COMMIT has come to its end, and what is lost meanwhile is told by the next statement, once."""
+    for write in range(1, 15):
+        with Service() as service:
+            rule, told = [None], []
+            between = lambda frame: rule[0](frame) if rule[0] else frame
+            with Proxy(service.address, between=between) as proxy:
+                connection = unwaiting(proxy.address, check=3600000)
+                connection.executescript("pragma auto_vacuum = full; create table t(a); create table u(a);")
+                connection.execute("insert into t values (zeroblob(100000))")
+                connection.execute("pragma pagelog_unwaited = 1")
+                rule[0] = failing_over(service, wire.WRITE, write, to=2)
+                for text in ("insert into u values (1)", "insert into u values (2)", "delete from t", "select count(*) from t",
+                             "select a from u"):
+                    told.append(code_of(lambda: connection.execute(text).fetchall()))
+                told.append(code_of(lambda: connection.execute("pragma pagelog_unwaited = 0").fetchall()))
+                there = (one(connection, "select count(*) from t"), one(connection, "select count(*) from u"))
+                same(f"before write {write}, lost", there != (0, 2) or number_of(connection, "losses") > 0,
+                     "SQLITE_IOERR_FSYNC" in told)
+                true(f"once: {told}", told.count("SQLITE_IOERR_FSYNC") <= 1)
+                connection.close()
+
+
 def test_lost_commits_and_a_transaction_that_reads():
     """A connection that reads when another one learns of the loss gets an error for pages that it has not read yet, and none of
     another moment. Nobody begins to read before it has ended."""
