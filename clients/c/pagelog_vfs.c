@@ -504,12 +504,22 @@ static void forget_wal(struct connection *connection, const unsigned char *bytes
         connection->losses = ~pagelog_file_losses(connection->database->file);
 }
 
+/* When it opens a database SQLite looks for the size of its pages, without a lock, and again with one. Where
+ * another connection has lost commits nothing can be read before the next lock. */
+static bool is_too_early(const struct connection *connection) {
+    return connection->lock == SQLITE_LOCK_NONE && pagelog_file_state_of(connection->database->file).is_over;
+}
+
 static int file_read(sqlite3_file *file, void *bytes, int length, sqlite3_int64 offset) {
     struct database *database = enter(file);
     size_t count = 0;
     if (is_cache_old((struct connection *)file, length, offset)) {
         memset(bytes, 0xff, (size_t)length);
         return leave(database, SQLITE_OK);
+    }
+    if (is_too_early((struct connection *)file)) {
+        memset(bytes, 0, (size_t)length);
+        return leave(database, SQLITE_IOERR_SHORT_READ);
     }
     int code =
         result(database, pagelog_file_read(database->file, (uint64_t)offset, bytes, (size_t)length, &count));

@@ -340,6 +340,35 @@ def test_a_cache_of_lost_commits_is_not_believed():
         same("fenced", "SQLITE_READONLY", code_of(lambda: old.execute("insert into t values (4)")))
 
 
+def test_lost_commits_and_a_connection_that_comes_after():
+    """Who has learned of the loss has not begun again: another one opens the database all the same. Where somebody has not ended
+    a transaction that reads, it waits for that."""
+    may_pass = threading.Event()
+    between = lambda frame: may_pass.wait() and frame
+    for is_reading in (False, True):
+        may_pass.set()
+        with Service() as service, service.operator() as operator, Proxy(service.address, between=between) as proxy:
+            old, looker = (unwaiting(proxy.address, check=3600000) for _ in range(2))
+            old.executescript("pragma page_size = 4096; create table t(a); insert into t values (1);")
+            old.execute("pragma pagelog_unwaited = 64")
+            operator.failover(2)
+            may_pass.clear()
+            old.execute("insert into t values (2)")
+            if is_reading:
+                looker.execute("begin")
+                same("what nobody waited for", 2, one(looker, "select count(*) from t"))
+            may_pass.set()
+            same("reported", "SQLITE_IOERR_FSYNC", code_of(lambda: old.execute("pragma pagelog_unwaited = 0")))
+            new = connect(proxy.address, busy=0.1)
+            if is_reading:
+                same("waits", "SQLITE_BUSY", code_of(lambda: one(new, "select count(*) from t")))
+                looker.rollback()
+            same("what is there", [(1,)], new.execute("select a from t").fetchall())
+            same("its pages", 4096, one(new, "pragma page_size"))
+            same("all", [(1,)], old.execute("select a from t").fetchall())
+            same("fenced", "SQLITE_READONLY", code_of(lambda: new.execute("insert into t values (3)")))
+
+
 def test_commits_that_are_lost_while_the_file_is_made_shorter():
     """That is done once a COMMIT has come to its end, and what is lost meanwhile is told by the next statement, once."""
     for write in range(1, 15):
