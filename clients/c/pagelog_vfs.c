@@ -328,7 +328,7 @@ static struct database *make_database(const struct pagelog_file_options *options
     database->references = 1;
     database->mutex = sqlite3_mutex_alloc(SQLITE_MUTEX_FAST);
     database->file = pagelog_file_new(options);
-    if (database->file) return database;
+    if (database->file && database->mutex) return database;
     free_database(database);
     return NULL;
 }
@@ -944,10 +944,12 @@ static int open_database(sqlite3_filename name, struct connection *connection, i
     if (code != SQLITE_OK) return code;
     connection->lock = SQLITE_LOCK_NONE;
     connection->is_sized = connection->is_exclusive = false;
-    list_connection(connection, name);
-    note_cache(connection);
     connection->journal_mode = "delete";
     connection->base.pMethods = &file_methods;
+    list_connection(connection, name);
+    enter(&connection->base);
+    note_cache(connection);
+    leave(connection->database, SQLITE_OK);
     if (out_flags && options.reads_only)
         *out_flags = (flags & ~(SQLITE_OPEN_READWRITE | SQLITE_OPEN_CREATE)) | SQLITE_OPEN_READONLY;
     return SQLITE_OK;

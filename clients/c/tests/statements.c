@@ -1,5 +1,5 @@
 /* A program that is linked with the VFS: a writer, a second one that fences it, a reader, and opens that
- * fail. The sanitizers see at its end whether all memory was given back.
+ * fail, for want of memory too. The sanitizers see at its end whether all memory was given back.
  *
  *   statements ADDRESS
  */
@@ -31,6 +31,24 @@ static void run(sqlite3 *db, const char *text, int wanted) {
     expect(text, wanted, sqlite3_exec(db, text, NULL, NULL, NULL));
 }
 
+static sqlite3_mutex_methods mutexes;
+static int refuses_mutexes;
+
+/* A mutex of a database, as SQLite gives it, unless it is refused. */
+static sqlite3_mutex *make_mutex(int kind) {
+    return refuses_mutexes && kind == SQLITE_MUTEX_FAST ? NULL : mutexes.xMutexAlloc(kind);
+}
+
+/* Has SQLite ask for its mutexes by the function above. */
+static void take_mutexes(void) {
+    sqlite3_initialize();
+    sqlite3_shutdown();
+    expect("SQLite's mutexes", SQLITE_OK, sqlite3_config(SQLITE_CONFIG_GETMUTEX, &mutexes));
+    sqlite3_mutex_methods own = mutexes;
+    own.xMutexAlloc = make_mutex;
+    expect("mutexes", SQLITE_OK, sqlite3_config(SQLITE_CONFIG_MUTEX, &own));
+}
+
 #define TOKEN_1 "11111111111111111111111111111111"
 #define TOKEN_2 "22222222222222222222222222222222"
 #define TOKEN_3 "33333333333333333333333333333333"
@@ -38,10 +56,14 @@ static void run(sqlite3 *db, const char *text, int wanted) {
 
 int main(int count, char **words) {
     const char *address = words[count - 1];
+    take_mutexes();
     expect("register", SQLITE_OK, pagelog_register_vfs());
     open_as(address, "id=2", SQLITE_MISUSE);
     open_as(address, "id=2&token=" TOKEN_3, SQLITE_PERM);
     open_as("127.0.0.1:1", "timeout=20&id=2&token=" TOKEN_2, SQLITE_CANTOPEN);
+    refuses_mutexes = 1;
+    open_as(address, "mode=ro&id=3&token=" TOKEN_3, SQLITE_NOMEM);
+    refuses_mutexes = 0;
     sqlite3 *one = open_as(address, "id=2&token=" TOKEN_2 "&op=1&optoken=" TOKEN_1, SQLITE_OK);
     sqlite3 *same = open_as(address, "id=2&token=" TOKEN_2 "&op=1&optoken=" TOKEN_1, SQLITE_OK);
     run(one, "create table t(a, b); insert into t values (1, randomblob(100000)), (2, zeroblob(50000));",
