@@ -381,13 +381,16 @@ static enum pagelog_outcome may_append(struct append *append) {
     return append->base == log->end + 1 ? PAGELOG_DONE : PAGELOG_MALFORMED;
 }
 
-/* Queues the writes of blocks that were not sent ahead yet, as far as the window goes. */
+/* Queues the writes of blocks that were not sent ahead yet, as far as the window goes. Where that fails for
+ * the first of them nothing has left this process, and the append sends all. */
 static bool queue_ahead(struct append *append) {
     struct pagelog *log = append->log;
+    bool is_first = log->ahead.blocks == 0;
     log->stuck = true;
     for (; log->ahead.blocks < append->count && log->ahead.blocks < PAGELOG_WINDOW; log->ahead.blocks++) {
         if (send_writes(append, log->ahead.blocks) == PAGELOG_DONE) continue;
         pagelog_disconnect(log);
+        log->stuck = !is_first;
         return false;
     }
     return true;

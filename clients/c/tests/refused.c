@@ -71,20 +71,24 @@ static void read_replies(struct pagelog_file *file, long at) {
     }
 }
 
-/* Refuses the allocation `at` of a commit; false where the commit has not so many. */
-static bool refuse(const char *address, long at) {
+/* Refuses the allocation `at` of a commit, after another one that was answered or as the first one; false
+ * where the commit has not so many. */
+static bool refuse(const char *address, long at, bool is_first) {
     struct pagelog_file *file = open_as(address, false);
-    uint8_t byte = (uint8_t)at, found = 0;
+    uint8_t byte = (uint8_t)(2 * at + is_first), found = 0;
     size_t count;
     expect("a begin", at, pagelog_file_begin(file) == PAGELOG_DONE);
-    expect("a write", at, write_byte(file, 0, byte));
-    expect("a commit", at, pagelog_file_commit(file) == PAGELOG_DONE);
-    read_replies(file, at);
+    if (!is_first) {
+        expect("a write", at, write_byte(file, 0, byte));
+        expect("a commit", at, pagelog_file_commit(file) == PAGELOG_DONE);
+        read_replies(file, at);
+    }
     expect("another write", at, write_byte(file, 1, byte));
     left = at;
     enum pagelog_outcome outcome = pagelog_file_commit(file);
     bool is_met = left == 0;
     left = 0;
+    expect("why", at, outcome == PAGELOG_DONE || outcome == PAGELOG_NO_MEMORY);
     if (outcome != PAGELOG_DONE) pagelog_file_undo(file);
     expect("a begin after it", at, pagelog_file_begin(file) == PAGELOG_DONE);
     expect("a write after it", at, write_byte(file, 2, byte));
@@ -99,9 +103,10 @@ static bool refuse(const char *address, long at) {
 }
 
 int main(int count, char **words) {
-    long at = 1;
-    while (refuse(words[count - 1], at))
-        at++;
-    printf("%ld allocations of a commit refused\n", at - 1);
+    long refused = 0;
+    for (int is_first = 0; is_first < 2; is_first++)
+        for (long at = 1; refuse(words[count - 1], at, is_first); at++)
+            refused++;
+    printf("%ld allocations of a commit refused\n", refused);
     return 0;
 }
