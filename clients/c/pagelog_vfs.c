@@ -453,12 +453,21 @@ static void lower_lock(struct database *database, struct connection *connection,
     connection->lock = lock;
 }
 
+/* A call of whose error SQLite does not hear. Where it loses commits the next statement tells it. */
+static void call_untold(struct database *database, enum pagelog_outcome (*call)(struct pagelog_file *file)) {
+    uint64_t losses = pagelog_file_losses(database->file);
+    bool was_untold = database->is_loss_untold;
+    result(database, call(database->file));
+    database->is_loss_untold = was_untold || pagelog_file_losses(database->file) > losses;
+}
+
 /* Commits that nobody waited for are waited for by who closes. */
 static int file_close(sqlite3_file *file) {
     struct connection *connection = (struct connection *)file;
     struct database *database = enter(file);
     lower_lock(database, connection, SQLITE_LOCK_NONE);
-    leave(database, result(database, pagelog_file_settle(database->file)));
+    call_untold(database, pagelog_file_settle);
+    leave(database, SQLITE_OK);
     unlist_connection(connection);
     release(database);
     return SQLITE_OK;
@@ -741,13 +750,6 @@ static int answer_pragma(struct connection *connection, char **arguments) {
     return arguments[0] ? SQLITE_OK : SQLITE_NOTFOUND;
 }
 
-/* A VACUUM makes the file shorter after its commit. Whether that is done or not, the commit is; but where
- * commits before it are lost meanwhile, the next statement has to tell it. */
-static void shorten_after_commit(struct database *database) {
-    bool is_done = result(database, pagelog_file_commit(database->file)) == SQLITE_OK;
-    if (!is_done && pagelog_file_state_of(database->file).is_over) database->is_loss_untold = true;
-}
-
 static int file_control(sqlite3_file *file, int operation, void *argument) {
     struct connection *connection = (struct connection *)file;
     struct database *database = enter(file);
@@ -757,8 +759,8 @@ static int file_control(sqlite3_file *file, int operation, void *argument) {
         code = result(database, pagelog_file_commit(database->file));
         connection->lsn = pagelog_file_lsn(database->file);
         break;
-    case SQLITE_FCNTL_COMMIT_PHASETWO:
-        shorten_after_commit(database);
+    case SQLITE_FCNTL_COMMIT_PHASETWO: /* a VACUUM makes the file shorter after its commit */
+        call_untold(database, pagelog_file_commit);
         connection->lsn = pagelog_file_lsn(database->file);
         break;
     case SQLITE_FCNTL_PRAGMA:

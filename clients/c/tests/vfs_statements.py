@@ -369,6 +369,23 @@ def test_lost_commits_and_a_connection_that_comes_after():
             same("fenced", "SQLITE_READONLY", code_of(lambda: new.execute("insert into t values (3)")))
 
 
+def test_commits_that_are_lost_while_a_connection_closes():
+    """The connection that is left tells it, once; not so where it was told before."""
+    for is_told in (False, True):
+        with Service() as service, service.operator() as operator:
+            closing, left = (unwaiting(service.address, check=3600000) for _ in range(2))
+            left.executescript("create table t(a); insert into t values (1);")
+            left.execute("pragma pagelog_unwaited = 64")
+            operator.failover(2)
+            left.execute("insert into t values (2)")
+            if is_told:
+                same("told", "SQLITE_IOERR_FSYNC", code_of(lambda: left.execute("pragma pagelog_unwaited = 0")))
+            closing.close()
+            if not is_told:
+                same("told by the next", "SQLITE_IOERR_FSYNC", code_of(lambda: one(left, "select count(*) from t")))
+            same("what is there", (1, "1"), (one(left, "select count(*) from t"), one(left, "pragma pagelog_losses")))
+
+
 def test_commits_that_are_lost_while_the_file_is_made_shorter():
     """That is done once a COMMIT has come to its end, and what is lost meanwhile is told by the next statement, once."""
     for write in range(1, 15):
