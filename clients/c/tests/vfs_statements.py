@@ -691,9 +691,9 @@ def test_a_commit_in_doubt():
 
 
 def test_another_writer_between_a_commit_in_doubt_and_its_failover():
-    """The connection is cut after the writes of a commit, and until the writer's own failover is lost too. Another writer begins an
-    epoch meanwhile and commits. The first one begins the next epoch, in which its commit is found to be in the log, and goes on
-    from what the other has committed."""
+    """The connection is cut after the writes of a commit, and until the writer's own failover is lost too. Another writer of its
+    principal begins an epoch meanwhile and commits. The first one begins the next epoch, in which its commit is found to be in the
+    log, and goes on from what the other has committed."""
     for check, unwaited in ((0, 0), (3600000, 0), (3600000, 64)):
         with Service() as service:
             is_away, failovers = [False], [0]
@@ -703,7 +703,7 @@ def test_another_writer_between_a_commit_in_doubt_and_its_failover():
                     return frame
                 failovers[0] += frame[33] == wire.FAILOVER
                 if frame[33] == wire.FAILOVER and failovers[0] == 1:
-                    other = connect(service.address, 5)
+                    other = connect(service.address)
                     other.execute("insert into t select a + 1000, 'other' from t")
                     other.close()
                 is_away[0] = failovers[0] < 2
