@@ -53,8 +53,8 @@
  *   SQLITE_PROTOCOL      another session writes in this epoch, or what answers is no such service
  *   SQLITE_NOTADB        page 0 of the database has something else
  *   SQLITE_MISUSE        the URI lacks a parameter, or has one that cannot be read
- *   SQLITE_CANTOPEN      of a COMMIT to several databases: one of them is a plain file with a journal, which
- *                        a crash would leave half written; nothing is committed
+ *   SQLITE_CANTOPEN      of an open: nothing answers; of a COMMIT to several databases: one of them is a plain
+ *                        file with a journal, which a crash would leave half written; nothing is committed
  *
  * `PRAGMA pagelog` reports the state of the connection; `PRAGMA pagelog_lsn` and the like one number of it;
  * `PRAGMA pagelog_error` the last error in words; `PRAGMA pagelog_check = 50` changes `check`, and
