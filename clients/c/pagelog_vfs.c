@@ -537,16 +537,25 @@ static int file_read(sqlite3_file *file, void *bytes, int length, sqlite3_int64 
     return leave(database, code);
 }
 
+/* After an error of a rollback that it does not know, as SQLITE_PERM, SQLite goes on with its cache, though
+ * half of it was not rolled back: it has to read all of it again. */
+static int note_error(sqlite3_file *file, int code) {
+    struct connection *connection = (struct connection *)file;
+    if (code != SQLITE_OK) connection->losses = ~pagelog_file_losses(connection->database->file);
+    return code;
+}
+
 static int file_write(sqlite3_file *file, const void *bytes, int length, sqlite3_int64 offset) {
     struct database *database = enter(file);
     forget_wal((struct connection *)file, bytes, length, offset);
-    return leave(database, result(database, pagelog_file_write(database->file, (uint64_t)offset, bytes,
-                                                               (size_t)length)));
+    int code = result(database, pagelog_file_write(database->file, (uint64_t)offset, bytes, (size_t)length));
+    return leave(database, note_error(file, code));
 }
 
 static int file_truncate(sqlite3_file *file, sqlite3_int64 size) {
     struct database *database = enter(file);
-    return leave(database, result(database, pagelog_file_resize(database->file, (uint64_t)size)));
+    int code = result(database, pagelog_file_resize(database->file, (uint64_t)size));
+    return leave(database, note_error(file, code));
 }
 
 /* Follows the commit, unless synchronous=off. */
@@ -756,7 +765,7 @@ static int file_control(sqlite3_file *file, int operation, void *argument) {
     int code = SQLITE_NOTFOUND;
     switch (operation) {
     case SQLITE_FCNTL_SYNC: /* a commit, or the end of a rollback, after which nothing differs */
-        code = result(database, pagelog_file_commit(database->file));
+        code = note_error(file, result(database, pagelog_file_commit(database->file)));
         connection->lsn = pagelog_file_lsn(database->file);
         break;
     case SQLITE_FCNTL_COMMIT_PHASETWO: /* a VACUUM makes the file shorter after its commit */

@@ -585,6 +585,30 @@ def test_a_commit_to_two_databases_that_the_second_one_refuses():
                 connection.close()
 
 
+def test_requests_that_are_denied_for_a_while():
+    """A COMMIT and its rollback may both be denied: no half of it comes into a later one."""
+    for seed in range(16):
+        numbers, is_on = random.Random(seed), [False]
+        between = lambda frame: Answer(b"\5\2" + bytes(10)) if is_on[0] and numbers.random() < 0.15 else frame
+        with Service() as service, Proxy(service.address, between=between) as proxy:
+            connection = connect(proxy.address, pages=16)
+            connection.executescript("pragma page_size = 4096; create table t(a integer primary key, b);")
+            is_on[0], there = True, []
+            for number in range(1, 61):
+                size, factor = numbers.choice([10, 9000, 60000]), number % 3
+                texts = [f"insert into t values ({number}, randomblob({size}))"]
+                if factor > 0:
+                    texts = ["begin", *texts, f"update t set b = randomblob({size // 3}) where a % 3 = {factor}", "commit"]
+                failed = [code for code in (code_of(lambda: connection.execute(text)) for text in texts) if code]
+                there += [] if failed else [number]
+                if connection.in_transaction:
+                    code_of(connection.rollback)
+            is_on[0] = False
+            other = connect(service.address)
+            same(f"seed {seed}", "ok", one(other, "pragma integrity_check"))
+            same("rows", set(), set(there) - {row for row, in other.execute("select a from t")})
+
+
 def test_a_plain_file_that_is_attached():
     """A crash in the midst of a COMMIT to it and to others would leave it half written, where the database of the service is
     `main`: its super-journal is gone with the process. So there is no such COMMIT, unless the plain file has no journal. It is
