@@ -519,6 +519,12 @@ static bool is_too_early(const struct connection *connection) {
     return connection->lock == SQLITE_LOCK_NONE && pagelog_file_state_of(connection->database->file).is_over;
 }
 
+/* SQLite undoes a statement that met another error of a read or a write in part only. */
+static int as_io_error(int code) {
+    bool is_known = code == SQLITE_OK || code == SQLITE_FULL || (code & 0xff) == SQLITE_IOERR;
+    return is_known ? code : SQLITE_IOERR;
+}
+
 static int file_read(sqlite3_file *file, void *bytes, int length, sqlite3_int64 offset) {
     struct database *database = enter(file);
     size_t count = 0;
@@ -534,7 +540,7 @@ static int file_read(sqlite3_file *file, void *bytes, int length, sqlite3_int64 
         result(database, pagelog_file_read(database->file, (uint64_t)offset, bytes, (size_t)length, &count));
     if (code == SQLITE_OK && count < (size_t)length) code = SQLITE_IOERR_SHORT_READ;
     if (code == SQLITE_OK) read_as_with_journal(bytes, length, offset);
-    return leave(database, code);
+    return leave(database, as_io_error(code));
 }
 
 /* After an error of a rollback that it does not know, as SQLITE_PERM, SQLite goes on with its cache, though
@@ -549,13 +555,13 @@ static int file_write(sqlite3_file *file, const void *bytes, int length, sqlite3
     struct database *database = enter(file);
     forget_wal((struct connection *)file, bytes, length, offset);
     int code = result(database, pagelog_file_write(database->file, (uint64_t)offset, bytes, (size_t)length));
-    return leave(database, note_error(file, code));
+    return leave(database, note_error(file, as_io_error(code)));
 }
 
 static int file_truncate(sqlite3_file *file, sqlite3_int64 size) {
     struct database *database = enter(file);
     int code = result(database, pagelog_file_resize(database->file, (uint64_t)size));
-    return leave(database, note_error(file, code));
+    return leave(database, note_error(file, as_io_error(code)));
 }
 
 /* Follows the commit, unless synchronous=off. */
