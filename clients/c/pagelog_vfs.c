@@ -43,8 +43,8 @@
  *
  *   SQLITE_READONLY      another writer has begun an epoch: the transaction is not in the database
  *                        and never will be; the connection goes on as a reader
- *   SQLITE_IOERR         the service is not there, or was started anew: the transaction is not in
- *                        the database
+ *   SQLITE_IOERR         the service is not there, or was started anew, or a page cannot be read or
+ *                        written, whatever refuses it: the transaction is not in the database
  *   SQLITE_IOERR_FSYNC   of a COMMIT: in doubt; the next transaction sees whether it is in it;
  *                        with `unwaited`, of anything: of the last commits, which nobody waited for,
  *                        one or more may not be in the database; the next transaction sees which
@@ -53,8 +53,9 @@
  *   SQLITE_PROTOCOL      another session writes in this epoch, or what answers is no such service
  *   SQLITE_NOTADB        page 0 of the database has something else
  *   SQLITE_MISUSE        the URI lacks a parameter, or has one that cannot be read
- *   SQLITE_CANTOPEN      of an open: nothing answers; of a COMMIT to several databases: one of them is a plain
- *                        file with a journal, which a crash would leave half written; nothing is committed
+ *   SQLITE_CANTOPEN      of an open: nothing answers; of a COMMIT to several databases: one of them is a
+ *                        plain file with a journal, which a crash would leave half written, and nothing is
+ *                        committed
  *
  * `PRAGMA pagelog` reports the state of the connection; `PRAGMA pagelog_lsn` and the like one number of it;
  * `PRAGMA pagelog_error` the last error in words; `PRAGMA pagelog_check = 50` changes `check`, and
