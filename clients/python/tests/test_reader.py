@@ -62,6 +62,16 @@ class Reading(unittest.TestCase):
                 entries = list(operator.entries(before + 1))
                 self.assertEqual(sum(entry.operation is Operation.PULL for entry in entries), -(-wanted // 16))
 
+    def test_a_log_that_went_back_to_where_it_goes_on_is_noticed(self) -> None:
+        list(self.primary.stream([put(0, b"x")] for _ in range(100)))
+        span = self.reader.span(1, pulls=2)
+        self.assertEqual((span.last, self.reader.hard_seen), (32, 100))
+        self.service.restart()
+        with self.service.primary() as primary:
+            list(primary.harden(span.blocks))
+        with self.assertRaises(pagelog.LogWentBack):
+            self.reader.span(33)
+
     def test_partitions(self) -> None:
         fill(self.primary, 200, seed=2)
         all_blocks = list(self.reader.blocks(1, follow=False))

@@ -86,7 +86,7 @@ class Reader(PageClient):
         """Whether the reply to a pull says that nothing from its LSN on is hardened. Then the log ends just below it."""
         if not isinstance(reply, Denied) or (reply.section, reply.row) != (Section.C, 1):
             return False
-        if reply.value < lsn - 1 and reply.value < self.hard_seen:
+        if reply.value < self.hard_seen:
             raise LogWentBack(f"{reply.value} blocks where {self.hard_seen} were seen: the service was started anew")
         if reply.value < lsn - 1:
             raise AboveTheEnd(reply.section, reply.row, reply.value)
