@@ -17,7 +17,7 @@ import sqlalchemy as sql
 import pagelog
 from pagelog import Block, Credentials, Reader
 from pagelog.archive import Archive, BrokenArchive, NoArchive, OtherArchiver, _blocks
-from pagelog.keeping import Archiver, OtherLog, whole
+from pagelog.keeping import Archiver, OtherLog, all_blocks, restore, whole
 from postgres import postgres
 from service import PATIENCE, SOURCE, CuttingProxy, Service, fill, put, token
 
@@ -189,6 +189,40 @@ class OtherLogs(Folder):
         self.service.restart()
         with self.assertRaises(pagelog.LogWentBack):
             Archiver(self.enterContext(self.service.reader()), archive).step()
+
+    def test_a_log_of_the_same_length_is_looked_at(self) -> None:
+        """There is nothing to archive, and the service has another log all the same."""
+        fill(self.primary, 40, seed=1)
+        archive = self.archive()
+        Archiver(self.reader, archive).run(follow=False)
+        self.service.restart()
+        with self.service.primary() as primary:
+            fill(primary, 40, seed=2)
+        with self.assertRaises(OtherLog):
+            Archiver(self.enterContext(self.service.reader()), archive).run(follow=False)
+
+    def test_a_batch_is_not_of_two_services(self) -> None:
+        """Between two pulls of a batch the service is started anew, restored, and written to."""
+        fill(self.primary, 40, seed=1)
+        archive = self.archive()
+        archiver = Archiver(self.reader, archive)
+        archiver.run(follow=False)
+        fill(self.primary, 60, seed=2, empties=False)
+        status = self.reader.status
+
+        def is_another_meanwhile() -> pagelog.State:
+            self.reader.status = status  # type: ignore[method-assign]
+            self.service.restart()
+            with self.service.primary(alone=True) as primary, self.service.reader() as reader:
+                restore(archive, primary, reader)
+                fill(primary, 80, seed=3, empties=False)
+            return status()
+
+        self.reader.status = is_another_meanwhile  # type: ignore[method-assign]
+        archiver.step()
+        with self.service.reader() as reader:
+            self.assertEqual(list(archive.blocks()), list(all_blocks(reader, 1, archive.archived)))
+        self.assertGreater(archive.archived, 40)
 
     def test_a_connection_that_is_cut_again_and_again_skips_nothing(self) -> None:
         chance = random.Random(4)

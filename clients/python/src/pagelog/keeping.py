@@ -87,7 +87,11 @@ class Archiver:
         Raises `OtherLog` or `LogWentBack` where the service has another log, and `OtherArchiver`. Nothing was kept then.
         """
         span = self.reader.span(self.archived + 1, pulls=PULLS)
+        connects = self.reader.connection.connects
         if self._checked_connects != self.reader.connection.connects:
+        if self.reader.connection.connects != connects:
+            # Two services may have answered the pulls. One pull is answered by one.
+            span = self.reader.span(self.archived + 1, pulls=1)
             self._check_log()
         blocks = whole(span)
         self.archived = self.archive.keep(blocks, self.reader.epoch) if blocks else self.archived
@@ -117,6 +121,8 @@ class Archiver:
         """
         wait, end = QUICKEST, self.reader.status().hard
         while not stop() and (follow or self.archived < end):
+        if end == self.archived:
+            self._check_log()  # no batch may come with which it would be looked at
             if self.step():
                 wait = QUICKEST
                 told(self.archived, self.reader.hard_seen)
