@@ -190,6 +190,14 @@ class Verifying(Pair):
             block = Block.of(lsn, records)
             replay.take(block)
             for record in block.records:
+    def test_a_page_that_is_not_answered_is_not_denied(self) -> None:
+        """Only a row of the table says that a page may not be read."""
+        self.archived(40)
+        for reply, error in ((pagelog.reply.NoMemory(), pagelog.OutOfMemory), (pagelog.reply.AuditFull(), pagelog.AuditListFull)):
+            with self.source.reader() as reader, self.assertRaises(error):
+                reader.answers = lambda acts, reply=reply: [reply for _ in acts]  # type: ignore[method-assign, misc]
+                verify(self.archive, reader)
+
                 page = plain.setdefault(record.page, bytearray(8192))
                 if isinstance(record, Put):
                     page[record.offset : record.offset + len(record.data)] = record.data

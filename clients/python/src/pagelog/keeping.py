@@ -13,8 +13,9 @@ from pagelog.errors import LogWentBack
 from pagelog.operator import Operator
 from pagelog.primary import WINDOW, Primary
 from pagelog.reader import QUICKEST, Reader, Span
-from pagelog.reply import Page
+from pagelog.reply import Denied, Page, expect
 from pagelog.request import Get
+from pagelog.rules import Section
 
 Progress = Callable[[int, int], None]
 """Called with how far a piece of work is, and how far it goes, in LSNs."""
@@ -228,9 +229,9 @@ def _compare_pages(reader: Reader, replay: _Replay, lsn: int) -> tuple[int, int]
     same = refused = 0
     numbers = sorted(replay.pages)
     for number, reply in zip(numbers, reader.answers([Get(number, lsn) for number in numbers])):
-        if not isinstance(reply, Page):
+        if isinstance(reply, Denied) and reply.section is Section.B:
             refused += 1
-        elif reply.data != replay.pages[number]:
+        elif expect(Page, reply).data != replay.pages[number]:
             raise OtherLog(lsn, f"page {number} of the service is not what the archived blocks make of it")
         else:
             same += 1
