@@ -13,6 +13,7 @@ import time
 import unittest
 import zlib
 from pathlib import Path
+from typing import Iterable, Iterator
 
 import pagelog
 from pagelog import Block, Operation, Put
@@ -101,6 +102,19 @@ class Restoring(Pair):
             self.restore()
         with self.target.reader() as reader:
             self.assertEqual(reader.status().hard, 0)
+
+    def test_while_the_archive_grows(self) -> None:
+        self.archived(40)
+        with self.target.primary(alone=True) as primary, self.target.reader() as reader:
+            harden = primary.harden
+
+            def archives_more(blocks: Iterable[Block]) -> Iterator[int]:
+                yield from harden(blocks)
+                self.archived(10, seed=4)
+
+            primary.harden = archives_more  # type: ignore[method-assign, assignment]
+            done = restore(self.archive, primary, reader)
+        self.assertEqual((done.blocks, done.hard, self.archive.archived), (40, 40, 50))
 
     def test_a_loss_of_the_service_is_no_loss_of_what_was_archived(self) -> None:
         self.archived(120)

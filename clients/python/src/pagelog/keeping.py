@@ -8,7 +8,7 @@ from dataclasses import dataclass
 from typing import Callable, Iterable, Iterator
 
 from pagelog.archive import Archive, ArchiveError
-from pagelog.block import PAGE_SIZE, Block, Put
+from pagelog.block import HIGHEST_LSN, PAGE_SIZE, Block, Put
 from pagelog.errors import LogWentBack
 from pagelog.operator import Operator
 from pagelog.primary import WINDOW, Primary
@@ -152,7 +152,7 @@ def compare(found: Iterable[Block], wanted: Iterable[Block], *, told: Progress =
 class Verified:
     """What a comparison looked at: `blocks`, all alike, and `pages`; `denied_pages` more may not be read by this table.
 
-    `archived` is the archived LSN and `hard` the hardened end of the service, which may be above it.
+    `archived` is the last LSN that was compared and `hard` the hardened end of the service, which may be above it.
     """
 
     blocks: int
@@ -198,13 +198,16 @@ class _Replay:
         return (number + 1) * self._seed * 0x9E3779B97F4A7C15 % (1 << 64)
 
 
-def verify(archive: Archive, reader: Reader, *, seed: int | None = None, told: Progress = no_progress) -> Verified:
-    """Compares all archived blocks with those of a service, and a sample of pages at the archived LSN and half way.
+def verify(
+    archive: Archive, reader: Reader, *, last: int = HIGHEST_LSN, seed: int | None = None, told: Progress = no_progress
+) -> Verified:
+    """Compares all archived blocks, or those up to LSN `last`, with those of a service, and a sample of pages at the last
+    of them and half way.
 
     Raises `OtherLog` with the first LSN that differs, `LogWentBack` where the service has fewer blocks than the
     archive, `BrokenArchive`, and whatever the service refuses a pull with.
     """
-    archived, hard = archive.archived, reader.status().hard
+    archived, hard = min(last, archive.archived), reader.status().hard
     if hard < archived:
         raise LogWentBack(f"the service has {hard} blocks, and {archived} are archived")
     seed = random.getrandbits(32) if seed is None else seed
@@ -245,11 +248,11 @@ def restore(archive: Archive, primary: Primary, reader: Reader, *, told: Progres
     """Fills a fresh service from an archive, LSN for LSN, and compares both in the end.
 
     A service that has the beginning of the archived log is filled from there on, so that a restore that was broken off
-    may be called again. Raises `OtherLog` where the service has anything else: nothing is overwritten.
+    may be called again. Raises `OtherLog` where the service has anything else: nothing is overwritten. What is archived
+    meanwhile is left out.
     """
     archive.check()
-    fill(archive, primary, reader, told=told)
-    return verify(archive, reader)
+    return verify(archive, reader, last=fill(archive, primary, reader, told=told))
 
 
 def fill(archive: Archive, primary: Primary, reader: Reader, *, told: Progress = no_progress) -> int:
@@ -260,7 +263,7 @@ def fill(archive: Archive, primary: Primary, reader: Reader, *, told: Progress =
     compare(all_blocks(reader, 1, hard), archive.blocks(1, hard))
     for lsn in primary.harden(archive.blocks(hard + 1, archived)):
         told(lsn, archived)
-    return primary.durable
+    return archived
 
 
 # Moving.
