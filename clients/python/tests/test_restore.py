@@ -20,7 +20,7 @@ from pagelog import Block, Operation, Put
 from pagelog.archive import Archive, BrokenArchive, _blocks, _logs
 from pagelog.keeping import Archiver, Move, NotFenced, OtherLog, all_blocks, restore, verify
 from postgres import postgres
-from service import PATIENCE, SOURCE, Service, all_that_is_drawn, fill, put, token
+from service import PATIENCE, SOURCE, TABLE, Service, all_that_is_drawn, fill, put, token
 from test_archive import words
 
 
@@ -190,6 +190,14 @@ class Verifying(Pair):
         with self.assertRaisesRegex(OtherLog, "page"), self.source.reader() as reader:
             verify(self.archive, reader, seed=1)
 
+    def test_a_page_that_is_not_answered_is_not_denied(self) -> None:
+        """Only a row of the table says that a page may not be read."""
+        self.archived(40)
+        for reply, error in ((pagelog.reply.NoMemory(), pagelog.OutOfMemory), (pagelog.reply.AuditFull(), pagelog.AuditListFull)):
+            with self.source.reader() as reader, self.assertRaises(error):
+                reader.answers = lambda acts, reply=reply: [reply for _ in acts]  # type: ignore[method-assign, misc]
+                verify(self.archive, reader)
+
     def test_a_service_with_less(self) -> None:
         self.archived(40)
         with self.assertRaises(pagelog.LogWentBack), self.target.reader() as reader:
@@ -204,14 +212,6 @@ class Verifying(Pair):
             block = Block.of(lsn, records)
             replay.take(block)
             for record in block.records:
-    def test_a_page_that_is_not_answered_is_not_denied(self) -> None:
-        """Only a row of the table says that a page may not be read."""
-        self.archived(40)
-        for reply, error in ((pagelog.reply.NoMemory(), pagelog.OutOfMemory), (pagelog.reply.AuditFull(), pagelog.AuditListFull)):
-            with self.source.reader() as reader, self.assertRaises(error):
-                reader.answers = lambda acts, reply=reply: [reply for _ in acts]  # type: ignore[method-assign, misc]
-                verify(self.archive, reader)
-
                 page = plain.setdefault(record.page, bytearray(8192))
                 if isinstance(record, Put):
                     page[record.offset : record.offset + len(record.data)] = record.data
@@ -327,6 +327,69 @@ class Moving(Pair):
         with self.assertRaises(OtherLog):
             self.mover().run()
         self.assertEqual(self.reader.status().epoch, 1)
+
+    def test_a_target_that_is_not_to_be_read_is_refused_before_the_fence(self) -> None:
+        fill(self.primary, 10)
+        move = self.mover()
+        move.reader = self.enterContext(pagelog.Reader.at(self.target.address, 3, token(9)))
+        with self.assertRaises(pagelog.rules.UnknownPrincipal):
+            move.run()
+        self.assertEqual(self.reader.status().epoch, 1)
+
+    def test_a_failover_after_the_fence_is_told(self) -> None:
+        """A writer takes the source over while the logs are compared, and what it writes is not in the target."""
+        fill(self.primary, 10)
+        move = self.mover()
+        check = move._check
+
+        def a_writer_comes(told: pagelog.keeping.Progress) -> int:
+            hard = check(told)
+            with self.source.operator() as operator:
+                writer = pagelog.Primary.take_over(self.source.connection(), pagelog.Credentials.of(2, token(2)), operator)
+            list(writer.stream([[put(1, b"after the fence")]]))
+            writer.close()
+            return hard
+
+        move._check = a_writer_comes  # type: ignore[method-assign]
+        with self.assertRaisesRegex(NotFenced, "epoch 3, with primary 2"):
+            move.run()
+        move._check = check  # type: ignore[method-assign]
+        self.assertEqual(self.mover().run().hard, 11)
+        self.same_logs(11)
+
+    def test_a_fence_of_another_service_is_told(self) -> None:
+        """The operator's address is that of the target, which is fenced, and the source's writer goes on."""
+        fill(self.primary, 10)
+        move = self.mover()
+        move.operator = self.enterContext(self.target.operator())
+        with self.assertRaisesRegex(NotFenced, "epoch 1, with primary 2"):
+            move.run()
+
+    def write_without_report(self, block: Block) -> None:
+        head = pagelog.request.Head(2, bytes.fromhex(token(2)), pagelog.Role.PRIMARY, 0, 1)
+        with self.source.connection() as connection:
+            list(connection.exchange([pagelog.request.Request(head, pagelog.request.Write(copy, block)) for copy in (0, 1)]))
+
+    def test_what_the_fence_hardens_is_counted(self) -> None:
+        fill(self.primary, 10)
+        for lsn in (11, 12):
+            self.write_without_report(Block.of(lsn, [put(1, b"x")]))
+        done = self.mover().run()
+        self.assertEqual((done.hard, done.behind), (12, 2))
+        self.same_logs(12)
+
+    def test_an_end_after_the_fence_is_told(self) -> None:
+        """The source's last block is of a partition that the target's table denies."""
+        fill(self.primary, 10, empties=False)
+        old, new = self.source.credentials_file(name="old.toml"), self.target.credentials_file(name="new.toml")
+        self.write_without_report(Block.of(11, [Put(7 * 65536, 0, b"hardened by the fence")]))
+        with self.target.operator() as operator:
+            denies = '[[row]]\nverdict = "deny"\nwho = 2\nop = ["write"]\nfrom = 7\nto = 7\n'
+            operator.set_table(TABLE.read_text().replace("[[row]]", denies + "[[row]]", 1))
+        process = words("move", "--from", old, "--to", new, "--url", self.url)
+        _, error = process.communicate(timeout=PATIENCE)
+        self.assertEqual(process.returncode, 1)
+        self.assertIn("the source was fenced in epoch 2, and the move is not done: run it again", error)
 
     def test_the_check_finds_a_difference(self) -> None:
         fill(self.primary, 30)

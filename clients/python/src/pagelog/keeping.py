@@ -4,7 +4,7 @@ from __future__ import annotations
 
 import random
 import time
-from dataclasses import dataclass
+from dataclasses import dataclass, field
 from typing import Callable, Iterable, Iterator
 
 from pagelog.archive import Archive, ArchiveError
@@ -33,7 +33,7 @@ class OtherLog(ArchiveError):
 
 
 class NotFenced(ArchiveError):
-    """A move did not come within a window of the source in time. The source goes on as before."""
+    """A move did not come within a window of the source in time, or found it in another epoch than that of its fence."""
 
 
 def no_progress(_: int, __: int) -> None:
@@ -87,12 +87,12 @@ class Archiver:
 
         Raises `OtherLog` or `LogWentBack` where the service has another log, and `OtherArchiver`. Nothing was kept then.
         """
-        span = self.reader.span(self.archived + 1, pulls=PULLS)
         connects = self.reader.connection.connects
-        if self._checked_connects != self.reader.connection.connects:
+        span = self.reader.span(self.archived + 1, pulls=PULLS)
         if self.reader.connection.connects != connects:
             # Two services may have answered the pulls. One pull is answered by one.
             span = self.reader.span(self.archived + 1, pulls=1)
+        if self._checked_connects != self.reader.connection.connects:
             self._check_log()
         blocks = whole(span)
         self.archived = self.archive.keep(blocks, self.reader.epoch) if blocks else self.archived
@@ -121,9 +121,9 @@ class Archiver:
         `told` is given the archived LSN and the hardened end. Returns the archived LSN.
         """
         wait, end = QUICKEST, self.reader.status().hard
-        while not stop() and (follow or self.archived < end):
         if end == self.archived:
             self._check_log()  # no batch may come with which it would be looked at
+        while not stop() and (follow or self.archived < end):
             if self.step():
                 wait = QUICKEST
                 told(self.archived, self.reader.hard_seen)
@@ -297,21 +297,35 @@ class Move:
     fence_to: int
     within: int = WINDOW
     patience: float = 600.0
+    fenced: int | None = field(default=None, init=False)
+    """The epoch of the source that the fence began, once there was one."""
 
     def run(self, told: Progress = no_progress) -> Moved:
         """Restore, follow until the two are within a window, the fence, the rest, and a check that the logs are alike.
 
-        Raises `NotFenced` where patience ends first. What is archived stays so whatever ends it, and it may be run again
-        as long as the source is not fenced, or nobody wrote to it since.
+        Raises `NotFenced` where patience ends first, and where the source is in another epoch than the fence's in the end.
+        What is archived stays so whatever ends it, and it may be run again as long as nobody else wrote to the target.
         """
         self.archiver.run(follow=False, told=told)
         fill(self.archiver.archive, self.primary, self.reader, told=told)
+        self._try_reader()
         self._follow(told)
-        behind = self.operator.status().hard - self.primary.durable
+        before = self.primary.durable
         epoch, began = self.operator.failover(self.fence_to), time.monotonic()
+        self.fenced = epoch
         self._rest(told)
-        pause = time.monotonic() - began
-        return Moved(self._check(told), behind, epoch, pause)
+        behind, pause = self.primary.durable - before, time.monotonic() - began
+        hard, now = self._check(told), self.archiver.reader.status()
+        if now.epoch != epoch:
+            raise NotFenced(f"the fence began epoch {epoch}, and the source is in epoch {now.epoch}, with primary {now.primary}")
+        return Moved(hard, behind, epoch, pause)
+
+    def _try_reader(self) -> None:
+        """Compares the last blocks, so that a reader that the target refuses ends the move before the fence."""
+        self.reader.status()
+        last = self.primary.durable
+        first = max(1, last - 15)
+        compare(all_blocks(self.reader, first, last), self.archiver.archive.blocks(first, last))
 
     def _follow(self, told: Progress) -> None:
         deadline = time.monotonic() + self.patience

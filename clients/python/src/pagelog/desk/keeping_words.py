@@ -161,6 +161,12 @@ def move_word(
             with client(Reader, new, to_db) as check, bar("moved") as told:
                 fence = operator.credentials.id if fence_to is None else fence_to
                 move = Move(Archiver(reader, archive), operator, primary, check, fence, within, patience)
-                done = move.run(told)
+                try:
+                    done = move.run(told)
+                except BaseException:
+                    if move.fenced is not None:
+                        click.echo(f"pagelogctl: the source was fenced in epoch {move.fenced}, and the move is not done: run it again",
+                                   err=True)  # fmt: skip
+                    raise
     click.echo(f"moved {done.hard} blocks, alike in both; the source is fenced in epoch {done.epoch}, {done.behind} blocks before "
                f"its end; {done.pause:.2f} s from the fence to the last block")  # fmt: skip
