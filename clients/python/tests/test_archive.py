@@ -164,6 +164,26 @@ class Keeping(Folder):
         with self.assertRaisesRegex(BrokenArchive, "LSN 12: it is missing"):
             archive.check()
 
+    def test_damage_of_the_file_is_told_in_a_line(self) -> None:
+        """SQLite has values of any type, and quotes a statement that it cannot read."""
+        with self.archive() as archive:
+            archive.keep([Block.of(lsn, [put(0, b"x")]) for lsn in range(1, 9)], 1)
+            with archive.engine.begin() as connection:
+                connection.execute(sql.text("insert into pagelog_block select log, 'z', crc, data from pagelog_block where lsn = 8"))
+        self.offline("BrokenArchive: the archive is broken at LSN z: a block is kept above")
+        with self.archive() as archive, archive.engine.begin() as connection:
+            connection.execute(sql.text("update pagelog_log set archived = 'abc'"))
+        self.offline("ArchiveError: the archived LSN is 'abc'")
+        file = self.folder / "archive.db"
+        file.write_bytes(file.read_bytes().replace(b"REFERENCES", b"\xadEFERENCES"))
+        self.offline("ArchiveError: the archive's tables cannot be read")
+
+    def offline(self, told: str) -> None:
+        process = words("verify", "--offline", "--url", self.url)
+        out, error = process.communicate(timeout=PATIENCE)
+        self.assertEqual((process.returncode, out, len(error.splitlines())), (1, "", 1), error)
+        self.assertIn(told, error)
+
 
 class OtherLogs(Folder):
     def test_an_archive_does_not_go_on_with_another_log(self) -> None:

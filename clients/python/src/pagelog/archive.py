@@ -87,6 +87,9 @@ class Archive:
         self.engine = _engine(url)
         try:
             self._id = self._make() if create else self._find(False)
+        except UnicodeDecodeError as error:  # SQLite quotes the damage
+            self.close()
+            raise ArchiveError("the archive's tables cannot be read: its file is damaged") from error
         except BaseException:
             self.close()
             raise
@@ -137,7 +140,10 @@ class Archive:
     @property
     def archived(self) -> int:
         """The archived LSN: every block from 1 to it is kept. 0 at the beginning."""
-        return int(self._row().archived)
+        archived = self._row().archived
+        if not isinstance(archived, int):
+            raise ArchiveError(f"the archived LSN is {archived!r}, which is no number: the archive is damaged")
+        return archived
 
     @property
     def epoch(self) -> int:
@@ -210,7 +216,7 @@ class Archive:
         with self.engine.begin() as connection:
             lsn = connection.execute(above).scalar_one()
         if lsn is not None:
-            raise BrokenArchive(int(lsn), "a block is kept above the archived LSN")
+            raise BrokenArchive(lsn, "a block is kept above the archived LSN")
         return Sizes(blocks, empty, size)
 
 
