@@ -358,12 +358,21 @@ class Moving(Pair):
         self.same_logs(11)
 
     def test_a_fence_of_another_service_is_told(self) -> None:
-        """The operator's address is that of the target, which is fenced, and the source's writer goes on."""
+        """The operator's address is that of another, which is fenced, and the source's writer goes on."""
         fill(self.primary, 10)
-        move = self.mover()
-        move.operator = self.enterContext(self.target.operator())
-        with self.assertRaisesRegex(NotFenced, "epoch 1, with primary 2"):
-            move.run()
+        with Service() as other, other.primary() as primary:
+            fill(primary, 10)
+            for service, error in ((other, NotFenced), (self.target, pagelog.OlderEpoch)):
+                move = self.mover()
+                move.operator = self.enterContext(service.operator())
+                with self.assertRaises(error):
+                    move.run()
+
+    def test_a_source_that_is_the_target_is_told(self) -> None:
+        fill(self.primary, 10)
+        self.target = self.source
+        with self.assertRaises(pagelog.OlderEpoch):
+            self.mover().run()
 
     def write_without_report(self, block: Block) -> None:
         head = pagelog.request.Head(2, bytes.fromhex(token(2)), pagelog.Role.PRIMARY, 0, 1)

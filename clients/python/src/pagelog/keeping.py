@@ -303,7 +303,8 @@ class Move:
     def run(self, told: Progress = no_progress) -> Moved:
         """Restore, follow until the two are within a window, the fence, the rest, and a check that the logs are alike.
 
-        Raises `NotFenced` where patience ends first, and where the source is in another epoch than the fence's in the end.
+        Raises `NotFenced` where patience ends first, and where the source is in another epoch than the fence's in the end,
+        and `OlderEpoch` where it is the target that was fenced, as where the source is the target, at another address.
         What is archived stays so whatever ends it, and it may be run again as long as nobody else wrote to the target.
         """
         self.archiver.run(follow=False, told=told)
@@ -314,6 +315,7 @@ class Move:
         epoch, began = self.operator.failover(self.fence_to), time.monotonic()
         self.fenced = epoch
         self._rest(told)
+        self.primary.begin()  # OlderEpoch where the fence was the target's
         behind, pause = self.primary.durable - before, time.monotonic() - began
         hard, now = self._check(told), self.archiver.reader.status()
         if now.epoch != epoch:
