@@ -153,6 +153,23 @@ class RowsThatEnd(unittest.TestCase):
         with self.assertRaises((rules.NoRowMatches, rules.TableRow)):
             self.reader.page(0, 41)
 
+    def test_an_end_that_goes_between_two_pulls_leaves_nothing_out(self) -> None:
+        """The pull from 33 is served up to 40, and the one from 49 comes under a table without an end."""
+        ask_all = self.reader._ask_all
+
+        def sets_a_table_amid(acts, *rest):  # type: ignore[no-untyped-def]
+            replies = ask_all(acts[:2], *rest)
+            if len(acts) > 2:
+                with self.service.operator() as operator:
+                    operator.set_table(TABLE.read_text())
+                replies += ask_all(acts[2:], *rest)
+            return replies
+
+        self.reader._ask_all = sets_a_table_amid  # type: ignore[method-assign]
+        with Archive(f"sqlite:///{self.service.folder}/archive.db", create=True) as archive, self.service.reader() as reader:
+            Archiver(self.reader, archive).run(follow=False)
+            self.assertEqual(list(archive.blocks()), list(all_blocks(reader, 1, 100)))
+
     def test_an_archive_is_whole_up_to_there(self) -> None:
         url = f"sqlite:///{self.service.folder}/archive.db"
         process = words("archive", "--credentials", self.service.credentials_file(), "--url", url)

@@ -74,6 +74,8 @@ class Reader(PageClient):
         for start, reply in zip(starts, self._ask_all([Pull(start, PULL_MAX, *partitions) for start in starts])):
             if self._is_at_end(reply, start):
                 break
+            if start > last + 1:
+                break  # a row of the table ended below when the pull before was served, and does not now
             if (blocks or behind) and refusal_of(reply) is not None:
                 break  # rows of a table may end at an LSN, and memory may run out; what was served is not lost
             pulled = expect(Blocks, reply)
