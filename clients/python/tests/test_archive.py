@@ -144,10 +144,11 @@ class Keeping(Folder):
         change(9, data=good[9].data[:-1] + b"\0\0")
         with self.assertRaisesRegex(BrokenArchive, "LSN 9: its bytes"):
             archive.check()
-        with archive.engine.begin() as connection:
-            connection.execute(sql.text("UPDATE pagelog_block SET data = 'text' WHERE lsn = 9"))
-        with self.assertRaisesRegex(BrokenArchive, "LSN 9: it is no bytes"):
-            archive.check()
+        for value in ("'text'", "0.5", "-1", "9223372036854775807"):
+            with archive.engine.begin() as connection:
+                connection.execute(sql.text(f"UPDATE pagelog_block SET data = {value} WHERE lsn = 9"))
+            with self.assertRaisesRegex(BrokenArchive, "LSN 9: it is no bytes"):
+                archive.check()
         change(9, data=good[9].data)
         change(12, data=good[11].data, crc=zlib.crc32(good[11].data))
         with self.assertRaisesRegex(BrokenArchive, "says that it has LSN 11"):

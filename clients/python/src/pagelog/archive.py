@@ -194,7 +194,8 @@ class Archive:
         try:
             with self.engine.begin() as connection:
                 rows = connection.execute(wanted.order_by(_blocks.c.lsn)).fetchall()
-        except TypeError as error:  # of a block that SQLite has as a text, by a bit that is wrong
+        except (TypeError, ValueError, OverflowError, MemoryError) as error:
+            # A bit is wrong, by which SQLite has a text or a number in a block's place.
             if first == last:
                 raise BrokenArchive(first, "it is no bytes") from error
             for lsn in range(first, last + 1):
