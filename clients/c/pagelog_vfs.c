@@ -66,7 +66,8 @@
  * the one that opened it, and lock as SQLite expects. Between processes there are no locks: there is the
  * epoch. A connection that keeps the lock (locking_mode=exclusive) is in one transaction of the file for as
  * long. So after a commit that was in doubt or lost it neither sees what became of it nor commits again,
- * until `PRAGMA locking_mode = normal` and one statement more have given the lock back.
+ * until `PRAGMA locking_mode = normal` and one statement more have given the lock back; and after one that
+ * was refused it may be refused all else until then, that statement included.
  */
 #include "pagelog_file.h"
 
@@ -127,7 +128,8 @@ struct connection {
     int lock;
     /* Of the file, as SQLite's own cache has it: commits that were lost, and the transaction. */
     uint64_t losses, lsn;
-    bool is_sized; /* SQLite has asked for the size of a sector */
+    bool is_sized;   /* SQLite has asked for the size of a sector */
+    bool is_refused; /* the last commit or end of a rollback was, and the lock was kept since */
     /* What was set by `PRAGMA locking_mode` and `journal_mode`. */
     bool is_exclusive;
     const char *journal_mode;
@@ -452,6 +454,7 @@ static void lower_lock(struct database *database, struct connection *connection,
     }
     if (lock == SQLITE_LOCK_NONE) database->sharing--;
     connection->lock = lock;
+    connection->is_refused = false;
 }
 
 /* A call of whose error SQLite does not hear. Where it loses commits the next statement tells it. */
@@ -549,6 +552,15 @@ static int file_read(sqlite3_file *file, void *bytes, int length, sqlite3_int64 
 static int note_error(sqlite3_file *file, int code) {
     struct connection *connection = (struct connection *)file;
     if (code != SQLITE_OK) connection->losses = ~pagelog_file_losses(connection->database->file);
+    return code;
+}
+
+/* A refusal right after another one is of the rollback. SQLite is told an error that it knows, so that it
+ * reads its cache again even where it keeps the lock (locking_mode=exclusive), and does not ask whether that
+ * is old. */
+static int note_refusal(struct connection *connection, int code) {
+    if (connection->is_refused) code = as_io_error(code);
+    connection->is_refused = code != SQLITE_OK;
     return code;
 }
 
@@ -772,7 +784,8 @@ static int file_control(sqlite3_file *file, int operation, void *argument) {
     int code = SQLITE_NOTFOUND;
     switch (operation) {
     case SQLITE_FCNTL_SYNC: /* a commit, or the end of a rollback, after which nothing differs */
-        code = note_error(file, result(database, pagelog_file_commit(database->file)));
+        code = note_refusal(connection, result(database, pagelog_file_commit(database->file)));
+        note_error(file, code);
         connection->lsn = pagelog_file_lsn(database->file);
         break;
     case SQLITE_FCNTL_COMMIT_PHASETWO: /* a VACUUM makes the file shorter after its commit */
@@ -961,7 +974,7 @@ static int open_database(sqlite3_filename name, struct connection *connection, i
     int code = find_or_open(&options, &connection->database);
     if (code != SQLITE_OK) return code;
     connection->lock = SQLITE_LOCK_NONE;
-    connection->is_sized = connection->is_exclusive = false;
+    connection->is_sized = connection->is_refused = connection->is_exclusive = false;
     connection->journal_mode = "delete";
     connection->base.pMethods = &file_methods;
     list_connection(connection, name);

@@ -586,27 +586,41 @@ def test_a_commit_to_two_databases_that_the_second_one_refuses():
 
 
 def test_requests_that_are_denied_for_a_while():
-    """A COMMIT and its rollback may both be denied: no half of it comes into a later one."""
-    for seed in range(16):
+    """A COMMIT and its rollback may both be denied: no half of it comes into a later one, and no half of it is read, also by a
+    connection that keeps the lock, which goes on once it has given that back."""
+    for seed in range(32):
         numbers, is_on = random.Random(seed), [False]
         between = lambda frame: Answer(b"\5\2" + bytes(10)) if is_on[0] and numbers.random() < 0.15 else frame
         with Service() as service, Proxy(service.address, between=between) as proxy:
             connection = connect(proxy.address, pages=16)
             connection.executescript("pragma page_size = 4096; create table t(a integer primary key, b);")
-            is_on[0], there = True, []
+            ends = ["commit"]
+            if seed >= 16:
+                connection.execute("pragma locking_mode = exclusive")
+                connection.execute(f"pragma journal_mode = {numbers.choice(['delete', 'memory', 'persist', 'truncate'])}")
+                connection.execute(f"pragma cache_size = {numbers.choice([2, 10, 2000])}")
+                ends = ["commit", "rollback"]
+            is_on[0], there, codes = True, [], set()
             for number in range(1, 61):
                 size, factor = numbers.choice([10, 9000, 60000]), number % 3
                 texts = [f"insert into t values ({number}, randomblob({size}))"]
                 if factor > 0:
-                    texts = ["begin", *texts, f"update t set b = randomblob({size // 3}) where a % 3 = {factor}", "commit"]
+                    texts = ["begin", *texts, f"update t set b = randomblob({size // 3}) where a % 3 = {factor}", numbers.choice(ends)]
                 failed = [code for code in (code_of(lambda: connection.execute(text)) for text in texts) if code]
-                there += [] if failed else [number]
+                there += [] if failed or texts[-1] == "rollback" else [number]
+                codes.update(failed)
                 if connection.in_transaction:
                     code_of(connection.rollback)
             is_on[0] = False
-            other = connect(service.address)
+            other = reader(service.address)
             same(f"seed {seed}", "ok", one(other, "pragma integrity_check"))
             same("rows", set(), set(there) - {row for row, in other.execute("select a from t")})
+            true(f"codes: {codes}", "SQLITE_CORRUPT" not in codes)
+            connection.execute("pragma locking_mode = normal")
+            code_of(lambda: one(connection, "select count(*) from t"))
+            connection.execute("insert into t values (61, zeroblob(60000))")
+            same("and on", other.execute("select a from t").fetchall(), connection.execute("select a from t").fetchall())
+            same("all of it", "ok", one(connection, "pragma integrity_check"))
 
 
 def test_a_plain_file_that_is_attached():
