@@ -892,11 +892,12 @@ static bool is_end_of_name(const struct memory *memory, const void *bytes, int l
 }
 
 /* A journal that names a super-journal is not rolled back where that is gone, as it always is here. So it
- * does not keep the end of that name. */
+ * has zeros for the end of that name, and not what a journal that persists had there. */
 static int memory_write(sqlite3_file *file, const void *bytes, int length, sqlite3_int64 offset) {
+    static const unsigned char no_end[8];
     struct memory *memory = (struct memory *)file;
     sqlite3_int64 end = offset + length;
-    if (is_end_of_name(memory, bytes, length)) return SQLITE_OK;
+    if (is_end_of_name(memory, bytes, length)) bytes = no_end;
     int code = memory->is_super ? take_name(memory, bytes) : SQLITE_OK;
     if (code != SQLITE_OK) return code;
     if (end > memory->room) {

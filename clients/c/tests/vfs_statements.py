@@ -623,6 +623,32 @@ def test_requests_that_are_denied_for_a_while():
             same("all of it", "ok", one(connection, "pragma integrity_check"))
 
 
+def test_a_journal_that_persists_has_no_end_of_a_name_from_before():
+    """SQLite finds the name of a super-journal in a journal by eight bytes. Where those are in a page that an older transaction
+    has left in the journal, a COMMIT to two databases that the second one refuses is in none of them all the same."""
+    magic = bytes.fromhex("d9d505f920a163d7")
+    for shift in range(8):
+        with Service(dbs=2) as service:
+            connection = connect(service.address)
+            connection.execute("attach ? as other", (uri(service.address, db=1),))
+            for name in ("main", "other"):
+                connection.execute(f"pragma {name}.journal_mode = persist")
+                connection.execute(f"create table {name}.{name}_t(a)")
+                connection.execute(f"insert into {name}_t values (0), (1)")
+            connection.execute("create table large(b)")
+            connection.execute("insert into large values (?)", (shift * b"x" + 30000 * magic + (8 - shift) * b"x",))
+            reads = [connection.execute(f"select a from {name}_t") for name in ("main", "other")]
+            same("it keeps the journals", [(0,), (0,)], [cursor.fetchone() for cursor in reads])
+            connection.execute("update large set b = zeroblob(240008)")
+            connection.execute("begin")
+            for name in ("main", "other"):
+                connection.execute(f"insert into {name}_t values (2)")
+            connect(service.address, 5, db=1).close()
+            same("refused", "SQLITE_READONLY", code_of(lambda: connection.execute("commit")))
+            for db, name in enumerate(("main", "other")):
+                same(name, [(0,), (1,)], reader(service.address, db=db).execute(f"select a from {name}_t").fetchall())
+
+
 def test_a_plain_file_that_is_attached():
     """A crash in the midst of a COMMIT to it and to others would leave it half written, where the database of the service is
     `main`: its super-journal is gone with the process. So there is no such COMMIT, unless the plain file has no journal. It is
