@@ -533,7 +533,7 @@ static int file_read(sqlite3_file *file, void *bytes, int length, sqlite3_int64 
     struct database *database = enter(file);
     size_t count = 0;
     if (is_cache_old((struct connection *)file, length, offset)) {
-        memset(bytes, 0xff, (size_t)length);
+        memset(bytes, 0xfe, (size_t)length); /* 0xff stands for a page that SQLite failed to read */
         return leave(database, SQLITE_OK);
     }
     if (is_too_early((struct connection *)file)) {
