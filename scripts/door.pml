@@ -295,9 +295,9 @@ inline serve() {
 
 // turn.rt: take_turn
 inline take_turn() {
-            // let (reply, made, db) = step(board, chair, number, request);
+            // let (answer, made, db) = step(board, chair, number, request, page);
             // count_made(board, chair, &db, made); put_back(board, chair, db);
-    serve() // serve(board, chair); reply
+    serve() // serve(board, chair); answer
 }
 
 // steps.rt: ask
@@ -316,7 +316,7 @@ inline draw() {
     }
 }
 
-// desk.rt: Desk::call
+// desk.rt: Desk::call_onto
 inline call() {
                                      // let board = &self.table.shared;
     enter();                         // self.door.enter(rt, board);
@@ -327,21 +327,21 @@ inline call() {
 #else
        skip
 #endif
-                                     // return Reply::Spent;
+                                     // return Answer::Whole(Reply::Spent);
     :: !IS_SPENT ->
        draw();                       // let ticket = draw(board, &mut pass.chair);
        wait();                       // wait(rt, board, &self.bells, &mut pass.chair, ticket);
 #ifdef RINGS_EARLY
        ring((ticket + 1) % TICKETS);
 #endif
-       take_turn();                  // let reply = take_turn(board, &mut pass.chair, pass.number, request);
+       take_turn();                  // let answer = take_turn(board, &mut pass.chair, pass.number, request, page);
        leave();                      // self.door.leave();
 #ifdef OWN_BELL
        ring(ticket);
 #elif !defined RINGS_EARLY
        ring((ticket + 1) % TICKETS); // self.bells.ring(ticket.wrapping_add(1));
 #endif
-       ticket = 0                    // reply
+       ticket = 0                    // answer
     fi
 }
 

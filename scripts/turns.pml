@@ -215,8 +215,7 @@ inline hear() {
 // answering.rt: answer_first
 inline answer_first() {
                                                            // let body = body_in(bytes)?;
-                                                           // let reply = answer(decode_request(alloc, body), gate, pass);
-    replies++;                                            // outbox.put(&reply);
+    replies++;                                            // outbox.put_answer(decode_request(alloc, body), gate, pass);
     held = held - PARTS;                                   // Some(LENGTH_BYTES + body.len())
     moved = true
 }

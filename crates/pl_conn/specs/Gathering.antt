@@ -4,10 +4,13 @@ use Rattle.std.specs.Io.KnownBytes.{Consumes, IsAtEnd}
 use Rattle.std.specs.List.{AllByRecursion}
 use Rattle.pl_core.specs.declared.reply.Reply.{Reply}
 use Rattle.pl_core.specs.Reply.{FitsReply}
-use Rattle.pl_wire.specs.Answering.{Answered, AnswersBody, Calls}
+use Rattle.pl_block.specs.declared.fault.Failed.{Failed}
+use Rattle.pl_table.specs.Request.{Query}
+use Rattle.pl_wire.specs.Answering.{Answered, AnswersBody, AnswersRead, Calls}
 use Rattle.pl_wire.specs.FrameReading.{StopsFrame}
 use Rattle.pl_wire.specs.Frames.{frames_of, longest_request}
 use Rattle.pl_wire.specs.FrameWriting.{reply_frame}
+use Rattle.pl_wire.specs.declared.fault.WireFault.{WireFault}
 use Rattle.pl_wire.specs.declared.frame_reading.FrameFault.{FrameFault}
 use Rattle.pl_conn.specs.Conversation.{Converses, MayWait, Scene, Talk, Talks, cause_of, replies_text}
 use Rattle.pl_conn.specs.declared.cause.Cause.{Cause}
@@ -29,6 +32,13 @@ MayGather box = (length box.text < 262144) × (length box.lens < 4096)
 -- one reply more waits
 abbrev pub gathered : Box → Reply → Box
 gathered box reply = record { text = box.text ++ reply_frame reply; lens = box.lens ++ length (reply_frame reply) ∷ [] }
+
+-- a body is answered, by what was read of it, and its reply waits after the others
+pub record GathersAnswer {P : Type 0} (calls : Calls P) (read : Result Query (Failed WireFault)) (before : P) (box : Box) (after : P) (left : Box) : Type 0 where
+  pub reply : Reply
+  pub answers : AnswersRead calls read before reply after
+  pub fits : FitsReply reply
+  pub waits : left ≡ gathered box reply
 
 -- how many frames of these lengths are whole within this many bytes
 abbrev pub whole_in : List ℕ → ℕ → ℕ

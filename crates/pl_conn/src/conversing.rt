@@ -14,7 +14,7 @@ use crate::source::Source;
 use bytes::Bytes;
 use pl_table::Request;
 use pl_wire::{
-    BodyFault, Gate, LONGEST_REQUEST, answer, decode_request, decode_request_shared, read_frame,
+    BodyFault, Gate, LONGEST_REQUEST, decode_request, decode_request_shared, read_frame,
 };
 use std::alloc::Global;
 use std::io::Write;
@@ -57,8 +57,7 @@ fn take_next<R: Source, G: Gate>(
     }
     match read_frame(alloc, reader, LONGEST_REQUEST) {
         Ok(Some(body)) => {
-            let reply = answer(request_in(alloc, body), gate, pass);
-            outbox.put(&reply);
+            outbox.put_answer(request_in(alloc, body), gate, pass);
             Ok(true)
         }
         Ok(None) => Ok(false),

@@ -4,7 +4,7 @@ ghost use Rattle.std.specs.Prelude.{◌≡◌, ◌≤◌, ◌^◌, ◌++◌, ◌
 ghost use Rattle.std.specs.List.{All};
 ghost use Rattle.pl_conn.specs.Desks.{ArePassesOf, DesksCall, HaveMet, dealt_into, terms_of_each, all_fresh};
 
-use pl_core::{Db, Reply};
+use pl_core::{Answer, Db, Reply};
 use pl_desk::{Desk, Pass};
 use pl_table::Request;
 use pl_wire::Gate;
@@ -210,5 +210,13 @@ impl<R: Wait> Gate for Desks<R> {
             return Reply::NoDatabase;
         };
         self.desks[place].call(&self.rt, pass, request)
+    }
+
+    fn call_onto(&self, passes: &mut Passes, request: Request, page: &mut Vec<u8>) -> Answer {
+        let named = request.head().database as usize;
+        let Some(pass) = passes.items.get_mut(named) else {
+            return Answer::Whole(Reply::NoDatabase);
+        };
+        self.desks[named].call_onto(&self.rt, pass, request, page)
     }
 }

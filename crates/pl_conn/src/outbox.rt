@@ -1,11 +1,10 @@
 //! Replies that were given and are not yet written.
 
 ghost use Rattle.std.specs.Prelude.{◌≡◌, ◌<◌, ◌≤◌, ◌↔◌, IfOk, IsTrue, length};
-ghost use Rattle.pl_core.specs.Reply.{FitsReply};
-ghost use Rattle.pl_conn.specs.Gathering.{MayGather, emptied, gathered, whole_in};
+ghost use Rattle.pl_conn.specs.Gathering.{GathersAnswer, MayGather, emptied, whole_in};
 
-use pl_core::Reply;
-use pl_wire::{LARGEST_REPLY_FRAME, put_reply};
+use pl_table::Request;
+use pl_wire::{BodyFault, Gate, LARGEST_REPLY_FRAME, put_answer};
 use std::alloc::{AllocError, Global};
 use std::marker::Model;
 
@@ -103,16 +102,21 @@ impl Outbox {
         self.text.len() < MANY_BYTES && self.lens.len() < MANY_REPLIES
     }
 
-    /// Puts the frame of the reply after the others. There is no allocation.
-    pub(crate) fn put(&mut self, reply: &Reply)
-        requires fits { FitsReply reply.now }
+    /// Answers a body, by what was read of it, and puts the frame of the reply after the others. There is no allocation here,
+    /// and the bytes of a page are copied once.
+    pub(crate) fn put_answer<G: Gate>(
+        &mut self,
+        read: Result<Request, BodyFault>,
+        gate: &G,
+        pass: &mut G::Pass,
+    )
+        requires own { G.owns gate.now pass.old }
         requires room { MayGather self.old }
-        ensures value { self.new ≡ gathered self.old reply.now }
+        ensures own { G.owns gate.now pass.new }
+        ensures value { GathersAnswer (G.calls gate.now) read pass.old self.old pass.new self.new }
     {
         let before = self.text.len();
-        let Ok(()) = put_reply(&mut self.text, reply) else {
-            unreachable!();
-        };
+        put_answer(&mut self.text, read, gate, pass);
         self.lens.push_reserved(self.text.len() - before);
     }
 }

@@ -22,4 +22,4 @@ pub use limits::Limits;
 pub use pl_audit::Line;
 pub use pl_block::NoMemory;
 pub use pl_decide::Epochs;
-pub use reply::{Blocks, Lines, PageBytes, Reply};
+pub use reply::{Answer, Blocks, Lines, PageBytes, Reply};

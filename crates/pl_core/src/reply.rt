@@ -1,6 +1,7 @@
 //! What a request is answered.
 
-ghost use Rattle.std.specs.Prelude.{◌≡◌, ◌↔◌, IsTrue};
+ghost use Rattle.std.specs.Prelude.{◌≡◌, ◌↔◌, [], IsTrue};
+ghost use Rattle.pl_core.specs.Appending.{reply_in};
 ghost use Rattle.pl_core.specs.Reply.{FitsReply};
 
 use pl_audit::Line;
@@ -205,6 +206,31 @@ impl Reply {
             Reply::Entries { lines } => lines.as_slice().len() <= MAX_LINES,
             Reply::Malformed { code } => 1 <= *code && *code <= MAX_CODE,
             _ => true,
+        }
+    }
+}
+
+/// A reply of which a page's bytes are not a part: they were appended to a buffer, so that they are copied once.
+#[derive(Debug, Drop)]
+pub enum Answer {
+    /// The reply, which is no page. Nothing was appended.
+    Whole(Reply),
+    /// A page at this LSN. Its 8,192 bytes are the last of the buffer.
+    Page { at: u64 },
+}
+
+impl Answer {
+    /// The reply, where all that is in the buffer was appended by this answer. Nothing is copied.
+    pub fn into_reply(self, appended: Vec<u8>) -> Reply
+        // The reply that the answer is, where the buffer was empty (`reply_in`).
+        ensures value { result ≡ reply_in self [] appended.items }
+    {
+        match self {
+            Answer::Whole(reply) => reply,
+            Answer::Page { at } => {
+                let bytes = PageBytes::new(appended);
+                Reply::Page { at, bytes }
+            }
         }
     }
 }

@@ -2,6 +2,7 @@
 
 ghost use Rattle.std.specs.Prelude.{◌≡◌, ◌≤◌, ◌^◌, IfOk, IfErr, IfSome};
 ghost use Rattle.std.specs.List.{All};
+ghost use Rattle.pl_core.specs.Appending.{AppendsTo, reply_in};
 ghost use Rattle.pl_core.specs.Reply.{FitsReply};
 ghost use Rattle.pl_desk.specs.Rule.{IsAhead};
 ghost use Rattle.pl_desk.specs.Passes.{IsOf, IsSamePass, WasCalled, HasMet, fresh_passes};
@@ -13,7 +14,7 @@ use crate::opening::{DeskTable, deal_all, open_table};
 use crate::pass::Pass;
 use crate::steps::{DB, NEXT, SERVING, ask, compare, draw, join};
 use crate::turn::{take_turn, wait};
-use pl_core::{Db, Reply};
+use pl_core::{Answer, Db, Reply};
 use pl_table::Request;
 use std::alloc::Global;
 use std::marker::Model;
@@ -24,6 +25,7 @@ use std::sync::Wait;
 /// A contract sees which desk it is, and what it was made with.
 #[derive(Drop)]
 pub struct Desk {
+    pub(crate) alloc: Global,
     pub(crate) table: DeskTable,
     pub(crate) door: Door,
     pub(crate) bells: Bells,
@@ -74,6 +76,7 @@ impl Desk {
         let (table, first) = open_table(alloc, boxed, seats, turns)?;
         let passes = deal_all(&table.shared, first, seats, passes);
         let desk = Desk {
+            alloc,
             table,
             door: Door::new(),
             bells,
@@ -100,18 +103,47 @@ impl Desk {
         // The reply can be written.
         ensures fits { FitsReply result }
     {
+        let mut page = Vec::new(self.alloc);
+        let answer = self.call_onto(rt, pass, request, &mut page);
+        answer.into_reply(page)
+    }
+
+    /// The same call, but the bytes of a page are put after those in `page`, within the turn, and are not a part of the
+    /// answer. So they are copied once. Where `page` has no room for 8,192 bytes more, memory for them is asked for within
+    /// the turn.
+    pub fn call_onto(
+        &self,
+        rt: &impl Wait,
+        pass: &mut Pass,
+        request: Request,
+        page: &mut Vec<u8>,
+    ) -> Answer
+        // The pass is of this desk.
+        requires of { IsOf self.now pass.old }
+        // It is the same pass.
+        ensures same { IsSamePass pass.old pass.new }
+        // What `call` says of its reply holds of the answer with the bytes that were appended
+        // (`reply_in` of pl_core).
+        ensures call { WasCalled pass.old request
+            (reply_in result page.old.items page.new.items) pass.new }
+        // The reply can be written.
+        ensures fits { FitsReply (reply_in result page.old.items page.new.items) }
+        // The buffer keeps its bytes and its memory, and a page's bytes alone are appended
+        // (`AppendsTo` of pl_core).
+        ensures page { AppendsTo result page.old page.new }
+    {
         let board = &self.table.shared;
         self.door.enter(rt, board);
         if ask(board, &mut pass.chair) >= self.turns {
             self.door.leave();
-            return Reply::Spent;
+            return Answer::Whole(Reply::Spent);
         }
         let ticket = draw(board, &mut pass.chair);
         wait(rt, board, &self.bells, &mut pass.chair, ticket);
-        let reply = take_turn(board, &mut pass.chair, pass.number, request);
+        let answer = take_turn(board, &mut pass.chair, pass.number, request, page);
         self.door.leave();
         self.bells.ring(ticket.wrapping_add(1));
-        reply
+        answer
     }
 
     /// Takes in another pass of this desk: the first pass has then seen what both had. It neither
@@ -142,6 +174,7 @@ impl Desk {
         ensures value { IfSome result (λ h. IsAhead pass.terms pass.number pass.seen h) }
     {
         let Desk {
+            alloc: _,
             table,
             door: _,
             bells: _,

@@ -5,6 +5,7 @@ ghost use Rattle.pl_core.specs.History.{History};
 ghost use Rattle.pl_core.specs.Legal.{IsLegal};
 ghost use Rattle.pl_core.specs.Reply.{FitsReply};
 ghost use Rattle.pl_core.specs.Step.{IsStep};
+ghost use Rattle.pl_core.specs.Appending.{AppendsTo, reply_in};
 ghost use Rattle.pl_desk.specs.declared.rule.Stage.TheVariants.{Waiting, InTurn};
 ghost use Rattle.pl_desk.specs.Rule.{IsAhead};
 ghost use Rattle.pl_desk.specs.Steps.{at_stage, counted, Grows, settled};
@@ -13,8 +14,8 @@ use crate::bells::Bells;
 use crate::boxed::BoxedDb;
 use crate::steps::{Board, Chair, DB, count, look, serve};
 use crossbeam_utils::Backoff;
-use pl_core::Reply;
 use pl_core::laws::replies_tell_their_cause;
+use pl_core::{Answer, Reply};
 use pl_table::Request;
 use std::sync::Wait;
 
@@ -60,38 +61,48 @@ fn take_out(board: &Board, chair: &mut Chair) -> BoxedDb
     db
 }
 
-// Makes one step of the database. It says whether an entry was made.
-fn step_of(db: &mut BoxedDb, number: u64, request: Request) -> (Reply, bool)
-    ensures step { IsStep number request db.old result.0 db.new }
+// Makes one step of the database, and puts a page's bytes after those in `page`. It says whether an entry was made.
+fn step_of(db: &mut BoxedDb, number: u64, request: Request, page: &mut Vec<u8>) -> (Answer, bool)
+    ensures step { IsStep number request db.old
+        (reply_in result.0 page.old.items page.new.items) db.new }
     ensures grows { Grows result.1 number db.old db.new }
     ensures legal { IsLegal db.new }
-    ensures never { result.0 ≢ Reply.Spent }
-    ensures fits { FitsReply result.0 }
+    ensures never { reply_in result.0 page.old.items page.new.items ≢ Reply.Spent }
+    ensures fits { FitsReply (reply_in result.0 page.old.items page.new.items) }
+    ensures page { AppendsTo result.0 page.old page.new }
 {
     // Proof only: this does nothing.
     replies_tell_their_cause();
     let db = &mut *db.db;
     let before = db.audit_len();
-    let reply = db.step(number, request);
+    let answer = db.step_onto(number, request, page);
     let made = db.audit_len() != before;
-    (reply, made)
+    (answer, made)
 }
 
 // Takes the database out and makes one step of it. It says whether an entry was made.
-fn step(board: &Board, chair: &mut Chair, number: u64, request: Request) -> (Reply, bool, BoxedDb)
+fn step(
+    board: &Board,
+    chair: &mut Chair,
+    number: u64,
+    request: Request,
+    page: &mut Vec<u8>,
+) -> (Answer, bool, BoxedDb)
     requires board { chair.old.table_id ≡ board.now.table_id }
     requires turn { (h : History) × (chair.old.me.1 ≡ (0, Some h) ∷ []) }
     ensures same { (chair.new.table_id ≡ chair.old.table_id) × (chair.new.id ≡ chair.old.id) }
     ensures out { (o : Option History) × (chair.new.me ≡ (chair.old.me.0, (0, o) ∷ [])) }
     ensures step { (h : History) → chair.old.me.1 ≡ (0, Some h) ∷ [] →
-        IsStep number request h result.0 result.2 × Grows result.1 number h result.2 }
+        IsStep number request h (reply_in result.0 page.old.items page.new.items) result.2 ×
+        Grows result.1 number h result.2 }
     ensures legal { IsLegal result.2 }
-    ensures never { result.0 ≢ Reply.Spent }
-    ensures fits { FitsReply result.0 }
+    ensures never { reply_in result.0 page.old.items page.new.items ≢ Reply.Spent }
+    ensures fits { FitsReply (reply_in result.0 page.old.items page.new.items) }
+    ensures page { AppendsTo result.0 page.old page.new }
 {
     let mut db = take_out(board, chair);
-    let (reply, made) = step_of(&mut db, number, request);
-    (reply, made, db)
+    let (answer, made) = step_of(&mut db, number, request, page);
+    (answer, made, db)
 }
 
 // Counts the entry, if one was made. From then on the history is that of the database.
@@ -123,22 +134,29 @@ fn put_back(board: &Board, chair: &mut Chair, db: BoxedDb)
 }
 
 /// One turn of the pass with this number: a step of the database at the history that the turn has
-/// found. Then the turn is passed on.
-pub(crate) fn take_turn(board: &Board, chair: &mut Chair, number: u64, request: Request) -> Reply
+/// found. Then the turn is passed on. A page's bytes are put after those in `page`, within the turn.
+pub(crate) fn take_turn(
+    board: &Board,
+    chair: &mut Chair,
+    number: u64,
+    request: Request,
+    page: &mut Vec<u8>,
+) -> Answer
     requires board { (chair.old.table_id ≡ board.now.table_id) × (board.now.table_id.words ≡ 3) }
     requires turn { (t : ℕ) × (h : History) × (chair.old.me.0.stage ≡ InTurn t h) ×
         (chair.old.me.1 ≡ (0, Some h) ∷ []) }
     requires number { number ≡ chair.old.me.0.number }
     ensures same { (chair.new.table_id ≡ chair.old.table_id) × (chair.new.id ≡ chair.old.id) }
     ensures step { (h : History) → chair.old.me.1 ≡ (0, Some h) ∷ [] → (g : History) ×
-        (chair.new.me ≡ (settled g chair.old.me.0, [])) × IsStep number request h result g ×
-        IsLegal g }
-    ensures never { result ≢ Reply.Spent }
-    ensures fits { FitsReply result }
+        (chair.new.me ≡ (settled g chair.old.me.0, [])) ×
+        IsStep number request h (reply_in result page.old.items page.new.items) g × IsLegal g }
+    ensures never { reply_in result page.old.items page.new.items ≢ Reply.Spent }
+    ensures fits { FitsReply (reply_in result page.old.items page.new.items) }
+    ensures page { AppendsTo result page.old page.new }
 {
-    let (reply, made, db) = step(board, chair, number, request);
+    let (answer, made, db) = step(board, chair, number, request, page);
     count_made(board, chair, &db, made);
     put_back(board, chair, db);
     serve(board, chair);
-    reply
+    answer
 }

@@ -12,3 +12,4 @@ pub mod Listed
 pub mod ReplyLemmas
 pub mod Filling
 pub mod Stops
+pub mod Answers

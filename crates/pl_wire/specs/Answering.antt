@@ -1,11 +1,13 @@
 -- What answers to bodies are: calls of the requests that they spell, or faults.
-use Rattle.std.specs.Prelude.{◌≡◌, ℕ, ◌⊎◌, List, [], ◌∷◌, Result, Ok, Err}
+use Rattle.std.specs.Prelude.{◌≡◌, ℕ, ◌⊎◌, List, [], ◌∷◌, ◌++◌, Result, Ok, Err}
 use Rattle.pl_block.specs.declared.fault.Failed.{Failed}
 use Rattle.pl_block.specs.declared.fault.Failed.TheVariants.{Malformed, NoMemory}
 use Rattle.pl_table.specs.Request.{Query}
 use Rattle.pl_core.specs.declared.reply.Reply.{Reply}
 use Rattle.pl_core.specs.declared.reply.Reply.TheVariants as replies
+use Rattle.pl_core.specs.Reply.{FitsReply}
 use Rattle.pl_wire.specs.Codes.{body_fault_code}
+use Rattle.pl_wire.specs.FrameWriting.{reply_frame}
 use Rattle.pl_wire.specs.Reading.{request_reading, MayLackMemory}
 use Rattle.pl_wire.specs.declared.fault.WireFault.{WireFault}
 
@@ -27,6 +29,18 @@ abbrev pub AnswersRead : {P : Type 0} → Calls P → Result Query (Failed WireF
 AnswersRead calls (Ok request) before reply after = calls before request reply after
 AnswersRead calls (Err (Malformed fault)) before reply after = (reply ≡ replies.Malformed (body_fault_code fault)) × (after ≡ before)
 AnswersRead calls (Err NoMemory) before reply after = (reply ≡ replies.NoMemory) × (after ≡ before)
+
+-- the reply to a body that is no request, or that found no memory
+abbrev pub refusal : Failed WireFault → Reply
+refusal (Malformed fault) = replies.Malformed (body_fault_code fault)
+refusal NoMemory = replies.NoMemory
+
+-- a body is answered, by what was read of it, and the frame of the reply comes after these bytes
+pub record PutsAnswer {P : Type 0} (calls : Calls P) (read : Result Query (Failed WireFault)) (before : P) (old : List ℕ) (after : P) (new : List ℕ) : Type 0 where
+  pub reply : Reply
+  pub answers : AnswersRead calls read before reply after
+  pub fits : FitsReply reply
+  pub frame : new ≡ old ++ reply_frame reply
 
 -- a body is answered as what it reads as
 abbrev pub AnswersAsRead : {P : Type 0} → Calls P → P → List ℕ → Reply → P → Type 0

@@ -1,5 +1,6 @@
 -- What is written, and how much of it where the writer stops.
-use Rattle.std.specs.Prelude.{ℕ, ◌<◌, List, length, take, Option, Result, Ok, Err}
+use Rattle.std.specs.Prelude.{ℕ, ◌<◌, List, ◌∷◌, ◌++◌, length, take, Option, Result, Ok, Err}
+use Rattle.std.specs.Int.{w32, w64, to_be_bytes}
 use Rattle.std.specs.Io.KnownBytes.{Appends, Keeps}
 use Rattle.pl_core.specs.declared.reply.Reply.{Reply}
 use Rattle.pl_table.specs.Request.{Query}
@@ -12,6 +13,10 @@ use Rattle.pl_wire.specs.Spelling.{request_spelling}
 -- the frame of a reply
 abbrev pub reply_frame : Reply → List ℕ
 reply_frame reply = frame (reply_spelling reply)
+
+-- the frame of a page at an LSN, before the bytes of the page
+abbrev pub page_head : ℕ → List ℕ
+page_head at = to_be_bytes w32 8201 ++ (2 ∷ to_be_bytes w64 at)
 
 -- the most bytes of the frame of a reply
 abbrev pub largest_reply_frame : ℕ

@@ -1,17 +1,39 @@
 //! The reply to a body: what it reads as is answered by a gate.
 
+ghost use Rattle.std.specs.Prelude.{◌≡◌, ◌+◌, ◌≤◌, ◌++◌, drop, length, take, vec_capacity, vec_len};
+ghost use Rattle.pl_core.specs.Appending.{AppendsTo, reply_in};
 ghost use Rattle.pl_core.specs.Reply.{FitsReply};
-ghost use Rattle.pl_wire.specs.Answering.{AnswersRead};
+ghost use Rattle.pl_wire.specs.Answering.{AnswersRead, PutsAnswer, refusal};
+ghost use Rattle.pl_wire.specs.FrameWriting.{page_head};
 
 use crate::fault::BodyFault;
+use crate::frame_writing::put_reply;
 use crate::gate::Gate;
-use pl_core::Reply;
+use pl_core::{Answer, Reply};
 use pl_table::Request;
+
+/// The frame of a page before the bytes of the page, with no LSN yet: a length of 8,201, the kind, and eight bytes for the LSN.
+const PAGE_HEAD: [u8; 13] = [0, 0, 0x20, 0x09, 2, 0, 0, 0, 0, 0, 0, 0, 0];
+
+/// How many bytes of a page's frame come before its LSN.
+const BEFORE_LSN: usize = 5;
+
+// The reply to a body that is not a request, or for which there was no memory.
+fn refused(fault: BodyFault) -> Reply
+    ensures value { result ≡ refusal fault }
+    ensures fits { FitsReply result }
+{
+    match fault {
+        BodyFault::Malformed(fault) => Reply::Malformed { code: fault.code() },
+        BodyFault::NoMemory => Reply::NoMemory,
+    }
+}
 
 /// The reply to a body, by what was read of it: `decode_request` and `decode_request_shared` say what that is.
 ///
 /// A request is called, once. A body that is not a request has the code of its fault, and one for which there was no
 /// memory is replied `NoMemory`, both without a call.
+#[tactic(auto, using(crate::proofs::Answers::by_refusal))]
 pub fn answer<G: Gate>(read: Result<Request, BodyFault>, gate: &G, pass: &mut G::Pass) -> Reply
     // The pass is the gate's.
     requires own { G.owns gate.now pass.old }
@@ -24,7 +46,79 @@ pub fn answer<G: Gate>(read: Result<Request, BodyFault>, gate: &G, pass: &mut G:
 {
     match read {
         Ok(request) => gate.call(pass, request),
-        Err(BodyFault::Malformed(fault)) => Reply::Malformed { code: fault.code() },
-        Err(BodyFault::NoMemory) => Reply::NoMemory,
+        Err(fault) => refused(fault),
+    }
+}
+
+// The same, but the bytes of a page are put after those in `page`.
+#[tactic(auto, using(crate::proofs::Answers::by_refusal))]
+fn answer_onto<G: Gate>(
+    read: Result<Request, BodyFault>,
+    gate: &G,
+    pass: &mut G::Pass,
+    page: &mut Vec<u8>,
+) -> Answer
+    requires own { G.owns gate.now pass.old }
+    ensures own { G.owns gate.now pass.new }
+    ensures fits { FitsReply (reply_in result page.old.items page.new.items) }
+    ensures reply { AnswersRead (G.calls gate.now) read pass.old
+        (reply_in result page.old.items page.new.items) pass.new }
+    ensures page { AppendsTo result page.old page.new }
+{
+    match read {
+        Ok(request) => gate.call_onto(pass, request, page),
+        Err(fault) => Answer::Whole(refused(fault)),
+    }
+}
+
+// Puts the frame of a page there, before the bytes of the page, with no LSN yet.
+fn open_page(out: &mut Vec<u8>)
+    requires room { vec_len out.old + 13 ≤ vec_capacity out.old }
+    ensures value { out.new.items ≡ out.old.items ++ page_head 0 }
+    ensures capacity { vec_capacity out.old ≤ vec_capacity out.new }
+{
+    out.extend_from_slice(&PAGE_HEAD).unwrap();
+}
+
+// Puts the bytes in the place of as many that are there.
+fn put_over(out: &mut [u8], place: usize, bytes: &[u8])
+    requires within { place + length bytes.now ≤ length out.old }
+    ensures value { out.new ≡ take place out.old ++ bytes.now ++ drop (place + length bytes.now) out.old }
+{
+    out[place..place + bytes.len()].copy_from_slice(bytes);
+}
+
+/// Puts the frame of the reply to a body after what is in `out`. The bytes of a page are put there by the gate, where it has a
+/// way to, so that they are copied once. `out` has room for [`LARGEST_REPLY_FRAME`](crate::LARGEST_REPLY_FRAME) bytes more, so
+/// there is no allocation here. [`answer`] says what is replied.
+pub fn put_answer<G: Gate>(
+    out: &mut Vec<u8>,
+    read: Result<Request, BodyFault>,
+    gate: &G,
+    pass: &mut G::Pass,
+)
+    // The pass is the gate's.
+    requires own { G.owns gate.now pass.old }
+    // There is room for the frame of any reply.
+    requires room { vec_len out.old + 524367 ≤ vec_capacity out.old }
+    // The pass stays the gate's.
+    ensures own { G.owns gate.now pass.new }
+    // The frame of a reply that the body may have is appended (`PutsAnswer`).
+    ensures frame { PutsAnswer (G.calls gate.now) read pass.old out.old.items pass.new out.new.items }
+    // There is as much memory as before, or more.
+    ensures capacity { vec_capacity out.old ≤ vec_capacity out.new }
+{
+    let before = out.len();
+    open_page(out);
+    match answer_onto(read, gate, pass, out) {
+        Answer::Page { at } => {
+            put_over(out.as_mut_slice(), before + BEFORE_LSN, &at.to_be_bytes())
+        }
+        Answer::Whole(reply) => {
+            out.truncate(before);
+            let Ok(()) = put_reply(out, &reply) else {
+                unreachable!();
+            };
+        }
     }
 }

@@ -1,10 +1,11 @@
 //! What answers requests.
 
 ghost use Rattle.pl_table.specs.Request.{Query};
+ghost use Rattle.pl_core.specs.Appending.{AppendsTo, reply_in};
 ghost use Rattle.pl_core.specs.Reply.{FitsReply};
 ghost use Rattle.pl_core.specs.declared.reply.Reply.{Reply as Told};
 
-use pl_core::Reply;
+use pl_core::{Answer, Reply};
 use pl_table::Request;
 
 /// What answers requests. Whoever asks has a pass, which a call changes.
@@ -31,4 +32,25 @@ pub trait Gate {
         ensures call { calls self.now pass.old request result pass.new }
         // The reply can be written.
         ensures fits { FitsReply result };
+
+    /// Answers the request, but a gate may put the bytes of a page after those in `page`, so that they are copied once. A gate
+    /// that has no such way answers by `call`.
+    fn call_onto(&self, pass: &mut Self::Pass, request: Request, page: &mut Vec<u8>) -> Answer
+        // The pass is the gate's.
+        requires own { owns self.now pass.old }
+        // The pass stays the gate's.
+        ensures own { owns self.now pass.new }
+        // It was one of the gate's calls. Its reply is the answer with the bytes that were appended
+        // (`reply_in` of pl_core).
+        ensures call { calls self.now pass.old request
+            (reply_in result page.old.items page.new.items) pass.new }
+        // The reply can be written.
+        ensures fits { FitsReply (reply_in result page.old.items page.new.items) }
+        // The buffer keeps its bytes and its memory, and a page's bytes alone are appended
+        // (`AppendsTo` of pl_core).
+        ensures page { AppendsTo result page.old page.new }
+    {
+        let _ = page;
+        Answer::Whole(self.call(pass, request))
+    }
 }

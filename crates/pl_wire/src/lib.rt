@@ -23,7 +23,7 @@ mod request_reading;
 mod request_writing;
 mod seen;
 
-pub use answering::answer;
+pub use answering::{answer, put_answer};
 pub use fault::{BodyFault, WireFault};
 pub use frame_in_place::{body_in, is_cut};
 pub use frame_reading::{

@@ -4,4 +4,4 @@ use Rattle.pl_conn.proofs.answering.answer_first.Goals as goal
 pub returns-clause-some : goal.returns-clause-some
 returns-clause-some g c =
     one_gathered _ _ _ _ _ _ _ _ _ c.in_ok-body.ensures.fits c.in_ok-body.ensures.some.1 c.decode_request.ensures.exact c.decode_request.ensures.no_memory
-    c.answer-reply.ensures.reply c.answer-reply.ensures.fits c.requires.room c.put.ensures.value
+    c.put_answer.ensures.value.answers c.put_answer.ensures.value.fits c.requires.room c.put_answer.ensures.value.waits
