@@ -1,6 +1,7 @@
 //! The reply to a body: what it reads as is answered by a gate.
 
 ghost use Rattle.std.specs.Prelude.{◌≡◌, ◌+◌, ◌≤◌, ◌++◌, drop, length, take, vec_capacity, vec_len};
+ghost use Rattle.std.specs.Int.{w64, to_be_bytes};
 ghost use Rattle.pl_core.specs.Appending.{AppendsTo, reply_in};
 ghost use Rattle.pl_core.specs.Reply.{FitsReply};
 ghost use Rattle.pl_wire.specs.Answering.{AnswersRead, PutsAnswer, refusal};
@@ -80,12 +81,25 @@ fn open_page(out: &mut Vec<u8>)
     out.extend_from_slice(&PAGE_HEAD).unwrap();
 }
 
-// Puts the bytes in the place of as many that are there.
-fn put_over(out: &mut [u8], place: usize, bytes: &[u8])
-    requires within { place + length bytes.now ≤ length out.old }
-    ensures value { out.new ≡ take place out.old ++ bytes.now ++ drop (place + length bytes.now) out.old }
+// Puts the LSN into the frame of a page that begins after this many bytes.
+fn put_lsn(text: &mut [u8], before: usize, at: u64)
+    requires within { before + 13 ≤ length text.old }
+    ensures value { text.new ≡
+        take (before + 5) text.old ++ to_be_bytes w64 at ++ drop (before + 13) text.old }
+    ensures len { length text.new ≡ length text.old }
 {
-    out[place..place + bytes.len()].copy_from_slice(bytes);
+    let place = before + BEFORE_LSN;
+    text[place..place + 8].copy_from_slice(&at.to_be_bytes());
+}
+
+// The same in a vector, which keeps its memory.
+fn close_page(out: &mut Vec<u8>, before: usize, at: u64)
+    requires within { before + 13 ≤ vec_len out.old }
+    ensures value { out.new.items ≡
+        take (before + 5) out.old.items ++ to_be_bytes w64 at ++ drop (before + 13) out.old.items }
+    ensures capacity { vec_capacity out.new ≡ vec_capacity out.old }
+{
+    put_lsn(out.as_mut_slice(), before, at);
 }
 
 /// Puts the frame of the reply to a body after what is in `out`. The bytes of a page are put there by the gate, where it has a
@@ -111,9 +125,7 @@ pub fn put_answer<G: Gate>(
     let before = out.len();
     open_page(out);
     match answer_onto(read, gate, pass, out) {
-        Answer::Page { at } => {
-            put_over(out.as_mut_slice(), before + BEFORE_LSN, &at.to_be_bytes())
-        }
+        Answer::Page { at } => close_page(out, before, at),
         Answer::Whole(reply) => {
             out.truncate(before);
             let Ok(()) = put_reply(out, &reply) else {

@@ -16,6 +16,7 @@ mod frame_reading;
 mod frame_writing;
 mod gate;
 mod kind;
+mod latest;
 pub mod laws;
 mod reply_reading;
 mod reply_writing;
@@ -35,7 +36,8 @@ pub use frame_writing::{
 };
 pub use gate::Gate;
 pub use kind::ReplyKind;
+pub use latest::Latest;
 pub use reply_reading::decode_reply;
 pub use reply_writing::encode_reply;
-pub use request_reading::{decode_request, decode_request_shared};
+pub use request_reading::{decode_request, decode_request_after, decode_request_shared};
 pub use request_writing::encode_request;

@@ -10,6 +10,7 @@ ghost use Rattle.pl_wire.specs.Spelling.{request_spelling};
 ghost use Rattle.pl_wire.specs.Reading.{AsksMemory, MayLackMemory, head_in, number_in, sized, write_reading, offer_reading, report_reading, flag_of_number, get_reading, pull_reading, advance_reading, failover_reading, audit_reading, act_reading, ranged, opening_reading, request_reading};
 
 use crate::fault::{BodyFault, WireFault, of_block};
+use crate::latest::Latest;
 use bytes::{Buf, Bytes};
 use pl_block::decode;
 use pl_block::laws::one_spelling;
@@ -99,16 +100,17 @@ fn write_in(alloc: Global, arguments: Bytes) -> Result<Act, BodyFault>
     Ok(Act::Write { copy, block })
 }
 
-// A write, whose block keeps a copy of the bytes.
+// A write, whose block keeps a copy of the bytes, or is the one that was read last.
 #[inline(never)]
-fn write_of(alloc: Global, arguments: &[u8]) -> Result<Act, BodyFault>
+fn write_of(alloc: Global, arguments: &[u8], latest: &mut Latest) -> Result<Act, BodyFault>
     ensures exact { Returns result (write_reading arguments.now) }
     ensures no_memory { result ≡ Err NoMemory → 1 ≤ length arguments.now }
 {
-    if arguments.is_empty() {
+    let [copy, block @ ..] = arguments else {
         return Err(BodyFault::Malformed(WireFault::EndsInField));
-    }
-    write_in(alloc, Bytes::copy_from_slice(alloc, arguments)?)
+    };
+    let block = latest.read(alloc, block).map_err(of_block)?;
+    Ok(Act::Write { copy: *copy, block })
 }
 
 // An offer, whose block keeps the bytes.
@@ -120,12 +122,13 @@ fn offer_in(alloc: Global, arguments: Bytes) -> Result<Act, BodyFault>
     Ok(Act::Offer { block })
 }
 
-// An offer, whose block keeps a copy of the bytes.
+// An offer, whose block keeps a copy of the bytes, or is the one that was read last.
 #[inline(never)]
-fn offer_of(alloc: Global, arguments: &[u8]) -> Result<Act, BodyFault>
+fn offer_of(alloc: Global, arguments: &[u8], latest: &mut Latest) -> Result<Act, BodyFault>
     ensures exact { Returns result (offer_reading arguments.now) }
 {
-    offer_in(alloc, Bytes::copy_from_slice(alloc, arguments)?)
+    let block = latest.read(alloc, arguments).map_err(of_block)?;
+    Ok(Act::Offer { block })
 }
 
 #[inline(never)]
@@ -225,13 +228,13 @@ fn audit_of(arguments: &[u8]) -> Result<Act, WireFault>
 }
 
 // The readers of arguments are not inlined: the room of all of them would be cleared at each call.
-fn act_of(alloc: Global, op: Op, arguments: &[u8]) -> Result<Act, BodyFault>
+fn act_of(alloc: Global, op: Op, arguments: &[u8], latest: &mut Latest) -> Result<Act, BodyFault>
     ensures exact { Returns result (act_reading op arguments.now) }
     ensures no_memory { result ≡ Err NoMemory → AsksMemory op arguments.now }
 {
     let read = match op {
-        Op::Write => return write_of(alloc, arguments),
-        Op::Offer => return offer_of(alloc, arguments),
+        Op::Write => return write_of(alloc, arguments, latest),
+        Op::Offer => return offer_of(alloc, arguments, latest),
         Op::SetTable => return set_table_of(alloc, arguments),
         Op::Report => report_of(arguments),
         Op::Get => get_of(arguments),
@@ -252,7 +255,7 @@ fn act_in(alloc: Global, op: Op, arguments: Bytes) -> Result<Act, BodyFault>
     match op {
         Op::Write => write_in(alloc, arguments),
         Op::Offer => offer_in(alloc, arguments),
-        _ => act_of(alloc, op, arguments.as_slice()),
+        _ => act_of(alloc, op, arguments.as_slice(), &mut Latest::new()),
     }
 }
 
@@ -284,13 +287,13 @@ fn opening_of(body: &[u8]) -> Result<(Head, Op), WireFault>
 }
 
 #[tactic(auto, unfolding(crate::specs::Reading::request_reading))]
-fn request_of(alloc: Global, body: &[u8]) -> Result<Request, BodyFault>
+fn request_of(alloc: Global, body: &[u8], latest: &mut Latest) -> Result<Request, BodyFault>
     ensures exact { Returns result (request_reading body.now) }
     ensures no_memory { result ≡ Err NoMemory → MayLackMemory body.now }
 {
     let (head, op) = opening_of(body)?;
     let (_, arguments) = body.split_at(OPENING_BYTES);
-    let act = act_of(alloc, op, arguments)?;
+    let act = act_of(alloc, op, arguments, latest)?;
     ranged_request(head, act)
 }
 
@@ -328,7 +331,34 @@ pub fn decode_request(alloc: Global, body: &[u8]) -> Result<Request, BodyFault>
     // Proof only: these do nothing.
     each_is_byte(body);
     one_spelling();
-    request_of(alloc, body)
+    request_of(alloc, body, &mut Latest::new())
+}
+
+/// The request that the bytes spell, or the fault of the least code, as [`decode_request`] has it.
+///
+/// A block that comes again, byte for byte as the last one, is shared: its bytes are compared, and neither read nor copied.
+#[tactic(auto, using(crate::proofs::Requests::is_found, crate::proofs::Requests::is_only))]
+pub fn decode_request_after(
+    alloc: Global,
+    body: &[u8],
+    latest: &mut Latest,
+) -> Result<Request, BodyFault>
+    // What is read is a request, and the bytes are its spelling.
+    ensures found { IfOk result (λ q. IsRequest q × (body.now ≡ request_spelling q)) }
+    // Bytes that spell a request are read as that request, unless memory runs out.
+    ensures only { (q : Query) → IsRequest q → body.now ≡ request_spelling q →
+        Returns result (Ok q) }
+    // The request that the bytes spell, the fault of the least code, or out of memory
+    // (`request_reading`).
+    ensures exact { Returns result (request_reading body.now) }
+    // Memory runs out only for a write with a copy, an offer or a set_table, after a head whose
+    // role is known.
+    ensures no_memory { result ≡ Err NoMemory → MayLackMemory body.now }
+{
+    // Proof only: these do nothing.
+    each_is_byte(body);
+    one_spelling();
+    request_of(alloc, body, latest)
 }
 
 /// The request that the bytes spell, or the fault of the least code, as [`decode_request`] has it.
