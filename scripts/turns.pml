@@ -215,7 +215,8 @@ inline hear() {
 // answering.rt: answer_first
 inline answer_first() {
                                                            // let body = body_in(bytes)?;
-    replies++;                                            // outbox.put_answer(decode_request(alloc, body), gate, pass);
+                                                           // let read = outbox.request_of(alloc, body);
+    replies++;                                             // outbox.put_answer(read, gate, pass);
     held = held - PARTS;                                   // Some(LENGTH_BYTES + body.len())
     moved = true
 }

@@ -5,7 +5,7 @@ ghost use Rattle.std.specs.Io.KnownBytes.{Appends};
 ghost use Rattle.pl_conn.specs.Gathering.{Gathers, MayGather};
 
 use crate::outbox::Outbox;
-use pl_wire::{Gate, LENGTH_BYTES, body_in, decode_request};
+use pl_wire::{Gate, LENGTH_BYTES, body_in};
 use std::alloc::Global;
 use std::io::{self, ErrorKind, Write};
 
@@ -27,7 +27,8 @@ pub(crate) fn answer_first<G: Gate>(
     ensures none { IfNone result ((pass.new ≡ pass.old) × (outbox.new ≡ outbox.old)) }
 {
     let body = body_in(bytes)?;
-    outbox.put_answer(decode_request(alloc, body), gate, pass);
+    let read = outbox.request_of(alloc, body);
+    outbox.put_answer(read, gate, pass);
     Some(LENGTH_BYTES + body.len())
 }
 

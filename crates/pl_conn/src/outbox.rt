@@ -1,10 +1,13 @@
 //! Replies that were given and are not yet written.
 
-ghost use Rattle.std.specs.Prelude.{◌≡◌, ◌<◌, ◌≤◌, ◌↔◌, IfOk, IsTrue, length};
+ghost use Rattle.std.specs.Prelude.{◌≡◌, ◌<◌, ◌≤◌, ◌↔◌, Err, IfOk, IsTrue, length};
+ghost use Rattle.pl_block.specs.Faults.{Returns};
+ghost use Rattle.pl_block.specs.declared.fault.Failed.TheVariants.{NoMemory};
+ghost use Rattle.pl_wire.specs.Reading.{MayLackMemory, request_reading};
 ghost use Rattle.pl_conn.specs.Gathering.{GathersAnswer, MayGather, emptied, whole_in};
 
 use pl_table::Request;
-use pl_wire::{BodyFault, Gate, LARGEST_REPLY_FRAME, put_answer};
+use pl_wire::{BodyFault, Gate, LARGEST_REPLY_FRAME, Latest, decode_request_after, put_answer};
 use std::alloc::{AllocError, Global};
 use std::marker::Model;
 
@@ -22,6 +25,8 @@ pub(crate) struct Outbox {
     text: Vec<u8>,
     // How long each frame in the text is.
     lens: Vec<usize>,
+    // The block of the last write or offer that was answered here.
+    latest: Latest,
 }
 
 impl Model for Outbox {
@@ -62,6 +67,7 @@ impl Outbox {
         Ok(Outbox {
             text: Vec::with_capacity(alloc, MANY_BYTES + LARGEST_REPLY_FRAME)?,
             lens: Vec::with_capacity(alloc, MANY_REPLIES)?,
+            latest: Latest::new(),
         })
     }
 
@@ -100,6 +106,15 @@ impl Outbox {
         ensures exact { IsTrue result ↔ MayGather self.now }
     {
         self.text.len() < MANY_BYTES && self.lens.len() < MANY_REPLIES
+    }
+
+    /// The request that a body spells. The block of a write or an offer that was in the one before, too, is not read again.
+    pub(crate) fn request_of(&mut self, alloc: Global, body: &[u8]) -> Result<Request, BodyFault>
+        ensures exact { Returns result (request_reading body.now) }
+        ensures no_memory { result ≡ Err NoMemory → MayLackMemory body.now }
+        ensures same { self.new ≡ self.old }
+    {
+        decode_request_after(alloc, body, &mut self.latest)
     }
 
     /// Answers a body, by what was read of it, and puts the frame of the reply after the others. There is no allocation here,

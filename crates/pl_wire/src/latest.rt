@@ -24,7 +24,7 @@ pub struct Latest {
 }
 
 // Another owner of the block, with its bytes. None where the owners can be counted no further.
-fn known(bytes: Bytes, block: &Block) -> Option<Known>
+fn noted(bytes: Bytes, block: &Block) -> Option<Known>
     requires read { block_reading bytes ≡ Ok block.now }
 {
     match block.share() {
@@ -61,7 +61,7 @@ impl Latest {
         let kept: Result<_, _> = copy.clone();
         let block = decode(alloc, copy)?;
         self.known = match kept {
-            Ok(bytes) => known(bytes, &block),
+            Ok(bytes) => noted(bytes, &block),
             Err(_) => None,
         };
         Ok(block)
