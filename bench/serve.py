@@ -9,7 +9,9 @@ with 64 requests in flight on one connection, in rounds of 20,000 whatever the s
 bench/frames.c, and so is the echo, which has a thread for each connection and answers each frame by one as long as the
 service's, in a write of its own. Beside it is, with requests in flight, an echo that gathers what it answers as the service
 does: it reads and writes whole batches and looks at nothing; and for writes a program in C that does what the rules ask of a
-write and no more, in a line of its own. Redis is asked for XADD of 100 bytes, XRANGE of one entry and GET of 8,192 bytes.
+write and no more, in a line of its own. Writes are asked in two more ways with 64 in flight, since a block that was just read is
+not read again: of 64 blocks in turn, and of 32 blocks, each to two copies. Redis is asked for XADD of 100 bytes, XRANGE of one
+entry and GET of 8,192 bytes.
 
 Each number is the best of 25 rounds, in each of which all are asked in turn: where the machine is shared with others
 some rounds are disturbed, and a long one is rarely spared. After each other server's number comes what the service's best
@@ -70,6 +72,12 @@ CASES = (
     ("pull of one block", reader(wire.PULL, wire.pull(0, 65535, 1, 1)), 4 + 1 + 8 + 2 + 4 + len(hundred_bytes(1)),
      ["XRANGE", "s", "-", "+", "COUNT", "1"]),
     ("get of a page", reader(wire.GET, wire.get(0, 1, 1)), 4 + 1 + 8 + 8192, ["GET", "page"]),
+)
+
+# Writes that are sent together, again and again: their name, and the copy and the LSN of each.
+STREAMS = (
+    ("64 blocks in turn", [(0, lsn) for lsn in range(2, 66)]),
+    ("32, to two copies", [(copy, lsn) for lsn in range(2, 34) for copy in (0, 1)]),
 )
 
 
@@ -253,6 +261,17 @@ class Case:
                                for workers, each in self.services.items())
             print(f"{self.name:18} of the rules in C, at {max(rates[self.rules]):,.0f}, best and median: {shares}", flush=True)
 
+    def stream(self, name, writes):
+        """A line for each service, of these writes sent together."""
+        request = b"".join(primary(wire.WRITE, wire.write(copy, hundred_bytes(lsn))) for copy, lsn in writes)
+        asked = [*self.services.values(), self.gathering, self.rules]
+        turns = SHAPES[-1][-1] // len(writes)
+        took = rounds.in_turn(ROUNDS, asked, lambda each: seconds(each.server.port, (1, 1, turns), request, each.reply * len(writes)))
+        rates = {each: [turns * len(writes) / time for time in times] for each, times in took.items()}
+        for workers, each in self.services.items():
+            others = " ".join(f"{other.name} {beside(rates[each], rates[other])}" for other in (self.gathering, self.rules))
+            print(f"{name:18}  1 of      1 x {len(writes):2} {workers:7} {max(rates[each]):9,.0f}   {others}", flush=True)
+
     def line(self, workers, each, speaking, connections, flight, rates, spent, kept):
         head = f"{self.name:18} {speaking:2} of {connections:6,} x {flight:2} {workers:7}"
         own = rates.get(each)
@@ -358,6 +377,8 @@ def main():
                 asked = Case(case, other, started)
                 for shape in SHAPES:
                     asked.shape(*shape)
+                for stream in STREAMS if asked.rules else ():
+                    asked.stream(*stream)
                 lines += asked.lines
     print(f"\n{'':31} {'':12}" + "".join(f"{head:>10}" for head in ("50th", "99th", "99.9th", "longest")) + "   (us)")
     print("\n".join(lines), flush=True)
