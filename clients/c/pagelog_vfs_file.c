@@ -1,0 +1,221 @@
+/* A connection: SQLite's methods of a database's file, but for the locks, and what SQLite's own cache has of
+ * it. */
+#include "pagelog_vfs_inside.h"
+
+#include <string.h>
+
+/* Of a database: the change counter, the number of pages, and those of the free list. */
+enum { VERSION_OFFSET = 24, VERSION_BYTES = 16 };
+
+/* Of a database: by which way it is written and read, each a byte. 2 says by a WAL. */
+enum { WAYS_OFFSET = 18, WAYS_BYTES = 2, BY_JOURNAL = 1, BY_WAL = 2 };
+
+/* A call of whose error SQLite does not hear. Where it loses commits the next statement tells it. */
+static void call_untold(struct database *database, enum pagelog_outcome (*call)(struct pagelog_file *file)) {
+    uint64_t losses = pagelog_file_losses(database->file);
+    bool was_untold = database->is_loss_untold;
+    pagelog_result(database, call(database->file));
+    database->is_loss_untold = was_untold || pagelog_file_losses(database->file) > losses;
+}
+
+/* Commits that nobody waited for are waited for by who closes. */
+static int file_close(sqlite3_file *file) {
+    struct connection *connection = (struct connection *)file;
+    struct database *database = enter(file);
+    pagelog_lower_lock(database, connection, SQLITE_LOCK_NONE);
+    call_untold(database, pagelog_file_settle);
+    leave(database, SQLITE_OK);
+    pagelog_unlist_connection(connection);
+    pagelog_release(database);
+    return SQLITE_OK;
+}
+
+/* SQLite's own cache has what the file has now. */
+static void note_cache(struct connection *connection) {
+    connection->losses = pagelog_file_losses(connection->database->file);
+    connection->lsn = pagelog_file_lsn(connection->database->file);
+}
+
+/* By these bytes of the database's first page SQLite sees whether its own cache is old. A counter among them
+ * may come to the same number twice where commits were lost, and a writer that keeps the lock
+ * (locking_mode=exclusive) does not count its commits. So they are none of any page where the file has
+ * another transaction than the cache. */
+static bool is_cache_old(struct connection *connection, int length, sqlite3_int64 offset) {
+    const struct pagelog_file *file = connection->database->file;
+    if (length != VERSION_BYTES || offset != VERSION_OFFSET) return false;
+    if (connection->losses == pagelog_file_losses(file) && connection->lsn == pagelog_file_lsn(file))
+        return false;
+    note_cache(connection);
+    return true;
+}
+
+/* Whether these bytes of a file have those that say by which way a database is written and read. */
+static bool has_ways(int length, sqlite3_int64 offset) {
+    return offset <= WAYS_OFFSET && offset + length >= WAYS_OFFSET + WAYS_BYTES;
+}
+
+/* A database that was copied from a file in WAL says so. There is no WAL here: it is read as one with a
+ * journal. */
+static void read_as_with_journal(unsigned char *bytes, int length, sqlite3_int64 offset) {
+    if (!has_ways(length, offset)) return;
+    unsigned char *ways = bytes + (WAYS_OFFSET - offset);
+    for (int i = 0; i < WAYS_BYTES; i++)
+        if (ways[i] == BY_WAL) ways[i] = BY_JOURNAL;
+}
+
+/* SQLite keeps what it has written, so it has to read that again. */
+static void forget_wal(struct connection *connection, const unsigned char *bytes, int length,
+                       sqlite3_int64 offset) {
+    if (has_ways(length, offset) && bytes[WAYS_OFFSET - offset + WAYS_BYTES - 1] == BY_WAL)
+        connection->losses = ~pagelog_file_losses(connection->database->file);
+}
+
+/* When it opens a database SQLite looks for the size of its pages, without a lock, and again with one. Where
+ * another connection has lost commits nothing can be read before the next lock. */
+static bool is_too_early(const struct connection *connection) {
+    return connection->lock == SQLITE_LOCK_NONE && pagelog_file_state_of(connection->database->file).is_over;
+}
+
+/* SQLite undoes a statement that met another error of a read or a write in part only. */
+static int as_io_error(int code) {
+    bool is_known = code == SQLITE_OK || code == SQLITE_FULL || (code & 0xff) == SQLITE_IOERR;
+    return is_known ? code : SQLITE_IOERR;
+}
+
+static int file_read(sqlite3_file *file, void *bytes, int length, sqlite3_int64 offset) {
+    struct database *database = enter(file);
+    size_t count = 0;
+    if (is_cache_old((struct connection *)file, length, offset)) {
+        memset(bytes, 0xfe, (size_t)length); /* 0xff stands for a page that SQLite failed to read */
+        return leave(database, SQLITE_OK);
+    }
+    if (is_too_early((struct connection *)file)) {
+        memset(bytes, 0, (size_t)length);
+        return leave(database, SQLITE_IOERR_SHORT_READ);
+    }
+    int code = pagelog_result(
+        database, pagelog_file_read(database->file, (uint64_t)offset, bytes, (size_t)length, &count));
+    if (code == SQLITE_OK && count < (size_t)length) code = SQLITE_IOERR_SHORT_READ;
+    if (code == SQLITE_OK) read_as_with_journal(bytes, length, offset);
+    return leave(database, as_io_error(code));
+}
+
+/* After an error of a rollback that it does not know, as SQLITE_PERM, SQLite goes on with its cache, though
+ * half of it was not rolled back: it has to read all of it again. */
+static int note_error(sqlite3_file *file, int code) {
+    struct connection *connection = (struct connection *)file;
+    if (code != SQLITE_OK) connection->losses = ~pagelog_file_losses(connection->database->file);
+    return code;
+}
+
+/* A refusal right after another one is of the rollback. SQLite is told an error that it knows, so that it
+ * reads its cache again even where it keeps the lock (locking_mode=exclusive), and does not ask whether that
+ * is old. */
+static int note_refusal(struct connection *connection, int code) {
+    if (connection->is_refused) code = as_io_error(code);
+    connection->is_refused = code != SQLITE_OK;
+    return code;
+}
+
+static int file_write(sqlite3_file *file, const void *bytes, int length, sqlite3_int64 offset) {
+    struct database *database = enter(file);
+    forget_wal((struct connection *)file, bytes, length, offset);
+    int code =
+        pagelog_result(database, pagelog_file_write(database->file, (uint64_t)offset, bytes, (size_t)length));
+    return leave(database, note_error(file, as_io_error(code)));
+}
+
+static int file_truncate(sqlite3_file *file, sqlite3_int64 size) {
+    struct database *database = enter(file);
+    int code = pagelog_result(database, pagelog_file_resize(database->file, (uint64_t)size));
+    return leave(database, note_error(file, as_io_error(code)));
+}
+
+/* Follows the commit, unless synchronous=off. */
+static int file_sync(sqlite3_file *file, int flags) {
+    (void)flags;
+    struct database *database = enter(file);
+    return leave(database, pagelog_result(database, pagelog_file_settle(database->file)));
+}
+
+static int file_size(sqlite3_file *file, sqlite3_int64 *size) {
+    struct database *database = enter(file);
+    *size = (sqlite3_int64)pagelog_file_size(database->file);
+    return leave(database, SQLITE_OK);
+}
+
+/* SQLite asks twice when it opens a database. The first answer is the page size of a new one, the second the
+ * length of each journal's head, which is as short as it may be: a commit is whole, whatever a sector is. */
+static int file_sector_size(sqlite3_file *file) {
+    struct connection *connection = (struct connection *)file;
+    int bytes = connection->is_sized ? LEAST_SECTOR_BYTES : SECTOR_BYTES;
+    connection->is_sized = true;
+    return bytes;
+}
+
+static int file_device_characteristics(sqlite3_file *file) {
+    (void)file;
+    return CHARACTERISTICS;
+}
+
+static int file_control(sqlite3_file *file, int operation, void *argument) {
+    struct connection *connection = (struct connection *)file;
+    struct database *database = enter(file);
+    int code = SQLITE_NOTFOUND;
+    switch (operation) {
+    case SQLITE_FCNTL_SYNC: /* a commit, or the end of a rollback, after which nothing differs */
+        code = note_refusal(connection, pagelog_result(database, pagelog_file_commit(database->file)));
+        note_error(file, code);
+        connection->lsn = pagelog_file_lsn(database->file);
+        break;
+    case SQLITE_FCNTL_COMMIT_PHASETWO: /* a VACUUM makes the file shorter after its commit */
+        call_untold(database, pagelog_file_commit);
+        connection->lsn = pagelog_file_lsn(database->file);
+        break;
+    case SQLITE_FCNTL_PRAGMA:
+        code = pagelog_answer_pragma(connection, argument);
+        break;
+    case SQLITE_FCNTL_LOCKSTATE:
+        *(int *)argument = connection->lock;
+        code = SQLITE_OK;
+        break;
+    case SQLITE_FCNTL_VFSNAME:
+        *(char **)argument = sqlite3_mprintf("pagelog");
+        code = SQLITE_OK;
+        break;
+    }
+    return leave(database, code);
+}
+
+static const sqlite3_io_methods file_methods = {
+    .iVersion = 1,
+    .xClose = file_close,
+    .xRead = file_read,
+    .xWrite = file_write,
+    .xTruncate = file_truncate,
+    .xSync = file_sync,
+    .xFileSize = file_size,
+    .xLock = pagelog_lock,
+    .xUnlock = pagelog_unlock,
+    .xCheckReservedLock = pagelog_check_reserved_lock,
+    .xFileControl = file_control,
+    .xSectorSize = file_sector_size,
+    .xDeviceCharacteristics = file_device_characteristics,
+};
+
+void pagelog_open_connection(struct connection *connection, sqlite3_filename name) {
+    connection->lock = SQLITE_LOCK_NONE;
+    connection->is_sized = connection->is_refused = connection->is_exclusive = false;
+    connection->journal_mode = "delete";
+    connection->base.pMethods = &file_methods;
+    pagelog_list_connection(connection, name);
+    enter(&connection->base);
+    note_cache(connection);
+    leave(connection->database, SQLITE_OK);
+}
+
+struct database *pagelog_database_of_journal(sqlite3_filename name) {
+    sqlite3_file *file = name ? sqlite3_database_file_object(name) : NULL;
+    bool is_ours = file && file->pMethods == &file_methods;
+    return is_ours ? ((struct connection *)file)->database : NULL;
+}
