@@ -353,7 +353,8 @@ static enum pagelog_outcome queue(struct pagelog *log, const struct pagelog_requ
         if (length > 0) memcpy(at + front_length, request->bytes, length);
         output->end += length;
     }
-    log->asked[(log->asked_first + log->asked_count++) % PAGELOG_IN_FLIGHT] = request->operation;
+    log->asked[(log->asked_first + log->asked_count++) % PAGELOG_IN_FLIGHT] =
+        (struct asked){request->epoch, request->operation};
     log->counts.requests++;
     return PAGELOG_DONE;
 }
@@ -382,20 +383,21 @@ enum pagelog_outcome pagelog_lend(struct pagelog *log, const struct pagelog_requ
     return queue(log, &whole, true);
 }
 
-/* Whether a reply of this kind may come to that operation. */
-static bool answers(uint8_t operation, uint8_t kind) {
-    if (kind >= PAGELOG_REPLY_DENIED) return true;
-    switch (operation) {
+/* Whether this reply may come to that request. A request in another epoch than the current one is denied, so
+ * that a status has the epoch that was asked in. */
+static bool answers(struct asked asked, const struct pagelog_reply *reply) {
+    if (reply->kind >= PAGELOG_REPLY_DENIED) return true;
+    switch (asked.operation) {
     case PAGELOG_GET:
-        return kind == PAGELOG_REPLY_PAGE;
+        return reply->kind == PAGELOG_REPLY_PAGE;
     case PAGELOG_PULL:
-        return kind == PAGELOG_REPLY_BLOCKS;
+        return reply->kind == PAGELOG_REPLY_BLOCKS;
     case PAGELOG_STATUS:
-        return kind == PAGELOG_REPLY_STATUS;
+        return reply->kind == PAGELOG_REPLY_STATUS && reply->epoch == asked.epoch;
     case PAGELOG_AUDIT:
-        return kind == PAGELOG_REPLY_ENTRIES;
+        return reply->kind == PAGELOG_REPLY_ENTRIES;
     }
-    return kind == PAGELOG_REPLY_DONE;
+    return reply->kind == PAGELOG_REPLY_DONE;
 }
 
 void pagelog_pass_over(struct pagelog *log) {
@@ -410,7 +412,8 @@ static enum pagelog_outcome pass_over_one(struct pagelog *log) {
     struct pagelog_reply reply;
     enum pagelog_outcome outcome = read_frame(log, &body, &length);
     if (outcome != PAGELOG_DONE) return outcome;
-    if (pagelog_decode_reply(body, length, &reply) != 0 || !answers(PAGELOG_REPORT, reply.kind))
+    const struct asked report = {.operation = PAGELOG_REPORT}; /* or a tidy, which is answered alike */
+    if (pagelog_decode_reply(body, length, &reply) != 0 || !answers(report, &reply))
         return pagelog_distrust(log);
     if (reply.kind != PAGELOG_REPLY_DONE) log->is_tidying_refused = true;
     log->unheard--;
@@ -428,10 +431,10 @@ enum pagelog_outcome pagelog_receive(struct pagelog *log, struct pagelog_reply *
         outcome = pass_over_one(log);
     if (outcome == PAGELOG_DONE) outcome = read_frame(log, &body, &length);
     if (outcome != PAGELOG_DONE) return outcome;
-    uint8_t operation = log->asked[log->asked_first];
+    struct asked asked = log->asked[log->asked_first];
     log->asked_first = (log->asked_first + 1) % PAGELOG_IN_FLIGHT;
     log->asked_count--;
-    if (pagelog_decode_reply(body, length, reply) != 0 || !answers(operation, reply->kind)) {
+    if (pagelog_decode_reply(body, length, reply) != 0 || !answers(asked, reply)) {
         memset(reply, 0, sizeof *reply);
         return pagelog_distrust(log);
     }

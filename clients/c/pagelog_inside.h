@@ -41,6 +41,12 @@ struct lent {
 /* Pieces that are lent at once, at most. */
 enum { MOST_LENT = 8 };
 
+/* A request in flight. */
+struct asked {
+    uint32_t epoch;
+    uint8_t operation;
+};
+
 /* What is in flight of the append to come: the writes of its first blocks, a report after some of them. */
 struct ahead {
     size_t blocks;
@@ -55,7 +61,7 @@ struct pagelog {
     struct buffer output, input; /* requests that were not sent yet; replies not read yet */
     struct lent lent[MOST_LENT]; /* bytes of these requests that are not in the buffer; none of them empty */
     size_t lent_count;
-    uint8_t asked[PAGELOG_IN_FLIGHT]; /* a ring: the operations of the requests in flight, the oldest first */
+    struct asked asked[PAGELOG_IN_FLIGHT]; /* a ring: the requests in flight, the oldest first */
     size_t asked_first, asked_count;
     size_t unheard;               /* requests before these, the replies to which are passed over */
     bool is_tidying_refused;      /* one of them was, in the writing epoch */

@@ -88,9 +88,11 @@ static size_t write_blocks(uint64_t *state, uint8_t *to, uint64_t from) {
     return (size_t)(at - to);
 }
 
-static size_t write_status(uint64_t *state, uint8_t *to) {
+/* In the epoch that was asked in, mostly: the client believes no other. */
+static size_t write_status(uint64_t *state, const uint8_t *request, uint8_t *to) {
+    uint64_t asked = pagelog_read_number(request + 25, 4);
     uint8_t *at = pagelog_write_number(to, PAGELOG_REPLY_STATUS, 1);
-    at = pagelog_write_number(at, below(state, 4), 4);
+    at = pagelog_write_number(at, below(state, 8) ? asked : below(state, 4), 4);
     at = pagelog_write_number(at, 2, 4);
     at = pagelog_write_number(at, below(state, 10), 8);
     at = pagelog_write_number(at, 0, 8);
@@ -126,7 +128,7 @@ static size_t write_reply(uint64_t *state, const uint8_t *request, uint8_t *to) 
     case PAGELOG_PULL:
         return write_blocks(state, to, pagelog_read_number(request + 34, 8));
     case PAGELOG_STATUS:
-        return write_status(state, to);
+        return write_status(state, request, to);
     case PAGELOG_AUDIT:
         memset(to, 0, 3 + 53);
         to[0] = PAGELOG_REPLY_ENTRIES;

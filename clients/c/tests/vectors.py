@@ -178,6 +178,8 @@ def test_frames():
         thread = threading.Thread(target=answer)
         thread.start()
         with Log(address, 2) as log:
+            if kind == "status":
+                asked = {**asked, "epoch": replies[body]["epoch"]}
             same("send", DONE, log.send(request_of(asked), whole=True))
             outcome, reply = log.receive()
             if kind:

@@ -44,6 +44,14 @@ def status(epoch, end):
     return b"\4" + wire.number(epoch, 4) + wire.number(2, 4) + wire.number(end, 8) + bytes(16)
 
 
+def learn(log, peer, epoch, end):
+    """The object learns the epoch by a denial, and the end of the log by a status in that epoch."""
+    peer.body = denial("A3", epoch)
+    same("an epoch", (FENCED, epoch), (log.ask(SECONDARY, wire.STATUS)[0], log.epoch))
+    peer.body = status(epoch, end)
+    same("an end", (DONE, epoch, end), (log.status(SECONDARY)[0], log.epoch, log.end))
+
+
 LINE = (wire.number(1, 8) + wire.number(1, 8) + wire.number(2, 4) + b"\1" + bytes(4) + b"\7" + bytes(16) + b"\1"
         + wire.number(2, 2) + wire.number(1, 8))
 BLOCK = wire.block(1, [(0, 0, b"a")])
@@ -84,8 +92,7 @@ def test_each_row_of_a_denial_has_its_outcome_and_its_value():
             fault, reply = decode(denial(row, value))
             same(f"{row} by itself", (0, outcome), (fault, outcome_of(reply)))
             with Log(proxy.address, 3) as log:
-                peer.body = status(7, 9)
-                same("status", (DONE, 7, 9), (log.status(SECONDARY)[0], log.epoch, log.end))
+                learn(log, peer, 7, 9)
                 peer.body = denial(row, value)
                 for asked in each_request():
                     same("send", DONE, log.send(asked))
@@ -105,12 +112,11 @@ def test_a_denial_that_reports_less_than_before_is_of_a_service_that_was_started
     with Service() as service, Proxy(service.address, between=peer) as proxy:
         for row, _, _, learns in ROWS:
             with Log(proxy.address, 3) as log:
-                peer.body = status(7, 9)
-                same("status", DONE, log.status(SECONDARY)[0])
+                learn(log, peer, 7, 9)
                 peer.body = denial(row, 6 if learns == "epoch" else 8)
                 same(row, learns is not None, log.ask(SECONDARY, wire.STATUS)[0] == FENCED and log.is_anew)
                 if learns:
-                    peer.body = status(8, 10)
+                    peer.body = status(log.epoch, 10)
                     same(f"{row}: for good", (FENCED, True), (log.status(SECONDARY)[0], "started anew" in log.words))
 
 
@@ -119,6 +125,7 @@ def test_each_kind_of_reply_to_each_operation():
     connection, so that what was asked after it has no reply."""
     peer, ended = Peer(), 0
     with Service() as service, Proxy(service.address, between=peer) as proxy, Log(proxy.address, 3) as log:
+        learn(log, peer, 7, 1)
         for kind, (body, outcome, words) in enumerate(KINDS):
             peer.body = body
             fault, reply = decode(body)
@@ -137,6 +144,63 @@ def test_each_kind_of_reply_to_each_operation():
                 found, reply = log.receive()
                 same(f"{what}, once more", (outcome, kind, 0), (found, reply.kind, log.in_flight()))
         same("connections", 1 + ended, log.counts.connects)
+
+
+class AnotherEpoch:
+    """A proxy's rule: while it has a difference, a status is answered in an epoch that differs by it from the one asked in."""
+
+    def __init__(self):
+        self.differs = 0
+
+    def __call__(self, frame):
+        epoch = int.from_bytes(frame[29:33], "big") + self.differs
+        return Answer(status(epoch, 1)) if self.differs and frame[33] == wire.STATUS else frame
+
+
+def test_a_status_in_another_epoch_than_was_asked_in_is_no_reply():
+    """The service answers it in its epoch or denies it, A2 or A3. Nothing is learned by it, and what was asked after it has no
+    reply."""
+    rule = AnotherEpoch()
+    with Service() as service, Proxy(service.address, between=rule) as proxy, Log(proxy.address, 2) as log:
+        same("take over", DONE, log.take_over())
+        same("append", DONE, log.append(numbered(1, 1)))
+        for differs in (-1, 1, 1000):
+            for role in (PRIMARY, SECONDARY, OPERATOR):
+                what, known = f"{differs:+} to role {role}", (log.epoch, log.writing_epoch, log.end, False)
+                rule.differs = differs
+                same("send", (DONE, DONE), (log.send(request(role, wire.STATUS)), log.send(request(PRIMARY, wire.REPORT, lsn=1))))
+                found, reply = log.receive()
+                same(what, (MALFORMED, "malformed", 0, 0), (found, log.words, reply.epoch, log.in_flight()))
+                same(f"{what}: the call", MALFORMED, log.status(role)[0])
+                rule.differs = 0
+                same(f"{what}: what is known", known, (log.epoch, log.writing_epoch, log.end, log.is_anew))
+                same(f"{what}: then", DONE, log.status()[0])
+
+
+def test_no_writer_goes_by_a_status_in_another_epoch():
+    """Neither one that begins, nor an append whose connection was lost after two copies had taken its block."""
+    rule, cuts = AnotherEpoch(), [False]
+
+    def between(frame):
+        is_cut, cuts[0] = cuts[0] and frame[33] == wire.REPORT, cuts[0] and frame[33] != wire.REPORT
+        return None if is_cut else rule(frame)
+
+    with Service() as service, Proxy(service.address, between=between) as proxy:
+        for differs in (-1, 1):
+            for call in (Log.join, Log.take_over):
+                with Log(proxy.address, 2) as log:
+                    rule.differs = 0
+                    same("the epoch", DONE, log.join())
+                    rule.differs = differs
+                    same(f"{differs:+}, {call.__name__}", (MALFORMED, False), (call(log), log.is_anew))
+                    same("no append", True, log.append(numbered(log.end + 1, 1)) in (MALFORMED, CONFLICT))
+            with Log(proxy.address, 2) as log:
+                rule.differs = 0
+                same("take over", DONE, log.take_over())
+                rule.differs, cuts[0], blocks = differs, True, numbered(log.end + 1, 1)
+                same(f"{differs:+}, append", (IN_DOUBT, False), (log.append(blocks), log.is_anew))
+                rule.differs = 0
+                same("take over, and look", (DONE, blocks.all()), (log.take_over(), blocks_of(log.pull(log.end)[1])))
 
 
 def refusals():
