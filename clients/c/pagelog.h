@@ -363,14 +363,13 @@ const uint8_t *pagelog_next_block(const struct pagelog_reply *blocks, size_t *at
 /* Becomes the writer of a new epoch, by a failover to this object's principal in the name of an operator.
  * Where `expected` is not 0 it does so only if that is the current epoch, or if a take-over whose replies
  * were lost may have begun the current one, which then is this principal's; it is FENCED otherwise. Else it
- * does so whatever the epoch is. No other object has the epoch that it begins: it is of use to nobody who
- * does not ask in its name and in its number. */
+ * does so whatever the epoch is. No other object has the epoch that it begins, unless it joins that. */
 enum pagelog_outcome pagelog_take_over(struct pagelog *log, uint32_t operator_principal,
                                        const uint8_t operator_token[PAGELOG_TOKEN_BYTES], uint32_t expected);
 
 /* Becomes a writer of the current epoch, which has to be this principal's; FENCED (A4) otherwise. Two objects
- * may write in one epoch so, which spoils transactions of several blocks: pagelog_take_over rules that out.
- */
+ * may write in one epoch so, which spoils transactions of several blocks. Where all call pagelog_take_over,
+ * none does. */
 enum pagelog_outcome pagelog_join(struct pagelog *log);
 
 /* Appends ended blocks, the first of which has the LSN pagelog_end() + 1, each to `copies` copies of the

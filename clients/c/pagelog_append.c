@@ -219,18 +219,26 @@ static enum pagelog_outcome exchange_group(struct append *append, size_t count) 
     return append->refusal;
 }
 
+/* Whether the group that was exchanged is in the log. A report that was Done hardened the contents of these
+ * LSNs, and a write that was Done says that the content is this block. */
+static bool is_in_log(struct append *append, size_t count) {
+    return append->is_reported && are_done(append, count, 1);
+}
+
 /* Learns from the replies to a group which landing zone the epoch has. Whether it is not the one that the
- * group was written for. */
+ * group was written for. A report that was Done shows a quorum only where these blocks are the ones that it
+ * is about, and nobody else is known to write in the epoch. */
 static bool learn_zone(struct append *append, size_t count) {
     struct pagelog *log = append->log;
     struct pagelog_zone old = log->zone;
     bool in_fewer = copies_of(append) < six_copies.quorum;
+    bool suffices = in_fewer && is_in_log(append, count) && log->owns_epoch;
     bool too_few = in_fewer && append->refusal == PAGELOG_CONFLICT && is_row(&append->refused, 6) &&
                    are_done(append, count, copies_of(append));
     if (log->zone.is_seen) return false;
     if (append->has_fourth || too_few)
         log->zone = six_copies;
-    else if (append->lacks_fourth || (append->is_reported && in_fewer && log->owns_epoch))
+    else if (append->lacks_fourth || suffices)
         log->zone = three_copies;
     return log->zone.copies != old.copies;
 }
@@ -259,6 +267,16 @@ static enum pagelog_outcome look(struct append *append, size_t first, size_t cou
     return PAGELOG_DONE;
 }
 
+/* Whether `count` blocks in the log are these, for who may not pull. A write that was Done says so. An epoch
+ * that this object has begun does not: another process of its principal may have joined it, and have had its
+ * own blocks hardened there before these came. What was never sent is another's. Else the cause of the look
+ * stays, and what was sent to a quorum is in doubt. */
+static enum pagelog_outcome judge_unseen(struct append *append, size_t count) {
+    if (are_done(append, count, 1)) return PAGELOG_DONE;
+    enum pagelog_outcome cause = were_sent(append, count) ? append->refusal : PAGELOG_CONFLICT;
+    return pagelog_restore(append->log, cause, &append->refused);
+}
+
 /* After a lost connection, or a write at an LSN that is in the log: learns how far the log goes, and whether
  * what is there is what was to be appended. DONE: the rest may be asked again. */
 static enum pagelog_outcome catch_up(struct append *append) {
@@ -270,12 +288,7 @@ static enum pagelog_outcome catch_up(struct append *append) {
     size_t count = append->count - append->first;
     if (status.hard - next + 1 < count) count = (size_t)(status.hard - next + 1);
     outcome = look(append, append->first, count);
-    /* Who may not pull knows it by an epoch of its own, or by writes that were Done. What was never sent is
-     * another's, whosever epoch it is. */
-    if (outcome == PAGELOG_DENIED && !were_sent(append, count))
-        return pagelog_restore(append->log, PAGELOG_CONFLICT, &append->refused);
-    if (outcome == PAGELOG_DENIED && (append->log->owns_epoch || are_done(append, count, 1)))
-        outcome = PAGELOG_DONE;
+    if (outcome == PAGELOG_DENIED) outcome = judge_unseen(append, count);
     if (outcome == PAGELOG_DONE) advance(append, count);
     return outcome;
 }
@@ -325,12 +338,6 @@ static enum pagelog_outcome conclude(struct append *append, enum pagelog_outcome
 static enum pagelog_outcome taken_from_log(struct append *append, enum pagelog_outcome outcome) {
     if (outcome != PAGELOG_DONE) append->refused = *pagelog_refused(append->log);
     return outcome;
-}
-
-/* Whether the group that was exchanged is in the log. A report that was Done hardened the contents of these
- * LSNs, and a write that was Done says that the content is this block. */
-static bool is_in_log(struct append *append, size_t count) {
-    return append->is_reported && are_done(append, count, 1);
 }
 
 /* Goes on until all blocks are in the log, or why they are not. */

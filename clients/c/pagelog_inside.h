@@ -69,7 +69,7 @@ struct pagelog {
     uint32_t writing_epoch;       /* 0: no writer */
     uint64_t end;                 /* the highest LSN known to be in the log */
     struct pagelog_zone zone;     /* of the writing epoch, as far as is known */
-    bool owns_epoch;              /* it was begun for this object alone */
+    bool owns_epoch;              /* it was begun by this object; another may join it */
     uint32_t lost_failovers;      /* sent since the writing epoch began, whose replies were lost */
     bool anew;                    /* the service was started anew */
     bool stuck;                   /* the window may hold blocks of an append that is not DONE */

@@ -1047,6 +1047,38 @@ def test_another_session_in_the_epoch_of_a_writer_that_may_not_look():
                 same("integrity", "ok", one(connection, "pragma integrity_check"))
 
 
+def test_a_lost_connection_where_another_session_has_joined_the_epoch():
+    """Under the start table, and the other commits at the LSN of this writer's own commit before it has come. That is not
+    reported done, and both writers' rows go on from what is in the log. A lost reply is made up for, with an epoch more."""
+    for is_own in (False, True):
+        is_cut = [False]
+        with Service(table=START_TABLE) as service, service.operator() as operator:
+
+            def between(frame):
+                if not is_cut[0] or (is_own and frame[33] != wire.REPORT):
+                    return frame
+                is_cut[0] = False
+                if is_own:
+                    operator.carry(frame)
+                else:
+                    other.execute("insert into t values (20)")
+                return None
+
+            with Proxy(service.address, between=between) as proxy:
+                writer = connect(proxy.address, check=3600000)
+                writer.executescript("create table t(a); insert into t values (1);")
+                other, epoch = connect(service.address, operator=None, check=3600000), number_of(writer, "epoch")
+                same("all pages in memory", 1, one(other, "select count(*) from t"))
+                is_cut[0] = True
+                same("cut", None if is_own else "SQLITE_IOERR", code_of(lambda: writer.execute("insert into t values (2)")))
+                same("an epoch more", (1, epoch + 1), (proxy.cuts, number_of(writer, "epoch")))
+                writer.execute("insert into t values (3)")
+                for connection in (writer, reader(service.address)):
+                    same("rows", [(1,), (2,) if is_own else (20,), (3,)], connection.execute("select a from t").fetchall())
+                    same("integrity", "ok", one(connection, "pragma integrity_check"))
+                same("fenced", "SQLITE_READONLY", code_of(lambda: other.execute("insert into t values (21)")))
+
+
 def test_the_shell():
     with Service() as service:
         text = (f".load {EXTENSION}\n.open '{uri(service.address)}'\ncreate table t(a, b);\n"

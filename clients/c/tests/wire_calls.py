@@ -959,6 +959,55 @@ def test_a_joined_writer_without_the_role_of_a_secondary():
             true("was cut", proxy.cuts == 1)
 
 
+def test_whose_block_it_is_where_nobody_may_look():
+    """Under the start table another process of this principal joins the epoch that a writer has begun, and puts blocks at the
+    LSNs of its own, whose connection is lost before any of them has come. It is in doubt; where the last block was not sent,
+    it is not in the log; where the log has one that was not sent, it is another's."""
+    for count, others, wanted in ((1, 1, IN_DOUBT), (70, 64, LOST), (70, 70, CONFLICT)):
+        is_cut = [False]
+        with Service(table=START_TABLE) as service, Log(service.address, 3) as reader, Log(service.address, 2) as other:
+
+            def between(frame):
+                if not is_cut[0]:
+                    return frame
+                is_cut[0] = False
+                same("the other", (DONE, DONE), (other.join(), other.append(numbered(1, others, page=7))))
+                return None
+
+            with Proxy(service.address, between=between) as proxy, Log(proxy.address, 2) as log:
+                same("take over", DONE, log.take_over())
+                is_cut[0] = True
+                same(f"{count} blocks", (wanted, wanted), (log.append(numbered(1, count)), log.words))
+                same("the log", numbered(1, others, page=7).all(), pulled(reader, others))
+                same("no more in this epoch", CONFLICT, log.append(numbered(log.end + 1, 1)))
+                same("take over", (DONE, others), (log.take_over(), log.end))
+
+
+def test_a_lost_report_where_nobody_may_look():
+    """It was carried out. The append is done where a write of each block was answered before, and else in doubt."""
+    for is_answered in (False, True):
+        is_cut = [False]
+        with Service(table=START_TABLE) as service, service.operator() as operator, Log(service.address, 3) as reader:
+
+            def between(frame):
+                if not is_cut[0] or frame[33] != wire.REPORT:
+                    return frame
+                is_cut[0] = False
+                operator.carry(frame)
+                return None
+
+            with Proxy(service.address, between=between) as proxy, Log(proxy.address, 2) as log:
+                same("take over", DONE, log.take_over())
+                is_cut[0], blocks = True, numbered(1, 3)
+                if is_answered:
+                    log.append_ahead(blocks)
+                while is_answered and log.in_flight() > 0:
+                    same("all is well", False, log.is_due())
+                same(f"{is_answered}", (DONE if is_answered else IN_DOUBT, 1), (log.append(blocks), proxy.cuts))
+                same("log", blocks.all(), pulled(reader, 3))
+                same("take over", (DONE, 3), (log.take_over(), log.end))
+
+
 if __name__ == "__main__":
     # The model has a thread for each connection, so that no client waits for a worker.
     run("wire calls", globals(), not_with_the_model=["test_every_wait_ends"])

@@ -1,7 +1,7 @@
 """Landing zones of three copies and of six, with the right one and the wrong one in the options; rows of a table that end at an
 LSN. What the service does not know of these is not tried, and said."""
 
-from binding import DENIED, DONE, FENCED, MALFORMED, Blocks, Log, Options, blocks_of, byref, lib, numbered, token
+from binding import CONFLICT, DENIED, DONE, FENCED, MALFORMED, Blocks, Log, Options, blocks_of, byref, lib, numbered, token
 from check import run, same
 from database import code_of, connect, one, reader
 from service import Proxy, SIX_COPIES, Service, TABLE, failing_over, starts_with, wire
@@ -115,6 +115,32 @@ def test_failovers_before_each_request_of_what_nobody_waits_for():
                 what = f"zone {zone}, told {told}, {operation} {count}"
                 same(what, blocks.all()[: len(found)], found)
                 same(what, DONE if len(found) == 3 else FENCED, outcome)
+
+
+def test_a_report_of_what_another_has_hardened_shows_no_zone():
+    """The other has joined the epoch of a writer that was given three copies, and there are six. The report of that one's own
+    block is Done, since the LSN is in the log with the other's. Its next block is in two copies when the epoch ends."""
+    if not KNOWS_SIX:
+        return f"{NOT_KNOWN} copies and quorum"
+    with Service(text=SIX_COPIES) as service, service.operator() as operator, Log(service.address, 3) as follower, \
+            Log(service.address, 2, copies=6) as other:
+        reports = []
+
+        def between(frame):
+            if frame[33] == wire.WRITE and not reports and other.end == 0:
+                same("the other", (DONE, DONE), (other.join(), other.append(numbered(1, 1, page=7))))
+            if frame[33] == wire.REPORT:
+                reports.append(frame)
+                if len(reports) == 2:
+                    operator.failover(5)
+            return frame
+
+        with Proxy(service.address, between=between) as proxy, Log(proxy.address, 2) as log:
+            same("take over", DONE, log.take_over())
+            same("another's", (CONFLICT, "C2"), (log.append(numbered(1, 1)), log.row[0]))
+            same("the zone", (*THREE, False), log.zone)
+            same("in too few copies", FENCED, log.append(numbered(2, 1)))
+            same("the log", numbered(1, 1, page=7).all(), blocks_of(follower.pull(1)[1]))
 
 
 def test_who_may_not_look():
