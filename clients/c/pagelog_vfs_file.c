@@ -119,15 +119,21 @@ static int note_refusal(struct connection *connection, int code) {
 
 static int file_write(sqlite3_file *file, const void *bytes, int length, sqlite3_int64 offset) {
     struct database *database = enter(file);
+    ((struct connection *)file)->is_committed = false;
     forget_wal((struct connection *)file, bytes, length, offset);
     int code =
         pagelog_result(database, pagelog_file_write(database->file, (uint64_t)offset, bytes, (size_t)length));
     return leave(database, note_error(file, as_io_error(code)));
 }
 
+/* Where SQLite makes the file shorter after its COMMIT, an error would say that the transaction is not there.
+ * The file stays longer then, as by a crash at that moment: SQLite goes by the number of pages in its first
+ * one. Only where the file has lost commits that nobody waited for it is told. */
 static int file_truncate(sqlite3_file *file, sqlite3_int64 size) {
+    bool is_committed = ((struct connection *)file)->is_committed;
     struct database *database = enter(file);
     int code = pagelog_result(database, pagelog_file_resize(database->file, (uint64_t)size));
+    if (is_committed && !pagelog_file_state_of(database->file).is_over) code = SQLITE_OK;
     return leave(database, note_error(file, as_io_error(code)));
 }
 
@@ -166,6 +172,7 @@ static int file_control(sqlite3_file *file, int operation, void *argument) {
     case SQLITE_FCNTL_SYNC: /* a commit, or the end of a rollback, after which nothing differs */
         code = note_refusal(connection, pagelog_result(database, pagelog_file_commit(database->file)));
         note_error(file, code);
+        connection->is_committed = code == SQLITE_OK;
         connection->lsn = pagelog_file_lsn(database->file);
         break;
     case SQLITE_FCNTL_COMMIT_PHASETWO: /* a VACUUM makes the file shorter after its commit */
@@ -205,7 +212,8 @@ static const sqlite3_io_methods file_methods = {
 
 void pagelog_open_connection(struct connection *connection, sqlite3_filename name) {
     connection->lock = SQLITE_LOCK_NONE;
-    connection->is_sized = connection->is_refused = connection->is_exclusive = false;
+    connection->is_sized = connection->is_refused = connection->is_committed = false;
+    connection->is_exclusive = false;
     connection->journal_mode = "delete";
     connection->base.pMethods = &file_methods;
     pagelog_list_connection(connection, name);

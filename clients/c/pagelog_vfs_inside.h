@@ -47,8 +47,9 @@ struct connection {
     int lock;
     /* Of the file, as SQLite's own cache has it: commits that were lost, and the transaction. */
     uint64_t losses, lsn;
-    bool is_sized;   /* SQLite has asked for the size of a sector */
-    bool is_refused; /* the last commit or end of a rollback was, and the lock was kept since */
+    bool is_sized;     /* SQLite has asked for the size of a sector */
+    bool is_refused;   /* the last commit or end of a rollback was, and the lock was kept since */
+    bool is_committed; /* the last commit was done, the lock was kept since, and nothing was written */
     /* What was set by `PRAGMA locking_mode` and `journal_mode`. */
     bool is_exclusive;
     const char *journal_mode;

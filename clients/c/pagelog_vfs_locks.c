@@ -13,7 +13,7 @@ void pagelog_lower_lock(struct database *database, struct connection *connection
     }
     if (lock == SQLITE_LOCK_NONE) database->sharing--;
     connection->lock = lock;
-    connection->is_refused = false;
+    connection->is_refused = connection->is_committed = false;
 }
 
 /* The first of those that share the database begins a transaction of the file. */

@@ -623,6 +623,58 @@ def test_requests_that_are_denied_for_a_while():
             same("all of it", "ok", one(connection, "pragma integrity_check"))
 
 
+class CutsAfterTheCommit:
+    """A proxy's rule: while it is armed, a get after a report is refused, or its connection is cut and the service away."""
+
+    def __init__(self, goes_away):
+        self.goes_away, self.is_armed, self.is_reported, self.count = goes_away, False, False, 0
+
+    def __call__(self, frame):
+        self.is_reported = self.is_armed and (self.is_reported or frame[33] == wire.REPORT)
+        if not self.is_reported or frame[33] != wire.GET:
+            return frame
+        self.is_armed, self.count = False, self.count + 1
+        if not self.goes_away:
+            return Answer(b"\5\2" + bytes(10))
+        self.proxy.go_away()
+        return None
+
+
+def test_a_file_that_is_made_shorter_after_its_commit():
+    """With pages of 4,096 bytes it may end within a page of the file, which has to be fetched for that. Where it cannot be, the
+    COMMIT is no error: it is in the log. The file stays longer."""
+    for goes_away in (False, True):
+        for locking, journal in (("normal", "delete"), ("exclusive", "persist")):
+            rule = CutsAfterTheCommit(goes_away)
+            with Service() as service, Proxy(service.address, between=rule, at="127.0.0.2") as rule.proxy:
+                writer = connect(rule.proxy.address, pages=1, check=3600000, patience=100)
+                writer.executescript("pragma page_size = 4096; pragma auto_vacuum = incremental; pragma cache_size = 5;"
+                                     "create table t(a integer primary key, b); create table u(a integer primary key, b);"
+                                     f"pragma locking_mode = {locking}; pragma journal_mode = {journal};")
+                for table in "tu":
+                    writer.executemany(f"insert into {table} values (?, zeroblob(4000))", [(a,) for a in range(100)])
+                writer.execute("delete from u")
+                same("other pages in memory", 400000, one(writer, "select sum(length(b)) from t"))
+                pages, size = one(writer, "pragma page_count"), number_of(writer, "size")
+                writer.execute("begin")
+                writer.execute("insert into u values (1, 'small')")
+                writer.execute("pragma incremental_vacuum(1)").fetchall()
+                rule.is_armed = True
+                same(f"{goes_away, locking}: commit", (None, 1), (code_of(lambda: writer.execute("commit")), rule.count))
+                same("as long as it was", (pages - 1, size), (one(writer, "pragma page_count"), number_of(writer, "size")))
+                if goes_away:
+                    rule.proxy.come_back()
+                other = reader(service.address)
+                for number in (1, 2, 3):
+                    for connection in (writer, other):
+                        same("rows", number, one(connection, "select count(*) from u"))
+                        same("integrity", "ok", one(connection, "pragma integrity_check"))
+                    same("pages", (pages - number, size // 4096 - number * (number > 1)),
+                         (one(other, "pragma page_count"), number_of(other, "size") // 4096))
+                    writer.execute("insert into u values (?, 'small')", (number + 1,))
+                    writer.execute("pragma incremental_vacuum(1)").fetchall()
+
+
 def test_a_journal_that_persists_has_no_end_of_a_name_from_before():
     """SQLite finds the name of a super-journal in a journal by eight bytes. Where those are in a page that an older transaction
     has left in the journal, a COMMIT to two databases that the second one refuses is in none of them all the same."""
