@@ -1,5 +1,5 @@
-/* The commit: pages that differ become records, records fill blocks, and the end mark ends the last of them;
- * and the repair, which undoes a commit that did not come so far. */
+/* The commit: pages that differ become records, records fill blocks, and the end mark ends the last of them.
+ */
 #include "pagelog_file_inside.h"
 
 #include <stdlib.h>
@@ -54,17 +54,11 @@ static enum pagelog_outcome fetch_bases(struct commit *commit, size_t first) {
     return outcome;
 }
 
-/* Appends full groups, so that the blocks of a long transaction need not all be in memory. The last group
- * waits for the end mark: nobody sees what is in the log without one. */
-static enum pagelog_outcome append_full_group(struct pagelog_file *file) {
-    return pagelog_blocks_count(file->blocks) >= GROUP ? pagelog_append_ended(file) : PAGELOG_DONE;
-}
-
 /* The blocks of a transaction leave as they become full, unless something else has to be asked meanwhile. */
 static enum pagelog_outcome send_full_blocks(struct commit *commit) {
     struct pagelog_file *file = commit->file;
     if (commit->has_bases) pagelog_append_ahead(file->log, file->blocks, file->options.written);
-    return append_full_group(file);
+    return pagelog_append_full_group(file);
 }
 
 /* Adds a page as a whole: zeros, and then what differs from them. */
@@ -187,6 +181,19 @@ static enum pagelog_outcome find_mark(struct pagelog_file *file, enum pagelog_ro
     return is_ours ? PAGELOG_DONE : PAGELOG_CONFLICT;
 }
 
+/* A commit in doubt whose end mark is in the log: it is done if all of its blocks are. */
+static enum pagelog_outcome settle_by_blocks(struct pagelog_file *file, const struct mark *mark,
+                                             const struct pagelog_reply *refused) {
+    enum pagelog_outcome outcome = pagelog_find_blocks(file, role_of(file), mark->lsn);
+    if (outcome == PAGELOG_DONE) return outcome;
+    if (outcome == PAGELOG_CONFLICT)
+        return pagelog_file_fail(
+            file, PAGELOG_IN_DOUBT,
+            "another session of this epoch has put a block in the place of one of these");
+    file->reason = NULL;
+    return pagelog_restore(file->log, PAGELOG_IN_DOUBT, refused);
+}
+
 /* A commit in doubt: another epoch decides it, be it one that this writer begins or one that somebody else
  * has begun. */
 static enum pagelog_outcome settle_doubt(struct pagelog_file *file, const struct mark *mark) {
@@ -200,6 +207,8 @@ static enum pagelog_outcome settle_doubt(struct pagelog_file *file, const struct
     if (outcome != PAGELOG_DONE && !is_fenced) return pagelog_restore(file->log, PAGELOG_IN_DOUBT, &refused);
     if (is_fenced) pagelog_become_follower(file);
     outcome = find_mark(file, role_of(file), mark);
+    if (outcome == PAGELOG_DONE) outcome = settle_by_blocks(file, mark, &refused);
+    if (outcome == PAGELOG_IN_DOUBT) return outcome;
     /* Where a failover's reply was lost, another writer may have gone on from there before this epoch. */
     if (outcome == PAGELOG_DONE && !is_fenced) file->is_broken = pagelog_end(file->log) != mark->lsn;
     if (outcome == PAGELOG_DONE) return PAGELOG_DONE;
@@ -326,113 +335,4 @@ enum pagelog_outcome pagelog_file_commit(struct pagelog_file *file) {
         pagelog_file_undo(file);
     free(commit.frames);
     return outcome;
-}
-
-/* ---- The repair ---- */
-
-/* A set of pages, as a list. */
-struct pages {
-    uint32_t *numbers;
-    size_t count, room;
-};
-
-static bool add_page(struct pages *pages, uint32_t page) {
-    if (pages->count > 0 && pages->numbers[pages->count - 1] == page) return true;
-    if (pages->count == pages->room) {
-        size_t room = pages->room ? 2 * pages->room : 256;
-        uint32_t *numbers = realloc(pages->numbers, room * sizeof *numbers);
-        if (!numbers) return false;
-        pages->numbers = numbers;
-        pages->room = room;
-    }
-    pages->numbers[pages->count++] = page;
-    return true;
-}
-
-static int compare_numbers(const void *one, const void *other) {
-    uint32_t a = *(const uint32_t *)one, b = *(const uint32_t *)other;
-    return a < b ? -1 : a > b;
-}
-
-static void sort_once_each(struct pages *pages) {
-    size_t kept = 0;
-    if (pages->count == 0) return;
-    qsort(pages->numbers, pages->count, sizeof *pages->numbers, compare_numbers);
-    for (size_t i = 0; i < pages->count; i++)
-        if (kept == 0 || pages->numbers[kept - 1] != pages->numbers[i])
-            pages->numbers[kept++] = pages->numbers[i];
-    pages->count = kept;
-}
-
-/* Adds the pages of the file that a block touches. */
-static bool add_touched(struct pages *pages, const uint8_t *block, uint32_t last) {
-    struct pagelog_records records;
-    struct pagelog_record record;
-    pagelog_records_begin(&records, block);
-    while (pagelog_records_next(&records, &record))
-        if (record.page != MARK_PAGE && record.page <= last && !add_page(pages, record.page)) return false;
-    return true;
-}
-
-/* The pages of the file that the blocks after the end mark touch; all pages where this principal may not
- * pull. */
-static enum pagelog_outcome touched_pages(struct pagelog_file *file, uint64_t end, struct pages *pages) {
-    uint32_t last = pages_of(file->mark.size);
-    for (uint64_t next = file->mark.lsn + 1; next <= end;) {
-        struct pagelog_reply pulled;
-        size_t at = 0, length;
-        const uint8_t *block;
-        enum pagelog_outcome outcome = pagelog_pull(file->log, next, PAGELOG_PULL_BLOCKS, &pulled);
-        if (outcome == PAGELOG_DENIED) break;
-        if (outcome != PAGELOG_DONE) return outcome;
-        while ((block = pagelog_next_block(&pulled, &at, &length)))
-            if (!add_touched(pages, block, last)) return out_of_memory(file);
-        next = pulled.next;
-        if (next > end) {
-            sort_once_each(pages);
-            return PAGELOG_DONE;
-        }
-    }
-    pages->count = 0;
-    for (uint32_t page = 1; page <= last; page++)
-        if (!add_page(pages, page)) return out_of_memory(file);
-    return PAGELOG_DONE;
-}
-
-/* Adds what makes up to 64 pages again what they were at the end mark. */
-static enum pagelog_outcome add_repairs(struct pagelog_file *file, uint64_t end, const uint32_t *pages,
-                                        size_t count) {
-    uint8_t *old = malloc(2 * GROUP * PAGELOG_PAGE_BYTES);
-    if (!old) return out_of_memory(file);
-    uint8_t *now = old + GROUP * PAGELOG_PAGE_BYTES;
-    enum pagelog_outcome outcome = pagelog_get(file->log, PAGELOG_PRIMARY, file->mark.lsn, pages, count, old);
-    if (outcome == PAGELOG_DONE) outcome = pagelog_get(file->log, PAGELOG_PRIMARY, end, pages, count, now);
-    for (size_t i = 0; i < count && outcome == PAGELOG_DONE; i++) {
-        size_t at = i * PAGELOG_PAGE_BYTES;
-        outcome = pagelog_blocks_difference(file->blocks, pages[i], now + at, old + at);
-        if (outcome == PAGELOG_DONE) outcome = append_full_group(file);
-    }
-    free(old);
-    return outcome;
-}
-
-enum pagelog_outcome pagelog_repair(struct pagelog_file *file) {
-    struct pages pages = {0};
-    uint64_t end = pagelog_end(file->log);
-    struct mark mark = {
-        .size = file->mark.size, .session = file->session, .transaction = file->mark.transaction + 1};
-    enum pagelog_outcome outcome = touched_pages(file, end, &pages);
-    pagelog_blocks_restart(file->blocks, end + 1);
-    for (size_t i = 0; i < pages.count && outcome == PAGELOG_DONE; i += GROUP) {
-        size_t count = pages.count - i < GROUP ? pages.count - i : GROUP;
-        outcome = add_repairs(file, end, pages.numbers + i, count);
-    }
-    free(pages.numbers);
-    if (outcome == PAGELOG_DONE) outcome = pagelog_add_mark(file, &mark);
-    if (outcome == PAGELOG_DONE) outcome = pagelog_append_ended(file);
-    if (outcome != PAGELOG_DONE) return outcome;
-    file->mark = mark;
-    file->next = mark.lsn + 1;
-    file->repairs++;
-    return PAGELOG_DONE;
 }

@@ -1,5 +1,5 @@
-/* Opening, transactions, reads and writes. pagelog_mark.c has the end mark, pagelog_commit.c the commit and
- * the repair, pagelog_follow.c the follower. */
+/* Opening, transactions, reads and writes. pagelog_mark.c has the end mark, pagelog_commit.c the commit,
+ * pagelog_repair.c the repair, pagelog_follow.c the follower. */
 #include "pagelog_file_inside.h"
 
 #include <stdio.h>
@@ -48,9 +48,10 @@ void pagelog_file_free(struct pagelog_file *file) {
 
 /* Reads the newest end mark as a writer, and undoes what is after it. */
 static enum pagelog_outcome recover(struct pagelog_file *file) {
-    enum pagelog_outcome outcome = pagelog_take_mark(file, pagelog_end(file->log));
+    enum pagelog_outcome outcome = pagelog_take_whole(file);
     if (outcome == PAGELOG_DONE && is_writer(file) && pagelog_end(file->log) > file->mark.lsn)
         outcome = pagelog_repair(file);
+    if (outcome == PAGELOG_DONE) file->torn = 0;
     return outcome;
 }
 

@@ -37,6 +37,7 @@ struct pagelog_file {
     bool is_over;          /* some of them were lost, and there was no begin since */
     uint64_t losses;       /* how often some were */
     uint64_t session;      /* of the writer: a random number */
+    uint64_t torn; /* from this LSN on its transactions are not whole, until they are undone; 0: all are */
     bool is_open, is_fenced, is_broken, is_stale, is_foreign;
     uint64_t size, least; /* of the transaction: the size, and the least that it was since the last commit */
     uint64_t next;        /* of a follower: where the next pull begins */
@@ -92,9 +93,21 @@ enum pagelog_outcome pagelog_take_mark(struct pagelog_file *file, uint64_t lsn);
 /* Appends the blocks that were ended, and forgets them. */
 enum pagelog_outcome pagelog_append_ended(struct pagelog_file *file);
 
+/* Appends full groups, so that the blocks of a long transaction need not all be in memory. The last group
+ * waits for the end mark: nobody sees what is in the log without one. */
+enum pagelog_outcome pagelog_append_full_group(struct pagelog_file *file);
+
 /* Adds the end mark to the blocks that are being made, as the last record of the last of them. `*mark` is
  * given its LSN. */
 enum pagelog_outcome pagelog_add_mark(struct pagelog_file *file, struct mark *mark);
+
+/* Whether the blocks that were to be appended last are in the log up to this LSN, where that has their end
+ * mark: DONE, or CONFLICT, where another session that has joined the epoch has its own in place of some. By
+ * the pages, which every role may get. */
+enum pagelog_outcome pagelog_find_blocks(struct pagelog_file *file, enum pagelog_role role, uint64_t lsn);
+
+/* Takes the newest whole transaction for the one that is read. */
+enum pagelog_outcome pagelog_take_whole(struct pagelog_file *file);
 
 /* Undoes what is in the log after the end mark, in a transaction of its own. */
 enum pagelog_outcome pagelog_repair(struct pagelog_file *file);

@@ -48,6 +48,10 @@ enum pagelog_outcome pagelog_append_ended(struct pagelog_file *file) {
     return PAGELOG_DONE;
 }
 
+enum pagelog_outcome pagelog_append_full_group(struct pagelog_file *file) {
+    return pagelog_blocks_count(file->blocks) >= GROUP ? pagelog_append_ended(file) : PAGELOG_DONE;
+}
+
 /* Where zeros come before the mark, both are in one block: nobody sees the page without its mark. */
 enum pagelog_outcome pagelog_add_mark(struct pagelog_file *file, struct mark *mark) {
     uint8_t bytes[MARK_BYTES];

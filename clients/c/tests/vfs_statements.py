@@ -1118,17 +1118,45 @@ def test_a_lost_connection_where_another_session_has_joined_the_epoch():
 
             with Proxy(service.address, between=between) as proxy:
                 writer = connect(proxy.address, check=3600000)
-                writer.executescript("create table t(a); insert into t values (1);")
+                writer.executescript("create table t(a); create table u(b); insert into t values (1);")
                 other, epoch = connect(service.address, operator=None, check=3600000), number_of(writer, "epoch")
                 same("all pages in memory", 1, one(other, "select count(*) from t"))
                 is_cut[0] = True
-                same("cut", None if is_own else "SQLITE_IOERR", code_of(lambda: writer.execute("insert into t values (2)")))
+                several = "begin; insert into t values (2); insert into u values (randomblob(200000)); commit"
+                same("cut", None if is_own else "SQLITE_IOERR", code_of(lambda: writer.executescript(several)))
+                if writer.in_transaction:
+                    writer.execute("rollback")
                 same("an epoch more", (1, epoch + 1), (proxy.cuts, number_of(writer, "epoch")))
                 writer.execute("insert into t values (3)")
                 for connection in (writer, reader(service.address)):
                     same("rows", [(1,), (2,) if is_own else (20,), (3,)], connection.execute("select a from t").fetchall())
+                    same("large rows", is_own, one(connection, "select count(*) from u"))
                     same("integrity", "ok", one(connection, "pragma integrity_check"))
                 same("fenced", "SQLITE_READONLY", code_of(lambda: other.execute("insert into t values (21)")))
+
+
+def test_another_session_in_the_epoch_and_a_commit_of_several_blocks():
+    """The other has joined the epoch, and its commit has the LSN of the first block of this writer's, whose other blocks come
+    into the log: it is not whole, so it is in doubt, and what has come of it is undone."""
+    for table in (TABLE, START_TABLE):
+        for unwaited in (0, 64):
+            with Service(table=table) as service, Proxy(service.address) as proxy:
+                writer = connect(service.address, check=3600000, unwaited=unwaited)
+                writer.executescript("create table t(a integer primary key, b); insert into t values (1, 'x');")
+                other = connect(proxy.address, operator=None)
+                other.execute("insert into t values (20, 'y')")
+                writer.execute(f"pragma synchronous = {'off' if unwaited else 'full'}")
+                codes = [code_of(lambda: writer.execute("insert into t values (2, ?)", (random.Random(1).randbytes(200000),))),
+                         code_of(lambda: one(writer, "pragma pagelog_unwaited = 0"))]
+                same("in doubt", ["SQLITE_IOERR_FSYNC"], [code for code in codes if code])
+                true("at once, where it is waited for", unwaited or codes[0])
+                if not unwaited:
+                    same("why", "in doubt: another session of this epoch has put a block in the place of one of these",
+                         one(writer, "pragma pagelog_error"))
+                writer.execute("insert into t values (4, 'z')")
+                for connection in (writer, reader(service.address)):
+                    same("rows", [(1,), (4,), (20,)], connection.execute("select a from t").fetchall())
+                    same("integrity", "ok", one(connection, "pragma integrity_check"))
 
 
 def test_the_shell():

@@ -1,0 +1,184 @@
+/* What became of blocks that have no end mark after them, or that are not whole: the repair undoes them, in a
+ * transaction of its own. */
+#include "pagelog_file_inside.h"
+
+#include <stdlib.h>
+#include <string.h>
+
+static enum pagelog_outcome out_of_memory(struct pagelog_file *file) {
+    return pagelog_file_fail(file, PAGELOG_NO_MEMORY, "this process has no memory left");
+}
+
+/* ---- Pages ---- */
+
+/* A set of pages, as a list. */
+struct pages {
+    uint32_t *numbers;
+    size_t count, room;
+};
+
+static bool add_page(struct pages *pages, uint32_t page) {
+    if (pages->count > 0 && pages->numbers[pages->count - 1] == page) return true;
+    if (pages->count == pages->room) {
+        size_t room = pages->room ? 2 * pages->room : 256;
+        uint32_t *numbers = realloc(pages->numbers, room * sizeof *numbers);
+        if (!numbers) return false;
+        pages->numbers = numbers;
+        pages->room = room;
+    }
+    pages->numbers[pages->count++] = page;
+    return true;
+}
+
+static int compare_numbers(const void *one, const void *other) {
+    uint32_t a = *(const uint32_t *)one, b = *(const uint32_t *)other;
+    return a < b ? -1 : a > b;
+}
+
+static void sort_once_each(struct pages *pages) {
+    size_t kept = 0;
+    if (pages->count == 0) return;
+    qsort(pages->numbers, pages->count, sizeof *pages->numbers, compare_numbers);
+    for (size_t i = 0; i < pages->count; i++)
+        if (kept == 0 || pages->numbers[kept - 1] != pages->numbers[i])
+            pages->numbers[kept++] = pages->numbers[i];
+    pages->count = kept;
+}
+
+/* ---- The repair ---- */
+
+/* Adds the pages of the file that a block touches. */
+static bool add_touched(struct pages *pages, const uint8_t *block, uint32_t last) {
+    struct pagelog_records records;
+    struct pagelog_record record;
+    pagelog_records_begin(&records, block);
+    while (pagelog_records_next(&records, &record))
+        if (record.page != MARK_PAGE && record.page <= last && !add_page(pages, record.page)) return false;
+    return true;
+}
+
+/* The pages of the file that the blocks after the end mark touch; all pages where this principal may not
+ * pull. */
+static enum pagelog_outcome touched_pages(struct pagelog_file *file, uint64_t end, struct pages *pages) {
+    uint32_t last = pages_of(file->mark.size);
+    for (uint64_t next = file->mark.lsn + 1; next <= end;) {
+        struct pagelog_reply pulled;
+        size_t at = 0, length;
+        const uint8_t *block;
+        enum pagelog_outcome outcome = pagelog_pull(file->log, next, PAGELOG_PULL_BLOCKS, &pulled);
+        if (outcome == PAGELOG_DENIED) break;
+        if (outcome != PAGELOG_DONE) return outcome;
+        while ((block = pagelog_next_block(&pulled, &at, &length)))
+            if (!add_touched(pages, block, last)) return out_of_memory(file);
+        next = pulled.next;
+        if (next > end) {
+            sort_once_each(pages);
+            return PAGELOG_DONE;
+        }
+    }
+    pages->count = 0;
+    for (uint32_t page = 1; page <= last; page++)
+        if (!add_page(pages, page)) return out_of_memory(file);
+    return PAGELOG_DONE;
+}
+
+/* Adds what makes up to 64 pages again what they were at the end mark. */
+static enum pagelog_outcome add_repairs(struct pagelog_file *file, uint64_t end, const uint32_t *pages,
+                                        size_t count) {
+    uint8_t *old = malloc(2 * GROUP * PAGELOG_PAGE_BYTES);
+    if (!old) return out_of_memory(file);
+    uint8_t *now = old + GROUP * PAGELOG_PAGE_BYTES;
+    enum pagelog_outcome outcome = pagelog_get(file->log, PAGELOG_PRIMARY, file->mark.lsn, pages, count, old);
+    if (outcome == PAGELOG_DONE) outcome = pagelog_get(file->log, PAGELOG_PRIMARY, end, pages, count, now);
+    for (size_t i = 0; i < count && outcome == PAGELOG_DONE; i++) {
+        size_t at = i * PAGELOG_PAGE_BYTES;
+        outcome = pagelog_blocks_difference(file->blocks, pages[i], now + at, old + at);
+        if (outcome == PAGELOG_DONE) outcome = pagelog_append_full_group(file);
+    }
+    free(old);
+    return outcome;
+}
+
+enum pagelog_outcome pagelog_repair(struct pagelog_file *file) {
+    struct pages pages = {0};
+    uint64_t end = pagelog_end(file->log);
+    struct mark mark = {
+        .size = file->mark.size, .session = file->session, .transaction = file->mark.transaction + 1};
+    enum pagelog_outcome outcome = touched_pages(file, end, &pages);
+    pagelog_blocks_restart(file->blocks, end + 1);
+    for (size_t i = 0; i < pages.count && outcome == PAGELOG_DONE; i += GROUP) {
+        size_t count = pages.count - i < GROUP ? pages.count - i : GROUP;
+        outcome = add_repairs(file, end, pages.numbers + i, count);
+    }
+    free(pages.numbers);
+    if (outcome == PAGELOG_DONE) outcome = pagelog_add_mark(file, &mark);
+    if (outcome == PAGELOG_DONE) outcome = pagelog_append_ended(file);
+    if (outcome != PAGELOG_DONE) return outcome;
+    file->mark = mark;
+    file->next = mark.lsn + 1;
+    file->repairs++;
+    return PAGELOG_DONE;
+}
+
+/* ---- Whether a transaction is whole ---- */
+
+static uint64_t first_lsn_of(const struct pagelog_blocks *blocks) {
+    size_t length;
+    return pagelog_read_number(pagelog_blocks_at(blocks, 0, &length), 8);
+}
+
+/* Applies what a block has of these pages, `count` of them by rising number, to their bytes. */
+static void apply_block(const uint8_t *block, const uint32_t *pages, size_t count, uint8_t *bytes) {
+    struct pagelog_records records;
+    struct pagelog_record record;
+    pagelog_records_begin(&records, block);
+    while (pagelog_records_next(&records, &record)) {
+        const uint32_t *found = bsearch(&record.page, pages, count, sizeof *pages, compare_numbers);
+        uint8_t *page = found ? bytes + (size_t)(found - pages) * PAGELOG_PAGE_BYTES : NULL;
+        if (found && record.length == 0) memset(page, 0, PAGELOG_PAGE_BYTES);
+        if (found && record.length > 0) memcpy(page + record.offset, record.bytes, record.length);
+    }
+}
+
+/* Whether up to 64 pages at an LSN are what the blocks make of what they were before: DONE or CONFLICT. */
+static enum pagelog_outcome compare_pages(struct pagelog_file *file, enum pagelog_role role, uint64_t lsn,
+                                          const uint32_t *pages, size_t count) {
+    size_t blocks = pagelog_blocks_count(file->blocks), length, bytes = count * PAGELOG_PAGE_BYTES;
+    uint8_t *wanted = malloc(2 * GROUP * PAGELOG_PAGE_BYTES);
+    if (!wanted) return out_of_memory(file);
+    uint8_t *found = wanted + GROUP * PAGELOG_PAGE_BYTES;
+    uint64_t before = first_lsn_of(file->blocks) - 1;
+    enum pagelog_outcome outcome = pagelog_get(file->log, role, before, pages, count, wanted);
+    if (outcome == PAGELOG_DONE) outcome = pagelog_get(file->log, role, lsn, pages, count, found);
+    for (size_t i = 0; i < blocks && outcome == PAGELOG_DONE; i++)
+        apply_block(pagelog_blocks_at(file->blocks, i, &length), pages, count, wanted);
+    if (outcome == PAGELOG_DONE && memcmp(wanted, found, bytes) != 0) outcome = PAGELOG_CONFLICT;
+    free(wanted);
+    return outcome;
+}
+
+/* Only the last of the blocks has the end mark of the last transaction. So one block is whole where it is. */
+enum pagelog_outcome pagelog_find_blocks(struct pagelog_file *file, enum pagelog_role role, uint64_t lsn) {
+    struct pages pages = {0};
+    size_t blocks = pagelog_blocks_count(file->blocks), length;
+    enum pagelog_outcome outcome = PAGELOG_DONE;
+    for (size_t i = 0; i < blocks && blocks > 1 && outcome == PAGELOG_DONE; i++)
+        if (!add_touched(&pages, pagelog_blocks_at(file->blocks, i, &length), UINT32_MAX))
+            outcome = out_of_memory(file);
+    sort_once_each(&pages);
+    for (size_t i = 0; i < pages.count && outcome == PAGELOG_DONE; i += GROUP) {
+        size_t count = pages.count - i < GROUP ? pages.count - i : GROUP;
+        outcome = compare_pages(file, role, lsn, pages.numbers + i, count);
+    }
+    free(pages.numbers);
+    if (outcome == PAGELOG_CONFLICT) file->torn = first_lsn_of(file->blocks);
+    return outcome;
+}
+
+enum pagelog_outcome pagelog_take_whole(struct pagelog_file *file) {
+    enum pagelog_outcome outcome = pagelog_take_mark(file, pagelog_end(file->log));
+    while (outcome == PAGELOG_DONE && file->torn > 0 && file->mark.lsn >= file->torn &&
+           file->mark.session == file->session)
+        outcome = pagelog_take_mark(file, file->mark.lsn - 1);
+    return outcome;
+}
