@@ -105,10 +105,13 @@ class Service:
     def connection(self, attempts: int = 20) -> pagelog.Connection:
         return pagelog.Connection(self.address, timeout=PATIENCE, attempts=attempts, pause=0.01)
 
-    def credentials_file(self, *, name: str = "credentials.toml", url: str | None = None, audit: int | None = None) -> Path:
-        """A file with a section for each role, for all at this service."""
+    def credentials_file(
+        self, *, name: str = "credentials.toml", url: str | None = None, audit: int | None = None, **elsewhere: str
+    ) -> Path:
+        """A file with a section for each role, at this service, or at the address that `elsewhere` has for it."""
         ids = {"primary": 2, "secondary": 3, "page_server": 4, "operator": 1}
-        text = "".join(f'[{role}]\nto = "{self.address}"\nid = {id}\ntoken = "{token(id)}"\n' for role, id in ids.items())
+        text = "".join(f'[{role}]\nto = "{elsewhere.get(role, self.address)}"\nid = {id}\ntoken = "{token(id)}"\n'
+                       for role, id in ids.items())  # fmt: skip
         text += f'[archive]\nurl = "{url}"\n' if url else ""
         text += f"[service]\naudit = {audit}\n" if audit else ""
         file = self.folder / name

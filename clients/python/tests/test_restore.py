@@ -18,7 +18,7 @@ from typing import Iterable, Iterator
 import pagelog
 from pagelog import Block, Operation, Put
 from pagelog.archive import Archive, BrokenArchive, _blocks, _logs
-from pagelog.keeping import Archiver, Move, NotFenced, OtherLog, all_blocks, restore, verify
+from pagelog.keeping import Archiver, Move, NotFenced, OtherLog, OtherService, all_blocks, restore, verify
 from postgres import postgres
 from service import PATIENCE, SOURCE, TABLE, Service, all_that_is_drawn, fill, put, token
 from test_archive import words
@@ -93,6 +93,15 @@ class Restoring(Pair):
                     with self.assertRaises(OtherLog):
                         restore(self.archive, primary, reader)
                     self.assertEqual(reader.status().hard, count)
+
+    def test_a_reader_of_another_service_is_told_before_anything_is_written(self) -> None:
+        self.archived(40)
+        for count in (0, 3):
+            with Service() as other, other.primary(alone=True) as primary, other.reader() as reader:
+                fill(primary, count, seed=9)
+                with self.assertRaisesRegex(OtherService, f"has {count} blocks in epoch 1, and the reader's 40 in epoch 1"):
+                    restore(self.archive, primary, self.reader)
+                self.assertEqual(reader.status().hard, count)
 
     def test_a_broken_archive_is_not_restored(self) -> None:
         self.archived(100)
@@ -430,6 +439,23 @@ class Words(Pair):
             self.assertEqual(process.returncode, status, (arguments, out, error))
             self.assertIn(text, error if status else out, arguments)
             self.assertEqual(out if status else error, "", arguments)
+
+    def test_sections_of_two_services_are_refused(self) -> None:
+        """[secondary] is left from the file of the source, which has the archive's log: it is not what is filled."""
+        self.archived(70)
+        old, new = self.source.credentials_file(name="old.toml"), self.target.credentials_file(secondary=self.source.address)
+        cases = [
+            (("restore", "--credentials", new), f"[primary] is at {self.target.address} and [secondary] at {self.source.address}: "),
+            (("move", "--from", old, "--to", new), f"[primary] is at {self.target.address} and [secondary] at {self.source.address}: "),
+            (("move", "--from", new, "--to", old), f"[secondary] is at {self.source.address} and [operator] at {self.target.address}: "),
+        ]
+        for arguments, text in cases:
+            process = words(*arguments, "--url", self.url)
+            out, error = process.communicate(timeout=PATIENCE)
+            self.assertEqual((process.returncode, out), (1, ""), arguments)
+            self.assertIn(text, error, arguments)
+        with self.target.reader() as reader:
+            self.assertEqual((reader.status().hard, self.reader.status().epoch), (0, 1))
 
     def test_a_progress_bar_on_a_terminal(self) -> None:
         self.archived(300)

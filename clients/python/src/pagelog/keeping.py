@@ -32,6 +32,10 @@ class OtherLog(ArchiveError):
         super().__init__(f"{what} at LSN {lsn}")
 
 
+class OtherService(ArchiveError):
+    """Two clients that have to ask one service ask two. Nothing was written."""
+
+
 class NotFenced(ArchiveError):
     """A move did not come within a window of the source in time, or found it in another epoch than that of its fence."""
 
@@ -248,8 +252,8 @@ def restore(archive: Archive, primary: Primary, reader: Reader, *, told: Progres
     """Fills a fresh service from an archive, LSN for LSN, and compares both in the end.
 
     A service that has the beginning of the archived log is filled from there on, so that a restore that was broken off
-    may be called again. Raises `OtherLog` where the service has anything else: nothing is overwritten. What is archived
-    meanwhile is left out.
+    may be called again. Raises `OtherLog` where the service has anything else: nothing is overwritten, and `OtherService`
+    where the reader does not find the epoch and the end that the primary finds. What is archived meanwhile is left out.
     """
     archive.check()
     return verify(archive, reader, last=fill(archive, primary, reader, told=told))
@@ -257,7 +261,11 @@ def restore(archive: Archive, primary: Primary, reader: Reader, *, told: Progres
 
 def fill(archive: Archive, primary: Primary, reader: Reader, *, told: Progress = no_progress) -> int:
     """Writes what the service has not from the archive, and returns the hardened end."""
-    hard, archived = primary.begin().hard, archive.archived
+    state, seen, archived = primary.begin(), reader.status(), archive.archived
+    if (state.epoch, state.hard) != (seen.epoch, seen.hard):
+        raise OtherService(f"the primary's service has {state.hard} blocks in epoch {state.epoch}, and the reader's {seen.hard} in "
+                           f"epoch {seen.epoch}")  # fmt: skip
+    hard = state.hard
     if hard > archived:
         raise OtherLog(archived + 1, f"the service is not fresh: it has {hard} blocks, {archived} are archived, and there is one")
     compare(all_blocks(reader, 1, hard), archive.blocks(1, hard))

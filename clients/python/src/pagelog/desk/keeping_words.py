@@ -11,7 +11,8 @@ from sqlalchemy.exc import OperationalError
 from pagelog.archive import Archive
 from pagelog.credentials import Accounts, load
 from pagelog.desk.options import (
-    bar, client, credentials_option, db_option, fail, faults, quorum_of, quorum_option, stopping, url_of, url_options,
+    bar, client, credentials_option, db_option, fail, faults, one_service, quorum_of, quorum_option, stopping, url_of,
+    url_options,
 )  # fmt: skip
 from pagelog.errors import ConnectionLost, OutOfMemory, Unreachable
 from pagelog.keeping import Archiver, Move, Verified, restore, verify
@@ -79,7 +80,7 @@ def _wait(text: str) -> None:
 @quorum_option
 @faults
 def restore_word(accounts: Accounts, db: int, url: str | None, log: str | None, quorum: str | None) -> None:
-    """Fill a fresh database from an archive, LSN for LSN. Needs [primary] and [secondary].
+    """Fill a fresh database from an archive, LSN for LSN. Needs [primary] and [secondary], both at one address.
 
     Nothing is overwritten: a database that has anything but the beginning of the archived log is refused. A restore that
     was broken off goes on where it was. In the end all blocks are compared, and a sample of pages.
@@ -88,6 +89,7 @@ def restore_word(accounts: Accounts, db: int, url: str | None, log: str | None, 
     Example:
       pagelogctl restore --credentials c.toml --db 0 --url sqlite:///db0.db
     """
+    one_service(accounts, Primary, Reader, "both are of the database that is filled")
     with Archive(url_of(url, accounts), log or str(db)) as archive, client(Reader, accounts, db) as reader:
         writes = client(Primary, accounts, db, alone=True, quorum=quorum_of(quorum, accounts))
         with writes as primary, bar("restored") as told:
@@ -153,6 +155,8 @@ def move_word(
       pagelogctl move --from old.toml --from-db 0 --to new.toml --to-db 1 --url sqlite:///db0.db
     """
     old, new = load(source), load(target)
+    one_service(old, Reader, Operator, "both are of the source")
+    one_service(new, Primary, Reader, "both are of the target")
     if old.account(Reader.role).to == new.account(Primary.role).to and from_db == to_db:
         fail("source and target are the same database")
     with Archive(url_of(url, old), log or str(from_db), create=True) as archive, client(Reader, old, from_db) as reader:

@@ -87,6 +87,13 @@ def client(kind: type[Kind], accounts: Accounts, db: int, **options: Any) -> Kin
     return kind(Connection(account.to, attempts=8), account.credentials, db, **options)
 
 
+def one_service(accounts: Accounts, one: type[Client], other: type[Client], what: str) -> None:
+    """Ends where the sections of these two have different addresses: what is asked of one would not be done at the other."""
+    first, second = accounts.account(one.role).to, accounts.account(other.role).to
+    if first != second:
+        fail(f"[{one.role.word}] is at {first} and [{other.role.word}] at {second}: {what}, which has one address")
+
+
 def faults(word: Word) -> Word:
     """A fault is one line on standard error, and exit status 1."""
 
