@@ -258,6 +258,62 @@ class OtherLogs(Folder):
         self.assertEqual(list(archive.blocks()), self.everything())
         self.assertEqual(archive.check().blocks, 400)
 
+    def test_a_line_that_is_cut_each_few_kilobytes_carries_little_twice(self) -> None:
+        """85,000 bytes of blocks over connections of 4,000 bytes: the archiver's looks at the log are among them."""
+        self.blocks_of_60_bytes(1024)
+        archive = self.archive()
+        with CuttingProxy(self.service.address, least=4000, most=4001) as proxy:
+            with Reader(proxy.connection(), Credentials.of(3, token(3))) as reader:
+                self.assertEqual(Archiver(reader, archive).run(follow=False), 1024)
+            self.assertGreater(proxy.cuts, 25)
+            self.assertLess(proxy.cuts, 200)
+        self.assertEqual(list(archive.blocks()), self.everything())
+
+    def blocks_of_60_bytes(self, count: int) -> None:
+        chance = random.Random(4)
+        list(self.primary.stream([put(at, chance.randbytes(60))] for at in range(count)))
+
+    def test_what_came_whole_before_a_cut_is_kept(self) -> None:
+        """The first batch and the look at the log come over a connection, and a part of the second batch."""
+        self.blocks_of_60_bytes(32)
+        archive = self.archive()
+        with CuttingProxy(self.service.address, least=18000, most=18001) as proxy:
+            with Reader(proxy.connection(), Credentials.of(3, token(3))) as reader:
+                archiver = Archiver(reader, archive)
+                self.assertEqual(len(archiver.step()), 32)
+                self.blocks_of_60_bytes(300)
+                came = len(archiver.step())
+                self.assertEqual((reader.connection.connects, came % 16), (1, 0))
+                self.assertIn(came, range(16, 255))
+                self.assertEqual(list(archive.blocks()), self.everything()[: 32 + came])
+                self.assertEqual(archiver.run(follow=False), 332)
+        self.assertEqual(list(archive.blocks()), self.everything())
+
+    def test_services_that_come_and_go_at_one_address_are_told(self) -> None:
+        """After each batch another service is there, which has the archived blocks, and others behind them."""
+        fill(self.primary, 40, seed=1)
+        archive = self.archive()
+        archiver = Archiver(self.reader, archive)
+        archiver.run(follow=False)
+        fill(self.primary, 60, seed=2, empties=False)
+        span, seeds = self.reader.span, iter((3, 4, 5))
+
+        def is_another_behind_it(lsn: int, **options: int) -> object:
+            found = span(lsn, **options)
+            if lsn == 41 and (seed := next(seeds, 0)):
+                self.service.restart()
+                with self.service.primary(alone=True) as primary, self.service.reader() as reader:
+                    restore(archive, primary, reader)
+                    fill(primary, 60 + 20 * seed, seed=seed, empties=False)
+                self.reader.connection.close()
+                self.reader.status()
+            return found
+
+        self.reader.span = is_another_behind_it  # type: ignore[method-assign, assignment]
+        with self.assertRaisesRegex(OtherLog, "other blocks again"):
+            archiver.step()
+        self.assertEqual((archive.archived, archive.check().blocks), (40, 40))
+
 
 class Passwords(Folder):
     def test_a_url_with_a_password_is_not_for_the_command_line(self) -> None:

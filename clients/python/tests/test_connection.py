@@ -100,6 +100,20 @@ class Cuts(unittest.TestCase):
                                  [1 + at % 60 for at in range(120)])  # fmt: skip
                 self.assertGreater(proxy.cuts, 5)
 
+    def test_an_exchange_over_one_connection_ends_where_that_is_lost(self) -> None:
+        with Service() as service, service.connection() as direct:
+            hardened(direct, 60)
+            asked = [Request(SECONDARY, Get(0, lsn)) for lsn in range(1, 61)]
+            with CuttingProxy(service.address, least=100_000, most=100_001) as proxy, proxy.connection() as connection:
+                pages = [next(iter(connection.exchange(asked[:1]))), *connection.exchange(asked[1:], over=1)]
+                self.assertEqual([int.from_bytes(page.data[:8], "big") for page in pages],  # type: ignore[union-attr]
+                                 list(range(1, len(pages) + 1)))  # fmt: skip
+                self.assertIn(len(pages), (11, 12))
+                self.assertEqual((list(connection.exchange(asked, over=1)), connection.connects), ([], 1))
+                self.assertEqual((len(list(connection.exchange(asked[:2]))), connection.connects), (2, 2))
+                self.assertEqual((list(connection.exchange(asked, over=1)), connection.connects), ([], 2))
+                self.assertEqual((len(list(connection.exchange(asked[:2], over=2))), connection.connects), (2, 2))
+
     def test_a_failover_whose_reply_is_lost_is_in_doubt_and_not_repeated(self) -> None:
         with Service() as service, service.operator() as direct:
             for size in (20, 40):  # cut in the request, and after it in the reply

@@ -101,17 +101,20 @@ class Client:
         [reply] = self._ask_all((act,))
         return reply
 
-    def _ask_all(self, acts: Sequence[Act], in_flight: int = 64) -> list[Reply]:
-        """The replies, in order. Those that were denied for an older epoch are asked again in the one that was reported."""
+    def _ask_all(self, acts: Sequence[Act], in_flight: int = 64, over: int | None = None) -> list[Reply]:
+        """The replies, in order. Those that were denied for an older epoch are asked again in the one that was reported.
+
+        With `over` they are fewer where that connection was lost: those that came over it.
+        """
         replies: list[Reply | None] = [None] * len(acts)
         while True:
             left = [at for at, reply in enumerate(replies) if reply is None]
             if not left:
                 return [reply for reply in replies if reply is not None]
-            epoch = None
+            epoch, came = None, 0
             asked = (self._request(acts[at]) for at in left)
-            for at, reply in zip(left, self.connection.exchange(asked, in_flight), strict=True):
-                told = reported_epoch(reply)
+            for reply, at in zip(self.connection.exchange(asked, in_flight, over), left):
+                told, came = reported_epoch(reply), came + 1
                 if told is None:
                     replies[at] = reply
                 else:
@@ -120,6 +123,8 @@ class Client:
                 if epoch == self.epoch:
                     raise UnexpectedReply(f"a denial for the sake of epoch {epoch}, in which it was asked")
                 self._take_over(epoch)
+            elif came < len(left):
+                return [reply for reply in replies[: left[came]] if reply is not None]
 
     def _stream(self, acts: Iterable[Act], in_flight: int) -> Iterator[Reply]:
         """The replies to acts that are made as room is, in order; a denial for the epoch's sake is among them."""

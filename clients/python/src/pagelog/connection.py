@@ -111,19 +111,20 @@ class Connection:
         [reply] = self.exchange((request,), in_flight=1)
         return reply
 
-    def exchange(self, requests: Iterable[Request], in_flight: int = 64) -> Iterator[Reply]:
+    def exchange(self, requests: Iterable[Request], in_flight: int = 64, over: int | None = None) -> Iterator[Reply]:
         """The replies to the requests, in order, with at most `in_flight` requests in flight.
 
         The next request is taken from `requests` when there is room for it. An iterator that is left before its end
-        closes the connection, since replies would still come.
+        closes the connection, since replies would still come. With `over`, the number of a connection as `connects` counts
+        them, all replies are of the one service that it leads to: where it is lost no other is made, and the replies end.
 
         Raises `Unreachable`, `ConnectionLost`, `TimedOut`, `InDoubt`, and a `Fault` for a reply that is none; a
         `ValueError` where `in_flight` is below 1.
         """
-        for answer in self.answers(requests, in_flight):
+        for answer in self.answers(requests, in_flight, over):
             yield answer.reply
 
-    def answers(self, requests: Iterable[Request], in_flight: int = 64) -> Iterator[Answer]:
+    def answers(self, requests: Iterable[Request], in_flight: int = 64, over: int | None = None) -> Iterator[Answer]:
         """As `exchange`, and says of each reply whether its request was repeated."""
         if in_flight < 1:
             raise ValueError(f"{in_flight} requests in flight: at least 1 is")
@@ -133,11 +134,13 @@ class Connection:
         self._most = in_flight
         source = map(_Waiting, requests)
         try:
-            while True:
+            while over is None or (over == self.connects and self._socket is not None):
                 self._waiting.extend(islice(source, in_flight - len(self._waiting)))
                 if not self._waiting:
                     return
-                reply = self._first_reply(in_flight)
+                reply = self._first_reply(in_flight, over is not None)
+                if reply is None:
+                    return
                 yield Answer(reply, self._waiting.popleft().sent > 1)
         finally:
             self._in_use = False
@@ -145,8 +148,8 @@ class Connection:
                 self._waiting.clear()
                 self.close()
 
-    def _first_reply(self, in_flight: int) -> Reply:
-        """The reply to the first that waits, over as many connections as it takes."""
+    def _first_reply(self, in_flight: int, stays: bool) -> Reply | None:
+        """The reply to the first that waits, over as many connections as it takes; None where it stays on one that is lost."""
         while True:
             try:
                 if self._socket is None:
@@ -156,6 +159,9 @@ class Connection:
             except (ConnectionLost, Unreachable) as error:
                 self.close()
                 self._most = max(1, self._most // 2)
+                self._end_in_doubt(error)
+                if stays and not isinstance(error, TimedOut):
+                    return None
                 self._give_up_or_wait(error)
             else:
                 self._failures = 0
@@ -172,12 +178,14 @@ class Connection:
                 self._out += asked.frame
             self._in_flight = upto
 
-    def _give_up_or_wait(self, error: PagelogError) -> None:
-        self._failures += 1
+    def _end_in_doubt(self, error: PagelogError) -> None:
         for asked in self._waiting:
             if asked.sent and not asked.request.act.repeatable:
                 self._failures = 0
                 raise InDoubt(f"{asked.request.act.operation.word} may have been done: {error}") from error
+
+    def _give_up_or_wait(self, error: PagelogError) -> None:
+        self._failures += 1
         if self._failures >= self.attempts or isinstance(error, TimedOut):
             self._failures = 0
             raise error

@@ -5,7 +5,7 @@ from __future__ import annotations
 import random
 import time
 from dataclasses import dataclass, field
-from typing import Callable, Iterable, Iterator
+from typing import Callable, Iterable, Iterator, Sequence
 
 from pagelog.archive import Archive, ArchiveError
 from pagelog.block import HIGHEST_LSN, PAGE_SIZE, Block, Put
@@ -69,8 +69,9 @@ def all_blocks(reader: Reader, first: int, last: int) -> Iterator[Block]:
 class Archiver:
     """Pulls what is hardened and keeps it.
 
-    The service has to have the log that the archive has. That is looked at before the first batch, and again whenever
-    the connection was made anew, since the service may have been too.
+    The service has to have the log that the archive has. That is looked at before the first batch is kept, and again
+    whenever the connection was made anew, since the service may have been too. A batch is of one connection, and so of one
+    service: where that is lost amid it, what came whole is kept.
     """
 
     def __init__(self, reader: Reader, archive: Archive) -> None:
@@ -91,16 +92,28 @@ class Archiver:
 
         Raises `OtherLog` or `LogWentBack` where the service has another log, and `OtherArchiver`. Nothing was kept then.
         """
-        connects = self.reader.connection.connects
-        span = self.reader.span(self.archived + 1, pulls=PULLS)
-        if self.reader.connection.connects != connects:
-            # Two services may have answered the pulls. One pull is answered by one.
-            span = self.reader.span(self.archived + 1, pulls=1)
-        if self._checked_connects != self.reader.connection.connects:
-            self._check_log()
-        blocks = whole(span)
+        blocks = whole(self.reader.span(self.archived + 1, pulls=PULLS))
+        if not self._is_of_the_log(blocks):
+            blocks = whole(self.reader.span(self.archived + 1, pulls=PULLS))
+            if not self._is_of_the_log(blocks):
+                raise OtherLog(blocks[-1].lsn, "the service has other blocks again than those that it served just before")
         self.archived = self.archive.keep(blocks, self.reader.epoch) if blocks else self.archived
         return blocks
+
+    def _is_of_the_log(self, batch: Sequence[Block]) -> bool:
+        """Whether the service of this connection has the log of the archive, which else is raised, and the end of the batch.
+
+        It may lack that where the batch came over an earlier connection, from a service that is gone.
+        """
+        if self._checked_connects == self.reader.connection.connects:
+            return True
+        self._check_log()
+        end = batch[-16:]
+        try:
+            compare(all_blocks(self.reader, end[0].lsn, end[-1].lsn) if end else (), end)
+        except OtherLog:
+            return False
+        return True
 
     def _check_log(self) -> None:
         """Looks at the service after the pulls of a batch. A connection that is made meanwhile is looked at next time."""

@@ -34,6 +34,8 @@ class Reader(PageClient):
     """Reads the hardened log of a database, as a secondary. A failover does not disturb it."""
 
     role = Role.SECONDARY
+    _at_once: int | None = None
+    """How many pulls of a span are in flight together, where a line that was cut let no more through."""
 
     def answers(self, acts: Sequence[Act]) -> list[Reply]:
         """The replies to gets, pulls and statuses that are asked together. None is turned into an exception."""
@@ -56,22 +58,32 @@ class Reader(PageClient):
         """All that is hardened from this LSN on, as far as `pulls` pulls (1 or more) reach, all in flight together.
 
         A span that ends below its beginning says that nothing new is hardened. What a later pull of it is refused for is
-        left to the next span: this one ends before. Raises `LogWentBack` where the log has become shorter than it was.
+        left to the next span: this one ends before. So it does where the connection is lost: a span is of one service, and
+        what came whole is not pulled again. Raises `LogWentBack` where the log has become shorter than it was.
         """
         first = self._span_of((lsn,), partitions)
+        over = self.connection.connects
         if pulls > 1 and len(first.blocks) == PULL_MAX and self.hard_seen <= first.last:
             self.status()
         if pulls == 1 or self.hard_seen <= first.last:
             return first
         # Each serves at least the blocks of the sixteen LSNs from its own on, so that the next may begin after them.
         starts = range(first.last + 1, min(first.last + 1 + PULL_MAX * (pulls - 1), self.hard_seen + 1), PULL_MAX)
-        rest = self._span_of(starts, partitions, behind=first)
+        starts = starts[: self._at_once]
+        rest = self._span_of(starts, partitions, behind=first, over=over)
         return Span(lsn, rest.last, first.blocks + rest.blocks)
 
-    def _span_of(self, starts: Sequence[int], partitions: tuple[int, int], *, behind: Span | None = None) -> Span:
+    def _span_of(
+        self, starts: Sequence[int], partitions: tuple[int, int], *, behind: Span | None = None, over: int | None = None
+    ) -> Span:
         blocks: list[Block] = []
         last = starts[0] - 1
-        for start, reply in zip(starts, self._ask_all([Pull(start, PULL_MAX, *partitions) for start in starts])):
+        replies = self._ask_all([Pull(start, PULL_MAX, *partitions) for start in starts], 64, over)
+        if len(replies) < len(starts):
+            self._at_once = max(1, len(replies))
+        elif over is not None and self._at_once is not None:
+            self._at_once = 2 * self._at_once if self._at_once < 64 else None
+        for start, reply in zip(starts, replies):
             if self._is_at_end(reply, start):
                 break
             if start > last + 1:
