@@ -94,6 +94,22 @@ class Restoring(Pair):
                         restore(self.archive, primary, reader)
                     self.assertEqual(reader.status().hard, count)
 
+    def test_what_a_killed_restore_had_on_its_way_may_come_late(self) -> None:
+        """The service goes on with the requests of a restore that was killed, while the next one looks and writes."""
+        self.archived(300)
+        for name, parts in (("harden", [(1, 70), (71, 130)]), ("status", [(1, 70)])):
+            with Service() as fresh, fresh.primary(alone=True) as primary, fresh.reader() as reader, fresh.primary() as killed:
+                asked = reader if name == "status" else primary
+                late = iter(parts)
+
+                def comes_late(*arguments: object, ask: object = getattr(asked, name)) -> object:
+                    if lsns := next(late, None):
+                        list(killed.harden(self.archive.blocks(*lsns)))
+                    return ask(*arguments)  # type: ignore[operator]
+
+                setattr(asked, name, comes_late)
+                self.assertEqual(restore(self.archive, primary, reader).blocks, 300)
+
     def test_a_reader_of_another_service_is_told_before_anything_is_written(self) -> None:
         self.archived(40)
         for count in (0, 3):
@@ -253,6 +269,8 @@ class Moving(Pair):
         ended: list[object] = []
         writer = threading.Thread(target=self.write_until_denied, args=(ended, 0.002))
         writer.start()
+        while not ended:  # where it has committed nothing before the fence, it never is denied as this epoch's primary
+            time.sleep(0.002)
         done = self.mover().run()
         writer.join(PATIENCE)
         last, error = ended

@@ -15,7 +15,7 @@ from pagelog.primary import WINDOW, Primary
 from pagelog.reader import QUICKEST, Reader, Span
 from pagelog.reply import Denied, Page, expect
 from pagelog.request import Get
-from pagelog.rules import Section
+from pagelog.rules import HardenedAlready, Section
 
 Progress = Callable[[int, int], None]
 """Called with how far a piece of work is, and how far it goes, in LSNs."""
@@ -273,18 +273,35 @@ def restore(archive: Archive, primary: Primary, reader: Reader, *, told: Progres
 
 
 def fill(archive: Archive, primary: Primary, reader: Reader, *, told: Progress = no_progress) -> int:
-    """Writes what the service has not from the archive, and returns the hardened end."""
-    state, seen, archived = primary.begin(), reader.status(), archive.archived
-    if (state.epoch, state.hard) != (seen.epoch, seen.hard):
+    """Writes what the service has not from the archive, and returns the hardened end.
+
+    Where requests of a restore that was killed are still on their way, the service has more meanwhile: it goes on there.
+    """
+    archived, alike = archive.archived, 0
+    refusal: HardenedAlready | None = None
+    while True:
+        hard = _common_end(primary, reader)
+        if hard > archived:
+            raise OtherLog(archived + 1, f"the service is not fresh: it has {hard} blocks, {archived} are archived, and there is one")
+        if refusal is not None and hard <= alike:
+            raise refusal
+        compare(all_blocks(reader, alike + 1, hard), archive.blocks(alike + 1, hard))
+        alike = hard
+        try:
+            for lsn in primary.harden(archive.blocks(hard + 1, archived)):
+                told(lsn, archived)
+            return archived
+        except HardenedAlready as error:
+            refusal = error
+
+
+def _common_end(primary: Primary, reader: Reader) -> int:
+    """The end of the log that both see, and at which the primary goes on. Raises `OtherService`."""
+    before, seen, state = primary.drop(), reader.status(), primary.drop()
+    if not (before.hard <= seen.hard <= state.hard and before.epoch <= seen.epoch <= state.epoch):
         raise OtherService(f"the primary's service has {state.hard} blocks in epoch {state.epoch}, and the reader's {seen.hard} in "
                            f"epoch {seen.epoch}")  # fmt: skip
-    hard = state.hard
-    if hard > archived:
-        raise OtherLog(archived + 1, f"the service is not fresh: it has {hard} blocks, {archived} are archived, and there is one")
-    compare(all_blocks(reader, 1, hard), archive.blocks(1, hard))
-    for lsn in primary.harden(archive.blocks(hard + 1, archived)):
-        told(lsn, archived)
-    return archived
+    return state.hard
 
 
 # Moving.

@@ -161,6 +161,18 @@ class Primary(PageClient):
             self.durable, self._has_begun, self._is_fixed = state.hard, True, True
         return state
 
+    def drop(self) -> State:
+        """Drops what is not known to be hardened, and goes on at the end that the log has now, in the same epoch.
+
+        It is for one who writes blocks that have their LSNs: where a block was written before, another at its LSN is denied
+        `OtherContent` in this epoch.
+        """
+        state = self.begin()
+        self._unhardened.clear()
+        self._packer = Packer()
+        self.durable = state.hard
+        return state
+
     # Appending.
 
     @property
