@@ -10,12 +10,27 @@ import time
 import unittest
 from pathlib import Path
 
+import sqlalchemy as sql
+
+from pagelog.archive import Archive
 from pagelog.keeping import Archiver
 from postgres import postgres
 from service import IS_LONG, PATIENCE, CuttingProxy, Service, fill
 from test_archive import Folder, words
 
 KILLS = 100 if IS_LONG else 10
+OTHERS = """select count(*) from pg_stat_activity
+    where datname = current_database() and backend_type = 'client backend' and pid <> pg_backend_pid()"""
+
+
+def wait_for_what_was_sent(archive: Archive) -> None:
+    """PostgreSQL still does what a process had asked for before it was killed: a COMMIT may come a moment later."""
+    deadline = time.monotonic() + PATIENCE
+    while archive.engine.dialect.name == "postgresql" and time.monotonic() < deadline:
+        with archive.engine.begin() as connection:
+            if connection.execute(sql.text(OTHERS)).scalar_one() == 0:
+                return
+        time.sleep(0.01)
 
 
 class Followers(Folder):
@@ -68,6 +83,7 @@ class Followers(Folder):
                 time.sleep(chance.random() * (0.15 if is_reported else until_told * 1.1))
                 process.kill()
                 process.communicate()
+                wait_for_what_was_sent(archive)
                 sizes = archive.check()
                 self.assertEqual(sizes.blocks, archive.archived)
                 self.assertGreaterEqual(sizes.blocks, before + is_reported)
