@@ -72,6 +72,15 @@ class Reading(unittest.TestCase):
         with self.assertRaises(pagelog.LogWentBack):
             self.reader.span(33)
 
+    def test_a_peer_that_never_goes_on_is_told(self) -> None:
+        """Whoever answers so is no service, and what waits for more would wait for ever."""
+        list(self.primary.stream([put(0, b"x")] for _ in range(3)))
+        self.reader.status()
+        self.reader._ask_all = lambda acts, *_: [pagelog.reply.Blocks(act.lsn, ()) for act in acts]  # type: ignore[method-assign, attr-defined, union-attr]
+        for asks in (lambda: self.reader.span(1), lambda: list(self.reader.blocks(1, follow=False))):
+            with self.assertRaises(pagelog.UnexpectedReply):
+                asks()
+
     def test_partitions(self) -> None:
         fill(self.primary, 200, seed=2)
         all_blocks = list(self.reader.blocks(1, follow=False))

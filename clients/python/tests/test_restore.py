@@ -119,6 +119,15 @@ class Restoring(Pair):
                     restore(self.archive, primary, self.reader)
                 self.assertEqual(reader.status().hard, count)
 
+    def test_a_table_that_denies_the_comparison_is_told_before_anything_is_written(self) -> None:
+        self.archived(40)
+        with self.target.operator() as operator:
+            operator.set_table(TABLE.read_text().replace("[[row]]", '[[row]]\nverdict = "deny"\nwho = 3\nop = ["pull"]\n[[row]]', 1))
+        with self.assertRaises(pagelog.rules.TableRow):
+            self.restore()
+        with self.target.reader() as reader:
+            self.assertEqual(reader.status().hard, 0)
+
     def test_a_broken_archive_is_not_restored(self) -> None:
         self.archived(100)
         with self.archive.engine.begin() as connection:

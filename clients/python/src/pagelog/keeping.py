@@ -13,8 +13,8 @@ from pagelog.errors import LogWentBack
 from pagelog.operator import Operator
 from pagelog.primary import WINDOW, Primary
 from pagelog.reader import QUICKEST, Reader, Span
-from pagelog.reply import Denied, Page, expect
-from pagelog.request import Get
+from pagelog.reply import Blocks, Denied, Page, expect
+from pagelog.request import Get, Pull
 from pagelog.rules import HardenedAlready, Section
 
 Progress = Callable[[int, int], None]
@@ -278,6 +278,7 @@ def fill(archive: Archive, primary: Primary, reader: Reader, *, told: Progress =
     Where requests of a restore that was killed are still on their way, the service has more meanwhile: it goes on there.
     """
     archived, alike = archive.archived, 0
+    _try_to_pull(reader, archived)
     refusal: HardenedAlready | None = None
     while True:
         hard = _common_end(primary, reader)
@@ -293,6 +294,13 @@ def fill(archive: Archive, primary: Primary, reader: Reader, *, told: Progress =
             return archived
         except HardenedAlready as error:
             refusal = error
+
+
+def _try_to_pull(reader: Reader, lsn: int) -> None:
+    """Raises where the table does not let the reader pull at this LSN, whether there is a block or not."""
+    for reply in reader.answers([Pull(lsn)] if lsn else ()):
+        if isinstance(reply, Denied) and reply.section is Section.B:
+            expect(Blocks, reply)
 
 
 def _common_end(primary: Primary, reader: Reader) -> int:

@@ -8,7 +8,7 @@ from typing import Callable, Iterator, Sequence
 
 from pagelog.block import Block
 from pagelog.client import ALL_PARTITIONS, PageClient
-from pagelog.errors import LogWentBack
+from pagelog.errors import LogWentBack, UnexpectedReply
 from pagelog.reply import Blocks, Denied, Reply, expect, refusal_of
 from pagelog.request import PULL_MAX, Act, Pull, Role
 from pagelog.rules import AboveTheEnd, Section
@@ -91,6 +91,8 @@ class Reader(PageClient):
             if (blocks or behind) and refusal_of(reply) is not None:
                 break  # rows of a table may end at an LSN, and memory may run out; what was served is not lost
             pulled = expect(Blocks, reply)
+            if pulled.next <= start:
+                raise UnexpectedReply(f"a pull from LSN {start} goes on at LSN {pulled.next}")
             blocks.extend(block for block in pulled.blocks if block.lsn > last)
             last = max(last, pulled.next - 1)
             self._saw_hard_at_least(last)
