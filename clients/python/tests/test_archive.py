@@ -324,6 +324,14 @@ class Passwords(Folder):
         self.assertIn("password", error)
         self.assertNotIn("secret", error)
 
+    def test_an_archive_in_memory_is_refused(self) -> None:
+        """It would say that it had archived, and keep nothing."""
+        fill(self.primary, 3)
+        file = self.service.credentials_file()
+        for url in ("sqlite://", "sqlite:///:memory:", "sqlite:///file::memory:?uri=true", "sqlite:///file:x?mode=memory&uri=true"):
+            out, error = words("archive", "--credentials", file, "--url", url).communicate(timeout=PATIENCE)
+            self.assertEqual((out, error), ("", "pagelogctl: an archive in memory is gone when this ends: name a file, as sqlite:///FILE\n"))
+
     def test_the_url_comes_from_the_file_or_the_environment(self) -> None:
         fill(self.primary, 3)
         file = self.service.credentials_file(url=f"sqlite:///{self.folder}/of-the-file.db")

@@ -253,6 +253,15 @@ def _prepare_sqlite(connection: Any, _: object) -> None:
     cursor.close()
 
 
+def is_in_memory(url: str) -> bool:
+    """Whether it is a database of SQLite that ends with its process."""
+    parsed = sql.engine.make_url(url)
+    if parsed.get_backend_name() != "sqlite":
+        return False
+    file = str(parsed.database or ":memory:")
+    return file.removeprefix("file:").startswith(":memory:") or parsed.query.get("mode") == "memory"
+
+
 def _file_is_missing(url: str) -> bool:
     """Whether it is a file of SQLite that is not there. To look into it would make it."""
     parsed = sql.engine.make_url(url)

@@ -64,10 +64,13 @@ def _url(context: click.Context, parameter: click.Parameter, value: str | None) 
 
 
 def url_of(url: str | None, accounts: Accounts) -> str:
-    """The archive's URL: the option's, the file's, or the default."""
-    from pagelog.archive import DEFAULT_URL
+    """The archive's URL: the option's, the file's, or the default. Ends where it is of a database in memory."""
+    from pagelog.archive import DEFAULT_URL, is_in_memory
 
-    return url or accounts.archive_url or DEFAULT_URL
+    found = url or accounts.archive_url or DEFAULT_URL
+    if is_in_memory(found):
+        fail("an archive in memory is gone when this ends: name a file, as sqlite:///FILE")
+    return found
 
 
 def quorum_option(word: Word) -> Word:
