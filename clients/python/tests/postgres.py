@@ -10,6 +10,8 @@ import tempfile
 from pathlib import Path
 from typing import Any
 
+PATIENCE = 300
+"""How many seconds a start or an end may take. What pg_ctl waits by itself, 60, is little on a machine with much else to do."""
 _started: list["Postgres"] = []
 
 
@@ -51,11 +53,11 @@ class Postgres:
 
     def start(self) -> None:
         options = f"-k {self.folder} -c listen_addresses= -c max_connections=30"
-        self.run("pg_ctl", "-D", self.data, "-o", options, "-l", self.folder / "log", "-w", "start")
+        self.run("pg_ctl", "-D", self.data, "-o", options, "-l", self.folder / "log", "-w", "-t", PATIENCE, "start")
 
     def crash(self) -> None:
         """Ends it at once, without a checkpoint."""
-        self.run("pg_ctl", "-D", self.data, "-m", "immediate", "-w", "stop")
+        self.run("pg_ctl", "-D", self.data, "-m", "immediate", "-w", "-t", PATIENCE, "stop")
 
     def stop(self) -> None:
         if self.folder.exists():
