@@ -8,7 +8,7 @@ from typing import Callable, Iterator, Sequence
 
 from pagelog.block import Block
 from pagelog.client import ALL_PARTITIONS, PageClient
-from pagelog.errors import LogWentBack, UnexpectedReply
+from pagelog.errors import ConnectionLost, LogWentBack, TimedOut, UnexpectedReply
 from pagelog.reply import Blocks, Denied, Reply, expect, refusal_of
 from pagelog.request import PULL_MAX, Act, Pull, Role
 from pagelog.rules import AboveTheEnd, Section
@@ -36,6 +36,10 @@ class Reader(PageClient):
     role = Role.SECONDARY
     _at_once: int | None = None
     """How many pulls of a span are in flight together, where a line that was cut let no more through."""
+    _most = PULL_MAX
+    """How many blocks the first pull of a span asks for: fewer where the line is cut before they have come."""
+    _whole = 0
+    """How many blocks have come since over the connection that there is."""
 
     def answers(self, acts: Sequence[Act]) -> list[Reply]:
         """The replies to gets, pulls and statuses that are asked together. None is turned into an exception."""
@@ -59,13 +63,13 @@ class Reader(PageClient):
 
         A span that ends below its beginning says that nothing new is hardened. What a later pull of it is refused for is
         left to the next span: this one ends before. So it does where the connection is lost: a span is of one service, and
-        what came whole is not pulled again. Raises `LogWentBack` where the log has become shorter than it was.
+        what came whole is not pulled again. Where no reply of a pull comes whole, it asks for fewer blocks. Raises `LogWentBack` where the log has become shorter than it was.
         """
-        first = self._span_of((lsn,), partitions)
+        first = self._first_of(lsn, partitions)
         over = self.connection.connects
         if pulls > 1 and len(first.blocks) == PULL_MAX and self.hard_seen <= first.last:
             self.status()
-        if pulls == 1 or self.hard_seen <= first.last:
+        if pulls == 1 or self.hard_seen <= first.last or self._most < PULL_MAX:
             return first
         # Each serves at least the blocks of the sixteen LSNs from its own on, so that the next may begin after them.
         starts = range(first.last + 1, min(first.last + 1 + PULL_MAX * (pulls - 1), self.hard_seen + 1), PULL_MAX)
@@ -73,12 +77,29 @@ class Reader(PageClient):
         rest = self._span_of(starts, partitions, behind=first, over=over)
         return Span(lsn, rest.last, first.blocks + rest.blocks)
 
+    def _first_of(self, lsn: int, partitions: tuple[int, int]) -> Span:
+        """The span of one pull, of half as many blocks where no connection lasts until its reply has come."""
+        while True:
+            connects = self.connection.connects
+            try:
+                span = self._span_of((lsn,), partitions, most=self._most)
+            except ConnectionLost as error:
+                if self._most == 1 or isinstance(error, TimedOut):
+                    raise
+                self._most, self._whole = self._most // 2, 0
+                continue
+            self._whole = self._whole + len(span.blocks) if connects == self.connection.connects else 0
+            if self._whole > 4 * PULL_MAX:
+                self._most = PULL_MAX
+            return span
+
     def _span_of(
-        self, starts: Sequence[int], partitions: tuple[int, int], *, behind: Span | None = None, over: int | None = None
-    ) -> Span:
+        self, starts: Sequence[int], partitions: tuple[int, int], *, behind: Span | None = None, over: int | None = None,
+        most: int = PULL_MAX,
+    ) -> Span:  # fmt: skip
         blocks: list[Block] = []
         last = starts[0] - 1
-        replies = self._ask_all([Pull(start, PULL_MAX, *partitions) for start in starts], 64, over)
+        replies = self._ask_all([Pull(start, most, *partitions) for start in starts], 64, over)
         if len(replies) < len(starts):
             self._at_once = max(1, len(replies))
         elif over is not None and self._at_once is not None:
