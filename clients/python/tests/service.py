@@ -209,3 +209,15 @@ class CuttingProxy:
 
     def connection(self, **options: object) -> pagelog.Connection:
         return pagelog.Connection(self.address, timeout=PATIENCE, attempts=60, pause=0.001, **options)  # type: ignore[arg-type]
+
+
+class TurningProxy(CuttingProxy):
+    """Each of its connections leads to one of two services, drawn from the seed."""
+
+    def __init__(self, one: str, other: str, **options: int) -> None:
+        self.both = (one, other)
+        super().__init__(one, **options)
+
+    def _serve(self, client: socket.socket) -> None:
+        self.target = pagelog.Address.parse(self.chance.choice(self.both))
+        super()._serve(client)

@@ -19,7 +19,7 @@ from pagelog import Block, Credentials, Reader
 from pagelog.archive import Archive, BrokenArchive, NoArchive, OtherArchiver, _blocks
 from pagelog.keeping import Archiver, OtherLog, all_blocks, restore, whole
 from postgres import postgres
-from service import PATIENCE, SOURCE, CuttingProxy, Service, fill, put, token
+from service import PATIENCE, SOURCE, CuttingProxy, Service, TurningProxy, fill, put, token
 
 
 def words(*arguments: object, **environment: str) -> subprocess.Popen[str]:
@@ -317,7 +317,7 @@ class OtherLogs(Folder):
 
         def is_another_behind_it(lsn: int, **options: int) -> object:
             found = span(lsn, **options)
-            if lsn == 41 and (seed := next(seeds, 0)):
+            if 36 < lsn <= 41 and (seed := next(seeds, 0)):
                 self.service.restart()
                 with self.service.primary(alone=True) as primary, self.service.reader() as reader:
                     restore(archive, primary, reader)
@@ -330,6 +330,32 @@ class OtherLogs(Folder):
         with self.assertRaisesRegex(OtherLog, "other blocks again"):
             archiver.step()
         self.assertEqual((archive.archived, archive.check().blocks), (40, 40))
+
+
+    def test_services_that_take_turns_at_one_address_are_not_mixed(self) -> None:
+        """Each connection leads to one of two services, and carries less than the look at the log takes."""
+        with Service() as other, other.primary(alone=True) as second:
+            self.two_logs(second)
+            with other.reader() as reader:
+                both = [self.everything(), list(all_blocks(reader, 1, 123))]
+            for seed in range(10):
+                with TurningProxy(self.service.address, other.address, least=2500, most=5000, seed=seed) as proxy:
+                    archive = self.archive(log=str(seed))
+                    for _ in range(3):
+                        with Reader(pagelog.Connection(proxy.address, attempts=3, pause=0.001), Credentials.of(3, token(3))) as reader:
+                            try:
+                                Archiver(reader, archive).run(follow=False)
+                            except (OtherLog, pagelog.LogWentBack, pagelog.ConnectionLost):
+                                pass
+                kept = list(archive.blocks())
+                self.assertIn(kept, [log[: len(kept)] for log in both])
+
+    def two_logs(self, second: pagelog.Primary) -> None:
+        """Three blocks in common, and then 120 that are others."""
+        chance = random.Random(4)
+        for primary in (self.primary, second):
+            list(primary.stream([put(at, b"in common")] for at in range(3)))
+            list(primary.stream([put(at, chance.randbytes(120))] for at in range(120)))
 
 
 class Passwords(Folder):

@@ -97,6 +97,11 @@ class Connection:
     def __exit__(self, kind: type[BaseException] | None, error: BaseException | None, trace: TracebackType | None) -> None:
         self.close()
 
+    @property
+    def is_open(self) -> bool:
+        """Whether there is a connection, as far as it was used last. The next request makes one where there is none."""
+        return self._socket is not None
+
     def close(self) -> None:
         """Closes the socket. The next request connects again."""
         if self._socket is not None:
@@ -134,7 +139,7 @@ class Connection:
         self._most = in_flight
         source = map(_Waiting, requests)
         try:
-            while over is None or (over == self.connects and self._socket is not None):
+            while over is None or (over == self.connects and self.is_open):
                 self._waiting.extend(islice(source, in_flight - len(self._waiting)))
                 if not self._waiting:
                     return

@@ -9,7 +9,7 @@ from typing import Callable, Iterable, Iterator, Sequence
 
 from pagelog.archive import Archive, ArchiveError
 from pagelog.block import HIGHEST_LSN, PAGE_SIZE, Block, Put
-from pagelog.errors import LogWentBack
+from pagelog.errors import ConnectionLost, LogWentBack
 from pagelog.operator import Operator
 from pagelog.primary import WINDOW, Primary
 from pagelog.reader import QUICKEST, Reader, Span
@@ -22,6 +22,7 @@ Progress = Callable[[int, int], None]
 PULLS = 16
 """Pulls of one batch: at most 256 blocks, 8 MiB."""
 _SAMPLES = 32
+_TRIES = 8
 
 
 class OtherLog(ArchiveError):
@@ -71,7 +72,8 @@ class Archiver:
 
     The service has to have the log that the archive has. That is looked at before the first batch is kept, and again
     whenever the connection was made anew, since the service may have been too. A batch is of one connection, and so of one
-    service: where that is lost amid it, what came whole is kept.
+    service: where that is lost amid it, what came whole is kept. And over the same connection came the last archived
+    block, so that where services come and go, the batches are of one log.
     """
 
     def __init__(self, reader: Reader, archive: Archive) -> None:
@@ -79,6 +81,7 @@ class Archiver:
         self.archive = archive
         self.archived = archive.archived
         self._checked_connects = 0
+        self._same_connects = 0
         # What was hardened once is hardened for good: a service with less is another one.
         reader.hard_seen = max(reader.hard_seen, self.archived)
 
@@ -92,13 +95,40 @@ class Archiver:
 
         Raises `OtherLog` or `LogWentBack` where the service has another log, and `OtherArchiver`. Nothing was kept then.
         """
-        blocks = whole(self.reader.span(self.archived + 1, pulls=PULLS))
+        blocks = self._pulled()
         if not self._is_of_the_log(blocks):
-            blocks = whole(self.reader.span(self.archived + 1, pulls=PULLS))
+            blocks = self._pulled()
             if not self._is_of_the_log(blocks):
                 raise OtherLog(blocks[-1].lsn, "the service has other blocks again than those that it served just before")
         self.archived = self.archive.keep(blocks, self.reader.epoch) if blocks else self.archived
         return blocks
+
+    def _pulled(self) -> list[Block]:
+        """What is new, over a connection over which the last archived block came too."""
+        for _ in range(_TRIES):
+            if self._same_connects != self.reader.connection.connects or not self.reader.connection.is_open:
+                behind = self._behind_the_last()
+                if behind:
+                    return behind
+            span = self.reader.span(self.archived + 1, pulls=PULLS)
+            if not self.archived:
+                self._same_connects = span.connection
+            if span.connection == self._same_connects:
+                return whole(span)
+        raise ConnectionLost(f"no connection lasted for what is behind LSN {self.archived}")
+
+    def _behind_the_last(self) -> list[Block]:
+        """The blocks behind the last archived ones, which are pulled again and compared, from one with records on."""
+        last = list(self.archive.blocks(max(1, self.archived - 15), self.archived))
+        full = [at for at, block in enumerate(last) if not block.is_empty]
+        known = last[full[-1] :] if full else last
+        if not known:
+            return []
+        span = self.reader.span(known[0].lsn, pulls=PULLS)
+        found = whole(span)
+        compare(found[: len(known)], known[: len(found)])
+        self._same_connects = span.connection
+        return found[len(known) :]
 
     def _is_of_the_log(self, batch: Sequence[Block]) -> bool:
         """Whether the service of this connection has the log of the archive, which else is raised, and the end of the batch.
@@ -129,7 +159,7 @@ class Archiver:
     def resume(self) -> None:
         """Takes up the archived LSN from the archive, after an error that leaves open whether a batch was kept."""
         self.archived = self.archive.archived
-        self._checked_connects = 0
+        self._checked_connects = self._same_connects = 0
 
     def run(self, *, follow: bool, idle: float = 1.0, told: Progress = no_progress, stop: Callable[[], bool] = lambda: False) -> int:
         """Keeps what is hardened when it begins; with `follow` also what comes, until `stop`, asking at least each `idle`

@@ -22,12 +22,13 @@ class Span:
     """Blocks that were pulled, and the LSNs that they cover: `first` to `last`, which is below `first` if none.
 
     An LSN of the span that no block of it has is a block that touches none of the partitions asked for. Where all
-    partitions were asked for it is a block without records.
+    partitions were asked for it is a block without records. All came over one connection, whose number is `connection`.
     """
 
     first: int
     last: int
     blocks: tuple[Block, ...]
+    connection: int = 0
 
 
 class Reader(PageClient):
@@ -63,10 +64,11 @@ class Reader(PageClient):
 
         A span that ends below its beginning says that nothing new is hardened. What a later pull of it is refused for is
         left to the next span: this one ends before. So it does where the connection is lost: a span is of one service, and
-        what came whole is not pulled again. Where no reply of a pull comes whole, it asks for fewer blocks. Raises `LogWentBack` where the log has become shorter than it was.
+        what came whole is not pulled again. Where no reply of a pull comes whole, it asks for fewer blocks. Raises
+        `LogWentBack` where the log has become shorter than it was.
         """
         first = self._first_of(lsn, partitions)
-        over = self.connection.connects
+        over = first.connection
         if pulls > 1 and len(first.blocks) == PULL_MAX and self.hard_seen <= first.last:
             self.status()
         if pulls == 1 or self.hard_seen <= first.last or self._most < PULL_MAX:
@@ -75,7 +77,7 @@ class Reader(PageClient):
         starts = range(first.last + 1, min(first.last + 1 + PULL_MAX * (pulls - 1), self.hard_seen + 1), PULL_MAX)
         starts = starts[: self._at_once]
         rest = self._span_of(starts, partitions, behind=first, over=over)
-        return Span(lsn, rest.last, first.blocks + rest.blocks)
+        return Span(lsn, rest.last, first.blocks + rest.blocks, over)
 
     def _first_of(self, lsn: int, partitions: tuple[int, int]) -> Span:
         """The span of one pull, of half as many blocks where no connection lasts until its reply has come."""
@@ -117,7 +119,7 @@ class Reader(PageClient):
             blocks.extend(block for block in pulled.blocks if block.lsn > last)
             last = max(last, pulled.next - 1)
             self._saw_hard_at_least(last)
-        return Span(starts[0], last, tuple(blocks))
+        return Span(starts[0], last, tuple(blocks), self.connection.connects)
 
     def _is_at_end(self, reply: Reply, lsn: int) -> bool:
         """Whether the reply to a pull says that nothing from its LSN on is hardened. Then the log ends just below it."""
