@@ -272,19 +272,19 @@ class OtherLogs(Folder):
     def test_a_line_that_is_cut_before_sixteen_blocks_have_come_lets_fewer_through(self) -> None:
         """Blocks of 4,000 bytes, as SQLite's are, over connections of 10,000; and then over one that lasts."""
         chance = random.Random(4)
-        list(self.primary.stream([put(at, chance.randbytes(4000))] if at % 5 else [] for at in range(60)))
+        list(self.primary.stream([put(at, chance.randbytes(4000))] if at % 5 else [] for at in range(30)))
         archive = self.archive()
         with CuttingProxy(self.service.address, least=10_000, most=10_001) as proxy:
             with Reader(pagelog.Connection(proxy.address, timeout=PATIENCE, attempts=3, pause=0.001), Credentials.of(3, token(3))) as reader:
                 archiver = Archiver(reader, archive)
-                self.assertEqual(archiver.run(follow=False), 60)
+                self.assertEqual(archiver.run(follow=False), 30)
                 self.assertEqual(list(archive.blocks()), self.everything())
                 proxy.is_cutting = False
                 self.blocks_of_60_bytes(600)
-                self.assertEqual(archiver.run(follow=False), 660)
+                self.assertEqual(archiver.run(follow=False), 630)
                 self.blocks_of_60_bytes(300)
                 self.assertEqual(len(archiver.step()), 256)
-        self.assertEqual(archive.check().blocks, 916)
+        self.assertEqual(archive.check().blocks, 886)
 
     def blocks_of_60_bytes(self, count: int) -> None:
         chance = random.Random(4)
