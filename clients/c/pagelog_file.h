@@ -104,7 +104,8 @@ uint64_t pagelog_file_size(const struct pagelog_file *file);
 
 /* Makes the changes since the last commit a transaction. Nothing is sent where nothing differs: then it is
  * DONE for a reader too. FENCED where a reader has changes; CONFLICT where there was no begin since a commit
- * that was not DONE, or that another writer has gone on from.
+ * that was not DONE, or that another writer has gone on from, or where the last begin could not read what is
+ * there.
  *
  * DONE: it is in the log. IN_DOUBT: it may be; the next begin looks. Any other outcome: it is not in the log
  * and never will be. After any outcome but DONE the changes are still there, until pagelog_file_undo.

@@ -479,6 +479,33 @@ def test_a_broken_file_takes_no_commit_before_it_begins_again():
             same("reader", b"b" + wanted[1:], reader.whole())
 
 
+class Ungot:
+    """A rule: while it is armed no get is answered."""
+
+    is_armed = False
+
+    def __call__(self, frame):
+        return None if self.is_armed and frame[33] == wire.GET else frame
+
+
+def test_no_commit_is_built_on_what_a_begin_could_not_read():
+    """Another session of the epoch has committed. The begin that learns so finds no end mark, and its writer goes on all the same."""
+    with Service() as service:
+        rule = Ungot()
+        with Proxy(service.address, between=rule) as proxy, opened(proxy.address, 2, patience_ms=200) as file, \
+                opened(service.address, 2, operator=None) as other:
+            same("commit", (DONE, DONE, DONE), (file.begin(), file.write(0, b"aaa"), file.commit()))
+            same("the other", (DONE, DONE, DONE), (other.begin(), other.write(0, b"bbb"), other.commit()))
+            rule.is_armed = True
+            same("begin", LOST, file.begin())
+            rule.is_armed = False
+            same("commit", (DONE, CONFLICT), (file.write(2, b"c"), file.commit()))
+            same("begin", (DONE, b"bbb"), (file.begin(), file.whole()))
+            same("commit", (DONE, DONE), (file.write(2, b"c"), file.commit()))
+        with opened(service.address, 3, reads_only=True) as reader:
+            same("begin", (DONE, b"bbc"), (reader.begin(), reader.whole()))
+
+
 def test_nothing_is_built_upon_half_a_transaction():
     """The first half is in the log, and the table denies the rest: nothing is in the window, and still no commit may follow
     before the file has begun again."""
