@@ -1,0 +1,877 @@
+/*
+ * What writers do against the rules of the service, in every interleaving of their requests: the epochs, appends and commits of
+ * clients/c, and how a writer that has lost its connection learns what has become of a commit, as a model for the checker spin.
+ * scripts/waiting runs it. It is about safety, and says nothing of waiting.
+ *
+ * The service is one database by docs/RULES.md, and each of its requests one step. A writer is one object with one session. It
+ * opens, commits, and checks its epoch as often as it likes; it takes over, or joins the epoch. One that is fenced stops, and so
+ * does one that gets no answer when it opens; one that is killed is one that never goes on. A connection may be lost at each
+ * request. Then no reply is read, and what was sent may still come: in its order, at any time, or never.
+ *
+ * What holds:
+ *   - A commit that was reported done is in the log at its LSN. No step changes what is in the log. So two writers never have
+ *     done for one LSN, and what an old primary sends after a failover is never done.
+ *   - A commit that was reported as failed is not in the log, and never comes into it. What is in doubt may be there or not.
+ *   - A commit is built where the log is known to end, upon what was read up to there, its own last commit included.
+ *   - Who names the epoch that it ends never ends one of another principal.
+ *   - Nobody asks in an epoch that has not begun.
+ *
+ * Under the name of a function of clients/c come its decisive lines, conditions and calls, in their order; two dots stand for what
+ * is left out. scripts/waiting compares these lines with the source, so that whoever changes such a function has to look at
+ * this model. They are not quoted line by line, as the model has no bytes, memory or time.
+ *
+ * Left out: commits of several blocks, and with them the repair and groups of half the size; more than one commit on its way; six
+ * copies, and an object that does not know the zone: so a block that both copies have taken may be looked for or not. NoMemory, but
+ * for one that ends a commit before it is sent; AuditFull, rows of the table but for a pull's; a service that was started anew; the
+ * follower, since it writes nothing. Of several lost connections in one epoch the requests come once.
+ */
+
+#ifndef WRITERS
+#define WRITERS 2
+#endif
+#ifndef EPOCHS
+#define EPOCHS 4 /* the last one, in which the service allows no failover */
+#endif
+#ifndef LSNS
+#define LSNS 2 /* a writer stops where the log has as many blocks */
+#endif
+#ifndef COMMITS
+#define COMMITS 2 /* how many a writer tries */
+#endif
+#define COPIES 2 /* to how many copies a block is written: a quorum */
+
+#define BIT(copy) (1 << (copy))
+#define ALL (BIT(COPIES) - 1)
+#define COUNT(bits) (((bits) & 1) + ((bits) >> 1 & 1))
+
+/* Replies: done, none since the connection is lost, and the rows that deny. B0 is a pull's. */
+#define ALLOWED 0
+#define NONE 1
+#define A2 2
+#define A4 3
+#define B0 4
+#define C2 5
+#define C4 6
+#define C6 7
+#define C9 8
+
+/* Outcomes; the last one within a call alone. */
+#define DONE 0
+#define LOST 1
+#define FENCED 2
+#define IN_DOUBT 3
+#define CONFLICT 4
+#define DENIED 5
+#define GOES_ON 6
+
+/* The service. */
+
+byte epoch = 1, primary, hard;
+byte content[LSNS + 1]; /* of an LSN: the commit of a writer, or 0 */
+byte copies[LSNS + 1];  /* of an LSN above the end: the copies that hold it */
+
+#ifdef ONE_PRINCIPAL
+#define PRINCIPAL(w) 0
+#else
+#define PRINCIPAL(w) (w)
+#endif
+#define WRITER(commit) (((commit) - 1) / COMMITS)
+
+/* The requests of a lost connection that are on their way, of this epoch: those of an older one are denied. */
+byte late_from[WRITERS];              /* which comes next: the write to a copy, or COPIES for the report */
+byte late_lsn[WRITERS];               /* 0: none */
+byte late_block[WRITERS];
+byte late_failover[WRITERS];          /* 1: one is; 2: of an epoch that it takes for its own */
+
+bit failed[WRITERS * COMMITS + 1];    /* commits of this epoch that were reported as failed */
+byte stopped;                         /* how many writers have stopped */
+
+/* Rows A2 to A4 for a primary. */
+inline decide(w, e) {
+    assert(e <= epoch);
+    reply = (e < epoch -> A2 : (primary != PRINCIPAL(w) -> A4 : ALLOWED))
+}
+
+inline forget_late(w) {
+    late_from[w] = 0; late_lsn[w] = 0; late_block[w] = 0
+}
+
+/* What is on its way to this LSN changes nothing any more. */
+inline harden(n) {
+    assert(content[n] != 0 && !failed[content[n]]);
+    hard = n;
+    copies[n] = 0;
+    other = 0;
+    do
+    :: other < WRITERS && late_lsn[other] == n -> forget_late(other)
+    :: other < WRITERS && late_lsn[other] != n -> other++
+    :: else -> other = 0; break
+    od
+}
+
+inline write(w, e, n, b, copy) {
+    decide(w, e);
+    if
+    :: reply == ALLOWED && n <= hard -> reply = C2
+    :: reply == ALLOWED && n > hard && content[n] != 0 && content[n] != b -> reply = C4
+    :: reply == ALLOWED && n > hard && (content[n] == 0 || content[n] == b) ->
+       content[n] = b; copies[n] = copies[n] | BIT(copy)
+    :: else
+    fi
+}
+
+inline report(w, e, n) {
+    decide(w, e);
+    at = hard + 1;
+    do
+    :: at <= n && copies[at] == ALL -> at++
+    :: else -> break
+    od;
+    if
+    :: reply == ALLOWED && at <= n -> reply = C6
+    :: reply == ALLOWED && at > n && n > hard ->
+       at = hard + 1;
+       do
+       :: at <= n -> harden(at); at++
+       :: else -> break
+       od
+    :: else
+    fi;
+    at = 0
+}
+
+inline failover(w, e, names_its_own) {
+    assert(e <= epoch);
+    if
+    :: e < epoch -> reply = A2
+    :: e == EPOCHS -> reply = C9
+    :: else ->
+       assert(!(names_its_own) || primary == PRINCIPAL(w));
+       at = hard + 1;
+       do
+       :: at <= LSNS && copies[at] == ALL -> harden(at); at++
+       :: else -> break
+       od;
+       do
+       :: at <= LSNS -> content[at] = 0; copies[at] = 0; at++
+       :: else -> at = 0; break
+       od;
+       do
+       :: at < WRITERS -> forget_late(at); late_failover[at] = 0; at++
+       :: else -> at = 0; break
+       od;
+       do
+       :: at <= WRITERS * COMMITS -> failed[at] = 0; at++
+       :: else -> break
+       od;
+       epoch++; primary = PRINCIPAL(w); reply = ALLOWED
+    fi;
+    at = 0
+}
+
+/* The append of one block. */
+
+#define BLOCK (_pid * COMMITS + tried) /* what it has of this writer's last try */
+#define IS_CUT (refused == NONE)
+
+// pagelog_append.c: is_epoch_over
+                    // return refused->kind == PAGELOG_REPLY_DENIED && refused->section == SECTION_A && refused->row == 2;
+#define IS_EPOCH_OVER (refused == A2)
+
+// pagelog_append.c: note
+                    // ..
+                    // if (outcome == PAGELOG_CONFLICT && is_row(refused, 2)) append->is_ahead = true;
+                    // bool decides = is_epoch_over(refused) && !is_epoch_over(&append->refused);
+                    // if (outcome != PAGELOG_DONE && (append->refusal == PAGELOG_DONE || decides)) {
+                    // append->refusal = outcome; append->refused = *refused; }
+                    // ..
+inline note() {
+    if
+    :: reply == C2 -> is_ahead = true
+    :: else
+    fi;
+    if
+    :: reply != ALLOWED && (refused == ALLOWED || reply == A2) -> refused = reply
+    :: else
+    fi
+}
+
+// pagelog_append.c: receive_writes
+                    // ..
+                    // if (marks->done >> copy & 1) continue;
+                    // enum pagelog_outcome outcome = receive(append, connected);
+                    // if (connected) connected = note(append, outcome);
+                    // if (outcome == PAGELOG_DONE) marks->done |= (uint8_t)(1u << copy);
+                    // ..
+                    // if (!connected && outcome != PAGELOG_DONE) marks->unsure |= (uint8_t)(1u << copy);
+                    // ..
+inline receive_write() {
+    write(_pid, mine, lsn, BLOCK, copy);
+    note();
+    if
+    :: reply == ALLOWED -> done = done | BIT(copy)
+    :: else
+    fi;
+    reply = ALLOWED
+}
+
+// pagelog_append.c: receive_report
+                    // enum pagelog_outcome outcome = receive(append, connected);
+                    // append->is_reported = outcome == PAGELOG_DONE;
+                    // return connected && note(append, outcome);
+inline receive_report() {
+    report(_pid, mine, lsn);
+    note();
+    is_reported = (reply == ALLOWED);
+    reply = ALLOWED
+}
+
+/* The connection is lost before the reply to the request of this copy, or to the report. */
+inline cut() {
+    unsure = unsure | (ALL & ~done & ~(BIT(copy) - 1));
+    if
+    :: refused == ALLOWED -> refused = NONE
+    :: else
+    fi;
+#ifdef LOST_REPORT_IS_DONE
+    is_reported = (copy == COPIES);
+#endif
+    if
+    :: mine == epoch && hard < lsn ->
+       late_from[_pid] = (late_lsn[_pid] == lsn && late_from[_pid] < copy -> late_from[_pid] : copy);
+       late_lsn[_pid] = lsn; late_block[_pid] = BLOCK
+    :: else
+    fi
+}
+
+/* DONE: it is there. CONFLICT: another is there, or the log ends before. LOST, DENIED: it could not be learned. */
+// pagelog_append.c: look
+                    // ..
+                    // if (outcome != PAGELOG_DONE) return outcome;
+                    // ..
+                    // if (length != own_length || memcmp(block, own, length) != 0) return PAGELOG_CONFLICT;
+                    // ..
+                    // if (at == 0) return PAGELOG_CONFLICT;
+                    // ..
+#ifdef COMPARES_THE_LSN
+#define IS_SAME (hard >= lsn)
+#else
+#define IS_SAME (hard >= lsn && content[lsn] == BLOCK)
+#endif
+inline look() {
+    if
+#ifndef NO_LOSS
+    :: outcome = LOST
+#endif
+#ifdef NO_PULL
+    :: outcome = DENIED
+#endif
+    :: outcome = (IS_SAME -> DONE : CONFLICT)
+    fi
+}
+
+// pagelog_append.c: were_sent
+                    // ..
+                    // (marks->done | marks->unsure) == 0) return false;
+                    // ..
+#ifdef OWNS_WHAT_IT_NEVER_SENT
+#define WERE_SENT true
+#else
+#define WERE_SENT ((done | unsure) != 0)
+#endif
+
+// pagelog_append.c: catch_up
+                    // ..
+                    // enum pagelog_outcome outcome = pagelog_status(append->log, PAGELOG_PRIMARY, &status);
+                    // if (outcome != PAGELOG_DONE) return outcome;
+                    // ..
+                    // if (status.hard < next) return PAGELOG_DONE;
+                    // ..
+                    // outcome = look(append, append->first, count);
+                    // if (outcome == PAGELOG_DENIED && !were_sent(append, count))
+                    // return pagelog_restore(append->log, PAGELOG_CONFLICT, &append->refused);
+                    // if (outcome == PAGELOG_DENIED && (append->log->owns_epoch || are_done(append, count, 1)))
+                    // outcome = PAGELOG_DONE;
+                    // if (outcome == PAGELOG_DONE) advance(append, count);
+                    // ..
+inline catch_up() {
+    if
+#ifndef NO_LOSS
+    :: reply = NONE
+#endif
+    :: decide(_pid, mine)
+    fi;
+    if
+    :: reply != ALLOWED -> refused = reply; outcome = (reply == NONE -> LOST : FENCED)
+    :: reply == ALLOWED && hard < lsn -> outcome = GOES_ON /* the rest may be asked again */
+    :: reply == ALLOWED && hard >= lsn ->
+       end = hard;
+       look();
+       if
+#ifdef NO_PULL
+       :: outcome == DENIED && !WERE_SENT -> outcome = CONFLICT
+       :: outcome == DENIED && WERE_SENT && (!joins || done != 0) -> outcome = DONE
+       :: outcome == DENIED && WERE_SENT && joins && done == 0 -> refused = B0
+#endif
+       :: outcome == LOST -> refused = NONE
+       :: outcome == DONE || outcome == CONFLICT
+       fi
+    fi;
+    reply = ALLOWED
+}
+
+// pagelog_append.c: give_up
+                    // ..
+                    // if (append->marks[i].done | append->marks[i].unsure) accepted = true;
+                    // if (accepted) append->log->stuck = true;
+                    // return pagelog_restore(append->log, outcome, &append->refused);
+inline give_up(cause) {
+    is_stuck = (done | unsure) != 0;
+    outcome = cause
+}
+
+// pagelog_append.c: copies_of_last
+                    // ..
+                    // return count_of(marks->done | marks->unsure);
+#ifdef LOST_REPLIES_ARE_REFUSALS
+#define COPIES_OF_LAST COUNT(done)
+#else
+#define COPIES_OF_LAST COUNT(done | unsure)
+#endif
+
+// pagelog_append.c: conclude_after_epoch
+                    // ..
+                    // if (copies_of_last(append) < least_quorum(append)) return give_up(append, PAGELOG_FENCED);
+                    // if (!are_done(append, left, most_quorum(append))) {
+                    // outcome = look(append, append->count - 1, 1);
+                    // if (outcome == PAGELOG_CONFLICT || append->log->anew) return give_up(append, PAGELOG_FENCED);
+                    // if (outcome == PAGELOG_DONE) outcome = look(append, append->first, left);
+                    // if (outcome != PAGELOG_CONFLICT && are_done(append, left, append->log->zone.quorum))
+                    // outcome = PAGELOG_DONE; }
+                    // if (outcome != PAGELOG_DONE) return give_up(append, PAGELOG_IN_DOUBT);
+                    // advance(append, left); return PAGELOG_DONE;
+inline conclude_after_epoch() {
+    if
+    :: COPIES_OF_LAST < COPIES -> give_up(FENCED)
+    :: COPIES_OF_LAST == COPIES && done == ALL -> outcome = DONE
+    :: COPIES_OF_LAST == COPIES ->
+       look();
+       if
+       :: outcome == CONFLICT -> give_up(FENCED)
+       :: (outcome == LOST || outcome == DENIED) && done == ALL -> outcome = DONE
+       :: (outcome == LOST || outcome == DENIED) && done != ALL -> give_up(IN_DOUBT)
+       :: outcome == DONE
+       fi
+    fi
+}
+
+// pagelog_append.c: conclude
+                    // ..
+                    // if (is_epoch_over(&append->refused)) return conclude_after_epoch(append);
+                    // ..
+                    // return give_up(append, copies_of_last(append) < least_quorum(append) ? cause : PAGELOG_IN_DOUBT);
+inline conclude() {
+    if
+    :: IS_EPOCH_OVER -> conclude_after_epoch()
+#ifdef DOUBT_IS_LOST
+    :: !IS_EPOCH_OVER -> give_up(outcome)
+#else
+    :: !IS_EPOCH_OVER && COPIES_OF_LAST < COPIES -> give_up(outcome)
+    :: !IS_EPOCH_OVER && COPIES_OF_LAST == COPIES -> give_up(IN_DOUBT)
+#endif
+    fi
+}
+
+// pagelog_append.c: is_in_log
+                    // return append->is_reported && are_done(append, count, 1);
+#ifdef REPORT_IS_ENOUGH
+#define IS_IN_LOG is_reported
+#else
+#define IS_IN_LOG (is_reported && done != 0)
+#endif
+
+/* What a group has come to: GOES_ON before it is looked for. */
+// pagelog_append.c: run
+                    // ..
+                    // enum pagelog_outcome outcome = exchange_group(append, count);
+                    // ..
+                    // if (is_in_log(append, count)) { advance(append, count);
+                    // ..
+                    // if (outcome == PAGELOG_LOST && pagelog_may_try_again(&patience)) {
+                    // ..
+                    // outcome = taken_from_log(append, catch_up(append)); } else if (append->is_ahead) {
+                    // outcome = taken_from_log(append, catch_up(append));
+                    // if (outcome == PAGELOG_DONE && append->first == before) outcome = PAGELOG_CONFLICT; }
+                    // ..
+                    // if (outcome != PAGELOG_DONE) return conclude(append, outcome);
+                    // ..
+inline weigh() {
+    if
+    :: IS_IN_LOG -> outcome = DONE
+    :: !IS_IN_LOG && (IS_CUT || is_ahead) ->
+       catch_up();
+       if
+       :: outcome == GOES_ON && is_ahead -> outcome = CONFLICT
+       :: else
+       fi
+    :: !IS_IN_LOG && IS_CUT -> outcome = LOST
+    :: !IS_IN_LOG && !IS_CUT && !is_ahead -> outcome = (refused == A2 || refused == A4 -> FENCED : CONFLICT)
+    fi;
+    if
+    :: outcome == GOES_ON -> copy = 0; refused = ALLOWED
+    :: outcome == DONE
+    :: outcome != GOES_ON && outcome != DONE -> conclude()
+    fi;
+    is_reported = false; is_ahead = false
+}
+
+inline run_append() {
+    outcome = GOES_ON;
+#ifdef UNWAITED
+    if
+    :: answered -> is_reported = true; done = ALL; answered = false; copy = COPIES + 1
+    :: !answered
+    fi;
+#endif
+    do
+    :: outcome == GOES_ON && copy < COPIES && (done >> copy & 1) -> copy++
+    :: d_step { outcome == GOES_ON && copy < COPIES && !(done >> copy & 1) -> receive_write(); copy++ }
+    :: d_step { outcome == GOES_ON && copy == COPIES -> receive_report(); copy++ }
+#ifndef NO_LOSS
+    :: d_step { outcome == GOES_ON && copy <= COPIES && !(done >> copy & 1) -> cut(); copy = COPIES + 1 }
+#endif
+    :: atomic { outcome == GOES_ON && copy > COPIES -> weigh() }
+    :: outcome != GOES_ON -> break
+    od;
+    atomic {
+        end = (outcome == DONE && end < lsn -> lsn : end);
+        copy = 0; refused = ALLOWED; done = 0; unsure = 0
+    }
+}
+
+/* Epochs. */
+
+/* One of an older epoch is denied, and changes nothing. So who takes over whatever the epoch is names the present one. */
+// pagelog_calls.c: fail_over
+                    // ..
+                    // if (outcome == PAGELOG_LOST && log->counts.bytes_sent > sent) log->lost_failovers++;
+                    // ..
+inline fail_over(names_its_own) {
+    if
+    :: failover(_pid, from, names_its_own)
+#ifndef NO_LOSS
+    :: reply = NONE;
+       lost = (lost < EPOCHS - mine -> lost + 1 : lost);
+       late_failover[_pid] = (from < epoch -> 0 : 1 + names_its_own)
+    :: reply = NONE /* nothing was sent */
+#endif
+    fi
+}
+
+// pagelog_calls.c: may_be_ours
+                    // return log->epoch > expected && log->epoch - expected <= log->lost_failovers;
+#define MAY_BE_OURS (epoch - mine <= lost)
+
+/* DONE: nothing of this epoch is in the window. */
+// pagelog_calls.c: begin_epoch
+                    // ..
+                    // log->writing_epoch = epoch; log->owns_epoch = owns;
+                    // ..
+                    // enum pagelog_outcome outcome = pagelog_status(log, PAGELOG_PRIMARY, &status);
+                    // ..
+inline begin_epoch(e) {
+    mine = e;
+    if
+#ifndef NO_LOSS
+    :: outcome = LOST
+#endif
+    :: decide(_pid, mine);
+       outcome = (reply == ALLOWED -> DONE : FENCED);
+       end = (reply == ALLOWED -> hard : end);
+       reply = ALLOWED
+    fi
+}
+
+inline begin_after_failover() {
+    if
+    :: atomic { outcome == DONE -> lost = 0; begin_epoch(from + 1) }
+    :: outcome != DONE
+    fi;
+    from = 0
+}
+
+/* Where it names one it is the epoch in which it writes. */
+// pagelog_calls.c: pagelog_take_over
+                    // ..
+                    // uint32_t epoch = expected ? expected : log->epoch ? log->epoch : 1;
+                    // ..
+                    // enum pagelog_outcome outcome = fail_over(log, operator_principal, operator_token, epoch);
+                    // if (outcome == PAGELOG_DONE) break;
+                    // if (outcome == PAGELOG_LOST && pagelog_may_try_again(&patience)) continue;
+                    // if (outcome != PAGELOG_FENCED || !is_epoch_told(log) || ++epochs > MOST_EPOCHS) return outcome;
+                    // if (expected) { if (!may_be_ours(log, expected)) return outcome;
+                    // outcome = ask_as_primary(log);
+                    // if (outcome == PAGELOG_LOST && pagelog_may_try_again(&patience)) continue;
+                    // if (outcome == PAGELOG_FENCED && is_epoch_told(log)) continue;
+                    // if (outcome != PAGELOG_DONE) return outcome; }
+                    // epoch = log->epoch; }
+                    // log->lost_failovers = 0;
+                    // return begin_epoch(log, epoch + 1, true);
+inline take_over() {
+    from = mine; outcome = GOES_ON;
+    do
+    :: atomic { outcome == GOES_ON && told == 0 ->
+#ifdef NAMES_THE_NEWEST_EPOCH
+          from = epoch;
+#endif
+          fail_over(true);
+          if
+          :: reply == ALLOWED -> outcome = DONE
+#ifdef LOST_FAILOVER_IS_DONE
+          :: reply == NONE -> outcome = DONE
+#else
+          :: reply == NONE
+#endif
+          :: reply == NONE -> outcome = LOST
+          :: reply == C9 -> outcome = DENIED
+          :: reply == A2 && !MAY_BE_OURS -> outcome = FENCED
+#ifdef TAKES_ANOTHERS_EPOCH
+          :: reply == A2 && MAY_BE_OURS -> from = epoch
+#else
+          :: reply == A2 && MAY_BE_OURS -> told = epoch
+#endif
+          fi;
+          reply = ALLOWED
+       }
+    :: atomic { outcome == GOES_ON && told != 0 ->
+          if
+          :: reply = NONE
+          :: decide(_pid, told)
+          fi;
+          if
+          :: reply == NONE
+          :: reply == NONE -> outcome = LOST
+          :: reply == A2
+          :: reply == A4 -> outcome = FENCED
+          :: reply == ALLOWED -> from = told
+          fi;
+          reply = ALLOWED; told = 0
+       }
+    :: outcome != GOES_ON -> break
+    od;
+    begin_after_failover()
+}
+
+/* Where it names none. */
+inline take_over_any() {
+    outcome = GOES_ON;
+    do
+    :: atomic { outcome == GOES_ON ->
+          from = epoch;
+          fail_over(false);
+          if
+          :: reply == ALLOWED -> outcome = DONE
+#ifndef NO_LOSS
+          :: reply == NONE
+          :: reply == NONE -> outcome = LOST
+#endif
+          :: reply == C9 -> outcome = DENIED
+          fi;
+          reply = ALLOWED
+       }
+    :: outcome != GOES_ON -> break
+    od;
+    begin_after_failover()
+}
+
+/* The file. */
+
+/* A page at an LSN of the log stays what it is. A writer that is fenced by this read goes on as a follower. */
+// pagelog_file.c: recover
+                    // enum pagelog_outcome outcome = pagelog_take_mark(file, pagelog_end(file->log));
+                    // ..
+inline recover() {
+    decide(_pid, mine);
+    if
+    :: reply == ALLOWED -> mark = end
+    :: reply != ALLOWED -> is_fenced = true
+    fi;
+    reply = ALLOWED
+}
+
+// pagelog_file.c: open_writer
+                    // ..
+                    // options->has_operator
+                    // ? pagelog_take_over(file->log, options->operator_principal, options->operator_token, 0)
+                    // : pagelog_join(file->log);
+                    // if (outcome != PAGELOG_DONE) return outcome;
+                    // ..
+                    // return recover(file);
+inline open_writer() {
+    if
+    :: take_over_any()
+#ifdef JOINS
+    :: atomic { joins = true; begin_epoch(epoch) }
+#endif
+    fi;
+    if
+    :: atomic { outcome == DONE -> recover() }
+    :: outcome != DONE
+    fi
+}
+
+// pagelog_file.c: renew
+                    // ..
+                    // if (!options->has_operator)
+                    // ..
+                    // pagelog_take_over(
+                    // file->log, options->operator_principal, options->operator_token, pagelog_writing_epoch(file->log));
+                    // if (outcome == PAGELOG_DONE) outcome = recover(file);
+                    // if (outcome == PAGELOG_DONE) file->is_broken = false;
+                    // ..
+inline renew() {
+    if
+    :: joins -> outcome = CONFLICT
+    :: !joins ->
+       take_over();
+       if
+#ifdef GOES_ON_FROM_ITS_OWN
+       :: outcome == DONE -> is_broken = false
+#else
+       :: atomic { outcome == DONE -> recover(); is_broken = false }
+       :: outcome == DONE -> outcome = LOST
+#endif
+       :: outcome != DONE
+       fi
+    fi
+}
+
+/* Who gets no answer asks again before it goes on. */
+// pagelog_file.c: check_epoch
+                    // ..
+                    // enum pagelog_outcome outcome = pagelog_status(file->log, PAGELOG_PRIMARY, &status);
+                    // if (outcome != PAGELOG_DONE || status.hard == file->mark.lsn) return outcome;
+                    // outcome = recover(file);
+                    // ..
+inline check_epoch() {
+    decide(_pid, mine);
+    outcome = (reply == ALLOWED -> DONE : FENCED);
+    reply = ALLOWED;
+    if
+    :: outcome == DONE && hard != mark ->
+       end = hard;
+#ifndef SEES_THE_END_ALONE
+       recover()
+#endif
+    :: else
+    fi
+}
+
+/* The session is the writer's, and the number of a transaction is that of its LSN. */
+// pagelog_commit.c: find_mark
+                    // ..
+                    // if (ends_before) return PAGELOG_CONFLICT;
+                    // if (outcome != PAGELOG_DONE) return outcome;
+                    // bool is_ours = pagelog_read_mark(page, &found) && found.lsn == mark->lsn &&
+                    // found.session == mark->session && found.transaction == mark->transaction;
+                    // return is_ours ? PAGELOG_DONE : PAGELOG_CONFLICT;
+#ifdef FINDS_ANY_MARK
+#define IS_OURS (lsn <= hard)
+#else
+#define IS_OURS (lsn <= hard && WRITER(content[lsn]) == _pid)
+#endif
+inline find_mark() {
+    if
+    :: outcome = LOST
+    :: outcome = (IS_OURS -> DONE : CONFLICT)
+    fi
+}
+
+// pagelog_commit.c: settle_doubt
+                    // ..
+                    // if (!options->has_operator) return PAGELOG_IN_DOUBT;
+                    // enum pagelog_outcome outcome = pagelog_take_over(
+                    // file->log, options->operator_principal, options->operator_token, pagelog_writing_epoch(file->log));
+                    // bool is_fenced = outcome == PAGELOG_FENCED && !pagelog_is_anew(file->log);
+                    // if (outcome != PAGELOG_DONE && !is_fenced)
+                    // return pagelog_restore(file->log, PAGELOG_IN_DOUBT, &refused);
+                    // if (is_fenced) pagelog_become_follower(file);
+                    // outcome = find_mark(file, role_of(file), mark);
+                    // if (outcome == PAGELOG_DONE && !is_fenced) file->is_broken = pagelog_end(file->log) != mark->lsn;
+                    // if (outcome == PAGELOG_DONE) return PAGELOG_DONE;
+                    // if (outcome != PAGELOG_CONFLICT) return pagelog_restore(file->log, PAGELOG_IN_DOUBT, &refused);
+                    // if (is_fenced) return PAGELOG_FENCED;
+                    // return pagelog_restore(file->log, cause == PAGELOG_DONE ? PAGELOG_LOST : cause, &refused);
+inline settle_doubt() {
+    if
+    :: joins
+    :: !joins ->
+       take_over();
+       atomic {
+           if
+           :: outcome != DONE && outcome != FENCED -> outcome = IN_DOUBT
+           :: outcome == DONE || outcome == FENCED ->
+              is_fenced = (outcome == FENCED);
+              find_mark();
+              if
+#ifdef BUILDS_ON_WHAT_IT_FOUND
+              :: outcome == DONE && !is_fenced
+#else
+              :: outcome == DONE && !is_fenced -> is_broken = (end != lsn)
+#endif
+              :: outcome == DONE && is_fenced
+              :: outcome == LOST -> outcome = IN_DOUBT
+              :: outcome == CONFLICT && is_fenced -> outcome = FENCED
+              :: outcome == CONFLICT && !is_fenced -> outcome = LOST
+              fi
+           fi
+       }
+    fi
+}
+
+// pagelog_commit.c: note_failure
+                    // ..
+                    // bool is_untouched = pagelog_end(file->log) == end && !pagelog_is_stuck(file->log);
+                    // if (outcome == PAGELOG_FENCED && !pagelog_is_anew(file->log))
+                    // pagelog_become_follower(file);
+                    // else if (!is_untouched || outcome == PAGELOG_IN_DOUBT) file->is_broken = true;
+inline note_failure() {
+    if
+    :: outcome == FENCED -> is_fenced = true
+    :: outcome != FENCED && (end != lsn - 1 || is_stuck || outcome == IN_DOUBT) -> is_broken = true
+    :: else
+    fi
+}
+
+/* A commit that nobody waited for may be in the log: it was reported neither as done nor as failed. */
+// pagelog_commit.c: lose
+                    // pagelog_disconnect(file->log);
+                    // ..
+                    // file->mark = file->settled;
+                    // ..
+                    // file->on_their_way = 0;
+                    // ..
+                    // if (file->is_fenced || (outcome == PAGELOG_FENCED && !pagelog_is_anew(file->log)))
+                    // pagelog_become_follower(file); else file->is_broken = true;
+                    // ..
+inline lose() {
+#ifndef KEEPS_REPLIES
+    answered = false;
+#endif
+    mark = lsn - 1;
+    if
+    :: is_fenced || outcome == FENCED -> is_fenced = true
+    :: else -> is_broken = true
+    fi
+}
+
+/* What the commit has come to. */
+// pagelog_commit.c: commit_changes
+                    // ..
+                    // if (outcome == PAGELOG_IN_DOUBT) outcome = settle_doubt(file, &mark);
+                    // if (outcome != PAGELOG_DONE && file->on_their_way > 0) return lose(file, outcome);
+                    // if (outcome == PAGELOG_DONE && fate != NOTHING_DIFFERS) keep(file, &mark, fate == ON_ITS_WAY);
+                    // ..
+                    // else note_failure(file, outcome, end);
+                    // ..
+// pagelog_commit.c: pagelog_file_settle
+                    // ..
+                    // enum pagelog_outcome outcome = pagelog_append_ended(file);
+                    // if (outcome == PAGELOG_IN_DOUBT) outcome = settle_doubt(file, &file->mark);
+                    // if (outcome != PAGELOG_DONE) return lose(file, outcome);
+                    // ..
+inline end_commit() {
+    if
+    :: outcome == DONE -> assert(hard >= lsn && content[lsn] == BLOCK); mark = lsn
+#ifdef UNWAITED
+    :: outcome != DONE && on_its_way -> lose()
+#endif
+    :: outcome != DONE && !on_its_way ->
+       if
+       :: outcome != IN_DOUBT -> assert(!(hard >= lsn && content[lsn] == BLOCK)); failed[BLOCK] = true
+       :: else
+       fi;
+       note_failure()
+    fi;
+    lsn = 0; on_its_way = false; is_stuck = false; outcome = DONE
+}
+
+// pagelog_commit.c: commit_if_allowed
+                    // ..
+                    // if (!is_writer(file))
+                    // ..
+                    // if (file->is_broken)
+                    // ..
+#define MAY_COMMIT (!is_fenced && !is_broken && tried < COMMITS && end < LSNS)
+
+active [WRITERS] proctype Writer() {
+    byte mine, end, mark, lsn, tried, lost, told, from, done, unsure, copy, reply, refused, outcome, at, other;
+    bit joins, is_broken, is_reported, is_ahead, is_stuck, is_fenced, on_its_way, answered;
+end_opens:
+    _pid == 0 || epoch > 1; /* of two writers of which either comes first, this one does */
+    open_writer();
+    do
+    :: outcome == DONE && lsn == 0 && MAY_COMMIT ->
+       d_step { assert(mark == end); lsn = end + 1; tried++ };
+#ifdef UNWAITED
+       if
+       :: on_its_way = true; mark = lsn
+       :: skip
+       fi
+#endif
+    :: outcome == DONE && lsn != 0 ->
+       run_append();
+       if
+       :: outcome == IN_DOUBT -> settle_doubt()
+       :: outcome != IN_DOUBT
+       fi;
+       atomic { end_commit() }
+#ifdef UNWAITED
+    /* All replies are there, each of them Done, before anybody waits for them. */
+    :: d_step { outcome == DONE && on_its_way && !answered && mine == epoch && hard == lsn - 1 && content[lsn] == 0 ->
+          content[lsn] = BLOCK; harden(lsn); answered = true
+       }
+    /* The next commit finds no memory. */
+    :: outcome == DONE && on_its_way ->
+       atomic {
+           if
+           :: !answered -> cut()
+           :: answered
+           fi;
+           lose();
+           lsn = 0; on_its_way = false; refused = ALLOWED; unsure = 0
+       }
+#endif
+    :: d_step { outcome == DONE && lsn == 0 && !is_fenced && !is_broken -> check_epoch() }
+    :: outcome == DONE && lsn == 0 && !is_fenced && is_broken ->
+       renew();
+       outcome = (outcome == LOST -> DONE : outcome)
+    :: outcome != DONE || is_fenced && lsn == 0 -> break
+    od;
+    atomic {
+        mine = 0; end = 0; mark = 0; tried = 0; lost = 0; outcome = DONE;
+        joins = false; is_broken = false; is_fenced = false; stopped++
+    }
+}
+
+/* What is on its way. */
+
+#define COMES(w) \
+    :: d_step { late_lsn[w] > 0 && late_from[w] < COPIES -> \
+          write(w, epoch, late_lsn[w], late_block[w], late_from[w]); late_from[w]++; reply = ALLOWED } \
+    :: d_step { late_lsn[w] > 0 && late_from[w] == COPIES -> \
+          report(w, epoch, late_lsn[w]); forget_late(w); reply = ALLOWED } \
+    :: d_step { late_failover[w] > 0 -> failover(w, epoch, late_failover[w] == 2); reply = ALLOWED }
+
+active proctype Late() {
+    byte reply, at, other;
+end:
+    do
+    COMES(0)
+    COMES(1)
+#if WRITERS > 2
+    COMES(2)
+#endif
+    :: stopped == WRITERS -> break
+    od
+}
