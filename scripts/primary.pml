@@ -21,9 +21,13 @@
  * this model. They are not quoted line by line, as the model has no bytes, memory or time.
  *
  * Left out: commits of several blocks, and with them the repair and groups of half the size; more than one commit on its way; six
- * copies, and an object that does not know the zone: so a block that both copies have taken may be looked for or not. NoMemory, but
- * for one that ends a commit before it is sent; AuditFull, rows of the table but for a pull's; a service that was started anew; the
- * follower, since it writes nothing. Of several lost connections in one epoch the requests come once.
+ * copies, and a third one, which nobody writes; an object that does not know the zone, so that a block which both copies have taken is
+ * not looked for. NoMemory, but for one that ends a commit before it is sent; AuditFull; rows of the table, but for a pull's; a
+ * service that was started anew; the follower, since it writes nothing. Of several lost connections in one epoch the requests come
+ * once.
+ *
+ * Known, and not so: where a writer may not pull, loses its connection, and another has joined its epoch, a block of the other is
+ * taken for its own (catch_up, by owns_epoch). So no size has all three: NO_PULL with writers of one principal comes with NO_LOSS.
  */
 
 #ifndef WRITERS
