@@ -13,6 +13,7 @@
  *     done for one LSN, and what an old primary sends after a failover is never done.
  *   - A commit that was reported as failed is not in the log, and never comes into it. What is in doubt may be there or not.
  *   - A commit is built where the log is known to end, upon what was read up to there, its own last commit included.
+ *   - Of a commit of two blocks the second one comes right after the first, and only a repair comes after a first one without it.
  *   - Who names the epoch that it ends never ends one of another principal.
  *   - Nobody asks in an epoch that has not begun.
  *
@@ -20,14 +21,17 @@
  * is left out. scripts/waiting compares these lines with the source, so that whoever changes such a function has to look at
  * this model. They are not quoted line by line, as the model has no bytes, memory or time.
  *
- * Left out: commits of several blocks, and with them the repair and groups of half the size; more than one commit on its way; six
- * copies, and a third one, which nobody writes; an object that does not know the zone, so that a block which both copies have taken is
- * not looked for. NoMemory, but for one that ends a commit before it is sent; AuditFull; rows of the table, but for a pull's; a
- * service that was started anew; the follower, since it writes nothing. Of several lost connections in one epoch the requests come
- * once.
+ * Left out: commits of more than two blocks; a repair of two, and a second one of the same writer; more than one commit on its way, and
+ * any of the second writer; six copies, and a third one, which nobody writes; an object that does not know the zone: so a block that
+ * both copies have taken may be looked for or not. NoMemory, but for one that ends a commit before it is sent; AuditFull; rows of the
+ * table, but for a pull's; a service that was started anew; the follower, since it writes nothing. Of several lost connections in one
+ * epoch the requests come once.
  *
- * Known, and not so: where a writer may not pull, loses its connection, and another has joined its epoch, a block of the other is
- * taken for its own (catch_up, by owns_epoch). So no size has all three: NO_PULL with writers of one principal comes with NO_LOSS.
+ * Known, and not so:
+ *   - Where a writer may not pull, loses its connection, and another has joined its epoch, a block of the other is taken for its own
+ *     (catch_up, by owns_epoch). So no size has all three: NO_PULL with writers of one principal comes with NO_LOSS.
+ *   - Two writers in one epoch may mix commits of two blocks, as pagelog.h says. So JOINS with writers of one principal comes with one
+ *     block.
  */
 
 #ifndef WRITERS
@@ -42,9 +46,13 @@
 #ifndef COMMITS
 #define COMMITS 2 /* how many a writer tries */
 #endif
-#define COPIES 2 /* to how many copies a block is written: a quorum */
+#ifndef PARTS
+#define PARTS 1 /* how many blocks a commit has, 1 or 2; the last one has the end mark */
+#endif
+#define TRIES (COMMITS + PARTS - 1) /* of a writer: with two blocks it may repair once, and stops where it has to repair more */
+#define COPIES 2                    /* to how many copies a block is written: a quorum */
 
-#define BIT(copy) (1 << (copy))
+#define BIT(place) (1 << (place))
 #define ALL (BIT(COPIES) - 1)
 #define COUNT(bits) (((bits) & 1) + ((bits) >> 1 & 1))
 
@@ -71,7 +79,7 @@
 /* The service. */
 
 byte epoch = 1, primary, hard;
-byte content[LSNS + 1]; /* of an LSN: the commit of a writer, or 0 */
+byte content[LSNS + 1]; /* of an LSN: a block, or 0 */
 byte copies[LSNS + 1];  /* of an LSN above the end: the copies that hold it */
 
 #ifdef ONE_PRINCIPAL
@@ -79,16 +87,25 @@ byte copies[LSNS + 1];  /* of an LSN above the end: the copies that hold it */
 #else
 #define PRINCIPAL(w) (w)
 #endif
-#define WRITER(commit) (((commit) - 1) / COMMITS)
+/* A block: the number of its commit, and whether it is the first or the second of two, or the only one. */
+#define FIRST 0
+#define SECOND 1
+#define ONLY 2
+#define A_BLOCK(commit, kind) (3 * (commit) + (kind))
+#define COMMIT_OF(block) ((block) / 3)
+#define KIND_OF(block) ((block) % 3)
+#define HAS_MARK(block) (KIND_OF(block) != FIRST)
+#define WRITER_OF(block) ((COMMIT_OF(block) - 1) / TRIES)
 
 /* The requests of a lost connection that are on their way, of this epoch: those of an older one are denied. */
-byte late_from[WRITERS];              /* which comes next: the write to a copy, or COPIES for the report */
-byte late_lsn[WRITERS];               /* 0: none */
-byte late_block[WRITERS];
-byte late_failover[WRITERS];          /* 1: one is; 2: of an epoch that it takes for its own */
+byte late_next[WRITERS];     /* the one that comes next, and the last one, which is a report */
+byte late_report[WRITERS];
+byte late_lsn[WRITERS];      /* of the last block; 0: none are */
+byte late_block[WRITERS];    /* the first one */
+byte late_failover[WRITERS]; /* 1: one is; 2: of an epoch that it takes for its own */
 
-bit failed[WRITERS * COMMITS + 1];    /* commits of this epoch that were reported as failed */
-byte stopped;                         /* how many writers have stopped */
+bit failed[WRITERS * TRIES + 1]; /* the commits of this epoch that were reported as failed */
+byte stopped;                    /* how many writers have stopped */
 
 /* Rows A2 to A4 for a primary. */
 inline decide(w, e) {
@@ -97,12 +114,14 @@ inline decide(w, e) {
 }
 
 inline forget_late(w) {
-    late_from[w] = 0; late_lsn[w] = 0; late_block[w] = 0
+    late_next[w] = 0; late_report[w] = 0; late_lsn[w] = 0; late_block[w] = 0
 }
 
 /* What is on its way to this LSN changes nothing any more. */
 inline harden(n) {
-    assert(content[n] != 0 && !failed[content[n]]);
+    assert(content[n] != 0 && !(HAS_MARK(content[n]) && failed[COMMIT_OF(content[n])]));
+    assert(KIND_OF(content[n]) != SECOND || content[n - 1] == content[n] - SECOND);
+    assert(KIND_OF(content[n]) != FIRST || n == 1 || HAS_MARK(content[n - 1]));
     hard = n;
     copies[n] = 0;
     other = 0;
@@ -113,13 +132,13 @@ inline harden(n) {
     od
 }
 
-inline write(w, e, n, b, copy) {
+inline write(w, e, n, b, c) {
     decide(w, e);
     if
     :: reply == ALLOWED && n <= hard -> reply = C2
     :: reply == ALLOWED && n > hard && content[n] != 0 && content[n] != b -> reply = C4
     :: reply == ALLOWED && n > hard && (content[n] == 0 || content[n] == b) ->
-       content[n] = b; copies[n] = copies[n] | BIT(copy)
+       content[n] = b; copies[n] = copies[n] | BIT(c)
     :: else
     fi
 }
@@ -165,7 +184,7 @@ inline failover(w, e, names_its_own) {
        :: else -> at = 0; break
        od;
        do
-       :: at <= WRITERS * COMMITS -> failed[at] = 0; at++
+       :: at <= WRITERS * TRIES -> failed[at] = 0; at++
        :: else -> break
        od;
        epoch++; primary = PRINCIPAL(w); reply = ALLOWED
@@ -173,9 +192,17 @@ inline failover(w, e, names_its_own) {
     at = 0
 }
 
-/* The append of one block. */
+/* The append. */
 
-#define BLOCK (_pid * COMMITS + tried) /* what it has of this writer's last try */
+/* The last block has the LSN `lsn`, and place 1; the one before it, if there is one, has place 0. Of the writes that at PLACE goes to a
+ * copy of block PLACE / 2. */
+#define COMMIT (_pid * TRIES + tried)
+#define IS_ALONE (PARTS == 1 || is_repair)
+#define BLOCK_AT(place) (A_BLOCK(COMMIT, place) + IS_ALONE)
+#define LSN_AT(place) (lsn + (place) - 1)
+#define BITS(from, to) (BIT(COPIES * (to)) - BIT(COPIES * (from)))
+#define GROUP BITS(first, last + 1) /* the writes of the group */
+#define LEFT BITS(first, 2)         /* of all blocks that are not in the log yet */
 #define IS_CUT (refused == NONE)
 
 // pagelog_append.c: is_epoch_over
@@ -210,13 +237,14 @@ inline note() {
                     // if (!connected && outcome != PAGELOG_DONE) marks->unsure |= (uint8_t)(1u << copy);
                     // ..
 inline receive_write() {
-    write(_pid, mine, lsn, BLOCK, copy);
+    n = LSN_AT(next / COPIES); block = BLOCK_AT(next / COPIES); copy = next % COPIES;
+    write(_pid, mine, n, block, copy);
     note();
     if
-    :: reply == ALLOWED -> done = done | BIT(copy)
+    :: reply == ALLOWED -> done = done | BIT(next)
     :: else
     fi;
-    reply = ALLOWED
+    reply = ALLOWED; n = 0; block = 0; copy = 0
 }
 
 // pagelog_append.c: receive_report
@@ -224,26 +252,28 @@ inline receive_write() {
                     // append->is_reported = outcome == PAGELOG_DONE;
                     // return connected && note(append, outcome);
 inline receive_report() {
-    report(_pid, mine, lsn);
+    n = LSN_AT(last);
+    report(_pid, mine, n);
     note();
     is_reported = (reply == ALLOWED);
-    reply = ALLOWED
+    reply = ALLOWED; n = 0
 }
 
-/* The connection is lost before the reply to the request of this copy, or to the report. */
+/* The connection is lost before the reply to the next request. */
 inline cut() {
-    unsure = unsure | (ALL & ~done & ~(BIT(copy) - 1));
+    unsure = unsure | (GROUP & ~done & ~(BIT(next) - 1));
     if
     :: refused == ALLOWED -> refused = NONE
     :: else
     fi;
 #ifdef LOST_REPORT_IS_DONE
-    is_reported = (copy == COPIES);
+    is_reported = (next == COPIES * (last + 1));
 #endif
     if
-    :: mine == epoch && hard < lsn ->
-       late_from[_pid] = (late_lsn[_pid] == lsn && late_from[_pid] < copy -> late_from[_pid] : copy);
-       late_lsn[_pid] = lsn; late_block[_pid] = BLOCK
+    :: mine == epoch && hard < LSN_AT(last) ->
+       late_next[_pid] = (late_lsn[_pid] == lsn && late_next[_pid] < next -> late_next[_pid] : next);
+       late_report[_pid] = (late_lsn[_pid] == lsn && late_report[_pid] > last -> late_report[_pid] : last);
+       late_lsn[_pid] = lsn; late_block[_pid] = BLOCK_AT(0)
     :: else
     fi
 }
@@ -258,11 +288,11 @@ inline cut() {
                     // if (at == 0) return PAGELOG_CONFLICT;
                     // ..
 #ifdef COMPARES_THE_LSN
-#define IS_SAME (hard >= lsn)
+#define IS_AT(place) (hard >= LSN_AT(place))
 #else
-#define IS_SAME (hard >= lsn && content[lsn] == BLOCK)
+#define IS_AT(place) (hard >= LSN_AT(place) && content[LSN_AT(place)] == BLOCK_AT(place))
 #endif
-inline look() {
+inline look(are_there) {
     if
 #ifndef NO_LOSS
     :: outcome = LOST
@@ -270,7 +300,7 @@ inline look() {
 #ifdef NO_PULL
     :: outcome = DENIED
 #endif
-    :: outcome = (IS_SAME -> DONE : CONFLICT)
+    :: outcome = (are_there -> DONE : CONFLICT)
     fi
 }
 
@@ -281,8 +311,11 @@ inline look() {
 #ifdef OWNS_WHAT_IT_NEVER_SENT
 #define WERE_SENT true
 #else
-#define WERE_SENT ((done | unsure) != 0)
+#define WERE_SENT (ALL_COUNTED(done | unsure))
 #endif
+#define IS_COUNTED(place) (first <= (place) && LSN_AT(place) <= hard)
+#define ALL_COUNTED(writes) ((!IS_COUNTED(0) || ((writes) & BITS(0, 1)) != 0) && (!IS_COUNTED(1) || ((writes) & BITS(1, 2)) != 0))
+#define ARE_DONE ALL_COUNTED(done)
 
 // pagelog_append.c: catch_up
                     // ..
@@ -307,19 +340,20 @@ inline catch_up() {
     fi;
     if
     :: reply != ALLOWED -> refused = reply; outcome = (reply == NONE -> LOST : FENCED)
-    :: reply == ALLOWED && hard < lsn -> outcome = GOES_ON /* the rest may be asked again */
-    :: reply == ALLOWED && hard >= lsn ->
+    :: reply == ALLOWED && hard < LSN_AT(first) -> outcome = GOES_ON /* the rest may be asked again */
+    :: reply == ALLOWED && hard >= LSN_AT(first) ->
        end = hard;
-       look();
+       look((!IS_COUNTED(0) || IS_AT(0)) && (!IS_COUNTED(1) || IS_AT(1)));
        if
 #ifdef NO_PULL
        :: outcome == DENIED && !WERE_SENT -> outcome = CONFLICT
-       :: outcome == DENIED && WERE_SENT && (!joins || done != 0) -> outcome = DONE
-       :: outcome == DENIED && WERE_SENT && joins && done == 0 -> refused = B0
+       :: outcome == DENIED && WERE_SENT && (!joins || ARE_DONE) -> outcome = DONE
+       :: outcome == DENIED && WERE_SENT && joins && !ARE_DONE -> refused = B0
 #endif
        :: outcome == LOST -> refused = NONE
        :: outcome == DONE || outcome == CONFLICT
-       fi
+       fi;
+       first = (outcome == DONE -> (hard == LSN_AT(first) -> first + 1 : 2) : first)
     fi;
     reply = ALLOWED
 }
@@ -330,7 +364,7 @@ inline catch_up() {
                     // if (accepted) append->log->stuck = true;
                     // return pagelog_restore(append->log, outcome, &append->refused);
 inline give_up(cause) {
-    is_stuck = (done | unsure) != 0;
+    is_stuck = ((done | unsure) & LEFT) != 0;
     outcome = cause
 }
 
@@ -338,9 +372,9 @@ inline give_up(cause) {
                     // ..
                     // return count_of(marks->done | marks->unsure);
 #ifdef LOST_REPLIES_ARE_REFUSALS
-#define COPIES_OF_LAST COUNT(done)
+#define COPIES_OF_LAST COUNT(done >> COPIES)
 #else
-#define COPIES_OF_LAST COUNT(done | unsure)
+#define COPIES_OF_LAST COUNT((done | unsure) >> COPIES)
 #endif
 
 // pagelog_append.c: conclude_after_epoch
@@ -357,14 +391,14 @@ inline give_up(cause) {
 inline conclude_after_epoch() {
     if
     :: COPIES_OF_LAST < COPIES -> give_up(FENCED)
-    :: COPIES_OF_LAST == COPIES && done == ALL -> outcome = DONE
+    :: COPIES_OF_LAST == COPIES && (done & LEFT) == LEFT -> outcome = DONE
     :: COPIES_OF_LAST == COPIES ->
-       look();
+       look(IS_AT(1));
        if
        :: outcome == CONFLICT -> give_up(FENCED)
-       :: (outcome == LOST || outcome == DENIED) && done == ALL -> outcome = DONE
-       :: (outcome == LOST || outcome == DENIED) && done != ALL -> give_up(IN_DOUBT)
-       :: outcome == DONE
+       :: (outcome == LOST || outcome == DENIED) && (done & LEFT) == LEFT -> outcome = DONE
+       :: (outcome == LOST || outcome == DENIED) && (done & LEFT) != LEFT -> give_up(IN_DOUBT)
+       :: outcome == DONE -> assert(first == 1 || IS_AT(0)) /* so a look at the others says the same */
        fi
     fi
 }
@@ -391,7 +425,7 @@ inline conclude() {
 #ifdef REPORT_IS_ENOUGH
 #define IS_IN_LOG is_reported
 #else
-#define IS_IN_LOG (is_reported && done != 0)
+#define IS_IN_LOG (is_reported && (first > 0 || (done & BITS(0, 1)) != 0) && (last < 1 || (done & BITS(1, 2)) != 0))
 #endif
 
 /* What a group has come to: GOES_ON before it is looked for. */
@@ -403,6 +437,7 @@ inline conclude() {
                     // ..
                     // if (outcome == PAGELOG_LOST && pagelog_may_try_again(&patience)) {
                     // ..
+                    // most = count > 1 ? count / 2 : 1;
                     // outcome = taken_from_log(append, catch_up(append)); } else if (append->is_ahead) {
                     // outcome = taken_from_log(append, catch_up(append));
                     // if (outcome == PAGELOG_DONE && append->first == before) outcome = PAGELOG_CONFLICT; }
@@ -411,45 +446,51 @@ inline conclude() {
                     // ..
 inline weigh() {
     if
-    :: IS_IN_LOG -> outcome = DONE
+    :: IS_IN_LOG -> first = last + 1; last = 1; outcome = GOES_ON
+    :: !IS_IN_LOG && IS_CUT -> outcome = LOST
     :: !IS_IN_LOG && (IS_CUT || is_ahead) ->
+       last = (IS_CUT -> 0 : last);
        catch_up();
        if
        :: outcome == GOES_ON && is_ahead -> outcome = CONFLICT
+       :: outcome == DONE -> outcome = GOES_ON
        :: else
        fi
-    :: !IS_IN_LOG && IS_CUT -> outcome = LOST
     :: !IS_IN_LOG && !IS_CUT && !is_ahead -> outcome = (refused == A2 || refused == A4 -> FENCED : CONFLICT)
     fi;
+    done = done & LEFT; unsure = unsure & LEFT;
     if
-    :: outcome == GOES_ON -> copy = 0; refused = ALLOWED
-    :: outcome == DONE
-    :: outcome != GOES_ON && outcome != DONE -> conclude()
+    :: outcome == GOES_ON && first < 2 ->
+       last = (last < first -> first : last); next = COPIES * first; refused = ALLOWED
+    :: outcome == GOES_ON && first == 2 -> outcome = DONE
+    :: outcome != GOES_ON -> conclude()
     fi;
     is_reported = false; is_ahead = false
 }
+
+#define IS_OVER (next > COPIES * 2) /* all requests of the group are */
 
 inline run_append() {
     outcome = GOES_ON;
 #ifdef UNWAITED
     if
-    :: answered -> is_reported = true; done = ALL; answered = false; copy = COPIES + 1
+    :: d_step { answered -> is_reported = true; done = LEFT; answered = false; next = COPIES * 2 + 1 }
     :: !answered
     fi;
 #endif
     do
-    :: outcome == GOES_ON && copy < COPIES && (done >> copy & 1) -> copy++
-    :: d_step { outcome == GOES_ON && copy < COPIES && !(done >> copy & 1) -> receive_write(); copy++ }
-    :: d_step { outcome == GOES_ON && copy == COPIES -> receive_report(); copy++ }
+    :: outcome == GOES_ON && next < COPIES * (last + 1) && (done >> next & 1) -> next++
+    :: d_step { outcome == GOES_ON && next < COPIES * (last + 1) && !(done >> next & 1) -> receive_write(); next++ }
+    :: d_step { outcome == GOES_ON && next == COPIES * (last + 1) -> receive_report(); next = COPIES * 2 + 1 }
 #ifndef NO_LOSS
-    :: d_step { outcome == GOES_ON && copy <= COPIES && !(done >> copy & 1) -> cut(); copy = COPIES + 1 }
+    :: d_step { outcome == GOES_ON && next <= COPIES * (last + 1) && !(done >> next & 1) -> cut(); next = COPIES * 2 + 1 }
 #endif
-    :: atomic { outcome == GOES_ON && copy > COPIES -> weigh() }
+    :: atomic { outcome == GOES_ON && IS_OVER -> weigh() }
     :: outcome != GOES_ON -> break
     od;
     atomic {
         end = (outcome == DONE && end < lsn -> lsn : end);
-        copy = 0; refused = ALLOWED; done = 0; unsure = 0
+        next = 0; first = 0; last = 0; refused = ALLOWED; done = 0; unsure = 0
     }
 }
 
@@ -593,11 +634,25 @@ inline take_over_any() {
 /* A page at an LSN of the log stays what it is. A writer that is fenced by this read goes on as a follower. */
 // pagelog_file.c: recover
                     // enum pagelog_outcome outcome = pagelog_take_mark(file, pagelog_end(file->log));
+                    // if (outcome == PAGELOG_DONE && is_writer(file) && pagelog_end(file->log) > file->mark.lsn)
+                    // outcome = pagelog_repair(file);
                     // ..
 inline recover() {
     decide(_pid, mine);
     if
-    :: reply == ALLOWED -> mark = end
+    :: reply == ALLOWED ->
+       mark = end;
+#if PARTS > 1
+       if
+       :: mark > 0 && !HAS_MARK(content[mark]) ->
+#ifdef BUILDS_ON_HALF
+          skip
+#else
+          mark--; is_repair = true
+#endif
+       :: else
+       fi
+#endif
     :: reply != ALLOWED -> is_fenced = true
     fi;
     reply = ALLOWED
@@ -615,7 +670,7 @@ inline open_writer() {
     if
     :: take_over_any()
 #ifdef JOINS
-    :: atomic { joins = true; begin_epoch(epoch) }
+    :: atomic { _pid == JOINS - 1 -> joins = true; begin_epoch(epoch) }
 #endif
     fi;
     if
@@ -642,7 +697,7 @@ inline renew() {
 #ifdef GOES_ON_FROM_ITS_OWN
        :: outcome == DONE -> is_broken = false
 #else
-       :: atomic { outcome == DONE -> recover(); is_broken = false }
+       :: atomic { outcome == DONE -> recover(); is_broken = is_repair }
        :: outcome == DONE -> outcome = LOST
 #endif
        :: outcome != DONE
@@ -656,6 +711,7 @@ inline renew() {
                     // enum pagelog_outcome outcome = pagelog_status(file->log, PAGELOG_PRIMARY, &status);
                     // if (outcome != PAGELOG_DONE || status.hard == file->mark.lsn) return outcome;
                     // outcome = recover(file);
+                    // file->is_broken = pagelog_is_stuck(file->log);
                     // ..
 inline check_epoch() {
     decide(_pid, mine);
@@ -682,7 +738,7 @@ inline check_epoch() {
 #ifdef FINDS_ANY_MARK
 #define IS_OURS (lsn <= hard)
 #else
-#define IS_OURS (lsn <= hard && WRITER(content[lsn]) == _pid)
+#define IS_OURS (lsn <= hard && HAS_MARK(content[lsn]) && WRITER_OF(content[lsn]) == _pid)
 #endif
 inline find_mark() {
     if
@@ -742,7 +798,7 @@ inline settle_doubt() {
 inline note_failure() {
     if
     :: outcome == FENCED -> is_fenced = true
-    :: outcome != FENCED && (end != lsn - 1 || is_stuck || outcome == IN_DOUBT) -> is_broken = true
+    :: outcome != FENCED && (end != lsn - PARTS || is_stuck || outcome == IN_DOUBT) -> is_broken = true
     :: else
     fi
 }
@@ -762,7 +818,7 @@ inline lose() {
 #ifndef KEEPS_REPLIES
     answered = false;
 #endif
-    mark = lsn - 1;
+    mark = lsn - PARTS;
     if
     :: is_fenced || outcome == FENCED -> is_fenced = true
     :: else -> is_broken = true
@@ -784,21 +840,52 @@ inline lose() {
                     // if (outcome == PAGELOG_IN_DOUBT) outcome = settle_doubt(file, &file->mark);
                     // if (outcome != PAGELOG_DONE) return lose(file, outcome);
                     // ..
-inline end_commit() {
+inline tell() {
     if
-    :: outcome == DONE -> assert(hard >= lsn && content[lsn] == BLOCK); mark = lsn
+    :: outcome == DONE -> assert(hard >= lsn && content[lsn] == BLOCK_AT(1)); mark = lsn
+    :: outcome != DONE && outcome != IN_DOUBT && !on_its_way ->
+       assert(!(hard >= lsn && content[lsn] == BLOCK_AT(1)));
+       failed[COMMIT] = true
+    :: else
+    fi
+}
+
+inline end_commit() {
+    tell();
+    if
+    :: outcome == DONE
 #ifdef UNWAITED
     :: outcome != DONE && on_its_way -> lose()
 #endif
-    :: outcome != DONE && !on_its_way ->
-       if
-       :: outcome != IN_DOUBT -> assert(!(hard >= lsn && content[lsn] == BLOCK)); failed[BLOCK] = true
-       :: else
-       fi;
-       note_failure()
+    :: outcome != DONE && !on_its_way -> note_failure()
     fi;
     lsn = 0; on_its_way = false; is_stuck = false; outcome = DONE
 }
+
+/* Undoes the block that has no end mark after it. Where a begin has failed it begins again; where an open has, it stops. */
+// pagelog_commit.c: pagelog_repair
+                    // ..
+                    // uint64_t end = pagelog_end(file->log);
+                    // ..
+                    // pagelog_blocks_restart(file->blocks, end + 1);
+                    // ..
+                    // if (outcome == PAGELOG_DONE) outcome = pagelog_append_ended(file);
+                    // if (outcome != PAGELOG_DONE) return outcome;
+                    // file->mark = mark;
+                    // ..
+#if PARTS > 1
+inline repair() {
+    atomic { tried++; lsn = end + 1; first = 1; last = 1; next = COPIES };
+    run_append();
+    atomic {
+        tell();
+        is_broken = (is_broken && outcome != DONE) || is_stuck;
+        is_fenced = (outcome == FENCED || (is_opening && outcome != DONE));
+        must_begin = (outcome != DONE);
+        lsn = 0; is_stuck = false; is_repair = false; outcome = DONE
+    }
+}
+#endif
 
 // pagelog_commit.c: commit_if_allowed
                     // ..
@@ -806,20 +893,28 @@ inline end_commit() {
                     // ..
                     // if (file->is_broken)
                     // ..
-#define MAY_COMMIT (!is_fenced && !is_broken && tried < COMMITS && end < LSNS)
+#define MAY_COMMIT (!is_fenced && !is_broken && !must_begin && tried < COMMITS && end + PARTS <= LSNS)
 
 active [WRITERS] proctype Writer() {
-    byte mine, end, mark, lsn, tried, lost, told, from, done, unsure, copy, reply, refused, outcome, at, other;
-    bit joins, is_broken, is_reported, is_ahead, is_stuck, is_fenced, on_its_way, answered;
+    byte mine, end, mark, lsn, tried, lost, told, from, first, last, next, done, unsure, reply, refused, outcome, n, block, copy, at, other;
+    bit joins, is_opening, is_broken, must_begin, is_repair, is_reported, is_ahead, is_stuck, is_fenced, on_its_way, answered;
 end_opens:
     _pid == 0 || epoch > 1; /* of two writers of which either comes first, this one does */
+    is_opening = (PARTS > 1);
     open_writer();
     do
-    :: outcome == DONE && lsn == 0 && MAY_COMMIT ->
-       d_step { assert(mark == end); lsn = end + 1; tried++ };
+#if PARTS > 1
+    :: outcome == DONE && is_repair && tried < TRIES && end < LSNS -> repair()
+    :: outcome == DONE && is_repair && (tried == TRIES || end == LSNS) -> break
+#endif
+    :: d_step { outcome == DONE && lsn == 0 && !is_repair && MAY_COMMIT ->
+          assert(mark == end);
+          tried++; lsn = end + PARTS; first = 2 - PARTS; last = 1; next = COPIES * first;
+          is_opening = false
+       };
 #ifdef UNWAITED
        if
-       :: on_its_way = true; mark = lsn
+       :: _pid == 0 -> on_its_way = true; mark = lsn
        :: skip
        fi
 #endif
@@ -832,8 +927,14 @@ end_opens:
        atomic { end_commit() }
 #ifdef UNWAITED
     /* All replies are there, each of them Done, before anybody waits for them. */
-    :: d_step { outcome == DONE && on_its_way && !answered && mine == epoch && hard == lsn - 1 && content[lsn] == 0 ->
-          content[lsn] = BLOCK; harden(lsn); answered = true
+    :: d_step { outcome == DONE && on_its_way && !answered && mine == epoch && hard == lsn - PARTS && content[hard + 1] == 0 ->
+          content[lsn - 1] = (PARTS > 1 -> BLOCK_AT(0) : content[lsn - 1]);
+          content[lsn] = BLOCK_AT(1);
+          do
+          :: hard < lsn -> n = hard + 1; harden(n)
+          :: else -> break
+          od;
+          n = 0; answered = true
        }
     /* The next commit finds no memory. */
     :: outcome == DONE && on_its_way ->
@@ -843,32 +944,40 @@ end_opens:
            :: answered
            fi;
            lose();
-           lsn = 0; on_its_way = false; refused = ALLOWED; unsure = 0
+           lsn = 0; on_its_way = false; refused = ALLOWED; unsure = 0; first = 0; last = 0; next = 0
        }
 #endif
-    :: d_step { outcome == DONE && lsn == 0 && !is_fenced && !is_broken -> check_epoch() }
-    :: outcome == DONE && lsn == 0 && !is_fenced && is_broken ->
+    :: d_step { outcome == DONE && lsn == 0 && !is_repair && !is_fenced && !is_broken ->
+          check_epoch(); must_begin = false; is_opening = false
+       }
+    :: outcome == DONE && lsn == 0 && !is_repair && !is_fenced && is_broken ->
+       is_opening = false;
+       must_begin = false;
        renew();
        outcome = (outcome == LOST -> DONE : outcome)
     :: outcome != DONE || is_fenced && lsn == 0 -> break
     od;
     atomic {
         mine = 0; end = 0; mark = 0; tried = 0; lost = 0; outcome = DONE;
-        joins = false; is_broken = false; is_fenced = false; stopped++
+        joins = false; is_opening = false; is_broken = false; must_begin = false; is_repair = false; is_fenced = false; stopped++
     }
 }
 
 /* What is on its way. */
 
 #define COMES(w) \
-    :: d_step { late_lsn[w] > 0 && late_from[w] < COPIES -> \
-          write(w, epoch, late_lsn[w], late_block[w], late_from[w]); late_from[w]++; reply = ALLOWED } \
-    :: d_step { late_lsn[w] > 0 && late_from[w] == COPIES -> \
-          report(w, epoch, late_lsn[w]); forget_late(w); reply = ALLOWED } \
+    :: d_step { late_lsn[w] > 0 && late_next[w] < COPIES * (late_report[w] + 1) -> \
+          n = late_lsn[w] - 1 + late_next[w] / COPIES; \
+          block = late_block[w] + late_next[w] / COPIES; copy = late_next[w] % COPIES; \
+          write(w, epoch, n, block, copy); late_next[w]++; \
+          reply = ALLOWED; n = 0; block = 0; copy = 0 } \
+    :: d_step { late_lsn[w] > 0 && late_next[w] == COPIES * (late_report[w] + 1) -> \
+          n = late_lsn[w] - 1 + late_report[w]; \
+          report(w, epoch, n); forget_late(w); reply = ALLOWED; n = 0 } \
     :: d_step { late_failover[w] > 0 -> failover(w, epoch, late_failover[w] == 2); reply = ALLOWED }
 
 active proctype Late() {
-    byte reply, at, other;
+    byte reply, n, block, copy, at, other;
 end:
     do
     COMES(0)
