@@ -9,11 +9,12 @@
  * request. Then no reply is read, and what was sent may still come: in its order, at any time, or never.
  *
  * What holds:
- *   - A commit that was reported done is in the log at its LSN. No step changes what is in the log. So two writers never have
- *     done for one LSN, and what an old primary sends after a failover is never done.
+ *   - A commit that was reported done is in the log at its LSN, with each of its blocks. No step changes what is in the log. So two
+ *     writers never have done for one LSN, and what an old primary sends after a failover is never done.
  *   - A commit that was reported as failed is not in the log, and never comes into it. What is in doubt may be there or not.
  *   - A commit is built where the log is known to end, upon what was read up to there, its own last commit included.
  *   - Of a commit of two blocks the second one comes right after the first, and only a repair comes after a first one without it.
+ *     Where another's may be between them (SHORT_WHERE_JOINED), a writer that has seen that undoes its own before it goes on.
  *   - Who names the epoch that it ends never ends one of another principal.
  *   - Nobody asks in an epoch that has not begun.
  *
@@ -24,14 +25,19 @@
  * Left out: commits of more than two blocks; a repair of two, and a second one of the same writer; more than one commit on its way, and
  * any of the second writer; six copies, and a third one, which nobody writes; an object that does not know the zone: so a block that
  * both copies have taken may be looked for or not. NoMemory, but for one that ends a commit before it is sent; AuditFull; rows of the
- * table, but for a pull's; a service that was started anew; the follower, since it writes nothing. Of several lost connections in one
- * epoch the requests come once.
+ * table, but for a pull's; a service that was started anew; the follower, since it writes nothing; two blocks that have the same bytes.
+ * Of several lost connections in one epoch the requests come once.
  *
  * Known, and not so:
- *   - Where a writer may not pull, loses its connection, and another has joined its epoch, a block of the other is taken for its own
- *     (catch_up, by owns_epoch). So no size has all three: NO_PULL with writers of one principal comes with NO_LOSS.
- *   - Two writers in one epoch may mix commits of two blocks, as pagelog.h says. So JOINS with writers of one principal comes with one
- *     block.
+ *   - Two writers in one epoch may mix commits of two blocks, as docs/CLIENT.md says. So where writers of one principal join, they have
+ *     one block each, or with SHORT_WHERE_JOINED the one that joins has, and the other one has two.
+ *   - Only a writer that has seen that its commit came in part undoes it (settle_by_blocks). Where its failover or the reads after that
+ *     got no answer, it is in doubt, and the next epoch that it begins takes the end mark for that of a whole one, as any other
+ *     session does.
+ *   - A writer whose replies were lost finds its commit in the log (catch_up), and another of its epoch may have gone on from there.
+ *     Then its log ends after its mark, and a commit that it begins without asking (check=MS) is built upon what it has not read.
+ *     Where writers of one principal join, and connections are lost, no size has a commit after that: JOINS with two commits each has
+ *     LSNS 2. With 3 it shows.
  */
 
 #ifndef WRITERS
@@ -56,16 +62,15 @@
 #define ALL (BIT(COPIES) - 1)
 #define COUNT(bits) (((bits) & 1) + ((bits) >> 1 & 1))
 
-/* Replies: done, none since the connection is lost, and the rows that deny. B0 is a pull's. */
+/* Replies: done, none since the connection is lost, and the rows that deny. */
 #define ALLOWED 0
 #define NONE 1
 #define A2 2
 #define A4 3
-#define B0 4
-#define C2 5
-#define C4 6
-#define C6 7
-#define C9 8
+#define C2 4
+#define C4 5
+#define C6 6
+#define C9 7
 
 /* Outcomes; the last one within a call alone. */
 #define DONE 0
@@ -120,7 +125,9 @@ inline forget_late(w) {
 /* What is on its way to this LSN changes nothing any more. */
 inline harden(n) {
     assert(content[n] != 0 && !(HAS_MARK(content[n]) && failed[COMMIT_OF(content[n])]));
+#ifndef SHORT_WHERE_JOINED
     assert(KIND_OF(content[n]) != SECOND || content[n - 1] == content[n] - SECOND);
+#endif
     assert(KIND_OF(content[n]) != FIRST || n == 1 || HAS_MARK(content[n - 1]));
     hard = n;
     copies[n] = 0;
@@ -197,7 +204,12 @@ inline failover(w, e, names_its_own) {
 /* The last block has the LSN `lsn`, and place 1; the one before it, if there is one, has place 0. Of the writes that at PLACE goes to a
  * copy of block PLACE / 2. */
 #define COMMIT (_pid * TRIES + tried)
+#ifdef SHORT_WHERE_JOINED
+#define IS_ALONE (joins || is_repair)
+#else
 #define IS_ALONE (PARTS == 1 || is_repair)
+#endif
+#define SIZE (IS_ALONE -> 1 : PARTS) /* of the commit */
 #define BLOCK_AT(place) (A_BLOCK(COMMIT, place) + IS_ALONE)
 #define LSN_AT(place) (lsn + (place) - 1)
 #define BITS(from, to) (BIT(COPIES * (to)) - BIT(COPIES * (from)))
@@ -308,14 +320,30 @@ inline look(are_there) {
                     // ..
                     // (marks->done | marks->unsure) == 0) return false;
                     // ..
-#ifdef OWNS_WHAT_IT_NEVER_SENT
-#define WERE_SENT true
-#else
 #define WERE_SENT (ALL_COUNTED(done | unsure))
-#endif
 #define IS_COUNTED(place) (first <= (place) && LSN_AT(place) <= hard)
 #define ALL_COUNTED(writes) ((!IS_COUNTED(0) || ((writes) & BITS(0, 1)) != 0) && (!IS_COUNTED(1) || ((writes) & BITS(1, 2)) != 0))
 #define ARE_DONE ALL_COUNTED(done)
+
+/* What became of the blocks, for who may not pull. The cause of the look is a lost connection, or a write at an LSN in the log. */
+// pagelog_append.c: judge_unseen
+                    // if (are_done(append, count, 1)) return PAGELOG_DONE;
+                    // enum pagelog_outcome cause = were_sent(append, count) ? append->refusal : PAGELOG_CONFLICT;
+                    // return pagelog_restore(append->log, cause, &append->refused);
+#if defined OWNS_ITS_EPOCH
+#define IS_JUDGED_DONE (ARE_DONE || WERE_SENT && !joins)
+#elif defined OWNS_WHAT_IT_NEVER_SENT
+#define IS_JUDGED_DONE (ARE_DONE || !joins)
+#else
+#define IS_JUDGED_DONE ARE_DONE
+#endif
+inline judge_unseen() {
+    assert(refused == NONE || refused == C2 || refused == C4);
+    if
+    :: IS_JUDGED_DONE -> outcome = DONE
+    :: !IS_JUDGED_DONE -> outcome = (WERE_SENT && IS_CUT -> LOST : CONFLICT)
+    fi
+}
 
 // pagelog_append.c: catch_up
                     // ..
@@ -325,10 +353,7 @@ inline look(are_there) {
                     // if (status.hard < next) return PAGELOG_DONE;
                     // ..
                     // outcome = look(append, append->first, count);
-                    // if (outcome == PAGELOG_DENIED && !were_sent(append, count))
-                    // return pagelog_restore(append->log, PAGELOG_CONFLICT, &append->refused);
-                    // if (outcome == PAGELOG_DENIED && (append->log->owns_epoch || are_done(append, count, 1)))
-                    // outcome = PAGELOG_DONE;
+                    // if (outcome == PAGELOG_DENIED) outcome = judge_unseen(append, count);
                     // if (outcome == PAGELOG_DONE) advance(append, count);
                     // ..
 inline catch_up() {
@@ -346,9 +371,7 @@ inline catch_up() {
        look((!IS_COUNTED(0) || IS_AT(0)) && (!IS_COUNTED(1) || IS_AT(1)));
        if
 #ifdef NO_PULL
-       :: outcome == DENIED && !WERE_SENT -> outcome = CONFLICT
-       :: outcome == DENIED && WERE_SENT && (!joins || ARE_DONE) -> outcome = DONE
-       :: outcome == DENIED && WERE_SENT && joins && !ARE_DONE -> refused = B0
+       :: outcome == DENIED -> judge_unseen()
 #endif
        :: outcome == LOST -> refused = NONE
        :: outcome == DONE || outcome == CONFLICT
@@ -631,11 +654,27 @@ inline take_over_any() {
 
 /* The file. */
 
+/* Whether a commit of this writer that came to be half is the last one: its second block comes after another's. */
+#define IS_TORN (KIND_OF(content[end]) == SECOND && WRITER_OF(content[end]) == _pid && content[end - 1] != content[end] - SECOND)
+
+// pagelog_repair.c: pagelog_take_whole
+                    // enum pagelog_outcome outcome = pagelog_take_mark(file, pagelog_end(file->log));
+                    // while (outcome == PAGELOG_DONE && file->torn > 0 && file->mark.lsn >= file->torn &&
+                    // file->mark.session == file->session)
+                    // outcome = pagelog_take_mark(file, file->mark.lsn - 1);
+                    // ..
+#ifdef FORGETS_WHAT_IS_TORN
+#define IS_NOT_WHOLE (!HAS_MARK(content[mark]))
+#else
+#define IS_NOT_WHOLE (!HAS_MARK(content[mark]) || is_torn && IS_TORN)
+#endif
+
 /* A page at an LSN of the log stays what it is. A writer that is fenced by this read goes on as a follower. */
 // pagelog_file.c: recover
-                    // enum pagelog_outcome outcome = pagelog_take_mark(file, pagelog_end(file->log));
+                    // enum pagelog_outcome outcome = pagelog_take_whole(file);
                     // if (outcome == PAGELOG_DONE && is_writer(file) && pagelog_end(file->log) > file->mark.lsn)
                     // outcome = pagelog_repair(file);
+                    // if (outcome == PAGELOG_DONE) file->torn = 0;
                     // ..
 inline recover() {
     decide(_pid, mine);
@@ -644,13 +683,13 @@ inline recover() {
        mark = end;
 #if PARTS > 1
        if
-       :: mark > 0 && !HAS_MARK(content[mark]) ->
+       :: mark > 0 && IS_NOT_WHOLE ->
 #ifdef BUILDS_ON_HALF
           skip
 #else
           mark--; is_repair = true
 #endif
-       :: else
+       :: else -> is_torn = is_torn && IS_TORN
        fi
 #endif
     :: reply != ALLOWED -> is_fenced = true
@@ -668,7 +707,11 @@ inline recover() {
                     // return recover(file);
 inline open_writer() {
     if
+#ifdef SHORT_WHERE_JOINED
+    :: _pid != JOINS - 1 -> take_over_any()
+#else
     :: take_over_any()
+#endif
 #ifdef JOINS
     :: atomic { _pid == JOINS - 1 -> joins = true; begin_epoch(epoch) }
 #endif
@@ -747,6 +790,40 @@ inline find_mark() {
     fi
 }
 
+/* The bytes of each block are its own, so that the pages say which blocks are there. */
+// pagelog_repair.c: pagelog_find_blocks
+                    // ..
+                    // size_t blocks = pagelog_blocks_count(file->blocks), length;
+                    // ..
+                    // for (size_t i = 0; i < blocks && blocks > 1 && outcome == PAGELOG_DONE; i++)
+                    // ..
+                    // outcome = compare_pages(file, role, lsn, pages.numbers + i, count);
+                    // ..
+                    // if (outcome == PAGELOG_CONFLICT) file->torn = first_lsn_of(file->blocks);
+                    // return outcome;
+// pagelog_commit.c: settle_by_blocks
+                    // enum pagelog_outcome outcome = pagelog_find_blocks(file, role_of(file), mark->lsn);
+                    // if (outcome == PAGELOG_DONE) return outcome;
+                    // if (outcome == PAGELOG_CONFLICT)
+                    // return pagelog_file_fail(file, PAGELOG_IN_DOUBT
+                    // ..
+                    // return pagelog_restore(file->log, PAGELOG_IN_DOUBT, refused);
+#ifdef END_MARK_IS_ENOUGH
+#define ARE_FOUND true
+#else
+#define ARE_FOUND (IS_ALONE || content[lsn - 1] == BLOCK_AT(0))
+#endif
+inline settle_by_blocks() {
+#ifdef SHORT_WHERE_JOINED
+    if
+    :: ARE_FOUND
+    :: !ARE_FOUND -> is_torn = true; outcome = IN_DOUBT
+    fi
+#else
+    assert(ARE_FOUND)
+#endif
+}
+
 // pagelog_commit.c: settle_doubt
                     // ..
                     // if (!options->has_operator) return PAGELOG_IN_DOUBT;
@@ -757,6 +834,8 @@ inline find_mark() {
                     // return pagelog_restore(file->log, PAGELOG_IN_DOUBT, &refused);
                     // if (is_fenced) pagelog_become_follower(file);
                     // outcome = find_mark(file, role_of(file), mark);
+                    // if (outcome == PAGELOG_DONE) outcome = settle_by_blocks(file, mark, &refused);
+                    // if (outcome == PAGELOG_IN_DOUBT) return outcome;
                     // if (outcome == PAGELOG_DONE && !is_fenced) file->is_broken = pagelog_end(file->log) != mark->lsn;
                     // if (outcome == PAGELOG_DONE) return PAGELOG_DONE;
                     // if (outcome != PAGELOG_CONFLICT) return pagelog_restore(file->log, PAGELOG_IN_DOUBT, &refused);
@@ -773,6 +852,12 @@ inline settle_doubt() {
            :: outcome == DONE || outcome == FENCED ->
               is_fenced = (outcome == FENCED);
               find_mark();
+#if PARTS > 1
+              if
+              :: outcome == DONE -> settle_by_blocks()
+              :: outcome != DONE
+              fi;
+#endif
               if
 #ifdef BUILDS_ON_WHAT_IT_FOUND
               :: outcome == DONE && !is_fenced
@@ -780,7 +865,7 @@ inline settle_doubt() {
               :: outcome == DONE && !is_fenced -> is_broken = (end != lsn)
 #endif
               :: outcome == DONE && is_fenced
-              :: outcome == LOST -> outcome = IN_DOUBT
+              :: outcome == LOST || outcome == IN_DOUBT -> outcome = IN_DOUBT
               :: outcome == CONFLICT && is_fenced -> outcome = FENCED
               :: outcome == CONFLICT && !is_fenced -> outcome = LOST
               fi
@@ -798,7 +883,7 @@ inline settle_doubt() {
 inline note_failure() {
     if
     :: outcome == FENCED -> is_fenced = true
-    :: outcome != FENCED && (end != lsn - PARTS || is_stuck || outcome == IN_DOUBT) -> is_broken = true
+    :: outcome != FENCED && (end != lsn - SIZE || is_stuck || outcome == IN_DOUBT) -> is_broken = true
     :: else
     fi
 }
@@ -818,7 +903,7 @@ inline lose() {
 #ifndef KEEPS_REPLIES
     answered = false;
 #endif
-    mark = lsn - PARTS;
+    mark = lsn - SIZE;
     if
     :: is_fenced || outcome == FENCED -> is_fenced = true
     :: else -> is_broken = true
@@ -842,7 +927,10 @@ inline lose() {
                     // ..
 inline tell() {
     if
-    :: outcome == DONE -> assert(hard >= lsn && content[lsn] == BLOCK_AT(1)); mark = lsn
+    :: outcome == DONE ->
+       assert(hard >= lsn && content[lsn] == BLOCK_AT(1));
+       assert(IS_ALONE || content[lsn - 1] == BLOCK_AT(0));
+       mark = lsn
     :: outcome != DONE && outcome != IN_DOUBT && !on_its_way ->
        assert(!(hard >= lsn && content[lsn] == BLOCK_AT(1)));
        failed[COMMIT] = true
@@ -863,7 +951,7 @@ inline end_commit() {
 }
 
 /* Undoes the block that has no end mark after it. Where a begin has failed it begins again; where an open has, it stops. */
-// pagelog_commit.c: pagelog_repair
+// pagelog_repair.c: pagelog_repair
                     // ..
                     // uint64_t end = pagelog_end(file->log);
                     // ..
@@ -879,6 +967,7 @@ inline repair() {
     run_append();
     atomic {
         tell();
+        is_torn = is_torn && outcome != DONE;
         is_broken = (is_broken && outcome != DONE) || is_stuck;
         is_fenced = (outcome == FENCED || (is_opening && outcome != DONE));
         must_begin = (outcome != DONE);
@@ -893,11 +982,11 @@ inline repair() {
                     // ..
                     // if (file->is_broken)
                     // ..
-#define MAY_COMMIT (!is_fenced && !is_broken && !must_begin && tried < COMMITS && end + PARTS <= LSNS)
+#define MAY_COMMIT (!is_fenced && !is_broken && !must_begin && tried < COMMITS && end + SIZE <= LSNS)
 
 active [WRITERS] proctype Writer() {
     byte mine, end, mark, lsn, tried, lost, told, from, first, last, next, done, unsure, reply, refused, outcome, n, block, copy, at, other;
-    bit joins, is_opening, is_broken, must_begin, is_repair, is_reported, is_ahead, is_stuck, is_fenced, on_its_way, answered;
+    bit joins, is_torn, is_opening, is_broken, must_begin, is_repair, is_reported, is_ahead, is_stuck, is_fenced, on_its_way, answered;
 end_opens:
     _pid == 0 || epoch > 1; /* of two writers of which either comes first, this one does */
     is_opening = (PARTS > 1);
@@ -909,7 +998,7 @@ end_opens:
 #endif
     :: d_step { outcome == DONE && lsn == 0 && !is_repair && MAY_COMMIT ->
           assert(mark == end);
-          tried++; lsn = end + PARTS; first = 2 - PARTS; last = 1; next = COPIES * first;
+          tried++; lsn = end + SIZE; first = 2 - SIZE; last = 1; next = COPIES * first;
           is_opening = false
        };
 #ifdef UNWAITED
@@ -948,6 +1037,7 @@ end_opens:
        }
 #endif
     :: d_step { outcome == DONE && lsn == 0 && !is_repair && !is_fenced && !is_broken ->
+          assert(!is_torn);
           check_epoch(); must_begin = false; is_opening = false
        }
     :: outcome == DONE && lsn == 0 && !is_repair && !is_fenced && is_broken ->
@@ -959,7 +1049,7 @@ end_opens:
     od;
     atomic {
         mine = 0; end = 0; mark = 0; tried = 0; lost = 0; outcome = DONE;
-        joins = false; is_opening = false; is_broken = false; must_begin = false; is_repair = false; is_fenced = false; stopped++
+        joins = false; is_torn = false; is_opening = false; is_broken = false; must_begin = false; is_repair = false; is_fenced = false; stopped++
     }
 }
 
