@@ -301,7 +301,7 @@ static enum pagelog_outcome commit_if_allowed(struct commit *commit) {
         return pagelog_file_fail(file, PAGELOG_FENCED, "this file is not written to: it follows");
     if (file->is_broken)
         return pagelog_file_fail(file, PAGELOG_CONFLICT, "a commit did not come to its end: begin again");
-    if (file->on_their_way == 0 && pagelog_end(file->log) != file->mark.lsn) /* a begin could not read it */
+    if (pagelog_has_gone_on(file)) /* the last begin could not read it */
         return pagelog_file_fail(file, PAGELOG_CONFLICT,
                                  "the log has gone on from what was read: begin again");
     return commit_changes(commit);

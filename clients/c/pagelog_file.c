@@ -121,6 +121,10 @@ static enum pagelog_outcome check_epoch(struct pagelog_file *file) {
     return outcome;
 }
 
+bool pagelog_has_gone_on(const struct pagelog_file *file) {
+    return file->on_their_way == 0 && pagelog_end(file->log) != file->mark.lsn;
+}
+
 static bool is_due(const struct pagelog_file *file, uint64_t now) {
     return !file->is_checked || now - file->checked >= file->options.check_ms;
 }
@@ -129,7 +133,7 @@ static enum pagelog_outcome begin_writer(struct pagelog_file *file, uint64_t now
     enum pagelog_outcome outcome = PAGELOG_DONE;
     if (file->is_broken)
         outcome = renew(file);
-    else if (is_due(file, now))
+    else if (is_due(file, now) || pagelog_has_gone_on(file))
         outcome = check_epoch(file);
     if (outcome == PAGELOG_FENCED && !pagelog_is_anew(file->log)) pagelog_become_follower(file);
     return outcome;

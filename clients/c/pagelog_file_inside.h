@@ -59,6 +59,10 @@ enum pagelog_outcome pagelog_file_fail(struct pagelog_file *file, enum pagelog_o
 /* What every call but a begin returns once commits that nobody waited for were lost: CONFLICT. */
 enum pagelog_outcome pagelog_refuse_until_begin(struct pagelog_file *file);
 
+/* Whether the log is known to go on from the end mark that this file has: another session of the epoch has
+ * committed, and what it wrote was not read. */
+bool pagelog_has_gone_on(const struct pagelog_file *file);
+
 /* The epoch of a writer is over: it follows from now on. */
 void pagelog_become_follower(struct pagelog_file *file);
 

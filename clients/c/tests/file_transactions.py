@@ -506,6 +506,41 @@ def test_no_commit_is_built_on_what_a_begin_could_not_read():
             same("begin", (DONE, b"bbc"), (reader.begin(), reader.whole()))
 
 
+class GoesOnMeanwhile:
+    """A rule: once it is armed, the connection is lost at the next report, and what is called then comes before the next one."""
+
+    then = None
+
+    def __call__(self, frame):
+        then = self.then
+        if then is None or frame[33] != wire.REPORT:
+            return frame
+        self.then = None
+        then()
+        return None
+
+
+def test_no_commit_is_built_on_what_came_while_its_replies_were_lost():
+    """The commit is found in the log, and another session has gone on from there. The next begin is not due to ask."""
+    with Service() as service:
+        rule = GoesOnMeanwhile()
+        with Proxy(service.address, between=rule) as proxy, opened(proxy.address, 2, check_ms=3600000) as file, \
+                opened(service.address, 2, operator=None) as other, \
+                Asker(service.address, 2, wire.PRIMARY, epoch=file.state.writing_epoch) as by_hand:
+            same("commit", (DONE, DONE, DONE), (file.begin(), file.write(0, b"aaa"), file.commit()))
+
+            def go_on():
+                same("report", b"\0", by_hand.once(wire.REPORT, wire.report(2)))
+                same("the other", (DONE, DONE, DONE), (other.begin(), other.write(0, b"ccc"), other.commit()))
+
+            rule.then = go_on
+            same("found", (DONE, DONE, DONE), (file.begin(), file.write(0, b"bbb"), file.commit()))
+            same("what is read", (DONE, b"ccc"), (file.begin(), file.whole()))
+            same("commit", (DONE, DONE), (file.write(2, b"d"), file.commit()))
+        with opened(service.address, 3, reads_only=True) as reader:
+            same("reader", (DONE, b"ccd"), (reader.begin(), reader.whole()))
+
+
 def test_nothing_is_built_upon_half_a_transaction():
     """The first half is in the log, and the table denies the rest: nothing is in the window, and still no commit may follow
     before the file has begun again."""
