@@ -36,8 +36,7 @@
  *     session does.
  *   - A writer whose replies were lost finds its commit in the log (catch_up), and another of its epoch may have gone on from there.
  *     Then its log ends after its mark, and a commit that it begins without asking (check=MS) is built upon what it has not read.
- *     Where writers of one principal join, and connections are lost, no size has a commit after that: JOINS with two commits each has
- *     LSNS 2. With 3 it shows.
+ *     So where writers of one principal join, they have a commit each, or lose no connection. With COMMITS 2 and LSNS 3 it shows.
  */
 
 #ifndef WRITERS
