@@ -31,12 +31,7 @@
  * Known, and not so:
  *   - Two writers in one epoch may mix commits of two blocks, as docs/CLIENT.md says. So where writers of one principal join, they have
  *     one block each, or with SHORT_WHERE_JOINED the one that joins has, and the other one has two.
- *   - Only a writer that has seen that its commit came in part undoes it (settle_by_blocks). Where its failover or the reads after that
- *     got no answer, it is in doubt, and the next epoch that it begins takes the end mark for that of a whole one, as any other
- *     session does.
- *   - A writer whose replies were lost finds its commit in the log (catch_up), and another of its epoch may have gone on from there.
- *     Then its log ends after its mark, and a commit that it begins without asking (check=MS) is built upon what it has not read.
- *     So where writers of one principal join, they have a commit each, or lose no connection. With COMMITS 2 and LSNS 3 it shows.
+ *   - Whoever else reads the end of a commit that came in part takes it for a whole one, until its writer has undone it.
  */
 
 #ifndef WRITERS
@@ -655,17 +650,25 @@ inline take_over_any() {
 
 /* Whether a commit of this writer that came to be half is the last one: its second block comes after another's. */
 #define IS_TORN (KIND_OF(content[end]) == SECOND && WRITER_OF(content[end]) == _pid && content[end - 1] != content[end] - SECOND)
+#if PARTS > 1
+#define STAYS_TORN (end > 0 && IS_TORN)
+#else
+#define STAYS_TORN false
+#endif
 
 // pagelog_repair.c: pagelog_take_whole
                     // enum pagelog_outcome outcome = pagelog_take_mark(file, pagelog_end(file->log));
+                    // if (outcome == PAGELOG_DONE && file->doubted > 0) outcome = look_for_doubted(file);
                     // while (outcome == PAGELOG_DONE && file->torn > 0 && file->mark.lsn >= file->torn &&
                     // file->mark.session == file->session)
                     // outcome = pagelog_take_mark(file, file->mark.lsn - 1);
                     // ..
 #ifdef FORGETS_WHAT_IS_TORN
 #define IS_NOT_WHOLE (!HAS_MARK(content[mark]))
-#else
+#elif defined FORGETS_ITS_DOUBT
 #define IS_NOT_WHOLE (!HAS_MARK(content[mark]) || is_torn && IS_TORN)
+#else
+#define IS_NOT_WHOLE (!HAS_MARK(content[mark]) || (is_torn || doubts) && IS_TORN)
 #endif
 
 /* A page at an LSN of the log stays what it is. A writer that is fenced by this read goes on as a follower. */
@@ -673,7 +676,7 @@ inline take_over_any() {
                     // enum pagelog_outcome outcome = pagelog_take_whole(file);
                     // if (outcome == PAGELOG_DONE && is_writer(file) && pagelog_end(file->log) > file->mark.lsn)
                     // outcome = pagelog_repair(file);
-                    // if (outcome == PAGELOG_DONE) file->torn = 0;
+                    // if (outcome == PAGELOG_DONE) file->torn = file->doubted = 0;
                     // ..
 inline recover() {
     decide(_pid, mine);
@@ -686,10 +689,11 @@ inline recover() {
 #ifdef BUILDS_ON_HALF
           skip
 #else
-          mark--; is_repair = true
+          is_torn = is_torn || HAS_MARK(content[mark]); mark--; is_repair = true
 #endif
        :: else -> is_torn = is_torn && IS_TORN
-       fi
+       fi;
+       doubts = false
 #endif
     :: reply != ALLOWED -> is_fenced = true
     fi;
@@ -747,7 +751,7 @@ inline renew() {
     fi
 }
 
-/* Who gets no answer asks again before it goes on. */
+/* Who gets no answer goes on only where the log is not known to have. */
 // pagelog_file.c: check_epoch
                     // ..
                     // enum pagelog_outcome outcome = pagelog_status(file->log, PAGELOG_PRIMARY, &status);
@@ -826,6 +830,7 @@ inline settle_by_blocks() {
 // pagelog_commit.c: settle_doubt
                     // ..
                     // if (!options->has_operator) return PAGELOG_IN_DOUBT;
+                    // file->doubted = mark->lsn;
                     // enum pagelog_outcome outcome = pagelog_take_over(
                     // file->log, options->operator_principal, options->operator_token, pagelog_writing_epoch(file->log));
                     // bool is_fenced = outcome == PAGELOG_FENCED && !pagelog_is_anew(file->log);
@@ -835,6 +840,7 @@ inline settle_by_blocks() {
                     // outcome = find_mark(file, role_of(file), mark);
                     // if (outcome == PAGELOG_DONE) outcome = settle_by_blocks(file, mark, &refused);
                     // if (outcome == PAGELOG_IN_DOUBT) return outcome;
+                    // if (outcome == PAGELOG_DONE || outcome == PAGELOG_CONFLICT) file->doubted = 0;
                     // if (outcome == PAGELOG_DONE && !is_fenced) file->is_broken = pagelog_end(file->log) != mark->lsn;
                     // if (outcome == PAGELOG_DONE) return PAGELOG_DONE;
                     // if (outcome != PAGELOG_CONFLICT) return pagelog_restore(file->log, PAGELOG_IN_DOUBT, &refused);
@@ -844,6 +850,7 @@ inline settle_doubt() {
     if
     :: joins
     :: !joins ->
+       doubts = (PARTS > 1);
        take_over();
        atomic {
            if
@@ -856,6 +863,7 @@ inline settle_doubt() {
               :: outcome == DONE -> settle_by_blocks()
               :: outcome != DONE
               fi;
+              doubts = (doubts && outcome != DONE && outcome != CONFLICT && !is_torn);
 #endif
               if
 #ifdef BUILDS_ON_WHAT_IT_FOUND
@@ -969,7 +977,7 @@ inline repair() {
         is_torn = is_torn && outcome != DONE;
         is_broken = (is_broken && outcome != DONE) || is_stuck;
         is_fenced = (outcome == FENCED || (is_opening && outcome != DONE));
-        must_begin = (outcome != DONE);
+
         lsn = 0; is_stuck = false; is_repair = false; outcome = DONE
     }
 }
@@ -981,11 +989,19 @@ inline repair() {
                     // ..
                     // if (file->is_broken)
                     // ..
-#define MAY_COMMIT (!is_fenced && !is_broken && !must_begin && tried < COMMITS && end + SIZE <= LSNS)
+                    // if (pagelog_has_gone_on(file))
+                    // ..
+/* It would hide the other faults of what a commit is built on. */
+#if defined BUILDS_ON_UNREAD || defined BUILDS_ON_WHAT_IT_FOUND || defined GOES_ON_FROM_ITS_OWN || defined SEES_THE_END_ALONE
+#define HAS_GONE_ON false
+#else
+#define HAS_GONE_ON (end != mark)
+#endif
+#define MAY_COMMIT (!is_fenced && !is_broken && !HAS_GONE_ON && tried < COMMITS && end + SIZE <= LSNS)
 
 active [WRITERS] proctype Writer() {
     byte mine, end, mark, lsn, tried, lost, told, from, first, last, next, done, unsure, reply, refused, outcome, n, block, copy, at, other;
-    bit joins, is_torn, is_opening, is_broken, must_begin, is_repair, is_reported, is_ahead, is_stuck, is_fenced, on_its_way, answered;
+    bit joins, is_torn, doubts, is_opening, is_broken, is_repair, is_reported, is_ahead, is_stuck, is_fenced, on_its_way, answered;
 end_opens:
     _pid == 0 || epoch > 1; /* of two writers of which either comes first, this one does */
     is_opening = (PARTS > 1);
@@ -1036,19 +1052,19 @@ end_opens:
        }
 #endif
     :: d_step { outcome == DONE && lsn == 0 && !is_repair && !is_fenced && !is_broken ->
-          assert(!is_torn);
-          check_epoch(); must_begin = false; is_opening = false
+          assert(!is_torn && (joins || !STAYS_TORN));
+          check_epoch(); is_opening = false
        }
     :: outcome == DONE && lsn == 0 && !is_repair && !is_fenced && is_broken ->
        is_opening = false;
-       must_begin = false;
+      
        renew();
        outcome = (outcome == LOST -> DONE : outcome)
     :: outcome != DONE || is_fenced && lsn == 0 -> break
     od;
     atomic {
         mine = 0; end = 0; mark = 0; tried = 0; lost = 0; outcome = DONE;
-        joins = false; is_torn = false; is_opening = false; is_broken = false; must_begin = false; is_repair = false; is_fenced = false; stopped++
+        joins = false; is_torn = false; doubts = false; is_opening = false; is_broken = false; is_repair = false; is_fenced = false; stopped++
     }
 }
 

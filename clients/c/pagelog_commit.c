@@ -201,6 +201,7 @@ static enum pagelog_outcome settle_doubt(struct pagelog_file *file, const struct
     struct pagelog_reply refused = *pagelog_refused(file->log);
     enum pagelog_outcome cause = pagelog_outcome_of(&refused);
     if (!options->has_operator) return PAGELOG_IN_DOUBT;
+    file->doubted = mark->lsn;
     enum pagelog_outcome outcome = pagelog_take_over(
         file->log, options->operator_principal, options->operator_token, pagelog_writing_epoch(file->log));
     bool is_fenced = outcome == PAGELOG_FENCED && !pagelog_is_anew(file->log);
@@ -209,6 +210,7 @@ static enum pagelog_outcome settle_doubt(struct pagelog_file *file, const struct
     outcome = find_mark(file, role_of(file), mark);
     if (outcome == PAGELOG_DONE) outcome = settle_by_blocks(file, mark, &refused);
     if (outcome == PAGELOG_IN_DOUBT) return outcome;
+    if (outcome == PAGELOG_DONE || outcome == PAGELOG_CONFLICT) file->doubted = 0;
     /* Where a failover's reply was lost, another writer may have gone on from there before this epoch. */
     if (outcome == PAGELOG_DONE && !is_fenced) file->is_broken = pagelog_end(file->log) != mark->lsn;
     if (outcome == PAGELOG_DONE) return PAGELOG_DONE;

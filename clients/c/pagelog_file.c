@@ -51,7 +51,7 @@ static enum pagelog_outcome recover(struct pagelog_file *file) {
     enum pagelog_outcome outcome = pagelog_take_whole(file);
     if (outcome == PAGELOG_DONE && is_writer(file) && pagelog_end(file->log) > file->mark.lsn)
         outcome = pagelog_repair(file);
-    if (outcome == PAGELOG_DONE) file->torn = 0;
+    if (outcome == PAGELOG_DONE) file->torn = file->doubted = 0;
     return outcome;
 }
 

@@ -38,6 +38,8 @@ struct pagelog_file {
     uint64_t losses;       /* how often some were */
     uint64_t session;      /* of the writer: a random number */
     uint64_t torn; /* from this LSN on its transactions are not whole, until they are undone; 0: all are */
+    uint64_t
+        doubted; /* the LSN of the end mark of a commit whose blocks are still to be looked for; 0: of none */
     bool is_open, is_fenced, is_broken, is_stale, is_foreign;
     uint64_t size, least; /* of the transaction: the size, and the least that it was since the last commit */
     uint64_t next;        /* of a follower: where the next pull begins */

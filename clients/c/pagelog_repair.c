@@ -175,8 +175,20 @@ enum pagelog_outcome pagelog_find_blocks(struct pagelog_file *file, enum pagelog
     return outcome;
 }
 
+/* Looks for the blocks of a commit that is still in doubt, where its end mark is the newest one. Nothing was
+ * made since that is in their place. */
+static enum pagelog_outcome look_for_doubted(struct pagelog_file *file) {
+    bool is_newest = file->mark.lsn == file->doubted && file->mark.session == file->session;
+    if (!is_newest || file->torn > 0) return PAGELOG_DONE;
+    enum pagelog_outcome outcome = pagelog_find_blocks(file, PAGELOG_PRIMARY, file->doubted);
+    if (outcome != PAGELOG_DONE && outcome != PAGELOG_CONFLICT) return outcome;
+    file->doubted = 0;
+    return PAGELOG_DONE;
+}
+
 enum pagelog_outcome pagelog_take_whole(struct pagelog_file *file) {
     enum pagelog_outcome outcome = pagelog_take_mark(file, pagelog_end(file->log));
+    if (outcome == PAGELOG_DONE && file->doubted > 0) outcome = look_for_doubted(file);
     while (outcome == PAGELOG_DONE && file->torn > 0 && file->mark.lsn >= file->torn &&
            file->mark.session == file->session)
         outcome = pagelog_take_mark(file, file->mark.lsn - 1);

@@ -541,6 +541,36 @@ def test_no_commit_is_built_on_what_came_while_its_replies_were_lost():
             same("reader", (DONE, b"ccd"), (reader.begin(), reader.whole()))
 
 
+class NoFailover:
+    """A rule: while it is armed each connection is lost at its failover."""
+
+    is_armed = False
+
+    def __call__(self, frame):
+        return None if self.is_armed and frame[33] == wire.FAILOVER else frame
+
+
+def test_a_commit_in_doubt_that_came_in_part_is_undone_by_the_next_begin():
+    """Another session of the epoch has the LSN of its first block, and the failover that would settle it gets no answer."""
+    with Service() as service:
+        rule = NoFailover()
+        with Proxy(service.address, between=rule) as proxy, \
+                opened(proxy.address, 2, check_ms=3600000, patience_ms=200) as file, \
+                opened(service.address, 2, operator=None) as other:
+            wanted = random.Random(7).randbytes(150000)
+            same("commit", (DONE, DONE, DONE), (file.begin(), file.write(0, wanted), file.commit()))
+            same("the other", (DONE, DONE, DONE), (other.begin(), other.write(0, b"ccc"), other.commit()))
+            same("write", (DONE, DONE), (file.begin(), file.write(0, random.Random(8).randbytes(150000))))
+            rule.is_armed = True
+            same("commit", IN_DOUBT, file.commit())
+            rule.is_armed = False
+            file.undo()
+            same("undone", (DONE, b"ccc" + wanted[3:]), (file.begin(), file.whole()))
+            same("and on", (DONE, DONE), (file.write(0, b"d"), file.commit()))
+        with opened(service.address, 3, reads_only=True) as reader:
+            same("reader", (DONE, b"dcc" + wanted[3:]), (reader.begin(), reader.whole()))
+
+
 def test_nothing_is_built_upon_half_a_transaction():
     """The first half is in the log, and the table denies the rest: nothing is in the window, and still no commit may follow
     before the file has begun again."""
