@@ -2,9 +2,9 @@
 
 ghost use Rattle.std.specs.Prelude.{◌≡◌, ◌+◌, ◌*◌, ◌<◌, ◌≤◌, ◌^◌, ◌++◌, length, IfOk, OnOk, OnErr};
 ghost use Rattle.std.specs.List.{flat_map};
-ghost use Rattle.std.specs.Int.{w16, to_be_bytes};
+ghost use Rattle.std.specs.Int.{w16, w64, to_be_bytes};
 ghost use Rattle.pl_block.specs.Bounds.{longest_block};
-ghost use Rattle.pl_block.specs.Spelling.{IsBlock, annotations, record_spelling, block_spelling};
+ghost use Rattle.pl_block.specs.Spelling.{IsBlock, record_spelling, block_spelling};
 ghost use Rattle.pl_block.specs.Spare.{UsesSpare};
 
 use crate::block::Block;
@@ -12,12 +12,31 @@ use crate::record::{PUT, Record, ZERO};
 use bytes::BufMut;
 use std::alloc::{AllocError, Global};
 
-fn put_partitions(out: &mut Vec<u8>, partitions: &[u16]) -> Result<(), AllocError>
-    requires { length partitions.now < 2 ^ 16 }
-    ensures ok { OnOk result (out.new.items ≡ out.old.items ++ annotations partitions.now) }
-    ensures spare { UsesSpare result out.old out.new (2 + 2 * length partitions.now) }
+/// The bytes before the annotations: the LSN, and how many annotations there are.
+const FRONT: usize = 10;
+
+/// The bytes of a Put before those that it puts.
+const PUT_HEAD: usize = 9;
+
+/// The bytes of a Zero.
+const ZERO_BYTES: usize = 5;
+
+// Fields of a fixed size go out together: each write to a vector looks at its room.
+fn put_front(out: &mut Vec<u8>, lsn: u64, count: u16) -> Result<(), AllocError>
+    ensures ok { OnOk result (out.new.items ≡ out.old.items ++ (to_be_bytes w64 lsn ++ to_be_bytes w16 count)) }
+    ensures spare { UsesSpare result out.old out.new 10 }
 {
-    out.put_u16(partitions.len() as u16)?;
+    let mut front = [0; FRONT];
+    front[..8].copy_from_slice(&lsn.to_be_bytes());
+    front[8..].copy_from_slice(&count.to_be_bytes());
+    out.put_slice(&front)
+}
+
+// The partitions, without their count.
+fn put_partitions(out: &mut Vec<u8>, partitions: &[u16]) -> Result<(), AllocError>
+    ensures ok { OnOk result (out.new.items ≡ out.old.items ++ flat_map (to_be_bytes w16) partitions.now) }
+    ensures spare { UsesSpare result out.old out.new (2 * length partitions.now) }
+{
     for partition in partitions {
         out.put_u16(*partition)?;
     }
@@ -35,15 +54,17 @@ fn put_record(out: &mut Vec<u8>, entry: &Record) -> Result<(), AllocError>
             offset,
             bytes,
         } => {
-            out.put_u8(PUT)?;
-            out.put_u32(*page)?;
-            out.put_u16(*offset)?;
-            out.put_u16(bytes.len() as u16)?;
+            let mut head = [PUT; PUT_HEAD];
+            head[1..5].copy_from_slice(&page.to_be_bytes());
+            head[5..7].copy_from_slice(&offset.to_be_bytes());
+            head[7..].copy_from_slice(&(bytes.len() as u16).to_be_bytes());
+            out.put_slice(&head)?;
             out.put_slice(bytes.as_slice())
         }
         Record::Zero { page } => {
-            out.put_u8(ZERO)?;
-            out.put_u32(*page)
+            let mut whole = [ZERO; ZERO_BYTES];
+            whole[1..].copy_from_slice(&page.to_be_bytes());
+            out.put_slice(&whole)
         }
     }
 }
@@ -82,7 +103,7 @@ fn put_block(out: &mut Vec<u8>, block: &Block) -> Result<(), AllocError>
 {
     let partitions = block.partitions();
     let records = block.records();
-    out.put_u64(block.lsn())?;
+    put_front(out, block.lsn(), partitions.len() as u16)?;
     put_partitions(out, partitions)?;
     put_records(out, records)
 }

@@ -1,15 +1,18 @@
 //! The reply to a body: what it reads as is answered by a gate.
 
-ghost use Rattle.std.specs.Prelude.{◌≡◌, ◌+◌, ◌≤◌, ◌++◌, drop, length, take, vec_capacity, vec_len};
-ghost use Rattle.std.specs.Int.{w64, to_be_bytes};
+ghost use Rattle.std.specs.Prelude.{◌≡◌, ◌+◌, ◌<◌, ◌≤◌, ◌^◌, ◌++◌, ◌∷◌, [], drop, length, take, vec_capacity, vec_len};
+ghost use Rattle.std.specs.Int.{w32, w64, to_be_bytes};
 ghost use Rattle.pl_core.specs.Appending.{AppendsTo, reply_in};
 ghost use Rattle.pl_core.specs.Reply.{FitsReply};
 ghost use Rattle.pl_wire.specs.Answering.{AnswersRead, PutsAnswer, refusal};
-ghost use Rattle.pl_wire.specs.FrameWriting.{page_head};
+ghost use Rattle.pl_wire.specs.FrameWriting.{page_head, reply_frame};
+ghost use Rattle.pl_wire.specs.Replies.{kind_number, kind_of, reply_spelling};
 
 use crate::fault::BodyFault;
-use crate::frame_writing::put_reply;
+use crate::frame_reading::LENGTH_BYTES;
 use crate::gate::Gate;
+use crate::kind::ReplyKind;
+use crate::reply_writing::{put_fields, reply_len};
 use pl_core::{Answer, Reply};
 use pl_table::Request;
 
@@ -102,6 +105,50 @@ fn close_page(out: &mut Vec<u8>, before: usize, at: u64)
     put_lsn(out.as_mut_slice(), before, at);
 }
 
+// Puts the length and the kind of a reply into a frame that begins after this many bytes.
+fn put_head(text: &mut [u8], before: usize, len: usize, kind: u8)
+    requires within { before + 5 ≤ length text.old }
+    requires few { len < 2 ^ 32 }
+    ensures value { take (before + 5) text.new ≡ take before text.old ++ (to_be_bytes w32 len ++ kind ∷ []) }
+    ensures len { length text.new ≡ length text.old }
+{
+    let mut head = [kind; BEFORE_LSN];
+    head[..LENGTH_BYTES].copy_from_slice(&(len as u32).to_be_bytes());
+    text[before..before + BEFORE_LSN].copy_from_slice(&head);
+}
+
+// Makes the head of a page's frame that of another reply, in the same room. What the reply has after its kind is to follow.
+fn restart(out: &mut Vec<u8>, before: usize, reply: &Reply)
+    requires fits { FitsReply reply.now }
+    requires within { before + 13 ≤ vec_len out.old }
+    ensures value { out.new.items ≡ take before out.old.items ++
+        (to_be_bytes w32 (length (reply_spelling reply.now)) ++ kind_number (kind_of reply.now) ∷ []) }
+    ensures capacity { vec_capacity out.new ≡ vec_capacity out.old }
+    ensures few { length (reply_spelling reply.now) ≤ 524363 }
+{
+    put_head(
+        out.as_mut_slice(),
+        before,
+        reply_len(reply),
+        ReplyKind::of(reply).number(),
+    );
+    out.truncate(before + BEFORE_LSN);
+}
+
+// Puts the frame of a reply that is no page in the place of the head of a page's, which comes after this many bytes.
+fn put_whole(out: &mut Vec<u8>, before: usize, reply: &Reply)
+    requires fits { FitsReply reply.now }
+    requires within { before + 13 ≤ vec_len out.old }
+    requires room { before + 524367 ≤ vec_capacity out.old }
+    ensures value { out.new.items ≡ take before out.old.items ++ reply_frame reply.now }
+    ensures capacity { vec_capacity out.old ≤ vec_capacity out.new }
+{
+    restart(out, before, reply);
+    let Ok(()) = put_fields(out, reply) else {
+        unreachable!();
+    };
+}
+
 /// Puts the frame of the reply to a body after what is in `out`. The bytes of a page are put there by the gate, where it has a
 /// way to, so that they are copied once. `out` has room for [`LARGEST_REPLY_FRAME`](crate::LARGEST_REPLY_FRAME) bytes more, so
 /// there is no allocation here. [`answer`] says what is replied.
@@ -126,11 +173,6 @@ pub fn put_answer<G: Gate>(
     open_page(out);
     match answer_onto(read, gate, pass, out) {
         Answer::Page { at } => close_page(out, before, at),
-        Answer::Whole(reply) => {
-            out.truncate(before);
-            let Ok(()) = put_reply(out, &reply) else {
-                unreachable!();
-            };
-        }
+        Answer::Whole(reply) => put_whole(out, before, &reply),
     }
 }

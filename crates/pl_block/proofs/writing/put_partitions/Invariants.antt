@@ -6,6 +6,6 @@ use Rattle.pl_block.proofs.writing.put_partitions.Given as goal
 
 abbrev pub invariant-loop-partition : goal.invariant-loop-partition
 invariant-loop-partition l = record {
-  put : l.out.items ≡ l.fn.out.items ++ (to_be_bytes w16 (length l.partitions) ++ flat_map (to_be_bytes w16) (take l.partition-index l.partitions));
-  spare : spare l.fn.out ≤ spare l.out + (2 + 2 * l.partition-index);
+  put : l.out.items ≡ l.fn.out.items ++ flat_map (to_be_bytes w16) (take l.partition-index l.partitions);
+  spare : spare l.fn.out ≤ spare l.out + 2 * l.partition-index;
 }

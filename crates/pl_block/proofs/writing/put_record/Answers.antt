@@ -2,5 +2,5 @@ use Rattle.std.proofs.Common.{arith}
 use Rattle.std.proofs.lemmas.Grind.{common_steps}
 use Rattle.pl_block.proofs.writing.put_record.Goals as goal
 
-pub returns-in_ok-put_u8-in-Zero-clause-ok : goal.returns-in_ok-put_u8-in-Zero-clause-ok
-returns-in_ok-put_u8-in-Zero-clause-ok c = grind (arith, common_steps)
+pub returns-in-Zero-clause-ok : goal.returns-in-Zero-clause-ok
+returns-in-Zero-clause-ok c = grind (arith, common_steps)
