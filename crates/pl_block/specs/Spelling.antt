@@ -1,5 +1,5 @@
 -- The one spelling of a block.
-use Rattle.std.specs.Prelude.{◌≡◌, ℕ, ◌<◌, ◌≤◌, List, ◌∷◌, ◌++◌, length}
+use Rattle.std.specs.Prelude.{◌≡◌, ℕ, ◌<◌, ◌≤◌, List, ◌∷◌, ◌++◌, length, Option, IfSome}
 use Rattle.std.specs.List.{flat_map, AllByRecursion}
 use Rattle.std.specs.Int.{w16, w32, w64, to_be_bytes}
 use Rattle.pl_block.specs.Bounds.{last_lsn, longest_block}
@@ -27,8 +27,9 @@ pub record IsBlock (b : Content) : Type 0 where
   pub each : AllByRecursion IsRecord b.records
   pub short : length (block_spelling b) ≤ longest_block
 
--- a block, and what is kept beside it: the partitions that its records touch, and the length of its spelling
-pub record AreParts (b : Content) (partitions : List ℕ) (len : ℕ) : Type 0 where
+-- a block, and what is kept beside it: the partitions that its records touch, the length of its spelling, and the spelling or nothing
+pub record AreParts (b : Content) (partitions : List ℕ) (len : ℕ) (spelling : Option (List ℕ)) : Type 0 where
   pub block : IsBlock b
   pub touched_by : partitions ≡ touched b.records
   pub counted : len ≡ length (block_spelling b)
+  pub spelled : IfSome spelling (λ bytes. bytes ≡ block_spelling b)

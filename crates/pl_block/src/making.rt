@@ -93,6 +93,7 @@ fn parts_of(alloc: Global, lsn: u64, records: Vec<Record>) -> Result<Parts, Bloc
         partitions: Few::Many(partitions),
         records: Few::Many(records),
         len,
+        spelling: None,
     })
 }
 

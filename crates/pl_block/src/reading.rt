@@ -1,6 +1,6 @@
 //! A block, read from its bytes.
 
-ghost use Rattle.std.specs.Prelude.{◌≡◌, ◌≤◌, length, IfOk, Ok, nat_eq};
+ghost use Rattle.std.specs.Prelude.{◌≡◌, ◌≤◌, length, IfOk, IfSome, Ok, nat_eq};
 ghost use Rattle.std.specs.Cmp.Lexicographic.{pointwise};
 ghost use Rattle.pl_block.specs.Block.{Content, touched};
 ghost use Rattle.pl_block.specs.Bounds.{longest_block};
@@ -175,6 +175,14 @@ fn fields_of(alloc: Global, input: Bytes) -> Result<(u64, Few<u16>, Few<Record>)
     Ok((lsn, partitions, records))
 }
 
+// Another owner of the bytes. None where the owners can be counted no further.
+fn another(bytes: &Bytes) -> Option<Bytes>
+    ensures value { IfSome result (λ b. b ≡ bytes.now) }
+{
+    let shared: Result<_, _> = bytes.clone();
+    shared.ok()
+}
+
 // The parts of the block that the bytes spell.
 fn parts_in(alloc: Global, input: Bytes) -> Result<Parts, BlockFault>
     ensures exact { Returns result (block_reading input) }
@@ -182,12 +190,14 @@ fn parts_in(alloc: Global, input: Bytes) -> Result<Parts, BlockFault>
 {
     each_is_byte(input.as_slice());
     let len = input.len();
+    let spelling = another(&input);
     let (lsn, partitions, records) = fields_of(alloc, input)?;
     Ok(Parts {
         lsn,
         partitions,
         records,
         len,
+        spelling,
     })
 }
 

@@ -108,8 +108,8 @@ fn put_block(out: &mut Vec<u8>, block: &Block) -> Result<(), AllocError>
     put_records(out, records)
 }
 
-/// Appends the one spelling of the block to `out`. Memory is asked for once, and only where `out`
-/// lacks room for the whole of it. Where the allocation fails, `out` has what it had.
+/// Appends the one spelling of the block to `out`: where the block was read, the bytes that it was read from, copied at once.
+/// Memory is asked for once, and only where `out` lacks room for the whole of it. Where the allocation fails, `out` has what it had.
 pub fn encode_onto(out: &mut Vec<u8>, block: &Block) -> Result<(), AllocError>
     // The block's spelling is appended.
     ensures ok { OnOk result (out.new.items ≡ out.old.items ++ block_spelling block.now) }
@@ -121,7 +121,10 @@ pub fn encode_onto(out: &mut Vec<u8>, block: &Block) -> Result<(), AllocError>
     ensures fits { length (block_spelling block.now) ≤ longest_block }
 {
     out.reserve(encoded_len(block))?;
-    put_block(out, block)
+    match block.spelling() {
+        Some(bytes) => out.put_slice(bytes),
+        None => put_block(out, block),
+    }
 }
 
 /// The one spelling of the block, in a vector of its own, for which memory is asked once.

@@ -1,5 +1,5 @@
 -- Answers to bodies: that of one which is no request, and the frame of a page that a gate has put there.
-use Rattle.std.proofs.Common.{◌≡◌, ℕ, ◌+◌, List, [], ◌∷◌, ◌++◌, length, take, drop, Err, refl, sym, ap, ap₂, ◌∙◌, append_assoc, arith}
+use Rattle.std.proofs.Common.{◌≡◌, ℕ, ◌+◌, List, [], ◌∷◌, ◌++◌, length, take, drop, Err, sym, ap, ap₂, ◌∙◌, append_assoc, arith}
 use Rattle.std.specs.Int.{w32, w64, to_be_bytes}
 use Rattle.std.proofs.lemmas.List.{drop_at, length-append, take_at}
 use Rattle.pl_block.specs.declared.fault.Failed.{Failed}

@@ -33,7 +33,7 @@ invariant_of-result c =
     } in
     let told = c.deref-3.ensures.value ∙ c.in_ok-partitions.ensures.ok ∙ ap touched c.deref-2.ensures.value in
     let whole = length-counted c.args.lsn c.args.records.items _ _ told c.deref-4.ensures.value in
-    record { block = is_block; touched_by = c.in_ok-partitions.ensures.ok ∙ ap touched c.deref-2.ensures.value; counted = c.spelling_len-len.ensures.value (len_fault-ok c.spelling_len-len.result c.in_ok-check_len.field-0 (sym c.in_ok-check_len.ensures.value)) ∙ sym whole }
+    record { block = is_block; touched_by = c.in_ok-partitions.ensures.ok ∙ ap touched c.deref-2.ensures.value; counted = c.spelling_len-len.ensures.value (len_fault-ok c.spelling_len-len.result c.in_ok-check_len.field-0 (sym c.in_ok-check_len.ensures.value)) ∙ sym whole; spelled = tt }
 
 pub returns-clause-exact : goal.returns-clause-exact
 returns-clause-exact c =
