@@ -2,6 +2,8 @@
 
 from __future__ import annotations
 
+import contextlib
+import io
 import random
 import signal
 import subprocess
@@ -9,10 +11,12 @@ import threading
 import time
 import unittest
 from pathlib import Path
+from unittest import mock
 
 import sqlalchemy as sql
 
 from pagelog.archive import Archive
+from pagelog.desk import keeping_words
 from pagelog.keeping import Archiver
 from postgres import postgres
 from service import IS_LONG, PATIENCE, CuttingProxy, Service, fill
@@ -123,6 +127,16 @@ class Followers(Folder):
         archive = self.archive(url)
         self.assertEqual(list(archive.blocks()), self.everything())
         self.assertEqual((process.returncode, archive.check().blocks), (0, 100))
+
+    def test_it_waits_for_a_lost_archive_alone(self) -> None:
+        """Where the line to PostgreSQL breaks amid a reply, psycopg2 says DatabaseError, as of many other faults."""
+        lost = sql.exc.DatabaseError("commit", None, Exception("server closed the connection"), connection_invalidated=True)
+        fault = sql.exc.DatabaseError("commit", None, Exception("the table is not there"))
+        archiver, said = mock.Mock(**{"resume.side_effect": [lost, fault]}), io.StringIO()
+        with contextlib.redirect_stderr(said), mock.patch.object(keeping_words.time, "sleep"):
+            keeping_words._follow(archiver, 0, lambda: False)
+            self.assertRaises(sql.exc.DatabaseError, keeping_words._follow, archiver, 0, lambda: False)
+        self.assertEqual(said.getvalue(), "pagelogctl: archive: (builtins.Exception) server closed the connection; trying again\n")
 
 
 if __name__ == "__main__":

@@ -6,7 +6,7 @@ import time
 from typing import Callable
 
 import click
-from sqlalchemy.exc import OperationalError
+from sqlalchemy.exc import DBAPIError, OperationalError
 
 from pagelog.archive import Archive
 from pagelog.credentials import Accounts, load
@@ -64,7 +64,10 @@ def _follow(archiver: Archiver, idle: float, stop: Callable[[], bool]) -> None:
         archiver.run(follow=True, idle=idle, told=tell, stop=stop)
     except (ConnectionLost, Unreachable, OutOfMemory) as error:
         _wait(f"service: {error}")
-    except OperationalError as error:
+    except DBAPIError as error:
+        # Where the line breaks amid a reply, psycopg2 says DatabaseError.
+        if not isinstance(error, OperationalError) and not error.connection_invalidated:
+            raise
         _wait(f"archive: {str(error).splitlines()[0]}")
 
 
