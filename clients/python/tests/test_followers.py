@@ -133,7 +133,7 @@ class Followers(Folder):
         lost = sql.exc.DatabaseError("commit", None, Exception("server closed the connection"), connection_invalidated=True)
         fault = sql.exc.DatabaseError("commit", None, Exception("the table is not there"))
         archiver, said = mock.Mock(**{"resume.side_effect": [lost, fault]}), io.StringIO()
-        with contextlib.redirect_stderr(said), mock.patch.object(keeping_words.time, "sleep"):
+        with contextlib.redirect_stderr(said), mock.patch("time.sleep"):
             keeping_words._follow(archiver, 0, lambda: False)
             self.assertRaises(sql.exc.DatabaseError, keeping_words._follow, archiver, 0, lambda: False)
         self.assertEqual(said.getvalue(), "pagelogctl: archive: (builtins.Exception) server closed the connection; trying again\n")
