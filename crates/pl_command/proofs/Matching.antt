@@ -15,7 +15,7 @@ use Rattle.clap.specs.Kinds.{IsAmong, Kinds}
 use Rattle.clap.specs.declared.builder.command.Command.{Command}
 use Rattle.clap.specs.declared.builder.command.Command.TheViews.{out-Command}
 use Rattle.clap.specs.declared.error.kind.ErrorKind.{ErrorKind}
-use Rattle.clap.specs.declared.error.kind.ErrorKind.TheVariants.{DisplayHelp, OutOfMemory}
+use Rattle.clap.specs.declared.error.kind.ErrorKind.TheVariants.{OutOfMemory}
 use Rattle.clap.proofs.WalkLemmas.{both, first_value-rows, one_text-rows, raw_values-rows}
 use Rattle.pl_command.specs.CommandLine.{GivesAsk, GivesNumber, GivesPlay, GivesServe, GivesText, GivesWords, HasNumber, HasText, HasWords, IsWholeCommand}
 
@@ -89,14 +89,14 @@ pub words_found : (f : Found) (r : Option (Bor (List (Bor Text)))) (given : Bor 
 words_found f r given words n value is so_far whole =
     sym (raw_values-rows f (codes "words")) ∙ sym value ∙ ap (option_map texts_of) is ∙ ap Some (sym (so_far ∙ ap (map (λ (v : Bor Text). v.now)) (take_all n given.now whole)))
 
--- a request for help is among the kinds that may come
-pub among_help : (kinds : Kinds) (k : ErrorKind) → (k ≡ OutOfMemory) ⊎ IsAmong k kinds → k ≡ DisplayHelp → IsAmong DisplayHelp kinds
-among_help kinds k (inl memory) is = absurd (true≢false (ap is_memory (sym memory ∙ is)))
-  where
-    is_memory : ErrorKind → Bool
-    is_memory OutOfMemory = true
-    is_memory _ = false
-among_help kinds k (inr among) is = subst (λ x. IsAmong x kinds) is among
+abbrev pub is_memory : ErrorKind → Bool
+is_memory OutOfMemory = true
+is_memory _ = false
+
+-- a request, for help say, is among the kinds that may come
+pub among_asked : (kinds : Kinds) (k asked : ErrorKind) → is_memory asked ≡ false → (k ≡ OutOfMemory) ⊎ IsAmong k kinds → k ≡ asked → IsAmong asked kinds
+among_asked kinds k asked other (inl memory) is = absurd (true≢false (ap is_memory (sym memory ∙ is) ∙ other))
+among_asked kinds k asked other (inr among) is = subst (λ x. IsAmong x kinds) is among
 
 -- a command that is plain has no option for its subcommands too
 pub no_globals : (c : Command) (a : App) → app_of c ≡ a → a.top.is_plain ≡ true → (out-Command c).has_globals ≡ false

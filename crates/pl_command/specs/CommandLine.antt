@@ -9,7 +9,7 @@ use Rattle.clap.specs.Simple.{with_subcommand}
 use Rattle.clap.specs.Faults.{fault_of}
 use Rattle.clap.specs.Kinds.{IsAmong}
 use Rattle.clap.specs.declared.builder.value_parser.ValueParser.TheVariants.{Signed}
-use Rattle.clap.specs.declared.error.kind.ErrorKind.TheVariants.{DisplayHelp}
+use Rattle.clap.specs.declared.error.kind.ErrorKind.TheVariants.{DisplayHelp, DisplayVersion}
 use Rattle.pl_command.specs.declared.command_line.CommandLine.{CommandLine}
 use Rattle.pl_command.specs.declared.command_line.CommandLine.TheVariants as lines
 use Rattle.pl_command.specs.declared.command_line.ServeNumbers.{ServeNumbers}
@@ -82,10 +82,11 @@ ask_app = subcommand_with (codes "ask")
     ∷ text_option (codes "token") ∷ number_option (codes "db") 0 most_u32
     ∷ number_option (codes "epoch") 0 most_u32 ∷ words_rule ∷ [])
 
--- the program, of which a subcommand is always given
+-- the program, of which a subcommand is always given, and that has a version
 abbrev pub top_app : App
 top_app = on_top (λ s. record s { arg_required_else_help = true })
-    (on_top (λ s. record s { subcommand_required = true }) (new_app (codes "pagelog")))
+    (on_top (λ s. record s { subcommand_required = true })
+    (on_top (λ s. record s { has_version = true }) (new_app (codes "pagelog"))))
 
 -- and its subcommands
 abbrev pub own_app : App
@@ -170,9 +171,10 @@ pub record Names (found : Option (Text × List Row)) (line : CommandLine) : Type
   pub subcommand : found ≡ Some (name, rows)
   pub options : Has name rows line
 
--- the words ask for this line: they name its subcommand, or are such as are answered by help
+-- the words ask for this line: they name its subcommand, or are such as are answered by help or the version
 abbrev pub AsksFor : List Text → CommandLine → Type 0
-AsksFor words (lines.Help text) = IsAmong DisplayHelp (fault_of own_app words)
+AsksFor words (lines.Help text) =
+    IsAmong DisplayHelp (fault_of own_app words) ⊎ IsAmong DisplayVersion (fault_of own_app words)
 AsksFor words (lines.Play table primary) =
     Names (subcommand_of own_app words) (lines.Play table primary)
 AsksFor words (lines.Serve listen table primary dbs workers connections audit pager partition rounds idle_polls) =

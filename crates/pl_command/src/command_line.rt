@@ -1,6 +1,6 @@
 //! What the arguments of the program ask for, read with `clap`.
 
-ghost use Rattle.std.specs.Prelude.{◌≡◌, ◌≢◌, true, Some, None, codes, IfErr, IfOk, IfSome, IsErr, IsNone, map, string_bytes};
+ghost use Rattle.std.specs.Prelude.{◌≡◌, ◌≢◌, ◌⊎◌, true, Some, None, codes, IfErr, IfOk, IfSome, IsErr, IsNone, map, string_bytes};
 ghost use Rattle.clap.specs.Words.{IsAmong, app_of, fault_of, found_of, kind_of, rows_of, subcommand_of, subcommand_rows_of, takes};
 ghost use Rattle.pl_command.specs.CommandLine.{AsksFor, GivesAsk, GivesNumber, GivesPlay, GivesServe, GivesWords, Has, HasNumber, HasNumbers, HasWords, IsWholeCommand, IsHelp, IsUsage, Names, own_app};
 
@@ -13,7 +13,7 @@ use thiserror::Error;
 /// What the arguments ask for.
 #[derive(Debug, Drop, PartialEq, Eq)]
 pub enum CommandLine {
-    /// `help`, or `--help` or `-h` where an option may be given: show this text.
+    /// `help`, `--help` or `-h` where an option may be given, or `--version` or `-V`: show this text.
     Help {
         text: String,
     },
@@ -258,22 +258,25 @@ fn match_arguments<'a>(
         kind_of error ≡ ErrorKind.OutOfMemory) }
     ensures help { IfErr result (λ error. kind_of error ≡ ErrorKind.DisplayHelp →
         IsAmong ErrorKind.DisplayHelp (fault_of own_app (map string_bytes arguments.entry.now))) }
+    ensures version { IfErr result (λ error. kind_of error ≡ ErrorKind.DisplayVersion →
+        IsAmong ErrorKind.DisplayVersion (fault_of own_app (map string_bytes arguments.entry.now))) }
 {
     let matches = program.try_get_matches_from_mut(arguments)?;
     Ok(line_of(alloc, &matches)?)
 }
 
-// What arguments that were not matched ask for: `clap` reports a request for help as an error.
+// What arguments that were not matched ask for: `clap` reports a request for help or for the version as an error.
 fn outcome_of(alloc: Global, error: &clap::Error) -> Result<CommandLine, CommandFault>
-    ensures help { IfOk result (λ line. IsHelp line × (kind_of error.now ≡ ErrorKind.DisplayHelp)) }
+    ensures help { IfOk result (λ line. IsHelp line × ((kind_of error.now ≡ ErrorKind.DisplayHelp)
+        ⊎ (kind_of error.now ≡ ErrorKind.DisplayVersion))) }
     ensures usage { IfErr result (λ fault. IsUsage fault → (kind_of error.now ≢ ErrorKind.DisplayHelp)
-        × (kind_of error.now ≢ ErrorKind.OutOfMemory)) }
+        × (kind_of error.now ≢ ErrorKind.DisplayVersion) × (kind_of error.now ≢ ErrorKind.OutOfMemory)) }
 {
     if error.kind() == ErrorKind::OutOfMemory {
         return Err(CommandFault::NoMemory);
     }
     let text = error.to_string(alloc)?;
-    if error.kind() == ErrorKind::DisplayHelp {
+    if !error.use_stderr() {
         return Ok(CommandLine::Help { text });
     }
     Err(CommandFault::Usage(text))

@@ -187,12 +187,17 @@ fn with_sub<'a>(command: Command<'a>, subcommand: Making<'a>) -> Result<Command<
     }
 }
 
+/// What `--version` prints after the program's name: the version, which stands here alone, and the kit that the program is proved and
+/// compiled with.
+const VERSION: &str = "0.1.0 (rattle-kit-13f)";
+
 // The program and its subcommands.
 pub(crate) fn program<'a>(alloc: Global) -> Result<Command<'a>, AllocError>
     ensures ok { IfOk result (λ c. app_of c ≡ own_app) }
 {
     let top = Command::new(alloc, "pagelog")
         .about("A log service for databases")
+        .version(VERSION)
         .subcommand_required(true)
         .arg_required_else_help(true);
     let top = with_sub(top, play_command(alloc))?;

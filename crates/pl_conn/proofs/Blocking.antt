@@ -1,5 +1,5 @@
 -- The turns of a conversation that waits for its reader and its writer.
-use Rattle.std.proofs.Common.{◌≡◌, ℕ, ◌+◌, ◌-◌, ◌^◌, ◌<◌, ◌≤◌, Bool, true, false, List, [], ◌∷◌, ◌++◌, length, take, Option, Result, Ok, Err, refl, sym, ap, ap₂, subst, ◌∙◌, append_assoc, append-nil, inl, inr, arith}
+use Rattle.std.proofs.Common.{◌≡◌, ℕ, ◌+◌, ◌-◌, ◌^◌, ◌<◌, ◌≤◌, true, List, [], ◌∷◌, ◌++◌, length, take, Option, Result, Ok, Err, refl, sym, ap, subst, ◌∙◌, append_assoc, append-nil, inl, inr, arith}
 use Rattle.std.specs.Io.KnownBytes.{Appends, Consumes, IsAtEnd}
 use Rattle.std.specs.Int.{w32, to_be_bytes}
 use Rattle.std.specs.List.{AllByRecursion}
@@ -8,13 +8,14 @@ use Rattle.std.proofs.lemmas.List.{length-append, length-map, take_all}
 use Rattle.std.proofs.lemmas.Grind.{flat_map-append}
 use Rattle.pl_core.specs.declared.reply.Reply.{Reply}
 use Rattle.pl_core.specs.Reply.{FitsReply}
-use Rattle.pl_wire.specs.FrameReading.{StopsFrame}
+use Rattle.pl_wire.specs.FrameReading.{IsCut, StopsFrame}
+use Rattle.std.proofs.lemmas.Nat.{from_be_bytes-to_be_bytes_4}
 use Rattle.pl_wire.specs.Frames.{frame, frames_of, longest_request}
 use Rattle.pl_wire.specs.FrameWriting.{reply_frame}
 use Rattle.pl_wire.specs.declared.frame_reading.FrameFault.{FrameFault}
 use Rattle.pl_wire.specs.declared.frame_reading.FrameFault.TheVariants as frame_faults
 use Rattle.pl_wire.specs.Answering.{Answered, AnswersBody, Calls}
-use Rattle.pl_conn.specs.Conversation.{Converses, Ends, MayWait, Scene, Talk, Talks, cause_of, scene, replies_text}
+use Rattle.pl_conn.specs.Conversation.{Converses, IsTooLong, MayWait, Scene, Talk, Talks, cause_of, scene, replies_text}
 use Rattle.pl_conn.specs.Gathering.{Box, Gathers, TakesFrame, Told, Turns, emptied, reported_talk, whole_in}
 use Rattle.pl_conn.specs.declared.cause.Cause.{Cause}
 use Rattle.pl_conn.specs.declared.cause.Cause.TheVariants as causes
@@ -26,12 +27,13 @@ use Rattle.pl_conn.proofs.Talking.{all_then, answered_then, cut_text, fewer_afte
 abbrev later : List (List ℕ) → List Reply → Talk → Talk
 later bodies replies talk = record { bodies = bodies ++ talk.bodies; whole = replies ++ talk.whole; others = talk.others; part = talk.part; cut = talk.cut }
 
-same_end : (cause : Cause) (bodies : List (List ℕ)) (replies : List Reply) (talk : Talk) (left : Option (List ℕ)) → Ends cause talk left → Ends cause (later bodies replies talk) left
-same_end causes.Short bodies replies talk left end = end
-same_end causes.TooLong bodies replies talk left end = end
-same_end causes.Read bodies replies talk left end = end
-same_end causes.Write bodies replies talk left end = end
-same_end causes.NoMemory bodies replies talk left end = end
+-- a length that is too long
+told_long : (len : ℕ) → longest_request < len → len < 2 ^ 32 → IsTooLong (to_be_bytes w32 len)
+told_long len above fits = (omega arith, omega (arith, above, from_be_bytes-to_be_bytes_4 len fits))
+
+-- a length, and nothing after it
+cut_at_length : (len : ℕ) → 0 < len → len ≤ longest_request → IsCut longest_request (to_be_bytes w32 len)
+cut_at_length len some within = inr (len, [], within, some, sym (append-nil (to_be_bytes w32 len)))
 
 module _ {P : Type 0} (calls : Calls P) where
   -- nothing is read
@@ -50,6 +52,7 @@ module _ {P : Type 0} (calls : Calls P) where
     record { short = tt; read = Consumes-nil input; chain = refl; fits = tt; written = Appends-nil output },
     refl,
     ((refl, refl), inl (omega arith)),
+    inl (inl (omega arith)),
   )
 
   -- what was said goes on
@@ -91,7 +94,8 @@ module _ {P : Type 0} (calls : Calls P) where
     later s.bodies s.replies t.0,
     talks_after before now after s.bodies s.replies t.0 s.talks t.1,
     counted s.replies t.0.whole n fault.answered s.number t.2,
-    same_end fault.cause s.bodies s.replies t.0 after.input t.3,
+    t.3,
+    t.4,
   )
 
   -- or to the end of input
@@ -99,11 +103,11 @@ module _ {P : Type 0} (calls : Calls P) where
   told_end before now after n few s t =
       let same : n + 0 ≡ n = omega arith in
       let all = subst (λ (k : ℕ). Told calls before after k) same (told_more before now after n 0 s t.0) in
-      (reported_talk all.bodies all.replies, all.talks, all.number, (refl, refl), refl, few, λ less. t.1 refl)
+      ((reported_talk all.bodies all.replies, all.talks, all.number, (refl, refl), refl), few, λ less. t.1 refl)
 
   -- or to the most frames
   pub told_full : (before now : Scene P) (n : ℕ) → n ≤ 2 ^ 32 → 2 ^ 32 ≤ n → Told calls before now n → Converses calls before now (Ok n)
-  told_full before now n few full t = (reported_talk t.bodies t.replies, t.talks, t.number, (refl, refl), refl, few, λ less. absurd (omega (arith, less, full)))
+  told_full before now n few full t = ((reported_talk t.bodies t.replies, t.talks, t.number, (refl, refl), refl), few, λ less. absurd (omega (arith, less, full)))
 
   -- there is no frame
   pub stopped : (input left output : Option (List ℕ)) (p : P) (fault : FrameFault) → StopsFrame longest_request input left fault
@@ -114,11 +118,11 @@ module _ {P : Type 0} (calls : Calls P) where
       read_on bytes reads = record { short = tt; read = reads; chain = refl; fits = tt; written = Appends-nil output }
 
       by : (fault : FrameFault) → StopsFrame longest_request input left fault → Converses calls (scene input output p) (scene left output p) (Err (record { cause = cause_of fault; answered = 0 }))
-      by frame_faults.Short (bytes, some, cut, reads, end) = (_, read_on bytes reads, refl, ((refl, refl), some, cut, end))
-      by frame_faults.TooLong (len, above, fits, reads) = (_, read_on (to_be_bytes w32 len) reads, refl, ((refl, refl), (len, above, fits, refl)))
-      by frame_faults.Io (bytes, cut, reads) = (_, read_on bytes reads, refl, ((refl, refl), cut))
+      by frame_faults.Short (bytes, some, cut, reads, end) = (_, read_on bytes reads, refl, ((refl, refl), some, cut, end), inl cut)
+      by frame_faults.TooLong (len, above, fits, reads) = (_, read_on (to_be_bytes w32 len) reads, refl, ((refl, refl), told_long len above fits), inr (len, above, fits, refl))
+      by frame_faults.Io (bytes, cut, reads) = (_, read_on bytes reads, refl, ((refl, refl), cut), inl cut)
       by frame_faults.NoMemory (len, some, within, reads) =
-          (_, read_on (to_be_bytes w32 len) reads, refl, ((refl, refl), inr (len, [], within, some, sym (append-nil (to_be_bytes w32 len)))))
+          let cut = cut_at_length len some within in (_, read_on (to_be_bytes w32 len) reads, refl, ((refl, refl), cut), inl cut)
 
   module _ (input left output out : Option (List ℕ)) (p q : P) (bytes : List ℕ) (box : Box) (reads : Consumes input left bytes) (g : Gathers calls p bytes emptied q box) where
     -- frames are answered, and all replies are written
@@ -151,7 +155,8 @@ module _ {P : Type 0} (calls : Calls P) where
             written = subst (λ (l : List ℕ). Appends output out l) (ap (take n) h.text ∙ c.text) writes;
           },
           c.number ∙ ap (λ (l : List ℕ). whole_in l n) (sym h.lens),
-          ((c.next, c.more, c.k, refl, c.less, refl, fewer_after c.whole (c.next ∷ c.more) (subst MayWait c.parts h.few)), inl (inl (omega arith))),
+          (c.next, c.more, c.k, refl, c.less, refl, fewer_after c.whole (c.next ∷ c.more) (subst MayWait c.parts h.few)),
+          inl (inl (omega arith)),
         )
 
   -- a turn at whose start there is no frame

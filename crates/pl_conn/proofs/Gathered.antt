@@ -1,6 +1,6 @@
 -- Frames that are answered, and their replies, which wait.
 use Rattle.std.specs.Io.KnownBytes.{Consumes}
-use Rattle.std.proofs.Common.{◌≡◌, ℕ, ◌+◌, ◌-◌, ◌<◌, ◌≤◌, Bool, true, List, [], ◌∷◌, ◌++◌, length, take, drop, take-add, Option, Result, Ok, Err, refl, sym, ap, ap₂, subst, ◌∙◌, append_assoc, append-nil, arith}
+use Rattle.std.proofs.Common.{◌≡◌, ℕ, ◌+◌, ◌-◌, ◌<◌, ◌≤◌, true, List, [], ◌∷◌, ◌++◌, length, take, drop, take-add, Option, Result, Ok, Err, refl, sym, ap, ap₂, subst, ◌∙◌, append_assoc, append-nil, arith}
 use Rattle.std.proofs.lemmas.List.{take-append-drop, take_rest}
 use Rattle.std.proofs.lemmas.Grind.{flat_map-append}
 use Rattle.pl_block.specs.Faults.{Returns}
@@ -16,7 +16,7 @@ use Rattle.pl_wire.specs.Reading.{MayLackMemory, request_reading}
 use Rattle.pl_wire.specs.declared.fault.WireFault.{WireFault}
 use Rattle.pl_wire.specs.declared.frame_reading.FrameFault.{FrameFault}
 use Rattle.pl_wire.specs.Answering.{AnswersBody, AnswersRead, Calls}
-use Rattle.pl_conn.specs.Conversation.{cause_of, replies_text}
+use Rattle.pl_conn.specs.Conversation.{MayWait, cause_of, replies_text}
 use Rattle.pl_conn.specs.Gathering.{Box, Gathers, HoldsReplies, MayGather, TakesFrame, emptied, gathered}
 use Rattle.pl_conn.specs.Resting.{Replies, middle}
 use Rattle.pl_conn.proofs.Reading.{answers_body}
@@ -93,6 +93,12 @@ module _ {P : Type 0} (calls : Calls P) where
     chain = g.chain;
     told = let h = g.waits [] (subst (λ (b : Box). HoldsReplies b []) (sym is) holds_none) in h.text;
   }
+
+  -- and their replies may wait together
+  pub waits_alone : (p q : P) (bytes : List ℕ) (n : ℕ) (none box : Box) (is : none ≡ emptied) (g : Gathers calls p (take n bytes) none q box)
+      → MayWait (replies_of p q bytes n none box is g).replies
+  unfolding replies_of
+  waits_alone p q bytes n none box is g = let h = g.waits [] (subst (λ (b : Box). HoldsReplies b []) (sym is) holds_none) in h.few
 
   -- the next frame is taken where it lies
   pub takes_buffered : (a b : Option (List ℕ)) (p q : P) (bytes : List ℕ) (box left : Box) → Consumes a b bytes → Gathers calls p bytes box q left

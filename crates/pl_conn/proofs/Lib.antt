@@ -11,3 +11,4 @@ pub mod Rounds
 pub mod Reading
 pub mod Filling
 pub mod Turning
+pub mod Finishing

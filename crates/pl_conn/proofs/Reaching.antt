@@ -1,12 +1,10 @@
 -- Calls that a conversation made, and calls one after the other.
-use Rattle.std.proofs.Common.{◌≡◌, ℕ, List, [], ◌∷◌, ◌++◌, Result, Ok, Err, refl, subst, inl, inr}
+use Rattle.std.proofs.Common.{ℕ, List, [], ◌∷◌, ◌++◌, Result, Ok, Err, refl, subst, inl, inr}
 use Rattle.pl_table.specs.Request.{Query}
 use Rattle.pl_core.specs.declared.reply.Reply.{Reply}
 use Rattle.pl_wire.specs.Reading.{request_reading}
 use Rattle.pl_wire.specs.declared.fault.WireFault.{WireFault}
 use Rattle.pl_wire.specs.Answering.{AnswersBody, AnswersReading, Answered, Calls}
-use Rattle.pl_conn.specs.Conversation.{Converses, Scene}
-use Rattle.pl_conn.specs.declared.cause.ConnFault.{ConnFault}
 use Rattle.pl_conn.specs.Serving.{Chained, Reaches}
 
 pub reaches_self : {P : Type 0} (calls : Calls P) (p : P) → Reaches calls p p
@@ -32,8 +30,3 @@ by_answers calls p q [] [] done = ([], done)
 by_answers calls p q [] (y ∷ ys) done = absurd done
 by_answers calls p q (b ∷ bs) [] done = absurd done
 by_answers calls p q (b ∷ bs) (y ∷ ys) done = by_body calls b p done.0 q y done.1 (by_answers calls done.0 q bs ys done.2)
-
--- a conversation reaches the pass that it leaves by calls
-pub by_conversation : {P : Type 0} (calls : Calls P) (before after : Scene P) (result : Result ℕ ConnFault) → Converses calls before after result → Reaches calls before.pass after.pass
-by_conversation calls before after (Ok count) c = by_answers calls before.pass after.pass c.0.bodies (c.0.whole ++ c.0.others) c.1.chain
-by_conversation calls before after (Err fault) c = by_answers calls before.pass after.pass c.0.bodies (c.0.whole ++ c.0.others) c.1.chain

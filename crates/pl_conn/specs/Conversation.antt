@@ -6,7 +6,7 @@ use Rattle.std.specs.List.{AllByRecursion, flat_map}
 use Rattle.pl_core.specs.declared.reply.Reply.{Reply}
 use Rattle.pl_core.specs.Reply.{FitsReply}
 use Rattle.pl_wire.specs.Answering.{Answered, AnswersBody, Calls}
-use Rattle.pl_wire.specs.FrameReading.{IsCut}
+use Rattle.pl_wire.specs.FrameReading.{IsCut, length_at}
 use Rattle.pl_wire.specs.Frames.{frames_of, longest_request}
 use Rattle.pl_wire.specs.FrameWriting.{reply_frame}
 use Rattle.pl_wire.specs.declared.frame_reading.FrameFault.{FrameFault}
@@ -53,6 +53,14 @@ IsReported talk = (talk.others ≡ []) × (talk.cut ≡ [])
 abbrev pub IsTooLongFrame : List ℕ → Type 0
 IsTooLongFrame bytes = (len : ℕ) × (longest_request < len) × (len < 2 ^ 32) × (bytes ≡ to_be_bytes w32 len)
 
+-- less than a whole frame, and nothing after a length that is too long
+abbrev pub StopsThere : List ℕ → Type 0
+StopsThere bytes = IsCut longest_request bytes ⊎ IsTooLongFrame bytes
+
+-- they begin with the length of a frame that is too long
+abbrev pub IsTooLong : List ℕ → Type 0
+IsTooLong bytes = (4 ≤ length bytes) × (longest_request < length_at bytes)
+
 -- these replies may wait together: the frames of all but the last take less than 256 KiB
 abbrev pub MayWait : List Reply → Type 0
 MayWait replies = length (replies_text (take (length replies - 1) replies)) < 262144
@@ -62,20 +70,27 @@ abbrev pub IsToldInPart : Talk → Type 0
 IsToldInPart talk = (next : Reply) × (more : List Reply) × (k : ℕ) × (talk.others ≡ next ∷ more)
     × (k < length (reply_frame next)) × (talk.cut ≡ take k (reply_frame next)) × MayWait talk.others
 
--- why it ended, and what was read and written then; left is what the reader has left
-abbrev pub Ends : Cause → Talk → Option (List ℕ) → Type 0
-Ends causes.Short talk left = IsReported talk × (0 < length talk.part) × IsCut longest_request talk.part × IsAtEnd left
-Ends causes.TooLong talk left = IsReported talk × IsTooLongFrame talk.part
-Ends causes.Read talk left = IsReported talk × IsCut longest_request talk.part
-Ends causes.Write talk left = IsToldInPart talk × (IsCut longest_request talk.part ⊎ IsTooLongFrame talk.part)
-Ends causes.NoMemory talk left = IsReported talk × IsCut longest_request talk.part
+-- Why it is over: that all replies are written, or some are not; what was read after the last frame that was answered; and
+-- what the reader has left. But for a failed write no frame that was read whole is without its reply.
+abbrev pub Ends : Cause → Type 0 → Type 0 → List ℕ → Option (List ℕ) → Type 0
+Ends causes.Short reported lost part left = reported × (0 < length part) × IsCut longest_request part × IsAtEnd left
+Ends causes.TooLong reported lost part left = reported × IsTooLong part
+Ends causes.Read reported lost part left = reported × IsCut longest_request part
+Ends causes.Write reported lost part left = lost
+Ends causes.NoMemory reported lost part left = reported × IsCut longest_request part
+
+-- All frames that were read are answered, and this is their number; or some, and then a fault. Part says more of what was read
+-- after the last frame that was answered.
+abbrev pub Concludes : {P : Type 0} → (List ℕ → Type 0) → Calls P → Scene P → Scene P → Result ℕ ConnFault → Type 0
+Concludes Part calls before after (Ok count) = (talk : Talk) × Talks calls before after talk × (length talk.whole ≡ count)
+    × IsReported talk × (talk.part ≡ [])
+Concludes Part calls before after (Err fault) = (talk : Talk) × Talks calls before after talk × (length talk.whole ≡ fault.answered)
+    × Ends fault.cause (IsReported talk) (IsToldInPart talk) talk.part after.input × Part talk.part
 
 -- all frames of the input are answered, or 2^32 of them; or some, and then a fault
 abbrev pub Converses : {P : Type 0} → Calls P → Scene P → Scene P → Result ℕ ConnFault → Type 0
-Converses calls before after (Ok count) = (talk : Talk) × Talks calls before after talk × (length talk.whole ≡ count)
-    × IsReported talk × (talk.part ≡ []) × (count ≤ 2 ^ 32) × (count < 2 ^ 32 → IsAtEnd after.input)
-Converses calls before after (Err fault) = (talk : Talk) × Talks calls before after talk
-    × (length talk.whole ≡ fault.answered) × Ends fault.cause talk after.input
+Converses calls before after (Ok count) = Concludes StopsThere calls before after (Ok count) × (count ≤ 2 ^ 32) × (count < 2 ^ 32 → IsAtEnd after.input)
+Converses calls before after (Err fault) = Concludes StopsThere calls before after (Err fault)
 
 -- why a conversation ends where a frame was not read
 abbrev pub cause_of : FrameFault → Cause

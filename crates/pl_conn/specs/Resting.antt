@@ -1,15 +1,14 @@
 -- A conversation that rests between its turns.
-use Rattle.std.specs.Prelude.{◌≡◌, ℕ, ⊤, ◌+◌, ◌<◌, ◌≤◌, List, [], ◌++◌, length, Option, Result, Ok, Err}
+use Rattle.std.specs.Prelude.{◌≡◌, ℕ, ⊤, ◌+◌, ◌<◌, ◌≤◌, ◌⊎◌, List, [], ◌∷◌, ◌++◌, length, take, Option, Result, Ok, Err}
 use Rattle.std.specs.Io.KnownBytes.{Appends, Consumes, IsAtEnd}
 use Rattle.std.specs.List.{AllByRecursion}
 use Rattle.pl_core.specs.declared.reply.Reply.{Reply}
 use Rattle.pl_core.specs.Reply.{FitsReply}
 use Rattle.pl_wire.specs.Answering.{Answered, AnswersBody, Calls}
 use Rattle.pl_wire.specs.FrameReading.{IsCut}
-use Rattle.pl_wire.specs.Frames.{frames_of, longest_request}
-use Rattle.pl_conn.specs.Conversation.{Scene, replies_text}
+use Rattle.pl_wire.specs.Frames.{frame, frames_of, longest_request}
+use Rattle.pl_conn.specs.Conversation.{Concludes, Ends, MayWait, Scene, replies_text}
 use Rattle.pl_conn.specs.declared.cause.Cause.{Cause}
-use Rattle.pl_conn.specs.declared.cause.Cause.TheVariants as causes
 use Rattle.pl_conn.specs.declared.resuming.Rest.{Rest}
 use Rattle.pl_conn.specs.declared.resuming.Rest.TheVariants as rests
 
@@ -32,14 +31,28 @@ pub record Replies {P : Type 0} (calls : Calls P) (before : P) (old : Middle) (a
   pub chain : Answered (AnswersBody calls) before bodies replies after
   pub told : new.waiting ≡ old.waiting ++ replies_text replies
 
+-- What waits is of replies that may wait together, the last of these.
+pub record WaitsOf (replies : List Reply) (waiting : List ℕ) : Type 0 where
+  pub front : List Reply
+  pub last : List Reply
+  pub parts : replies ≡ front ++ last
+  pub few : MayWait last
+  pub within : length waiting ≤ length (replies_text last)
+
+-- While replies wait, nothing is heard or answered. Once all that waited is said, what waits is of the last replies.
+abbrev pub WaitsFirst : Middle → List ℕ → List ℕ → List Reply → Middle → Type 0
+WaitsFirst old heard said replies new = ((heard ≡ []) × (replies ≡ []) × (length new.waiting ≤ length old.waiting))
+    ⊎ ((more : List ℕ) × (said ≡ old.waiting ++ more) × WaitsOf replies new.waiting)
+
 -- THE THEOREM of a conversation that rests. Bytes are heard after those that were unread, frames are answered, and
--- bytes are said, from the front of those that wait.
+-- bytes are said, from the front of those that wait; these are said before more is heard or answered.
 pub record Resumes {P : Type 0} (calls : Calls P) (before : Scene P) (old : Middle) (after : Scene P) (new : Middle) : Type 0 where
   pub heard : List ℕ
   pub said : List ℕ
   pub input : Consumes before.input after.input heard
   pub output : Appends before.output after.output said
   pub replies : Replies calls before.pass (middle (old.unread ++ heard) old.waiting) after.pass (middle new.unread (said ++ new.waiting))
+  pub waits : WaitsFirst old heard said replies.replies new
 
 -- bytes are read after those that are there
 abbrev pub Hears : Option (List ℕ) → List ℕ → Option (List ℕ) → List ℕ → Type 0
@@ -59,19 +72,37 @@ pub record Speaks {P : Type 0} (calls : Calls P) (before : P) (old : Option (Lis
   pub said : List ℕ
   pub output : Appends old new said
   pub replies : Replies calls before (middle bytes []) after (middle left.unread (said ++ left.waiting))
+  pub waits : WaitsOf replies.replies left.waiting
 
--- Why it is over: no replies are lost but by a write that failed. What is lost is the last that it would have kept.
-abbrev pub Loses : Cause → Middle → Option (List ℕ) → Type 0
-Loses causes.Short lost left = (lost.waiting ≡ []) × (0 < length lost.unread) × IsAtEnd left
-Loses causes.TooLong lost left = lost.waiting ≡ []
-Loses causes.Read lost left = lost.waiting ≡ []
-Loses causes.Write lost left = ⊤
-Loses causes.NoMemory lost left = lost.waiting ≡ []
+-- the bytes begin with a whole frame
+abbrev pub HasFrame : List ℕ → Type 0
+HasFrame bytes = (body : List ℕ) × (length body ≤ longest_request) × (4 + length body ≤ length bytes) × (take (4 + length body) bytes ≡ frame body)
 
--- How a turn ends. Where another is due at once, it heard a byte at least, or answered a frame.
+-- How a turn ends. Where another is due at once, it heard a byte at least, or answered a frame. Where it is over by a fault,
+-- what is lost is the last that it would have kept.
 abbrev pub Rests : {P : Type 0} → Calls P → Scene P → Middle → Scene P → Middle → Result Rest Cause → Type 0
-Rests calls before old after new (Ok rests.Again) = (turn : Resumes calls before old after new) × (0 < length turn.heard + length turn.replies.bodies)
+Rests calls before old after new (Ok rests.Again) = (turn : Resumes calls before old after new) × (0 < length turn.heard + length turn.replies.bodies) × (new.waiting ≡ [])
 Rests calls before old after new (Ok rests.Input) = Resumes calls before old after new × (new.waiting ≡ []) × IsCut longest_request new.unread
 Rests calls before old after new (Ok rests.Output) = Resumes calls before old after new × (0 < length new.waiting)
 Rests calls before old after new (Ok rests.Over) = Resumes calls before old after new × (new ≡ middle [] []) × IsAtEnd after.input
-Rests calls before old after new (Err cause) = (lost : Middle) × Resumes calls before old after lost × Loses cause lost after.input
+Rests calls before old after new (Err cause) = (lost : Middle) × Resumes calls before old after lost
+    × Ends cause (lost.waiting ≡ []) (0 < length lost.waiting) lost.unread after.input
+
+-- turns, one after the other, that came to these
+abbrev pub Goes : {P : Type 0} → Calls P → Scene P → Middle → List Rest → Scene P → Middle → Type 0
+Goes calls before old [] after new = (after ≡ before) × (new ≡ old)
+Goes calls before old (rest ∷ more) after new = (now : Scene _) × (kept : Middle) × Rests calls before old now kept (Ok rest) × Goes calls now kept more after new
+
+-- what a conversation came to, if its last turn came to this: as `converse` says, but that more may be read after a length
+-- that is too long, and that no frames are too many
+abbrev pub Came : {P : Type 0} → Calls P → Scene P → Scene P → Result Rest Cause → Type 0
+Came calls before after (Ok rests.Again) = ⊤
+Came calls before after (Ok rests.Input) = ⊤
+Came calls before after (Ok rests.Output) = ⊤
+Came calls before after (Ok rests.Over) = (count : ℕ) × Concludes (λ part. ⊤) calls before after (Ok count) × IsAtEnd after.input
+Came calls before after (Err cause) = (count : ℕ) × Concludes (λ part. ⊤) calls before after (Err (record { cause = cause; answered = count }))
+
+-- from the beginning to the end, turns are a conversation, however its input and its output are cut
+abbrev pub TurnsAreAConversation : {P : Type 0} → Calls P → Type 0
+TurnsAreAConversation {P} calls = (before now after : Scene P) (rests : List Rest) (kept new : Middle) (end : Result Rest Cause)
+    → Goes calls before (middle [] []) rests now kept → Rests calls now kept after new end → Came calls before after end

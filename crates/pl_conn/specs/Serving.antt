@@ -1,6 +1,7 @@
 -- Passes after the conversations of their workers.
-use Rattle.std.specs.Prelude.{◌≡◌, ℕ, ◌≤◌, ⊤, List, [], ◌∷◌, take}
-use Rattle.std.specs.List.{All}
+use Rattle.std.specs.Prelude.{◌≡◌, ℕ, ℤ, pos, ◌≤◌, ⊤, Bool, false, List, [], ◌∷◌, Option, Some, None, take}
+use Rattle.std.specs.List.{All, list_any}
+use Rattle.std.specs.Ordering.{int_eq}
 use Rattle.pl_table.specs.Request.{Query}
 use Rattle.pl_core.specs.declared.reply.Reply.{Reply}
 use Rattle.pl_wire.specs.Answering.{Calls}
@@ -31,3 +32,12 @@ pub record ServesConnections {P : Type 0} (calls : Calls P) (owns : P → Type 0
   pub started : ℕ
   pub returned : Returned calls (take started given) passes
   pub own : All owns passes
+
+-- the numbers of the failures of an accept that say nothing of the listener
+abbrev pub passing : List ℤ
+passing = pos 1 ∷ pos 4 ∷ pos 12 ∷ pos 23 ∷ pos 24 ∷ pos 64 ∷ pos 71 ∷ pos 92 ∷ pos 100 ∷ pos 101 ∷ pos 103 ∷ pos 105 ∷ pos 112 ∷ pos 113 ∷ []
+
+-- whether a failure is one of them
+abbrev pub is_passing : Option ℤ → Bool
+is_passing None = false
+is_passing (Some code) = list_any (λ number. int_eq number code) passing

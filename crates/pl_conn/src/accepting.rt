@@ -2,6 +2,8 @@
 //! has the next socket.
 
 ghost use Rattle.std.specs.Prelude.{◌≡◌, ◌≢◌, ◌≤◌};
+ghost use Rattle.std.specs.IoError.{raw_os_error};
+ghost use Rattle.pl_conn.specs.Serving.{is_passing};
 
 use crate::serving::Stop;
 use crate::watch::Watch;
@@ -23,7 +25,9 @@ const PASSING: [i32; 14] = [1, 4, 12, 23, 24, 64, 71, 92, 100, 101, 103, 105, 11
 const REST: u64 = 20;
 
 // Whether the listener may accept again after this failure.
-fn passes(error: &io::Error) -> bool {
+fn passes(error: &io::Error) -> bool
+    ensures value { result ≡ is_passing (raw_os_error error.now) }
+{
     match error.raw_os_error() {
         Some(code) => PASSING.contains(&code),
         None => false,

@@ -1,7 +1,9 @@
 //! What each conversation does: it answers the whole frames of some bytes, and writes the replies.
 
-ghost use Rattle.std.specs.Prelude.{◌≡◌, ◌+◌, ◌≤◌, IfNone, IfSome, length, take};
+ghost use Rattle.std.specs.Prelude.{◌≡◌, ◌+◌, ◌<◌, ◌≤◌, IfNone, IfSome, OnErr, length, take};
 ghost use Rattle.std.specs.Io.KnownBytes.{Appends};
+ghost use Rattle.pl_wire.specs.FrameReading.{LacksFrame};
+ghost use Rattle.pl_wire.specs.Frames.{longest_request};
 ghost use Rattle.pl_conn.specs.Gathering.{Gathers, MayGather};
 
 use crate::outbox::Outbox;
@@ -20,11 +22,12 @@ pub(crate) fn answer_first<G: Gate>(
     requires own { G.owns gate.now pass.old }
     requires room { MayGather outbox.old }
     ensures own { G.owns gate.now pass.new }
-    ensures few { IfSome result (λ count. count ≤ length bytes.now) }
+    ensures few { IfSome result (λ count. (4 ≤ count) × (count ≤ length bytes.now)) }
     ensures some { IfSome result (λ count.
         Gathers (G.calls gate.now) pass.old (take count bytes.now) outbox.old pass.new outbox.new) }
     ensures one { IfSome result (λ count. length outbox.new.lens ≡ length outbox.old.lens + 1) }
     ensures none { IfNone result ((pass.new ≡ pass.old) × (outbox.new ≡ outbox.old)) }
+    ensures lacks { IfNone result (LacksFrame longest_request bytes.now) }
 {
     let body = body_in(bytes)?;
     let read = outbox.request_of(alloc, body);
@@ -67,6 +70,7 @@ pub(crate) fn answer_whole<G: Gate>(
 pub(crate) fn write_ready<W: Write>(writer: &mut W, bytes: &[u8]) -> (usize, io::Result<()>)
     ensures few { result.0 ≤ length bytes.now }
     ensures value { Appends (W.contents writer.old) (W.contents writer.new) (take result.0 bytes.now) }
+    ensures err { OnErr result.1 (result.0 < length bytes.now) }
 {
     let mut count = 0;
     while count < bytes.len() {

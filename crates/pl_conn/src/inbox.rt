@@ -51,6 +51,7 @@ fn read_after<R: Read>(from: &mut R, room: &mut [u8], count: usize) -> io::Resul
     ensures end { IfOk result (λ more. more ≡ 0 → count < length room.old → IsAtEnd (R.remaining from.new)) }
     ensures err { OnErr result (Hears (R.remaining from.old) (take count room.old)
         (R.remaining from.new) (take count room.new)) }
+    ensures kept { take count room.new ≡ take count room.old }
 {
     from.read(&mut room[count..])
 }
@@ -91,6 +92,8 @@ impl Inbox {
     /// Reads once, as many bytes as there is room for after those that wait, and returns how many came.
     pub(crate) fn fill<R: Read>(&mut self, from: &mut R) -> io::Result<usize>
         ensures value { Hears (R.remaining from.old) self.old (R.remaining from.new) self.new }
+        ensures more { IfOk result (λ more. length self.new ≡ length self.old + more) }
+        ensures kept { OnErr result (self.new ≡ self.old) }
         ensures end { IfOk result (λ more. more ≡ 0 → length self.old < 65540 → IsAtEnd (R.remaining from.new)) }
     {
         let more = read_after(from, self.room.as_mut_slice(), self.len)?;

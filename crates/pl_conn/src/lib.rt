@@ -25,7 +25,7 @@ pub use conversing::converse;
 pub use desks::{Desks, Passes};
 pub use materialising::{Worked, materialise};
 pub use pl_wire::Gate;
-pub use resuming::{Conversation, Rest, Room, turns_join};
+pub use resuming::{Conversation, Rest, Room, turns_are_a_conversation, turns_join};
 pub use serving::{Served, Stop, serve, serve_watched};
 pub use solo::{Solo, SoloPass};
 pub use source::Source;

@@ -1,13 +1,13 @@
 //! A conversation that rests between any two bytes: what it keeps meanwhile, and its turns.
 
-ghost use Rattle.std.specs.Prelude.{◌≡◌, ◌<◌, ◌≤◌, ◌⊎◌, [], Err, IfErr, IfOk, IsTrue, Ok, OnOk, drop, length};
+ghost use Rattle.std.specs.Prelude.{◌≡◌, ◌+◌, ◌*◌, ◌<◌, ◌≤◌, ◌⊎◌, [], Err, IfErr, IfOk, Ok, OnErr, OnOk, drop, length};
 ghost use Rattle.std.specs.Io.KnownBytes.{IsAtEnd};
-ghost use Rattle.pl_wire.specs.FrameReading.{IsCut};
+ghost use Rattle.pl_wire.specs.FrameReading.{IsCut, IsDecided, LacksFrame};
 ghost use Rattle.pl_wire.specs.Frames.{longest_request};
-ghost use Rattle.pl_conn.specs.Conversation.{scene};
-ghost use Rattle.pl_conn.specs.Resting.{Hears, Rests, Speaks, Tells, TurnsJoin, middle};
+ghost use Rattle.pl_conn.specs.Conversation.{Ends, IsTooLong, scene};
+ghost use Rattle.pl_conn.specs.Resting.{HasFrame, Hears, Middle, Rests, Speaks, Tells, TurnsAreAConversation, TurnsJoin, middle};
 
-use crate::answering::{answer_whole, write_ready};
+use crate::answering::{answer_first, answer_whole, write_ready};
 use crate::cause::Cause;
 use crate::inbox::{Inbox, LONGEST_FRAME};
 use crate::outbox::Outbox;
@@ -19,6 +19,9 @@ use std::mem;
 
 /// The most frames that a room holds: each has four bytes at least.
 const MOST_FRAMES: u64 = 16_385;
+
+/// How often replies are written at most until all frames of a room are answered.
+const MOST_WRITES: u32 = 16_385;
 
 /// How much memory a conversation keeps at most while nothing of it is unread.
 const MOST_KEPT: usize = 4_096;
@@ -98,6 +101,9 @@ enum Heard {
 fn hear<R: Read>(reader: &mut R, inbox: &mut Inbox) -> io::Result<Heard>
     ensures value { Hears (R.remaining reader.old) inbox.old (R.remaining reader.new) inbox.new }
     ensures end { IfOk result (λ heard. heard ≡ Heard.End → IsAtEnd (R.remaining reader.new)) }
+    ensures some { IfOk result (λ heard. heard ≡ Heard.Some →
+        (length inbox.old < length inbox.new) ⊎ IsDecided longest_request inbox.new) }
+    ensures cut { OnErr result (IsCut longest_request inbox.new) }
 {
     if !is_cut(inbox.as_slice()) {
         return Ok(Heard::Some);
@@ -112,10 +118,12 @@ fn hear<R: Read>(reader: &mut R, inbox: &mut Inbox) -> io::Result<Heard>
 }
 
 // Answers the whole frames of the bytes, in order, and writes their replies, as long as the writer takes all of
-// them. Returns how many bytes the frames have, and how many are written of the replies that are then in the outbox.
+// them, and this often at most. Returns how many bytes the frames have, and how many are written of the replies that are
+// then in the outbox.
 fn speak<W: Write, G: Gate>(
     alloc: Global,
     bytes: &[u8],
+    writes: u32,
     writer: &mut W,
     gate: &G,
     pass: &mut G::Pass,
@@ -127,20 +135,57 @@ fn speak<W: Write, G: Gate>(
     ensures sent { result.1 ≤ length outbox.new.text }
     ensures value { Speaks (G.calls gate.now) pass.old (W.contents writer.old) bytes.now
         pass.new (W.contents writer.new) (middle (drop result.0 bytes.now) (drop result.1 outbox.new.text)) }
+    ensures all { (result.1 < length outbox.new.text) ⊎ ((4 * writes ≤ result.0)
+        ⊎ LacksFrame longest_request (drop result.0 bytes.now)) }
+    ensures err { OnErr result.2 (result.1 < length outbox.new.text) }
 {
     let mut taken = 0;
-    for _ in 0..WRITES_A_TURN {
+    for _ in 0..writes {
         outbox.restart();
-        taken += answer_whole(alloc, &bytes[taken..], MOST_FRAMES, gate, pass, outbox);
+        let Some(first) = answer_first(alloc, &bytes[taken..], gate, pass, outbox) else {
+            return (taken, 0, Ok(()));
+        };
+        let more = answer_whole(
+            alloc,
+            &bytes[taken + first..],
+            MOST_FRAMES,
+            gate,
+            pass,
+            outbox,
+        );
         let (sent, end) = write_ready(writer, outbox.text());
+        taken += first + more;
         if end.is_err() || sent < outbox.text().len() {
-            return (taken, sent, end);
-        }
-        if body_in(&bytes[taken..]).is_none() {
             return (taken, sent, end);
         }
     }
     (taken, outbox.text().len(), Ok(()))
+}
+
+// Ends a conversation that finds no memory for these bytes, once the frames that are whole are answered.
+fn end_of<W: Write, G: Gate>(
+    alloc: Global,
+    bytes: &[u8],
+    writer: &mut W,
+    gate: &G,
+    pass: &mut G::Pass,
+    outbox: &mut Outbox,
+) -> Cause
+    requires own { G.owns gate.now pass.old }
+    requires few { length bytes.now ≤ 65540 }
+    ensures own { G.owns gate.now pass.new }
+    ensures value { (lost : Middle) × Speaks (G.calls gate.now) pass.old (W.contents writer.old) bytes.now
+        pass.new (W.contents writer.new) lost
+        × ((left : _) → Ends result (lost.waiting ≡ []) (0 < length lost.waiting) lost.unread left) }
+{
+    let (taken, sent, end) = speak(alloc, bytes, MOST_WRITES, writer, gate, pass, outbox);
+    if end.is_err() || sent < outbox.text().len() {
+        return Cause::Write;
+    }
+    if is_cut(&bytes[taken..]) {
+        return Cause::NoMemory;
+    }
+    Cause::TooLong
 }
 
 // Puts the bytes in place of those that are there, in the same memory where they have room.
@@ -151,25 +196,30 @@ fn put_all(to: &mut Vec<u8>, bytes: &[u8]) -> Result<(), AllocError>
     to.extend_from_slice(bytes)
 }
 
-// What the conversation waits for after a turn that heard this, or why it ends. A turn that moved nothing, with more than
-// a part of a frame there, comes next to a length that is too long.
-fn rest_after(heard: Heard, has_moved: bool, unread: &[u8], waiting: usize) -> Result<Rest, Cause>
-    ensures again { result ≡ Ok Rest.Again → IsTrue has_moved }
+// What the conversation waits for after a turn that heard this, or why it ends.
+fn rest_after(heard: Heard, unread: &[u8], waiting: usize) -> Result<Rest, Cause>
+    ensures again { result ≡ Ok Rest.Again → (waiting ≡ 0)
+        × (HasFrame unread.now ⊎ ((heard ≡ Heard.Some) × IsCut longest_request unread.now)) }
     ensures input { result ≡ Ok Rest.Input → (waiting ≡ 0) × IsCut longest_request unread.now }
     ensures output { result ≡ Ok Rest.Output → 0 < waiting }
     ensures over { result ≡ Ok Rest.Over → (waiting ≡ 0) × (unread.now ≡ []) × (heard ≡ Heard.End) }
-    ensures short { result ≡ Err Cause.Short → (waiting ≡ 0) × (0 < length unread.now) × (heard ≡ Heard.End) }
-    ensures err { IfErr result (λ cause. waiting ≡ 0) }
+    ensures err { IfErr result (λ cause. (waiting ≡ 0) × (((cause ≡ Cause.TooLong) × IsTooLong unread.now)
+        ⊎ ((cause ≡ Cause.Short) × (0 < length unread.now) × IsCut longest_request unread.now × (heard ≡ Heard.End)))) }
 {
     if waiting > 0 {
         return Ok(Rest::Output);
     }
+    if let Some(_frame) = body_in(unread) {
+        return Ok(Rest::Again);
+    }
+    if !is_cut(unread) {
+        return Err(Cause::TooLong);
+    }
     match heard {
+        Heard::Some => Ok(Rest::Again),
+        Heard::All => Ok(Rest::Input),
         Heard::End if unread.is_empty() => Ok(Rest::Over),
         Heard::End => Err(Cause::Short),
-        Heard::All if is_cut(unread) => Ok(Rest::Input),
-        _ if has_moved && (is_cut(unread) || body_in(unread).is_some()) => Ok(Rest::Again),
-        _ => Err(Cause::TooLong),
     }
 }
 
@@ -204,6 +254,7 @@ impl Conversation {
     // Writes the replies that wait, as many bytes as the writer takes now.
     fn tell<W: Write>(&mut self, alloc: Global, writer: &mut W) -> io::Result<()>
         ensures value { Tells (W.contents writer.old) self.old (W.contents writer.new) self.new }
+        ensures err { OnErr result (0 < length self.new.waiting) }
     {
         let (count, end) = write_ready(writer, &self.waiting[self.sent..]);
         self.sent += count;
@@ -251,24 +302,17 @@ impl Conversation {
         text: &[u8],
         unread: &[u8],
         spare: &mut Vec<u8>,
-    ) -> Result<(), Cause>
+    ) -> Result<(), AllocError>
         requires few { length unread.now ≤ 65540 }
         ensures ok { OnOk result (self.new ≡ middle unread.now text.now) }
-        ensures err { IfErr result (λ cause. (cause ≡ Cause.Write) ⊎ ((cause ≡ Cause.NoMemory) × (text.now ≡ []))) }
     {
         self.sent = 0;
-        if put_all(&mut self.waiting, text).is_err() {
+        let end = put_all(&mut self.waiting, text);
+        if end.is_err() {
             self.waiting.clear();
-            return Err(Cause::Write);
+            return end;
         }
-        if self.keep_unread(alloc, unread, spare).is_err() {
-            // Where all replies are written, none is lost.
-            if text.is_empty() {
-                return Err(Cause::NoMemory);
-            }
-            return Err(Cause::Write);
-        }
-        Ok(())
+        self.keep_unread(alloc, unread, spare)
     }
 
     /// One turn: writes the replies that wait; where the writer took them all, reads once, unless a whole frame
@@ -279,7 +323,8 @@ impl Conversation {
     ///
     /// What was read after the last frame that was answered, and the replies that the writer did not take, are
     /// copied into memory of their own; where that is refused, the room has some for what is unread of one
-    /// conversation. After an error the conversation is over, and what it kept is lost: the
+    /// conversation. Where that is refused too, all whole frames are answered before the end. After an error
+    /// the conversation is over, and what it kept is lost: the
     /// input ended inside a frame (`Short`), a length is above 65,536 (`TooLong`), a read or a write failed, or
     /// there was no memory for what was read of the next frame (`NoMemory`), or for the replies that the writer
     /// did not take (`Write`).
@@ -318,16 +363,19 @@ impl Conversation {
             return Err(Cause::Read);
         };
         let bytes = inbox.as_slice();
-        let (taken, sent, end) = speak(alloc, bytes, writer, gate, pass, outbox);
+        let (taken, sent, end) = speak(alloc, bytes, WRITES_A_TURN, writer, gate, pass, outbox);
         if end.is_err() {
             return Err(Cause::Write);
         }
-        // Whether a byte was heard, or a frame answered.
-        let has_moved = bytes.len() + taken > self.unread().len();
-        match self.keep(alloc, &outbox.text()[sent..], &bytes[taken..], spare) {
-            Ok(()) => rest_after(heard, has_moved, self.unread(), self.left()),
-            Err(cause) => Err(cause),
+        let (unread, left) = (&bytes[taken..], &outbox.text()[sent..]);
+        if self.keep(alloc, left, unread, spare).is_ok() {
+            return rest_after(heard, self.unread(), self.left());
         }
+        // Where all replies are written, none is lost.
+        if left.is_empty() {
+            return Err(end_of(alloc, unread, writer, gate, pass, outbox));
+        }
+        Err(Cause::Write)
     }
 }
 
@@ -336,4 +384,13 @@ impl Conversation {
 pub fn turns_join<G: Gate>(_gate: &G)
     // Two turns, one after the other, are as one (`TurnsJoin`).
     ensures law { TurnsJoin (G.calls _gate.now) }
+{}
+
+/// All turns of a conversation, from [`Conversation::new`] to its end, are a conversation as [`converse`](crate::converse)
+/// has it, however its reader and its writer cut their bytes: the frames of all that was read are answered in order, and it
+/// ends as `converse` would. It may answer any number of frames.
+pub fn turns_are_a_conversation<G: Gate>(_gate: &G)
+    // From the beginning to the end, turns are a conversation, with the same cause and the same number of replies
+    // (`TurnsAreAConversation`).
+    ensures law { TurnsAreAConversation (G.calls _gate.now) }
 {}

@@ -1,6 +1,6 @@
 //! Many connections at once, each served by one of several workers.
 
-ghost use Rattle.std.specs.Prelude.{◌≡◌, ◌≤◌, [], IfSome, take, vec_len, vec_capacity};
+ghost use Rattle.std.specs.Prelude.{◌≡◌, ◌≤◌, [], IfSome, length, take, vec_len, vec_capacity};
 ghost use Rattle.std.specs.List.{All};
 ghost use Rattle.pl_conn.specs.Serving.{Reaches, Returned, ServesConnections};
 ghost use Rattle.pl_conn.specs.Workers.{AllOf, each_of};
@@ -9,6 +9,7 @@ use crate::accepting::accept_all;
 use crate::watch::{Unwatched, Watch};
 use crate::worker::{Lookout, Outcome, Post, Worker};
 use crossbeam_channel::Sender;
+use mio::Poll;
 use pl_wire::Gate;
 use std::alloc::{AllocError, Global};
 use std::net::{Net, TcpListener, TcpStream};
@@ -96,7 +97,8 @@ impl Staff {
         }
     }
 
-    // This many, or as many as there is memory for, and descriptors.
+    // This many, or as many as there is memory for, and descriptors. For each worker a descriptor more is held until all are
+    // hired, so that connections find as many.
     fn hire<R: Net>(
         rt: &R,
         alloc: Global,
@@ -105,7 +107,12 @@ impl Staff {
     ) -> Result<Staff, AllocError> {
         let mut staff = Staff::with_room(alloc, count)?;
         let lookout = Arc::new(alloc, Lookout::new())?;
+        let mut held = Vec::with_capacity(alloc, count)?;
         for _ in 0..count {
+            let Ok(one) = Poll::new(rt) else {
+                break;
+            };
+            held.push(one)?;
             if !staff.add(rt, alloc, &lookout, idle_polls)? {
                 break;
             }
@@ -230,7 +237,10 @@ where
 }
 
 // Those of the first workers, this many.
-fn started_of(posts: &[Post], workers: usize) -> &[Post] {
+fn started_of(posts: &[Post], workers: usize) -> &[Post]
+    ensures some { workers ≤ length posts.now → result.now ≡ take workers posts.now }
+    ensures few { length result.now ≤ workers }
+{
     &posts[..workers.min(posts.len())]
 }
 
@@ -309,8 +319,9 @@ where
 /// reply more are kept for it. A silent one takes some hundred bytes.
 ///
 /// The passes that come back are those of the workers, in the order in which they were handed in. Where
-/// a worker cannot be started, for lack of a thread, of descriptors (it takes two) or of memory, its pass and those
-/// after it are dropped; with no worker at all the stop is `Start`.
+/// a worker cannot be started, for lack of a thread, of descriptors or of memory, its pass and those after it are
+/// dropped; with no worker at all the stop is `Start`. It takes two descriptors, and is started only where one more is
+/// free for each worker, so that connections find as many.
 ///
 /// A worker has all that its connections need from its start, for 1,024 of them: room for the longest frame of a
 /// request, and for the replies that wait. A connection asks for memory of its own where a frame comes in pieces, or

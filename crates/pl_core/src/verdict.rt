@@ -3,10 +3,11 @@
 ghost use Rattle.std.specs.Prelude.{◌≡◌, ◌+◌, ◌<◌, ◌≤◌, true, unwrap_or, IfSome};
 ghost use Rattle.pl_block.specs.Bounds.{window};
 ghost use Rattle.pl_table.specs.Acts.{block_of};
+ghost use Rattle.pl_table.specs.Request.{op_of};
 ghost use Rattle.pl_core.specs.Epoch.{epoch_of, table_of};
 ghost use Rattle.pl_audit.specs.Audit.{last_table};
 ghost use Rattle.pl_core.specs.Log.{copies_of, hard_of};
-ghost use Rattle.pl_decide.specs.Asked.{is_known};
+ghost use Rattle.pl_decide.specs.Asked.{is_known, reads_the_log};
 ghost use Rattle.pl_core.specs.Verdict.{agrees, can_harden, verdict_of};
 ghost use Rattle.pl_core.specs.Laws.{RowsAllowTo};
 ghost use Rattle.pl_table.specs.Zone.{copies_in, quorum_in};
@@ -17,6 +18,16 @@ use crate::lower::order_laws;
 use pl_audit::Audit;
 use pl_decide::{View, known};
 use pl_table::{Act, Head, Request, Table, Verdict};
+
+// Whether the act is a get or a pull.
+fn reads(act: &Act) -> bool
+    ensures value { result ≡ reads_the_log (op_of act.now) }
+{
+    match act {
+        Act::Get { .. } | Act::Pull { .. } => true,
+        _ => false,
+    }
+}
 
 // The table that was set last, or the first one.
 fn in_force<'a>(audit: &'a Audit, first: &'a Table) -> &'a Table
@@ -83,26 +94,31 @@ impl Db {
         self.decider.decide_known(table, &epochs, &view, request)
     }
 
-    // How far the rows of the table in force allow a request that is allowed, up to the hardened end.
-    pub(crate) fn reach(&self, request: &Request, verdict: Verdict) -> u64
+    // How far the rows of the table in force allow a get or a pull that is allowed, up to the hardened
+    // end. For every other request it is the hardened end, and no row is looked at.
+    fn reach(&self, request: &Request, verdict: Verdict) -> u64
         requires verdict { verdict ≡ verdict_of request.now self.now }
         ensures within { result ≤ hard_of self.now }
-        ensures exact { verdict ≡ Verdict.Allowed → RowsAllowTo self.now request.now result }
+        ensures exact { verdict ≡ Verdict.Allowed → reads_the_log (op_of request.now.act) ≡ true →
+            RowsAllowTo self.now request.now result }
     {
         // Proof only: this does nothing.
         order_laws();
         let hard = self.hard();
+        if !reads(request.act()) {
+            return hard;
+        }
         match verdict {
             Verdict::Allowed => self.decider.reach(self.table_in_force(), hard, request),
             Verdict::Denied { .. } => hard,
         }
     }
 
-    // What the table in force says to the request.
+    // What the table in force says to the request. How far it reaches is asked for a get or a pull alone.
     pub(crate) fn by_table(&self, request: &Request, verdict: Verdict) -> ByTable
         requires verdict { verdict ≡ verdict_of request.now self.now }
         ensures within { result.reach ≤ hard_of self.now }
-        ensures exact { verdict ≡ Verdict.Allowed →
+        ensures exact { verdict ≡ Verdict.Allowed → reads_the_log (op_of request.now.act) ≡ true →
             RowsAllowTo self.now request.now result.reach }
         ensures copies { result.copies ≡ copies_in (table_of self.now).zone }
         ensures quorum { result.quorum ≡ quorum_in (table_of self.now).zone }

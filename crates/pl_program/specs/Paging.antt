@@ -1,11 +1,12 @@
 -- What a page server does at the databases of a service.
-use Rattle.std.specs.Prelude.{◌≡◌, ℕ, ◌+◌, List, [], ◌∷◌, length}
+use Rattle.std.specs.Prelude.{◌≡◌, ℕ, ◌+◌, List, [], ◌∷◌, length, Option, Some, None}
 use Rattle.pl_desk.specs.Passes.{Knowledge}
 use Rattle.pl_wire.specs.Answering.{Calls}
 use Rattle.pl_conn.specs.Desks.{DesksCall}
 use Rattle.pl_conn.specs.Materialising.{Works, advance_at}
 use Rattle.pl_conn.specs.declared.materialising.Worked.{Worked}
 use Rattle.pl_program.specs.declared.pager.Pager.{Pager}
+use Rattle.pl_program.specs.declared.service.Paging.{Paging}
 
 -- the databases from this number on, each in turn: its partition is advanced in this many rounds, and each
 -- begins with the pass that the one before it left
@@ -21,7 +22,14 @@ pub record Pages {P : Type 0} (calls : Calls P) (pager : Pager) (databases : ℕ
   pub count : length works ≡ databases
   pub each : PagesEach calls pager 0 before works after
 
--- this pass, of this many desks, was called for all rounds
-pub record HasPaged (pager : Pager) (databases : ℕ) (before : List Knowledge) : Type 0 where
-  pub after : List Knowledge
-  pub pages : Pages DesksCall pager databases before after
+-- the passes that a page server of this many databases leaves, which began with those: none if there is no page
+-- server, else passes after all of its rounds
+abbrev pub HasPaged : Option Pager → ℕ → List Knowledge → Option (List Knowledge) → Type 0
+HasPaged None databases before left = left ≡ None
+HasPaged (Some pager) databases before None = ⊥
+HasPaged (Some pager) databases before (Some left) = Pages DesksCall pager databases before left
+
+-- the same of a page server beside its passes and the number of databases
+abbrev pub AreLeftBy : Option Paging → Option (List Knowledge) → Type 0
+AreLeftBy None left = left ≡ None
+AreLeftBy (Some paging) left = HasPaged (Some paging.pager) paging.databases paging.passes left

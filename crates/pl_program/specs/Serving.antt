@@ -1,5 +1,5 @@
 -- What `serve` begins with, what it does for connections, and how it ends.
-use Rattle.std.specs.Prelude.{◌≡◌, ◌==◌, ℕ, ◌+◌, ◌^◌, if◌then◌else◌, List, ◌++◌, length, map, Option, Some, None, IfSome, Result, Ok, Err, codes, decimal}
+use Rattle.std.specs.Prelude.{◌≡◌, ◌==◌, ℕ, ◌+◌, ◌^◌, if◌then◌else◌, List, ◌++◌, length, map, Option, Some, None, Result, Ok, Err, codes, decimal}
 use Rattle.pl_command.specs.declared.command_line.ServeNumbers.{ServeNumbers}
 use Rattle.pl_table.specs.Table.{WrittenTable, token_of}
 use Rattle.pl_table.specs.TableText.{table_reading}
@@ -48,13 +48,13 @@ pager_in text numbers =
     if numbers.rounds == 0 then Ok None else pager_with (token_for text numbers.pager) numbers
 
 -- Each database got a desk, with a seat for each worker and one for the page server. The passes that come
--- back are those of workers, each after a list of calls; and the page server, where there is one, made its
--- rounds with the last pass.
-pub record ServesDatabases (dbs : List History) (workers connections : ℕ) (pager : Option Pager) (accepted : ℕ) (stop : Stop) (passes : List (List Knowledge)) : Type 0 where
+-- back are those of workers, each after a list of calls, and the last one: the page server's after its rounds,
+-- if there is a page server.
+pub record ServesDatabases (dbs : List History) (workers connections : ℕ) (pager : Option Pager) (accepted : ℕ) (stop : Stop) (passes : List (List Knowledge)) (left : Option (List Knowledge)) : Type 0 where
   pub desks : List DeskOrigin
   pub made : map (λ desk. desk.terms) desks ≡ terms_of_each (workers + 1) (2 ^ 62) dbs
   pub serves : ServesConnections DesksCall (ArePassesOf desks) (all_fresh desks workers) connections accepted stop passes
-  pub paged : IfSome pager (λ pager. HasPaged pager (length dbs) (fresh_at desks (workers + 1)))
+  pub paged : HasPaged pager (length dbs) (fresh_at desks (workers + 1)) left
 
 -- all is done where all connections were accepted
 abbrev pub result_of_stop : Stop → Result (Unit {0}) RunFault

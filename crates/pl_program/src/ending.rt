@@ -1,4 +1,4 @@
-//! How the program ends: its text on standard error, and its exit status.
+//! How the program ends: its last line on standard error, and its exit status.
 
 ghost use Rattle.std.specs.Prelude.{◌≡◌, Some};
 ghost use Rattle.pl_program.specs.Endings.{ending_of, ending_of_reply, ending_status, ending_text, failure_text};
@@ -76,7 +76,7 @@ impl From<RunFault> for Failure {
     }
 }
 
-/// How the program ends. Displayed, it is all that standard error gets.
+/// How the program ends. Displayed, it is the last line on standard error, if that has one.
 #[derive(Debug, Drop, PartialEq, Eq)]
 pub enum Ending {
     /// All is done, which has no text.

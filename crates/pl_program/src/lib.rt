@@ -8,7 +8,10 @@
 #![tactic(auto)]
 
 mod asking;
+mod causes;
+mod complaint;
 mod ending;
+mod noting;
 mod opening;
 mod pager;
 mod run_fault;
@@ -23,6 +26,6 @@ pub use opening::{Opening, databases_of, opening_of, pager_of, token_of};
 pub use pager::Pager;
 pub use run_fault::RunFault;
 pub use running::run;
-pub use service::serve_databases;
+pub use service::{ServedDatabases, serve_databases};
 pub use tally::{Tally, result_of, tally_of};
 pub use telling::Crew;

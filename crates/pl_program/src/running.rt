@@ -4,32 +4,35 @@
 ghost use Rattle.std.specs.Prelude.{◌≤◌, vec_len};
 
 use crate::asking::{credentials_of, exchange, file_of};
+use crate::causes::{at_address, buffered, text_in};
 use crate::ending::{Ending, Failure};
-use crate::opening::{Opening, opening_of};
+use crate::noting::{note_start, note_stopped, note_unanswered, note_unopened, note_unread};
+use crate::opening::{Opening, opening_of, token_of};
 use crate::run_fault::RunFault;
 use crate::service::serve_databases;
 use crate::tally::{Tally, tally_of};
 use crate::telling::Teller;
 use pl_command::{CommandLine, ServeNumbers, arguments_of, asked};
 use pl_core::{Db, Reply};
-use pl_play::{
-    Credentials, PlayFault, StartFault, admin, answer_text, file_fault_of, play, read_text,
-    start_play,
-};
+use pl_play::{Credentials, PlayFault, StartFault, admin, answer_text, play, start_play};
 use pl_table::Request;
 use std::alloc::AllocGlobal;
-use std::io::{self, BufReader, ErrorKind};
 use std::net::{Net, TcpListener, TcpStream};
 use std::rt::{Env, Files};
 use std::sync::Wait;
 use std::thread::Threads;
-use std::{fmt, fs};
+use std::time::Duration;
+use std::{fmt, fs, io};
+
+/// For how many seconds `ask` waits until the service takes more of the request, or sends more of the reply.
+const PATIENCE: u64 = 30;
 
 /// Does what the arguments of the process ask for, and returns how the program ends. Help is written;
 /// `play` answers the lines of the standard input on the standard output; `serve` writes its address,
 /// answers connections until this many were accepted, and writes how many; where it has fewer workers than asked
 /// for, or a connection has to wait to be accepted, it reports that on the standard error and goes on; `ask` sends one request and
-/// writes the text of the reply.
+/// writes the text of the reply. Of most faults a line on the standard error says what they are about: the option, its value, the
+/// line of a table, the system's cause.
 ///
 /// `Refused` comes where the reply to `ask`, which is written too, is not Done, Status or Entries. Where
 /// all else is done, `Done` comes.
@@ -84,38 +87,62 @@ where
             epoch,
             words,
         } => {
-            let credentials = credentials_of(id, token.as_str(), db, epoch)?;
-            ask(rt, to.as_str(), credentials, words.as_slice())
+            let credentials = credentials_of(id, token.as_str(), db, epoch);
+            if credentials.is_err() {
+                let _is_told = eprintln!(rt; "--token: it is not 32 hexadecimal digits");
+            }
+            ask(rt, to.as_str(), credentials?, words.as_slice())
         }
     }
 }
 
 /// Writes a text to the standard output.
-fn show(rt: &impl Print, text: &impl fmt::Display) -> Result<(), RunFault> {
-    rt.print(text).map_err(|_| RunFault::Write)
+fn show(rt: &(impl Print + Eprint), text: &impl fmt::Display) -> Result<(), RunFault> {
+    match rt.print(text) {
+        Ok(()) => Ok(()),
+        Err(cause) => {
+            let _is_told = eprintln!(rt; "standard output: {cause}");
+            Err(RunFault::Write)
+        }
+    }
 }
 
 /// Shows the text of `help`.
-fn help(rt: &impl Print, text: &impl fmt::Display) -> Result<Ending, Failure> {
+fn help(rt: &(impl Print + Eprint), text: &impl fmt::Display) -> Result<Ending, Failure> {
     show(rt, text)?;
     Ok(Ending::Done)
 }
 
-/// The text of a table's file.
-fn text_of_file(rt: &(impl Files + AllocGlobal), file: &str) -> Result<Vec<u8>, StartFault> {
-    match fs::open(rt, file) {
-        Ok(file) => Ok(read_text(rt.alloc(), file)?),
-        Err(error) => Err(StartFault::from(file_fault_of(&error))),
+/// The text of a table's file, which this option or word names.
+fn text_of_file<R>(rt: &R, option: &str, file: &str) -> Result<Vec<u8>, StartFault>
+where
+    R: Files + Eprint + AllocGlobal,
+{
+    let opened = fs::open(rt, file);
+    let is_opened = opened.is_ok();
+    note_unopened(rt, option, file, &opened);
+    match text_in(rt.alloc(), opened) {
+        Ok(text) => Ok(text),
+        Err(fault) => {
+            if is_opened {
+                note_unread(rt, option, file, fault);
+            }
+            Err(StartFault::from(fault))
+        }
     }
 }
 
 /// Answers the lines of the standard input, by a database with the table of this file.
 fn play_with<R>(rt: &R, table: &str, primary: u32) -> Result<Ending, Failure>
 where
-    R: Files + Input + Print + AllocGlobal,
+    R: Files + Input + Print + Eprint + AllocGlobal,
 {
-    let text = text_of_file(rt, table)?;
-    play_by(rt, text.as_slice(), primary)
+    let text = text_of_file(rt, "--table", table)?;
+    let played = play_by(rt, text.as_slice(), primary);
+    if let Err(Failure::Start(fault)) = &played {
+        note_start(rt, table, text.as_slice(), "--primary", *fault);
+    }
+    played
 }
 
 /// The same by a database with the table of this text.
@@ -146,20 +173,10 @@ fn end_of(played: Result<u64, PlayFault>) -> Result<Ending, Failure> {
 /// Answers the lines of the standard input on the standard output.
 fn play_all(rt: &(impl Input + Print + AllocGlobal), db: &mut Db) -> Result<u64, PlayFault> {
     let alloc = rt.alloc();
-    let Ok(mut reader) = BufReader::new(alloc, rt.reader()) else {
-        return Err(PlayFault::NoMemory);
-    };
+    let mut reader = buffered(alloc, rt.reader())?;
     // The writer has no buffer, so that each answer is out before the next line is read.
     let mut writer = io::writer(rt);
     play(alloc, &mut reader, &mut writer, db)
-}
-
-/// Why nothing listens at the address, or nobody answers there.
-fn address_fault(error: &io::Error) -> RunFault {
-    if error.kind() == ErrorKind::OutOfMemory {
-        return RunFault::NoMemory;
-    }
-    RunFault::Address
 }
 
 /// Serves databases that begin with the table of this file.
@@ -177,33 +194,37 @@ where
     requires workers { numbers.workers ≤ 64 }
     requires audit { 1 ≤ numbers.audit }
 {
-    let text = text_of_file(rt, table)?;
+    let text = text_of_file(rt, "--table", table)?;
     match opening_of(rt.alloc(), text.as_slice(), numbers) {
         Ok(opening) => serve_all(rt, listen, opening, numbers),
-        Err(fault) => Err(Failure::from(fault)),
+        Err(fault) => {
+            let primary = token_of(rt.alloc(), text.as_slice(), numbers.primary);
+            let unlisted = if primary.is_ok() {
+                "--pager"
+            } else {
+                "--primary"
+            };
+            note_start(rt, table, text.as_slice(), unlisted, fault);
+            Err(Failure::from(fault))
+        }
     }
 }
 
 /// Listens at the address, and writes the address that it is.
 fn listen_at<R>(rt: &R, listen: &str) -> Result<TcpListener, RunFault>
 where
-    R: Print + Net<Listener = TcpListener, Stream = TcpStream>,
+    R: Print + Eprint + Net<Listener = TcpListener, Stream = TcpStream>,
 {
-    let listener = match TcpListener::bind(rt, listen) {
-        Ok(listener) => listener,
-        Err(error) => return Err(address_fault(&error)),
-    };
-    let Ok(address) = listener.local_addr() else {
-        return Err(RunFault::Address);
-    };
-    match println!(rt; "listening {address}") {
-        Ok(()) => Ok(listener),
-        Err(_) => Err(RunFault::Write),
-    }
+    let bound = TcpListener::bind(rt, listen);
+    note_unopened(rt, "--listen", listen, &bound);
+    let listener = at_address(bound)?;
+    let address = at_address(listener.local_addr())?;
+    show(rt, &format_args!("listening {address}\n"))?;
+    Ok(listener)
 }
 
 /// Writes the last line of a service, or returns the fault of its stop.
-fn tell(rt: &impl Print, tally: Result<Tally, RunFault>) -> Result<Ending, Failure> {
+fn tell(rt: &(impl Print + Eprint), tally: Result<Tally, RunFault>) -> Result<Ending, Failure> {
     show(rt, &tally?)?;
     Ok(Ending::Done)
 }
@@ -237,7 +258,11 @@ where
         &watch,
     );
     match served {
-        Ok(served) => tell(rt, tally_of(&served)),
+        Ok(served) => {
+            let tally = tally_of(&served.connections);
+            note_stopped(rt, numbers.workers, &tally);
+            tell(rt, tally)
+        }
         Err(fault) => Err(Failure::from(fault)),
     }
 }
@@ -265,17 +290,23 @@ where
 /// The request that the words ask for.
 fn request_of<R>(rt: &R, credentials: Credentials, words: &[String]) -> Result<Request, Failure>
 where
-    R: Files + AllocGlobal,
+    R: Files + Eprint + AllocGlobal,
 {
     let text = match file_of(words) {
-        Some(file) => Some(text_of_file(rt, file)?),
+        Some(file) => Some(text_of_file(rt, "set_table", file)?),
         None => None,
     };
-    Ok(admin(rt.alloc(), credentials, words, text).map_err(RunFault::from)?)
+    let request = admin(rt.alloc(), credentials, words, text).map_err(RunFault::from);
+    if let Err(RunFault::Words) = &request {
+        let _is_told = eprintln!(rt;
+            "WORDS: they are none of status, tidy, audit FIRST MAX, failover ID and set_table FILE"
+        );
+    }
+    Ok(request?)
 }
 
 /// Shows the reply, and how the program ends by it.
-fn show_reply(rt: &(impl Print + AllocGlobal), reply: &Reply) -> Result<Ending, Failure> {
+fn show_reply(rt: &(impl Print + Eprint + AllocGlobal), reply: &Reply) -> Result<Ending, Failure> {
     let text = answer_text(rt.alloc(), reply).map_err(RunFault::from)?;
     show(rt, &text)?;
     Ok(Ending::of_reply(reply))
@@ -284,23 +315,37 @@ fn show_reply(rt: &(impl Print + AllocGlobal), reply: &Reply) -> Result<Ending, 
 /// Sends the request that the words ask for, and shows the reply.
 fn ask<R>(rt: &R, to: &str, credentials: Credentials, words: &[String]) -> Result<Ending, Failure>
 where
-    R: Files + Print + AllocGlobal + Net<Stream = TcpStream>,
+    R: Files + Print + Eprint + AllocGlobal + Net<Stream = TcpStream>,
 {
     let request = request_of(rt, credentials, words)?;
     let reply = ask_at(rt, to, &request)?;
     show_reply(rt, &reply)
 }
 
+/// Connects to this address.
+fn connect_to<R>(rt: &R, to: &str) -> Result<TcpStream, RunFault>
+where
+    R: Eprint + Net<Stream = TcpStream>,
+{
+    let opened = TcpStream::connect(rt, to);
+    note_unopened(rt, "--to", to, &opened);
+    let stream = at_address(opened)?;
+    at_address(stream.set_read_timeout(Some(Duration::from_secs(PATIENCE))))?;
+    at_address(stream.set_write_timeout(Some(Duration::from_secs(PATIENCE))))?;
+    Ok(stream)
+}
+
 /// Sends the request to this address, and reads the reply.
 fn ask_at<R>(rt: &R, to: &str, request: &Request) -> Result<Reply, RunFault>
 where
-    R: AllocGlobal + Net<Stream = TcpStream>,
+    R: Eprint + AllocGlobal + Net<Stream = TcpStream>,
 {
-    let stream = match TcpStream::connect(rt, to) {
-        Ok(stream) => stream,
-        Err(error) => return Err(address_fault(&error)),
-    };
+    let stream = connect_to(rt, to)?;
     let mut reader = &stream;
     let mut writer = &stream;
-    exchange(rt.alloc(), &mut reader, &mut writer, request)
+    let reply = exchange(rt.alloc(), &mut reader, &mut writer, request);
+    if let Err(fault) = &reply {
+        note_unanswered(rt, to, *fault);
+    }
+    reply
 }

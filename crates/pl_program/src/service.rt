@@ -4,7 +4,7 @@ ghost use Rattle.std.specs.Prelude.{◌≡◌, ◌++◌, ◌∷◌, ◌≤◌, �
 ghost use Rattle.std.specs.List.{All};
 ghost use Rattle.pl_conn.specs.Desks.{ArePassesOf, DesksCall};
 ghost use Rattle.pl_conn.specs.Serving.{ServesConnections};
-ghost use Rattle.pl_program.specs.Paging.{HasPaged};
+ghost use Rattle.pl_program.specs.Paging.{AreLeftBy};
 ghost use Rattle.pl_program.specs.Serving.{ServesDatabases};
 
 use crate::pager::{Pager, start_pager};
@@ -28,6 +28,15 @@ struct Paging {
     databases: u32,
 }
 
+/// What a service did for connections, and what its page server left.
+#[derive(Drop)]
+pub struct ServedDatabases {
+    /// What was served to connections.
+    pub connections: Served<Passes>,
+    /// The passes of the page server after its rounds; `None` if there is no page server.
+    pub pager: Option<Passes>,
+}
+
 // Serves connections, and at the same time lets the page server make its rounds, if there is one. `None` where the
 // page server's thread could not be started.
 fn serve_in<'s, E, R: Threads + Wait + Net + Sync + Drop, W: Watch>(
@@ -41,17 +50,17 @@ fn serve_in<'s, E, R: Threads + Wait + Net + Sync + Drop, W: Watch>(
     connections: u32,
     idle_polls: u32,
     watch: &W,
-) -> Option<Served<Passes>>
+) -> Option<ServedDatabases>
     requires own { All (ArePassesOf desks.now) passes.items }
     requires pager { IfSome paging (λ p. ArePassesOf desks.now p.passes) }
     ensures serves { IfSome result (λ s. ServesConnections DesksCall (ArePassesOf desks.now) passes.items connections
-        s.accepted s.stop s.passes.items) }
+        s.connections.accepted s.connections.stop s.connections.passes.items) }
     // Where there is a page server, it was started and waited for.
-    ensures paged { IfSome result (λ _. IfSome paging (λ p. HasPaged p.pager p.databases p.passes)) }
+    ensures paged { IfSome result (λ s. AreLeftBy paging s.pager) }
     ensures none { IsNone result → IsSome paging }
 {
     let Some(paging) = paging else {
-        return Some(serve_watched(
+        let connections = serve_watched(
             rt,
             alloc,
             listener,
@@ -60,7 +69,11 @@ fn serve_in<'s, E, R: Threads + Wait + Net + Sync + Drop, W: Watch>(
             connections,
             idle_polls,
             watch,
-        ));
+        );
+        return Some(ServedDatabases {
+            connections,
+            pager: None,
+        });
     };
     let Paging {
         pager,
@@ -68,7 +81,7 @@ fn serve_in<'s, E, R: Threads + Wait + Net + Sync + Drop, W: Watch>(
         databases,
     } = paging;
     let started = start_pager(scope, desks, own, pager, databases)?;
-    let served = serve_watched(
+    let connections = serve_watched(
         rt,
         alloc,
         listener,
@@ -78,8 +91,11 @@ fn serve_in<'s, E, R: Threads + Wait + Net + Sync + Drop, W: Watch>(
         idle_polls,
         watch,
     );
-    let _left = started.join(rt);
-    Some(served)
+    let left = started.join(rt);
+    Some(ServedDatabases {
+        connections,
+        pager: Some(left),
+    })
 }
 
 // Takes out the last of the passes.
@@ -107,23 +123,23 @@ fn serve_over<R: Threads + Wait + Net + Sync + Drop, W: Watch>(
     connections: u32,
     idle_polls: u32,
     watch: &W,
-) -> Option<Served<Passes>>
+) -> Option<ServedDatabases>
     requires own { All (ArePassesOf desks.now) passes.items }
     requires pager { IfSome paging (λ p. ArePassesOf desks.now p.passes) }
     ensures serves { IfSome result (λ s. ServesConnections DesksCall (ArePassesOf desks.now) passes.items connections
-        s.accepted s.stop s.passes.items) }
-    ensures paged { IfSome result (λ _. IfSome paging (λ p. HasPaged p.pager p.databases p.passes)) }
+        s.connections.accepted s.connections.stop s.connections.passes.items) }
+    ensures paged { IfSome result (λ s. AreLeftBy paging s.pager) }
     ensures none { IsNone result → IsSome paging }
 {
     thread::scope(
         thread::scope_env(),
         rt,
-        move |scope| -> Option<Served<Passes>>
+        move |scope| -> Option<ServedDatabases>
             requires own { All (ArePassesOf desks.now) passes.items }
             requires pager { IfSome paging (λ p. ArePassesOf desks.now p.passes) }
             ensures serves { IfSome result (λ s. ServesConnections DesksCall (ArePassesOf desks.entry.now) passes.items
-                connections s.accepted s.stop s.passes.items) }
-            ensures paged { IfSome result (λ _. IfSome paging (λ p. HasPaged p.pager p.databases p.passes)) }
+                connections s.connections.accepted s.connections.stop s.connections.passes.items) }
+            ensures paged { IfSome result (λ s. AreLeftBy paging s.pager) }
             ensures none { IsNone result → IsSome paging }
         {
             serve_in(
@@ -159,18 +175,18 @@ pub fn serve_databases<R: Threads + Wait + Net + Sync + Copy + Drop, W: Watch>(
     pager: Option<Pager>,
     idle_polls: u32,
     watch: &W,
-) -> Result<Served<Passes>, RunFault>
+) -> Result<ServedDatabases, RunFault>
     // 1 to 16 databases.
     requires some { 1 ≤ vec_len dbs }
     requires few { vec_len dbs ≤ 16 }
     // At most 64 workers.
     requires workers { workers ≤ 64 }
-    // Each database has a desk, with a seat for each worker and one for the page server. The passes
-    // that come back are passes of these desks, each after a list of calls. It says how many
-    // connections were accepted, by why it stopped. Where there is a page server, it made its
-    // rounds at each database, in turn (`ServesDatabases`).
-    ensures serves { IfOk result
-        (λ s. ServesDatabases dbs.items workers connections pager s.accepted s.stop s.passes.items) }
+    // Each database has a desk, with a seat for each worker and one for the page server. The workers'
+    // passes that come back are passes of these desks, each after a list of calls. It says how many
+    // connections were accepted, by why it stopped. The page server's passes come back if there is
+    // one, after its rounds at each database, in turn (`ServesDatabases`).
+    ensures serves { IfOk result (λ s. ServesDatabases dbs.items workers connections pager
+        s.connections.accepted s.connections.stop s.connections.passes.items s.pager) }
     // The fault is `NoMemory`, or `Threads` where there is a page server.
     ensures err { IfErr result (λ fault. (fault ≡ RunFault.NoMemory)
         ⊎ ((fault ≡ RunFault.Threads) × IsSome pager)) }

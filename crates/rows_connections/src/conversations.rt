@@ -109,8 +109,8 @@ fn entries_of(dbs: &[Db]) -> Option<u64> {
     Some(db.audit_len())
 }
 
-// The database of the pass has this many entries.
-fn has_entries(pass: SoloPass, entries: u64) -> Result<(), Stop> {
+/// The database of the pass has this many entries.
+pub(crate) fn has_entries(pass: SoloPass, entries: u64) -> Result<(), Stop> {
     let dbs = pass.into_dbs();
     let count = entries_of(&dbs);
     drop(dbs);

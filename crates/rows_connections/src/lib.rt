@@ -13,9 +13,13 @@ mod conversations;
 #[cfg(test)]
 mod crowds;
 #[cfg(test)]
+mod cutting;
+#[cfg(test)]
 mod gates;
 #[cfg(test)]
 mod memory;
+#[cfg(test)]
+mod piecemeal;
 #[cfg(test)]
 mod refusals;
 #[cfg(test)]

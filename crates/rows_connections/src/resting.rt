@@ -10,12 +10,13 @@ use std::alloc::Global;
 use std::io::{self, ErrorKind, Read, Write};
 use transcripts::transcript::Stop;
 
-/// A reader that gives the bytes that came. After them it would wait, or the input ends.
+/// A reader that gives the bytes that came. After them it would wait, or the input ends, or it fails.
 #[derive(Drop)]
-struct Coming<'a> {
-    left: &'a [u8],
+pub(crate) struct Coming<'a> {
+    pub(crate) left: &'a [u8],
     came: usize,
-    is_over: bool,
+    pub(crate) is_over: bool,
+    pub(crate) fails: bool,
 }
 
 impl<'a> Coming<'a> {
@@ -25,11 +26,12 @@ impl<'a> Coming<'a> {
             left,
             came: 0,
             is_over: false,
+            fails: false,
         }
     }
 
-    // This many more bytes come, as far as there are any.
-    fn come(&mut self, count: usize) {
+    /// This many more bytes come, as far as there are any.
+    pub(crate) fn come(&mut self, count: usize) {
         self.came = self.came.saturating_add(count).min(self.left.len());
     }
 }
@@ -37,6 +39,9 @@ impl<'a> Coming<'a> {
 impl Read for Coming<'_> {
     fn read(&mut self, buf: &mut [u8]) -> io::Result<usize> {
         let count = self.came.min(self.left.len()).min(buf.len());
+        if count == 0 && self.fails {
+            return Err(io::Error::from(ErrorKind::TimedOut));
+        }
         if count == 0 && !self.is_over {
             return Err(io::Error::from(ErrorKind::WouldBlock));
         }
@@ -49,12 +54,15 @@ impl Read for Coming<'_> {
     }
 }
 
-/// A writer that has room for this many bytes, and after them would wait.
+/// A writer that has room for this many bytes, and after them would wait, or fails.
 #[derive(Drop)]
-struct Filling {
-    text: Vec<u8>,
+pub(crate) struct Filling {
+    /// What it took, and after it what it did not take of the write that failed.
+    pub(crate) text: Vec<u8>,
+    taken: usize,
     room: usize,
     is_refused: bool,
+    pub(crate) fails: bool,
 }
 
 impl Filling {
@@ -62,23 +70,48 @@ impl Filling {
     fn new(alloc: Global, room: usize) -> Filling {
         Filling {
             text: Vec::new(alloc),
+            taken: 0,
             room,
             is_refused: false,
+            fails: false,
         }
+    }
+
+    /// What it took.
+    pub(crate) fn taken(&self) -> &[u8] {
+        let (taken, _) = self.text.split_at(self.taken.min(self.text.len()));
+        taken
+    }
+
+    /// Forgets what it took.
+    pub(crate) fn clear(&mut self) {
+        self.text.clear();
+        self.taken = 0;
+    }
+
+    // Keeps the bytes.
+    fn keep(&mut self, bytes: &[u8]) -> io::Result<()> {
+        if self.text.extend_from_slice(bytes).is_err() {
+            self.is_refused = true;
+            return Err(io::Error::from(ErrorKind::OutOfMemory));
+        }
+        Ok(())
     }
 }
 
 impl Write for Filling {
     fn write(&mut self, buf: &[u8]) -> io::Result<usize> {
         let count = self.room.min(buf.len());
+        if count == 0 && self.fails {
+            self.keep(buf)?;
+            return Err(io::Error::from(ErrorKind::BrokenPipe));
+        }
         if count == 0 {
             return Err(io::Error::from(ErrorKind::WouldBlock));
         }
         let (now, _) = buf.split_at(count);
-        if self.text.extend_from_slice(now).is_err() {
-            self.is_refused = true;
-            return Err(io::Error::from(ErrorKind::OutOfMemory));
-        }
+        self.keep(now)?;
+        self.taken = self.taken.saturating_add(count);
         self.room = self.room.saturating_sub(count);
         Ok(count)
     }
@@ -91,23 +124,23 @@ impl Write for Filling {
 /// How many turns a conversation has at most before it rests.
 const MANY: u32 = 1_000;
 
-/// A conversation over the stored run, of which nothing has come, with all that it needs but its room.
+/// A conversation with all that it needs but its room.
 #[derive(Drop)]
-struct Talk {
-    pass: SoloPass,
-    talk: Conversation,
-    reader: Coming<'static>,
-    writer: Filling,
+pub(crate) struct Talk<'a> {
+    pub(crate) pass: SoloPass,
+    pub(crate) talk: Conversation,
+    pub(crate) reader: Coming<'a>,
+    pub(crate) writer: Filling,
 }
 
-// A conversation whose writer has this much room.
-fn talk_of(alloc: Global, room: usize) -> Result<Talk, Stop>
+/// A conversation over these frames, of which nothing has come, whose writer has this much room.
+pub(crate) fn talk_of(alloc: Global, frames: &[u8], room: usize) -> Result<Talk<'_>, Stop>
     ensures has { IfOk result (λ talk. HasDatabases talk.pass) }
 {
     Ok(Talk {
         pass: one_pass(alloc)?,
         talk: Conversation::new(alloc),
-        reader: Coming::of(FRAMES),
+        reader: Coming::of(frames),
         writer: Filling::new(alloc, room),
     })
 }
@@ -124,21 +157,29 @@ fn rest_of(end: Result<Rest, Cause>) -> Result<Option<Rest>, Stop> {
     }
 }
 
-// Turns, until one rests, or the conversation is over.
-fn turns(alloc: Global, at: &mut Talk, room: &mut Room) -> Result<Rest, Stop>
+// One turn, of a gate that reports whether it lacked memory.
+fn turn(alloc: Global, at: &mut Talk<'_>, gate: &Telling, room: &mut Room) -> Result<Rest, Cause>
+    requires has { HasDatabases at.old.pass }
+    ensures has { HasDatabases at.new.pass }
+{
+    at.talk.resume(
+        alloc,
+        &mut at.reader,
+        &mut at.writer,
+        gate,
+        &mut at.pass,
+        room,
+    )
+}
+
+/// Turns, until one rests, or the conversation is over.
+pub(crate) fn turns(alloc: Global, at: &mut Talk<'_>, room: &mut Room) -> Result<Rest, Stop>
     requires has { HasDatabases at.old.pass }
     ensures has { HasDatabases at.new.pass }
 {
     let gate = Telling::new();
     for _ in 0..MANY {
-        let end = at.talk.resume(
-            alloc,
-            &mut at.reader,
-            &mut at.writer,
-            &gate,
-            &mut at.pass,
-            room,
-        );
+        let end = turn(alloc, at, &gate, room);
         if gate.tells_refusal() || at.writer.is_refused {
             return Err(Stop::NoMemory);
         }
@@ -149,9 +190,29 @@ fn turns(alloc: Global, at: &mut Talk, room: &mut Room) -> Result<Rest, Stop>
     Err(Stop::Changed)
 }
 
-// How a conversation went. Where a reply that it wrote says that a body found no memory, of which the gate
-// knows nothing, it went wrong for that.
-fn went(alloc: Global, writer: &Filling, done: Result<(), Stop>) -> Result<(), Stop> {
+/// Turns, until one ends the conversation: for which cause.
+pub(crate) fn cause_of(alloc: Global, at: &mut Talk<'_>, room: &mut Room) -> Result<Cause, Stop>
+    requires has { HasDatabases at.old.pass }
+{
+    let gate = Telling::new();
+    for _ in 0..MANY {
+        let end = turn(alloc, at, &gate, room);
+        if gate.tells_refusal() || at.writer.is_refused {
+            return Err(Stop::NoMemory);
+        }
+        match end {
+            Ok(Rest::Over) => return Err(Stop::Changed),
+            Ok(_) => {}
+            Err(Cause::NoMemory) => return Err(Stop::NoMemory),
+            Err(cause) => return Ok(cause),
+        }
+    }
+    Err(Stop::Changed)
+}
+
+/// How a conversation went. Where a reply that it wrote says that a body found no memory, of which the gate
+/// knows nothing, it went wrong for that.
+pub(crate) fn went(alloc: Global, writer: &Filling, done: Result<(), Stop>) -> Result<(), Stop> {
     if matches!(done, Err(Stop::Changed)) && has_refusal(alloc, &writer.text) {
         return Err(Stop::NoMemory);
     }
@@ -160,7 +221,7 @@ fn went(alloc: Global, writer: &Filling, done: Result<(), Stop>) -> Result<(), S
 
 // The frames come this many bytes at once: at each point the replies to those that are whole are written, and no
 // more. In the end the input is over.
-fn in_pieces(alloc: Global, at: &mut Talk, room: &mut Room, piece: usize) -> Result<(), Stop>
+fn in_pieces(alloc: Global, at: &mut Talk<'_>, room: &mut Room, piece: usize) -> Result<(), Stop>
     requires has { HasDatabases at.old.pass }
     ensures has { HasDatabases at.new.pass }
 {
@@ -176,7 +237,7 @@ fn in_pieces(alloc: Global, at: &mut Talk, room: &mut Room, piece: usize) -> Res
 }
 
 // The input ends, after this many bytes of the frames.
-fn is_over_at(alloc: Global, at: &mut Talk, room: &mut Room, place: usize) -> Result<(), Stop>
+fn is_over_at(alloc: Global, at: &mut Talk<'_>, room: &mut Room, place: usize) -> Result<(), Stop>
     requires has { HasDatabases at.old.pass }
 {
     at.reader.left = &[];
@@ -192,7 +253,7 @@ fn is_over_at(alloc: Global, at: &mut Talk, room: &mut Room, place: usize) -> Re
 // The frames come up to a place, and then the others, or the input ends there.
 fn cut_at(
     alloc: Global,
-    at: &mut Talk,
+    at: &mut Talk<'_>,
     room: &mut Room,
     place: usize,
     is_over: bool,
@@ -211,7 +272,12 @@ fn cut_at(
 }
 
 // The writer takes this many bytes at each turn. While a reply waits, no more is read.
-fn in_turns_of(alloc: Global, at: &mut Talk, room: &mut Room, at_once: usize) -> Result<(), Stop>
+fn in_turns_of(
+    alloc: Global,
+    at: &mut Talk<'_>,
+    room: &mut Room,
+    at_once: usize,
+) -> Result<(), Stop>
     requires has { HasDatabases at.old.pass }
     ensures has { HasDatabases at.new.pass }
 {
@@ -236,7 +302,7 @@ fn in_turns_of(alloc: Global, at: &mut Talk, room: &mut Room, at_once: usize) ->
 // taken as well: it may say that a body found no memory.
 fn taken_in_pieces(
     alloc: Global,
-    at: &mut Talk,
+    at: &mut Talk<'_>,
     room: &mut Room,
     at_once: usize,
 ) -> Result<(), Stop>
@@ -268,7 +334,7 @@ fn goes(alloc: Global, room: &mut Room, way: &Way) -> Result<(), Stop> {
     } else {
         usize::MAX
     };
-    let mut at = talk_of(alloc, room_at_first)?;
+    let mut at = talk_of(alloc, FRAMES, room_at_first)?;
     let done = match way {
         Way::Pieces(piece) => in_pieces(alloc, &mut at, room, *piece),
         Way::Cut(place, is_over) => cut_at(alloc, &mut at, room, *place, *is_over),

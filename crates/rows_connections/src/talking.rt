@@ -26,10 +26,10 @@ pub(crate) const PIECES: [usize; 4] = [1, 61, 4_096, usize::MAX];
 
 /// The frames of the requests of a text, and of their replies.
 #[derive(Drop)]
-struct Told {
-    requests: Vec<u8>,
-    replies: Vec<u8>,
-    count: u64,
+pub(crate) struct Told {
+    pub(crate) requests: Vec<u8>,
+    pub(crate) replies: Vec<u8>,
+    pub(crate) count: u64,
 }
 
 // The line for the number: `BLOCK` is the block of the number with a Put of one byte, the number too,
@@ -140,7 +140,8 @@ impl Told {
     }
 }
 
-fn told_by(alloc: Global, text: &str) -> Result<Told, Stop> {
+/// What a text says.
+pub(crate) fn told_by(alloc: Global, text: &str) -> Result<Told, Stop> {
     let mut told = Told::new(alloc);
     for line in text.lines() {
         if !line.starts_with('#') {
@@ -150,8 +151,8 @@ fn told_by(alloc: Global, text: &str) -> Result<Told, Stop> {
     Ok(told)
 }
 
-// Whether the reply is written as those bytes.
-fn is_spelled(alloc: Global, reply: &Reply, bytes: &[u8]) -> Result<bool, Stop> {
+/// Whether the reply is written as those bytes.
+pub(crate) fn is_spelled(alloc: Global, reply: &Reply, bytes: &[u8]) -> Result<bool, Stop> {
     if !reply.fits() {
         return Ok(false);
     }
@@ -160,8 +161,8 @@ fn is_spelled(alloc: Global, reply: &Reply, bytes: &[u8]) -> Result<bool, Stop> 
     Ok(again.as_slice() == bytes)
 }
 
-// What comes of a reply that is not read.
-fn wrong_or_refused(fault: ReplyFault) -> Result<bool, Stop> {
+/// What comes of a reply that is not read.
+pub(crate) fn wrong_or_refused(fault: ReplyFault) -> Result<bool, Stop> {
     if is_refused(fault) {
         Err(Stop::NoMemory)
     } else {

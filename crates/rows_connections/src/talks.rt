@@ -2,7 +2,8 @@
 
 use crate::talking::{PIECES, converses_as};
 
-const ALL_OPERATIONS: &str = "\
+/// Each of the eleven operations, and bodies in between that are none.
+pub(crate) const ALL_OPERATIONS: &str = "\
 2 22 primary 1 offer 1:aa                  = Done
 2 22 primary 1 write 1:aa 0                = Done
 2 22 primary 1 write 1:aa 2                = Done

@@ -3,7 +3,7 @@
 ghost use Rattle.std.specs.Prelude.{⊤, take};
 
 use crate::memory::{check, ended_in_refusal};
-use pl_conn::{Cause, ConnFault, Gate, Source, converse};
+use pl_conn::{Cause, ConnFault, Conversation, Gate, Rest, Room, Source, converse};
 use pl_core::Reply;
 use pl_table::Request;
 use std::alloc::Global;
@@ -238,16 +238,72 @@ fn stops_soon(alloc: Global, frames: &[u8], room: usize) -> Result<(), Stop> {
     check(tally.waiting() <= MOST_WAITING)
 }
 
+/// How many turns a conversation has at most.
+const MANY: u32 = 1_000;
+
+// The turns of a conversation over these frames, to its end.
+fn turns(
+    alloc: Global,
+    frames: &[u8],
+    room: usize,
+    tally: &Tally,
+) -> Result<Result<Rest, Cause>, Stop> {
+    let mut turning = Room::new(alloc)?;
+    let mut talk = Conversation::new(alloc);
+    let mut reader = Coming {
+        left: frames,
+        hand: 0,
+        piece: frames.len(),
+        tally,
+    };
+    let mut writer = Filling { room, tally };
+    let mut pass = 0;
+    for _ in 0..MANY {
+        match talk.resume(
+            alloc,
+            &mut reader,
+            &mut writer,
+            &Counting { tally },
+            &mut pass,
+            &mut turning,
+        ) {
+            // The next read shows whether the input is over.
+            Ok(Rest::Again | Rest::Input) => {}
+            Err(Cause::NoMemory) => return Err(Stop::NoMemory),
+            end => return Ok(end),
+        }
+    }
+    Err(Stop::Changed)
+}
+
+// The same of turns. All that the writer took is written.
+fn turns_stop_soon(alloc: Global, frames: &[u8], room: usize) -> Result<(), Stop> {
+    let tally = Tally::new();
+    let end = turns(alloc, frames, room, &tally)?;
+    check(matches!(end, Err(Cause::Write)) && tally.waiting() <= MOST_WAITING)?;
+    check(tally.written.load(Ordering::SeqCst) == room as u64)
+}
+
+// Where the writer takes all, the turns answer all, and the conversation is over.
+fn turns_end(alloc: Global, frames: &[u8], count: u64) -> Result<(), Stop> {
+    let tally = Tally::new();
+    let end = turns(alloc, frames, usize::MAX, &tally)?;
+    check(matches!(end, Ok(Rest::Over)) && tally.waiting() == 0)?;
+    check(tally.calls.load(Ordering::SeqCst) == count)
+}
+
 fn stops_at_each(alloc: Global) -> Result<(), Stop> {
     let frames = frames_of(alloc, 20_000)?;
     for room in [0, 36, 37, 100_000, 262_144, 262_182, 600_000] {
         stops_soon(alloc, &frames, room)?;
+        turns_stop_soon(alloc, &frames, room)?;
     }
-    Ok(())
+    turns_end(alloc, &frames, 20_000)
 }
 
 /// Twenty thousand frames that are all there at once, and a writer that fails: after the answered ones no
-/// more requests were handed to the gate than those whose replies wait, 256 KiB and one reply more.
+/// more requests were handed to the gate than those whose replies wait, 256 KiB and one reply more. So too where the
+/// conversation rests.
 #[test]
 fn steps_before_a_failed_write(rt: HostRuntime) {
     let mut done = stops_at_each(rt.alloc());

@@ -33,4 +33,6 @@ mod pages;
 #[cfg(test)]
 mod plain;
 #[cfg(test)]
+mod pull_mixes;
+#[cfg(test)]
 mod stores;

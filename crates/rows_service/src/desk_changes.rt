@@ -255,6 +255,29 @@ fn failover_beneath_writes(rt: HostRuntime) {
     assert!(&rt; matches!(entries, Ok(67)));
 }
 
+const STATUS_AFTER_FAILOVER: &Row = &Row {
+    audit: 65_536,
+    before: "2 22 primary 1 status = Status 1 2 0 0 0",
+    first: Asked {
+        times: 1,
+        words: "2 22 primary 1 status",
+        answers: ["Status 1 2 0 0 0", "Denied A2 2"],
+    },
+    second: Asked {
+        times: 1,
+        words: "1 11 operator 1 failover 5",
+        answers: ["Done", "none"],
+    },
+    after: "5 55 primary 2 status = Status 2 5 0 0 0",
+};
+
+/// A pass that had a status of epoch 1 gets one of epoch 2.
+#[test]
+fn status_after_failover(rt: HostRuntime) {
+    let ends = ends_of(&rt, rt.alloc(), STATUS_AFTER_FAILOVER);
+    assert!(&rt; matches!(ends, Ok((_, 4))));
+}
+
 const TABLE_BENEATH_PULLS: &Row = &Row {
     audit: 65_536,
     before: HARDENS,

@@ -15,4 +15,4 @@ returns-in-Ok-None-clause-usage c =
 
 pub returns-in-Err-clause-usage : goal.returns-in-Err-clause-usage
 returns-in-Err-clause-usage c =
-    IfErr-weaker c.outcome_of.result _ _ (λ fault kinds usage taken. (kinds usage).1 (c.in-Err.ensures.usage taken)) c.outcome_of.ensures.usage
+    IfErr-weaker c.outcome_of.result _ _ (λ fault kinds usage taken. (kinds usage).2 (c.in-Err.ensures.usage taken)) c.outcome_of.ensures.usage

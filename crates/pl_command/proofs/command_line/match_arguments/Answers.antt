@@ -1,10 +1,10 @@
-use Rattle.std.proofs.Common.{◌≡◌, ◌∙◌, sym, ap, subst, true, map}
+use Rattle.std.proofs.Common.{◌≡◌, ◌∙◌, refl, sym, ap, subst, true, map}
 use Rattle.std.specs.Prelude.{string_bytes, IfSome}
 use Rattle.clap.specs.Words.{fault_of, is_simple, kind_of, subcommand_of, subcommand_rows_of, takes}
-use Rattle.clap.specs.declared.error.kind.ErrorKind.TheVariants.{DisplayHelp, OutOfMemory}
+use Rattle.clap.specs.declared.error.kind.ErrorKind.TheVariants.{DisplayHelp, DisplayVersion, OutOfMemory}
 use Rattle.clap.specs.Kinds.{HasKind, IsAmong}
 use Rattle.clap.specs.Faults.{is_simple_and_free}
-use Rattle.pl_command.proofs.Matching.{among_help}
+use Rattle.pl_command.proofs.Matching.{among_asked}
 use Rattle.clap.proofs.TakesLemmas.{passed_up}
 use Rattle.pl_command.specs.CommandLine.{IsWholeCommand, Names, own_app}
 use Rattle.pl_command.proofs.Taken.{takes_given}
@@ -29,7 +29,15 @@ returns-in_err-matches-clause-help c =
     let error = c.in_err-matches.field-0.0 in
     let has = subst (λ a. HasKind (fault_of a words) error) c.requires (c.in_err-matches.ensures.kinds (ap is_simple_and_free c.requires)) in
     passed_up c.from_residual.result error (λ e. kind_of e ≡ DisplayHelp → IsAmong DisplayHelp (fault_of own_app words)) c.from_residual.ensures.1
-    (λ is. among_help (fault_of own_app words) (kind_of error) has is)
+    (λ is. among_asked (fault_of own_app words) (kind_of error) DisplayHelp refl has is)
+
+pub returns-in_err-matches-clause-version : goal.returns-in_err-matches-clause-version
+returns-in_err-matches-clause-version c =
+    let words = map string_bytes c.args.arguments.now in
+    let error = c.in_err-matches.field-0.0 in
+    let has = subst (λ a. HasKind (fault_of a words) error) c.requires (c.in_err-matches.ensures.kinds (ap is_simple_and_free c.requires)) in
+    passed_up c.from_residual.result error (λ e. kind_of e ≡ DisplayVersion → IsAmong DisplayVersion (fault_of own_app words)) c.from_residual.ensures.1
+    (λ is. among_asked (fault_of own_app words) (kind_of error) DisplayVersion refl has is)
 
 pub returns-clause-ok : goal.returns-clause-ok
 returns-clause-ok c =

@@ -1,4 +1,4 @@
-use Rattle.std.proofs.Common.{◌≡◌, ◌+◌, ◌∷◌, ◌++◌, [], length, sym, subst, ◌∙◌, arith}
+use Rattle.std.proofs.Common.{◌≡◌, ◌+◌, ◌∷◌, ◌++◌, [], length, Some, sym, subst, ◌∙◌, arith}
 use Rattle.std.proofs.lemmas.List.FromFn.{map-range_with_len_more}
 use Rattle.pl_conn.specs.Desks.{ArePassesOf, DesksCall, all_fresh, fresh_at}
 use Rattle.pl_conn.specs.Serving.{ServesConnections}
@@ -20,12 +20,12 @@ returns-in-Some-serve_over-clause-serves g c =
     record {
       desks = desks;
       made = c.in_ok-desks.ensures.terms;
-      serves = subst (λ given. ServesConnections DesksCall (ArePassesOf desks) given c.args.connections served.accepted served.stop served.passes.items) ends.fronts c.in-Some-serve_over.ensures.serves;
+      serves = subst (λ given. ServesConnections DesksCall (ArePassesOf desks) given c.args.connections served.connections.accepted served.connections.stop served.connections.passes.items) ends.fronts c.in-Some-serve_over.ensures.serves;
       paged = elim c.match-pager.branch [
         | in-Some w ↦
             let has = rw w.paging-is at c.in-Some-serve_over.ensures.paged in
             let count : c.len-databases.result ≡ length c.args.dbs.items = omega (arith, c.len-databases.ensures, c.args.dbs.ok.0) in
-            rw w.in-Some.is (subst (λ n. HasPaged w.in-Some.pager n last) count (subst (λ p. HasPaged w.in-Some.pager c.len-databases.result p) ends.lasts has))
-        | in-None w ↦ rw w.in-None.is tt
+            rw w.in-Some.is (subst (λ n. HasPaged (Some w.in-Some.pager) n last served.pager) count (subst (λ p. HasPaged (Some w.in-Some.pager) c.len-databases.result p served.pager) ends.lasts has))
+        | in-None w ↦ rw w.in-None.is (rw w.paging-is at c.in-Some-serve_over.ensures.paged)
       ];
     }
