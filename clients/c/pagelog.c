@@ -6,6 +6,7 @@
 #include <stdio.h>
 #include <stdlib.h>
 #include <string.h>
+#include <unistd.h>
 
 enum { DEFAULT_SPIN_US = 50 };
 
@@ -60,6 +61,7 @@ struct pagelog *pagelog_new(const struct pagelog_options *options) {
     log->options = *options;
     log->options.address = NULL;
     log->socket = -1;
+    log->process = getpid();
     if (log->options.connect_ms == 0) log->options.connect_ms = 5000;
     if (log->options.reply_ms == 0) log->options.reply_ms = 10000;
     if (log->options.patience_ms == 0) log->options.patience_ms = 10000;
@@ -77,6 +79,10 @@ void pagelog_free(struct pagelog *log) {
     free(log->host);
     free(log->port);
     free(log);
+}
+
+bool pagelog_is_own(const struct pagelog *log) {
+    return log->process == getpid();
 }
 
 const struct pagelog_reply *pagelog_refused(const struct pagelog *log) {
@@ -130,8 +136,10 @@ enum pagelog_outcome pagelog_restore(struct pagelog *log, enum pagelog_outcome o
 void pagelog_explain(const struct pagelog *log, char *text, size_t room) {
     const struct pagelog_reply *reply = &log->refused;
     const char *name = pagelog_outcome_name(log->last);
-    if (log->anew)
-        snprintf(text, room, "%s: the service was started anew, and what was in the log is gone", name);
+    if (!pagelog_is_own(log))
+        snprintf(text, room, "%s: made before a fork, by another process", name);
+    else if (log->anew)
+        snprintf(text, room, "%s: the service was started anew, and what was in the log may be gone", name);
     else if (reply->kind == PAGELOG_REPLY_DENIED)
         snprintf(text, room, "%s: denied %c%u, value %llu", name, "?ABC"[reply->section], reply -> row,
                  (unsigned long long)reply -> value);

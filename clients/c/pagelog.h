@@ -5,10 +5,17 @@
  * both.
  *
  *   - An object connects when it has to ask, and again when the connection was lost. It is used by one thread
- * at a time.
+ * at a time, and by the process that has made it: in a child of fork() it can only be freed, which sends
+ * nothing.
+ *   - After each connect but the first it looks whether the service has the history that it had: by the last
+ * record of the last block that the object saw in the log. A principal that may neither get nor pull cannot
+ * look, and is DENIED then, unless its epoch is over.
  *   - Every wait ends: `connect_ms` bounds a connect, `reply_ms` the sending of what is queued and the wait
  * for one reply to its last byte. A lost connection is opened again for `patience_ms`, so that a call whose
  * service does not answer takes about the sum of the three.
+ *   - Of a peer that lies no call is without end either: a call sends what its arguments ask for, 64 times at
+ * most in epochs that rise, and only twice once `patience_ms` are over; each reply takes `reply_ms` and 1 MiB
+ * at most, and 16 MiB that nobody asked for are kept.
  *   - Nothing here ends the process, writes to a stream, raises a signal or keeps anything outside of the
  * object.
  *   - LSNs, pages, epochs and lengths are the service's: an LSN is 1 to 2^48, a page has 8,192 bytes.
@@ -36,8 +43,9 @@ enum {
     PAGELOG_PULL_BLOCKS = 16,   /* blocks of one pull, at most */
     PAGELOG_AUDIT_LINES = 1024, /* lines of one audit, at most */
     PAGELOG_AUDIT_LINE_BYTES = 53,
-    PAGELOG_IN_FLIGHT = 1024, /* requests that may wait for their replies, at most */
-    PAGELOG_MOST_COPIES = 6,  /* of a block, in the landing zone */
+    PAGELOG_IN_FLIGHT = 1024,    /* requests that may wait for their replies, at most */
+    PAGELOG_MOST_COPIES = 6,     /* of a block, in the landing zone */
+    PAGELOG_WITNESS_BYTES = 256, /* of a record, that show whether a service has the same history */
 };
 
 #define PAGELOG_LAST_LSN (UINT64_C(1) << 48)
@@ -57,7 +65,8 @@ enum pagelog_outcome {
     PAGELOG_DENIED,     /* any other row; no such database; no turns left (Spent) */
     PAGELOG_NO_MEMORY,  /* the service's memory, or this process', did not suffice; nothing was changed */
     PAGELOG_AUDIT_FULL, /* the database answers nothing any more, not even to an operator */
-    PAGELOG_MALFORMED,  /* an argument out of its range, or a reply that is none */
+    PAGELOG_MALFORMED,  /* an argument out of its range, an object of another process, or a reply that is none
+                         */
 };
 
 /* The outcome in lower case, as "in doubt". */
@@ -276,6 +285,28 @@ void pagelog_free(struct pagelog *log);
 /* Closes the connection. The next call opens another. Requests in flight are lost. */
 void pagelog_disconnect(struct pagelog *log);
 
+/* Who waits may end a wait: `goes_on` is asked again and again from the first second of the waits on that
+ * follow this call, and may sleep for a tenth of a second each time. Once it is false everything that has to
+ * wait is LOST at once, until the next call of this function. NULL: nobody is asked. */
+void pagelog_set_waiting(struct pagelog *log, bool (*goes_on)(void *argument), void *argument);
+
+/* For a child of fork(): closes the object's descriptor there, and nothing else. It may be called while
+ * another thread of the parent was using the object, which the child can only leave as it is then. */
+void pagelog_abandon(struct pagelog *log);
+
+/* Opens a connection, if there is none; LOST where that cannot be within `patience_ms`. */
+enum pagelog_outcome pagelog_connect(struct pagelog *log);
+
+/* Writes the address that the object is connected to, as "127.0.0.1:7400", cut to `room` bytes; empty where
+ * it is not connected. */
+void pagelog_peer(const struct pagelog *log, char *text, size_t room);
+
+/* A page has these bytes at an LSN of the log, as the caller has read it: what shows after the next connect
+ * that the service has the same history. At most PAGELOG_WITNESS_BYTES of them are kept. Appends and pulls
+ * note the last record of their last block so by themselves. */
+void pagelog_expect(struct pagelog *log, uint64_t lsn, uint32_t page, uint16_t offset, const uint8_t *bytes,
+                    size_t length);
+
 /* The reply that caused the last outcome that was not DONE; `kind` is PAGELOG_REPLY_DONE where there was
  * none, as for LOST. */
 const struct pagelog_reply *pagelog_refused(const struct pagelog *log);
@@ -285,8 +316,8 @@ const struct pagelog_reply *pagelog_refused(const struct pagelog *log);
 enum pagelog_outcome pagelog_restore(struct pagelog *log, enum pagelog_outcome outcome,
                                      const struct pagelog_reply *refused);
 
-/* Whether the service was restarted while this object was in use: its epoch or the end of its log fell.
- * Everything that was in the log is gone then. Each later call is FENCED. */
+/* Whether the service was restarted while this object was in use: its epoch or the end of its log fell, or a
+ * reconnect has found another history. What was in the log may be gone then. Each later call is FENCED. */
 bool pagelog_is_anew(const struct pagelog *log);
 
 /* Whether an append has left something in the window, so that nothing else can be appended in this epoch. */
@@ -405,6 +436,21 @@ bool pagelog_append_is_due(struct pagelog *log);
 
 /* The same call, but true where all replies have come and none is a refusal: the append waits for nothing. */
 bool pagelog_append_is_answered(struct pagelog *log);
+
+/* An operator, in whose name the following ask. */
+struct pagelog_operator {
+    uint32_t principal;
+    uint8_t token[PAGELOG_TOKEN_BYTES];
+};
+
+/* Whether the audit list has an entry of this number, from 1 on: one request, which is an entry too. */
+enum pagelog_outcome pagelog_has_entry(struct pagelog *log, const struct pagelog_operator *who,
+                                       uint64_t number, bool *has);
+
+/* How many entries the audit list has, found by bisection: some 24 requests, each of which is an entry too.
+ */
+enum pagelog_outcome pagelog_count_entries(struct pagelog *log, const struct pagelog_operator *who,
+                                           uint64_t *count);
 
 /* For the time after a long append, in which nobody waits. A report enters the blocks of the report before
  * into the index of pages, and moves old blocks to where they stay, before it is answered. This has the

@@ -5,6 +5,9 @@
  *   - The content of an LSN is fixed in an epoch. So a block may be written again, and a write that was Done
  * says that the content is this block.
  *   - A report says nothing about whose blocks it hardens. So the reply to each write is read.
+ *   - What is connected to again may be another run of the service, restored from an archive: the history of
+ * the log is compared (pagelog_witness.c), but nothing shows what its window holds. So a write that was Done
+ * before is written again, or looked for.
  *   - A failover hardens the longest run of blocks that are in a quorum of copies. So blocks that were Done
  * in a quorum are in the log once their epoch is over, whatever became of their report.
  *   - Nothing of an epoch that is over can be written any more. So a block that was then in fewer copies than
@@ -88,22 +91,23 @@ static bool are_done(struct append *append, size_t count, unsigned copies) {
     return true;
 }
 
-/* Whether each of `count` blocks from the first one on was sent, to a copy that may have taken it. */
-static bool were_sent(struct append *append, size_t count) {
-    for (size_t i = append->first; i < append->first + count; i++) {
-        const struct marks *marks = marks_of(append, i);
-        if (i >= append->first + PAGELOG_WINDOW || (marks->done | marks->unsure) == 0) return false;
+/* The connection is gone: what was Done over it need not be so in the service that answers next. */
+static void forget_answers(struct append *append) {
+    for (size_t i = 0; i < PAGELOG_WINDOW; i++) {
+        append->marks[i].unsure |= append->marks[i].done;
+        append->marks[i].done = 0;
     }
-    return true;
 }
 
 /* The next `count` blocks are in the log. */
 static void advance(struct append *append, size_t count) {
+    size_t length;
     for (size_t i = 0; i < count && i < PAGELOG_WINDOW; i++)
         *marks_of(append, append->first + i) = (struct marks){0, 0};
     append->first += count;
     uint64_t end = append->base + append->first - 1;
     if (end > append->log->end) append->log->end = end;
+    pagelog_note_block(append->log, pagelog_blocks_at(append->blocks, append->first - 1, &length));
 }
 
 /* ---- A group: writes and a report in one round trip ---- */
@@ -144,9 +148,8 @@ static bool note(struct append *append, enum pagelog_outcome outcome) {
         append->refusal = outcome;
         append->refused = *refused;
     }
-    if (outcome != PAGELOG_MALFORMED) return outcome != PAGELOG_LOST;
-    pagelog_disconnect(append->log); /* of what is in flight no reply is read any more */
-    return false;
+    if (outcome == PAGELOG_MALFORMED) pagelog_disconnect(append->log); /* no more of its replies is read */
+    return append->log->socket >= 0;
 }
 
 /* The reply to the oldest request in flight, unless it was read before. */
@@ -267,14 +270,45 @@ static enum pagelog_outcome look(struct append *append, size_t first, size_t cou
     return PAGELOG_DONE;
 }
 
-/* Whether `count` blocks in the log are these, for who may not pull. A write that was Done says so. An epoch
- * that this object has begun does not: another process of its principal may have joined it, and have had its
- * own blocks hardened there before these came. What was never sent is another's. Else the cause of the look
- * stays, and what was sent to a quorum is in doubt. */
-static enum pagelog_outcome judge_unseen(struct append *append, size_t count) {
-    if (are_done(append, count, 1)) return PAGELOG_DONE;
-    enum pagelog_outcome cause = were_sent(append, count) ? append->refusal : PAGELOG_CONFLICT;
-    return pagelog_restore(append->log, cause, &append->refused);
+/* Whether a page has what a block makes of it: its records change nothing there any more. */
+static bool has_records(const uint8_t *block, uint32_t page, const uint8_t *bytes) {
+    struct pagelog_records records;
+    struct pagelog_record record;
+    uint8_t wanted[PAGELOG_PAGE_BYTES];
+    memcpy(wanted, bytes, sizeof wanted);
+    pagelog_records_begin(&records, block);
+    while (pagelog_records_next(&records, &record)) {
+        if (record.page != page) continue;
+        if (record.length == 0) memset(wanted, 0, sizeof wanted);
+        if (record.length > 0) memcpy(wanted + record.offset, record.bytes, record.length);
+    }
+    return memcmp(wanted, bytes, sizeof wanted) == 0;
+}
+
+/* Whether the pages that a block touches are what it makes of them at its LSN: DONE or CONFLICT. */
+static enum pagelog_outcome look_at_pages(struct append *append, const uint8_t *block) {
+    uint8_t bytes[PAGELOG_PAGE_BYTES];
+    struct pagelog_records records;
+    struct pagelog_record record;
+    pagelog_records_begin(&records, block);
+    for (uint64_t last = UINT64_MAX; pagelog_records_next(&records, &record); last = record.page) {
+        if (record.page == last) continue;
+        enum pagelog_outcome outcome =
+            pagelog_get(append->log, PAGELOG_PRIMARY, records.lsn, &record.page, 1, bytes);
+        if (outcome != PAGELOG_DONE) return outcome;
+        if (!has_records(block, record.page, bytes)) return PAGELOG_CONFLICT;
+    }
+    return PAGELOG_DONE;
+}
+
+/* As look, for who may not pull: by the pages, which the primary may get. Another's block is taken for one of
+ * these only where it makes the same of each page. */
+static enum pagelog_outcome look_as_primary(struct append *append, size_t first, size_t count) {
+    size_t length;
+    enum pagelog_outcome outcome = PAGELOG_DONE;
+    for (size_t i = first; i < first + count && outcome == PAGELOG_DONE; i++)
+        outcome = look_at_pages(append, pagelog_blocks_at(append->blocks, i, &length));
+    return outcome == PAGELOG_CONFLICT ? pagelog_restore(append->log, outcome, &append->refused) : outcome;
 }
 
 /* After a lost connection, or a write at an LSN that is in the log: learns how far the log goes, and whether
@@ -288,7 +322,7 @@ static enum pagelog_outcome catch_up(struct append *append) {
     size_t count = append->count - append->first;
     if (status.hard - next + 1 < count) count = (size_t)(status.hard - next + 1);
     outcome = look(append, append->first, count);
-    if (outcome == PAGELOG_DENIED) outcome = judge_unseen(append, count);
+    if (outcome == PAGELOG_DENIED) outcome = look_as_primary(append, append->first, count);
     if (outcome == PAGELOG_DONE) advance(append, count);
     return outcome;
 }
@@ -358,6 +392,7 @@ static enum pagelog_outcome run(struct append *append) {
             continue;
         }
         if (is_other_zone) continue;
+        if (append->log->socket < 0 && !is_epoch_over(&append->refused)) forget_answers(append);
         if (outcome == PAGELOG_LOST && pagelog_may_try_again(&patience)) {
             most = count > 1 ? count / 2 : 1;
             outcome = taken_from_log(append, catch_up(append));
@@ -378,6 +413,7 @@ static enum pagelog_outcome may_append(struct append *append) {
     struct pagelog *log = append->log;
     const struct ahead *ahead = &log->ahead;
     size_t length, sent = ahead->blocks * copies_of(append) + (size_t)__builtin_popcountll(ahead->reports);
+    if (!pagelog_is_own(log)) return PAGELOG_MALFORMED;
     if (log->anew) return PAGELOG_FENCED;
     if (log->stuck && ahead->blocks == 0) return PAGELOG_CONFLICT;
     if (log->writing_epoch == 0 || log->asked_count + ahead->done != sent || append->count < ahead->blocks ||

@@ -4,7 +4,7 @@
 #include <string.h>
 #include <time.h>
 
-enum { GETS_IN_FLIGHT = 64, MOST_EPOCHS = 64 };
+enum { GETS_IN_FLIGHT = 64, MOST_EPOCHS = 64, FEW_EPOCHS = 2 };
 
 /* ---- Calls that are repeated ---- */
 
@@ -16,9 +16,9 @@ static bool takes_over_epoch(const struct pagelog *log, uint8_t role, uint32_t a
     return tells && !log->anew && role != PAGELOG_PRIMARY && log->epoch != asked_epoch;
 }
 
-struct pagelog_patience pagelog_patience_of(const struct pagelog *log) {
-    return (struct pagelog_patience){.until = pagelog_now() + log->options.patience_ms,
-                                     .ms = log->options.patience_ms};
+struct pagelog_patience pagelog_patience_of(struct pagelog *log) {
+    return (struct pagelog_patience){
+        .log = log, .until = pagelog_now() + log->options.patience_ms, .ms = log->options.patience_ms};
 }
 
 void pagelog_progress(struct pagelog_patience *patience) {
@@ -29,9 +29,14 @@ void pagelog_progress(struct pagelog_patience *patience) {
 bool pagelog_may_try_again(struct pagelog_patience *patience) {
     unsigned doubled = patience->tries < 6 ? patience->tries : 6;
     struct timespec pause = {.tv_nsec = 1000000L << doubled};
-    if (pagelog_now() >= patience->until) return false;
+    if (pagelog_now() >= patience->until || !pagelog_waits_on(patience->log)) return false;
     if (patience->tries++ > 0) nanosleep(&pause, NULL);
     return true;
+}
+
+bool pagelog_may_change_epoch(struct pagelog_patience *patience) {
+    unsigned most = pagelog_now() < patience->until ? MOST_EPOCHS : FEW_EPOCHS;
+    return patience->epochs++ < most;
 }
 
 /* One request, asked again with the epoch that a denial reports, and after a lost connection. */
@@ -39,14 +44,14 @@ static enum pagelog_outcome ask(struct pagelog *log, const struct pagelog_reques
                                 struct pagelog_reply *reply) {
     if (log->asked_count > 0) return pagelog_fail(log, PAGELOG_MALFORMED);
     struct pagelog_patience patience = pagelog_patience_of(log);
-    for (unsigned epochs = 0;;) {
+    for (;;) {
         uint32_t epoch = log->epoch;
         enum pagelog_outcome outcome = pagelog_send(log, request);
         if (outcome != PAGELOG_DONE) return outcome;
         outcome = pagelog_receive(log, reply);
         if (outcome == PAGELOG_LOST && pagelog_may_try_again(&patience)) continue;
         if (outcome != PAGELOG_FENCED || !takes_over_epoch(log, request->role, epoch) ||
-            ++epochs > MOST_EPOCHS)
+            !pagelog_may_change_epoch(&patience))
             return outcome;
     }
 }
@@ -74,11 +79,10 @@ static enum pagelog_outcome get_group(struct pagelog *log, enum pagelog_role rol
     }
     for (size_t i = 0; i < count; i++) {
         enum pagelog_outcome outcome = pagelog_receive(log, &reply);
-        if (outcome == PAGELOG_LOST || outcome == PAGELOG_MALFORMED) {
+        if (outcome != PAGELOG_DONE && (outcome == PAGELOG_MALFORMED || log->socket < 0)) {
             pagelog_disconnect(log); /* of what is in flight no reply is read any more */
             return outcome;
         }
-        if (outcome == PAGELOG_DONE && reply.at != lsn) return pagelog_distrust(log);
         if (outcome == PAGELOG_DONE) memcpy(out + i * PAGELOG_PAGE_BYTES, reply.bytes, PAGELOG_PAGE_BYTES);
         if (outcome == PAGELOG_DONE || first != PAGELOG_DONE) continue;
         first = outcome;
@@ -90,7 +94,6 @@ static enum pagelog_outcome get_group(struct pagelog *log, enum pagelog_role rol
 enum pagelog_outcome pagelog_get(struct pagelog *log, enum pagelog_role role, uint64_t lsn,
                                  const uint32_t *pages, size_t count, uint8_t *out) {
     struct pagelog_patience patience = pagelog_patience_of(log);
-    unsigned epochs = 0;
     size_t most = GETS_IN_FLIGHT;
     if (log->asked_count > 0) return pagelog_fail(log, PAGELOG_MALFORMED);
     for (size_t done = 0; done < count;) {
@@ -104,7 +107,7 @@ enum pagelog_outcome pagelog_get(struct pagelog *log, enum pagelog_role role, ui
         } else if (outcome == PAGELOG_LOST && pagelog_may_try_again(&patience)) {
             most = group > 1 ? group / 2 : 1;
         } else if (outcome != PAGELOG_FENCED || !takes_over_epoch(log, role, epoch) ||
-                   ++epochs > MOST_EPOCHS) {
+                   !pagelog_may_change_epoch(&patience)) {
             return outcome;
         }
     }
@@ -118,17 +121,13 @@ static bool is_at_the_end(const struct pagelog *log, uint64_t from) {
            reply->row == 1 && reply->value + 1 == from;
 }
 
-/* Whether the blocks are those that a pull from this LSN may serve. */
-static bool are_pulled(const struct pagelog_reply *blocks, uint64_t from, unsigned max) {
-    uint64_t last = from - 1;
+/* Notes the last block that was pulled. */
+static void note_pulled(struct pagelog *log, const struct pagelog_reply *blocks) {
     size_t at = 0, length;
-    const uint8_t *block;
-    while ((block = pagelog_next_block(blocks, &at, &length))) {
-        uint64_t lsn = pagelog_read_number(block, 8);
-        if (lsn <= last) return false;
-        last = lsn;
-    }
-    return blocks->count <= max && blocks->next > last && blocks->next > from;
+    const uint8_t *block, *last = NULL;
+    while ((block = pagelog_next_block(blocks, &at, &length)))
+        last = block;
+    if (last) pagelog_note_block(log, last);
 }
 
 enum pagelog_outcome pagelog_pull(struct pagelog *log, uint64_t from, unsigned max,
@@ -140,12 +139,12 @@ enum pagelog_outcome pagelog_pull(struct pagelog *log, uint64_t from, unsigned m
                                       .max = (uint16_t)max};
     if (log->asked_count > 0) return pagelog_fail(log, PAGELOG_MALFORMED);
     struct pagelog_patience patience = pagelog_patience_of(log);
-    for (unsigned epochs = 0;;) {
+    for (;;) {
         uint32_t epoch = log->epoch;
         enum pagelog_outcome outcome = pagelog_send(log, &request);
         if (outcome == PAGELOG_DONE) outcome = pagelog_receive(log, blocks);
-        if (outcome == PAGELOG_DONE && !are_pulled(blocks, from, request.max)) return pagelog_distrust(log);
         if (outcome == PAGELOG_DONE && blocks->count < request.max) blocks->hard = blocks->next - 1;
+        if (outcome == PAGELOG_DONE) note_pulled(log, blocks);
         if (outcome == PAGELOG_DONE) return outcome;
         if (outcome == PAGELOG_DENIED && is_at_the_end(log, from)) {
             *blocks = (struct pagelog_reply){.kind = PAGELOG_REPLY_BLOCKS, .next = from, .hard = from - 1};
@@ -154,7 +153,7 @@ enum pagelog_outcome pagelog_pull(struct pagelog *log, uint64_t from, unsigned m
         if (outcome == PAGELOG_LOST && pagelog_may_try_again(&patience)) {
             request.max = request.max > 1 ? request.max / 2 : 1;
         } else if (outcome != PAGELOG_FENCED || !takes_over_epoch(log, PAGELOG_SECONDARY, epoch) ||
-                   ++epochs > MOST_EPOCHS) {
+                   !pagelog_may_change_epoch(&patience)) {
             return outcome;
         }
     }
@@ -226,11 +225,12 @@ enum pagelog_outcome pagelog_take_over(struct pagelog *log, uint32_t operator_pr
     struct pagelog_patience patience = pagelog_patience_of(log);
     uint32_t epoch = expected ? expected : log->epoch ? log->epoch : 1;
     if (log->asked_count > 0) return pagelog_fail(log, PAGELOG_MALFORMED);
-    for (unsigned epochs = 0;;) {
+    for (;;) {
         enum pagelog_outcome outcome = fail_over(log, operator_principal, operator_token, epoch);
         if (outcome == PAGELOG_DONE) break;
         if (outcome == PAGELOG_LOST && pagelog_may_try_again(&patience)) continue;
-        if (outcome != PAGELOG_FENCED || !is_epoch_told(log) || ++epochs > MOST_EPOCHS) return outcome;
+        if (outcome != PAGELOG_FENCED || !is_epoch_told(log) || !pagelog_may_change_epoch(&patience))
+            return outcome;
         if (expected) {
             if (!may_be_ours(log, expected)) return outcome;
             outcome = ask_as_primary(log);
@@ -245,13 +245,15 @@ enum pagelog_outcome pagelog_take_over(struct pagelog *log, uint32_t operator_pr
 }
 
 enum pagelog_outcome pagelog_join(struct pagelog *log) {
+    struct pagelog_patience patience = pagelog_patience_of(log);
     if (log->asked_count > 0) return pagelog_fail(log, PAGELOG_MALFORMED);
-    for (unsigned epochs = 0;;) {
+    for (;;) {
         uint32_t epoch = log->epoch ? log->epoch : 1;
         enum pagelog_outcome outcome = begin_epoch(log, epoch, false);
         if (outcome == PAGELOG_DONE) return outcome;
         log->writing_epoch = 0;
-        if (outcome != PAGELOG_FENCED || !is_epoch_told(log) || ++epochs > MOST_EPOCHS) return outcome;
+        if (outcome != PAGELOG_FENCED || !is_epoch_told(log) || !pagelog_may_change_epoch(&patience))
+            return outcome;
     }
 }
 

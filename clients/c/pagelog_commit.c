@@ -107,6 +107,7 @@ static void keep(struct pagelog_file *file, const struct mark *mark, bool is_unw
     if (is_unwaited && file->on_their_way == 0) file->settled = file->mark;
     file->on_their_way = is_unwaited ? file->on_their_way + 1 : 0;
     file->mark = *mark;
+    file->is_named = file->is_named || *file->name;
     file->least = file->size;
     file->next = mark->lsn + 1;
     file->commits++;

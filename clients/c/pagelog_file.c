@@ -26,6 +26,7 @@ struct pagelog_file *pagelog_file_new(const struct pagelog_file_options *options
     struct pagelog_file *file = calloc(1, sizeof *file);
     if (!file) return NULL;
     file->options = *options;
+    snprintf(file->name, sizeof file->name, "%s", options->name ? options->name : "");
     file->log = pagelog_new(&options->service);
     file->cache = pagelog_cache_new(options->cache_pages ? options->cache_pages : DEFAULT_CACHE);
     file->blocks = pagelog_blocks_new();
@@ -46,6 +47,21 @@ void pagelog_file_free(struct pagelog_file *file) {
     free(file);
 }
 
+enum pagelog_outcome pagelog_file_connect(struct pagelog_file *file, char *peer, size_t room) {
+    file->reason = NULL;
+    enum pagelog_outcome outcome = pagelog_connect(file->log);
+    pagelog_peer(file->log, peer, room);
+    return outcome;
+}
+
+void pagelog_file_set_waiting(struct pagelog_file *file, bool (*goes_on)(void *argument), void *argument) {
+    pagelog_set_waiting(file->log, goes_on, argument);
+}
+
+void pagelog_file_abandon(struct pagelog_file *file) {
+    pagelog_abandon(file->log);
+}
+
 /* Reads the newest end mark as a writer, and undoes what is after it. */
 static enum pagelog_outcome recover(struct pagelog_file *file) {
     enum pagelog_outcome outcome = pagelog_take_whole(file);
@@ -55,10 +71,22 @@ static enum pagelog_outcome recover(struct pagelog_file *file) {
     return outcome;
 }
 
-static enum pagelog_outcome open_writer(struct pagelog_file *file) {
+/* Compares the name of the database before a writer elsewhere is fenced, if its principal may look so. */
+static enum pagelog_outcome look_at_name(struct pagelog_file *file) {
+    uint8_t page[PAGELOG_PAGE_BYTES];
+    const uint32_t number = MARK_PAGE;
+    struct pagelog_reply status;
+    if (!*file->name) return PAGELOG_DONE;
+    enum pagelog_outcome outcome = pagelog_status(file->log, PAGELOG_SECONDARY, &status);
+    if (outcome == PAGELOG_DONE)
+        outcome = pagelog_get(file->log, PAGELOG_SECONDARY, status.hard, &number, 1, page);
+    if (outcome == PAGELOG_DONE && pagelog_is_misnamed(file, page)) return pagelog_refuse_name(file);
+    return outcome == PAGELOG_DENIED ? PAGELOG_DONE : outcome;
+}
+
+/* Begins an epoch as the options say, and takes over what is in the log. */
+static enum pagelog_outcome begin_to_write(struct pagelog_file *file) {
     const struct pagelog_file_options *options = &file->options;
-    if (getrandom(&file->session, sizeof file->session, 0) != sizeof file->session)
-        return pagelog_file_fail(file, PAGELOG_NO_MEMORY, "the system has no random number");
     uint64_t asked = pagelog_now();
     enum pagelog_outcome outcome =
         options->has_operator
@@ -80,6 +108,25 @@ static enum pagelog_outcome open_reader(struct pagelog_file *file) {
     return pagelog_take_mark(file, file->options.at ? file->options.at : status.hard);
 }
 
+/* Another writer has begun an epoch right after this one, or in its place: it opens all the same, as one that
+ * is fenced later, if its principal may be a secondary. */
+static enum pagelog_outcome open_fenced(struct pagelog_file *file) {
+    struct pagelog_reply refused = *pagelog_refused(file->log);
+    pagelog_become_follower(file);
+    enum pagelog_outcome outcome = open_reader(file);
+    return outcome == PAGELOG_DENIED ? pagelog_restore(file->log, PAGELOG_FENCED, &refused) : outcome;
+}
+
+static enum pagelog_outcome open_writer(struct pagelog_file *file) {
+    if (getrandom(&file->session, sizeof file->session, 0) != sizeof file->session)
+        return pagelog_file_fail(file, PAGELOG_NO_MEMORY, "the system has no random number");
+    enum pagelog_outcome outcome = look_at_name(file);
+    if (outcome == PAGELOG_DONE) outcome = begin_to_write(file);
+    bool is_overtaken =
+        outcome == PAGELOG_FENCED && file->options.has_operator && !pagelog_is_anew(file->log);
+    return is_overtaken ? open_fenced(file) : outcome;
+}
+
 enum pagelog_outcome pagelog_file_open(struct pagelog_file *file) {
     file->reason = NULL;
     enum pagelog_outcome outcome = file->options.reads_only ? open_reader(file) : open_writer(file);
@@ -95,6 +142,22 @@ void pagelog_become_follower(struct pagelog_file *file) {
     file->is_checked = false;
     file->next = file->mark.lsn + 1;
     file->pending.length = 0;
+}
+
+enum pagelog_outcome pagelog_file_take_over(struct pagelog_file *file, uint32_t operator_principal,
+                                            const uint8_t operator_token[PAGELOG_TOKEN_BYTES]) {
+    file->reason = NULL;
+    enum pagelog_outcome outcome = pagelog_file_settle(file);
+    if (outcome != PAGELOG_DONE && !file->is_over) return outcome;
+    pagelog_file_undo(file);
+    file->options.has_operator = true;
+    file->options.operator_principal = operator_principal;
+    memcpy(file->options.operator_token, operator_token, PAGELOG_TOKEN_BYTES);
+    file->is_fenced = file->is_broken = file->is_over = false;
+    outcome = begin_to_write(file);
+    if (outcome != PAGELOG_DONE) pagelog_become_follower(file);
+    file->size = file->least = file->mark.size;
+    return outcome;
 }
 
 /* After a commit that did not come to its end: an epoch of its own, in which all is decided, but only if
@@ -325,6 +388,31 @@ void pagelog_file_undo(struct pagelog_file *file) {
     file->size = file->least = file->mark.size;
 }
 
+/* ---- The audit list ---- */
+
+/* Learns whether there is an operator to ask for, and settles what is on its way. */
+static enum pagelog_outcome prepare_to_ask(struct pagelog_file *file, struct pagelog_operator *who) {
+    const struct pagelog_file_options *options = &file->options;
+    if (!options->has_operator)
+        return pagelog_file_fail(file, PAGELOG_DENIED, "there is no operator to ask for");
+    who->principal = options->operator_principal;
+    memcpy(who->token, options->operator_token, PAGELOG_TOKEN_BYTES);
+    return pagelog_file_settle(file);
+}
+
+enum pagelog_outcome pagelog_file_has_entry(struct pagelog_file *file, uint64_t number, bool *has) {
+    struct pagelog_operator who;
+    enum pagelog_outcome outcome = prepare_to_ask(file, &who);
+    *has = false;
+    return outcome == PAGELOG_DONE ? pagelog_has_entry(file->log, &who, number, has) : outcome;
+}
+
+enum pagelog_outcome pagelog_file_count_entries(struct pagelog_file *file, uint64_t *count) {
+    struct pagelog_operator who;
+    enum pagelog_outcome outcome = prepare_to_ask(file, &who);
+    return outcome == PAGELOG_DONE ? pagelog_count_entries(file->log, &who, count) : outcome;
+}
+
 /* ---- What is known ---- */
 
 const struct pagelog_reply *pagelog_file_refused(const struct pagelog_file *file) {
@@ -363,6 +451,7 @@ struct pagelog_file_state pagelog_file_state_of(const struct pagelog_file *file)
         .is_stale = file->is_stale,
         .is_anew = pagelog_is_anew(file->log),
         .is_foreign = file->is_foreign,
+        .is_misnamed = file->is_misnamed,
         .is_over = file->is_over,
         .lsn = file->mark.lsn,
         .end = pagelog_end(file->log),

@@ -9,9 +9,9 @@
  *
  * A file is used by one thread at a time.
  *
- *   pagelog_file_new, pagelog_file_open
- *   then, as often as wanted:  pagelog_file_begin, reads, writes, pagelog_file_commit or pagelog_file_undo
- *   pagelog_file_free
+ * Whatever a peer says, a begin pulls 544 blocks at most and keeps 8 MiB of them; a repair pulls 65,536 and
+ * keeps a list of 2^20 pages, or compares each page of the file once; a writer passes over 1,024 end marks of
+ * a commit that is not whole, and is MALFORMED then, as is a mark with a file that no log of its length has.
  */
 #ifndef PAGELOG_FILE_H
 #define PAGELOG_FILE_H
@@ -21,6 +21,8 @@
 #ifdef __cplusplus
 extern "C" {
 #endif
+
+enum { PAGELOG_NAME_BYTES = 255 }; /* of a database's name, at most */
 
 /* The most bytes that a file may have: pages 1 to 2^32 - 1. */
 #define PAGELOG_FILE_MOST ((UINT64_C(4294967295)) * PAGELOG_PAGE_BYTES)
@@ -44,6 +46,9 @@ struct pagelog_file_options {
     size_t cache_pages; /* unchanged pages that are kept in memory, 8,192 bytes each; 0: 4,096 */
     uint64_t at; /* a reader of the newest transaction that ended at this LSN or before; 0: it follows */
     bool may_be_stale; /* a reader that gets no answer when it begins goes on with what it has */
+    /* Of the database, copied; NULL: any. The first commit of a writer that has a name gives it to a database
+     * that has none, and from then on it is opened by that name alone. */
+    const char *name;
 };
 
 struct pagelog_file_state {
@@ -53,11 +58,12 @@ struct pagelog_file_state {
         is_broken; /* a commit did not come to its end; the next begin takes an epoch of its own, and looks */
     bool is_stale; /* the last begin got no answer */
     bool is_anew;  /* the service was started anew, and all is gone */
-    bool is_foreign; /* page 0 has something that is no end mark */
-    bool is_over;    /* commits that were not waited for were lost: nothing but a begin goes on from here */
-    uint64_t lsn;    /* of the transaction that is read: the LSN of its last block; 0: none yet */
-    uint64_t end;    /* of the log, as far as is known */
-    uint64_t size;   /* bytes, as committed at `lsn` */
+    bool is_foreign;  /* page 0 has something that is no end mark */
+    bool is_misnamed; /* the database has another name */
+    bool is_over;     /* commits that were not waited for were lost: nothing but a begin goes on from here */
+    uint64_t lsn;     /* of the transaction that is read: the LSN of its last block; 0: none yet */
+    uint64_t end;     /* of the log, as far as is known */
+    uint64_t size;    /* bytes, as committed at `lsn` */
     uint64_t transaction; /* the number of the transaction at `lsn`, from 1 */
     uint32_t epoch, writing_epoch;
     struct pagelog_zone zone;
@@ -77,10 +83,29 @@ struct pagelog_file *pagelog_file_new(const struct pagelog_file_options *options
  * may be lost. */
 void pagelog_file_free(struct pagelog_file *file);
 
+/* As pagelog_set_waiting. */
+void pagelog_file_set_waiting(struct pagelog_file *file, bool (*goes_on)(void *argument), void *argument);
+
+/* Opens a connection, if there is none, and writes the address that it leads to, as pagelog_connect and
+ * pagelog_peer. */
+enum pagelog_outcome pagelog_file_connect(struct pagelog_file *file, char *peer, size_t room);
+
+/* For a child of fork(), which does not use the file: closes its descriptor, by which nothing is sent. It may
+ * be called while another thread of the parent was using it. */
+void pagelog_file_abandon(struct pagelog_file *file);
+
 /* Connects, and learns the newest transaction. A writer begins its epoch and undoes, in a transaction of its
- * own, what a writer before it left without an end mark. MALFORMED: page 0 has something that is no end mark.
+ * own, what a writer before it left without an end mark. MALFORMED: page 0 has something that is no end mark,
+ * or the name of the database is another one. A writer with an operator that is fenced meanwhile follows. A
+ * writer that may be a secondary learns the latter before it begins an epoch.
  */
 enum pagelog_outcome pagelog_file_open(struct pagelog_file *file);
+
+/* Makes an open file, which was fenced, the writer of an epoch of its own again, in the name of this
+ * operator, and goes on from what was committed meanwhile. What was changed and not committed is undone.
+ * After any outcome but DONE it follows. */
+enum pagelog_outcome pagelog_file_take_over(struct pagelog_file *file, uint32_t operator_principal,
+                                            const uint8_t operator_token[PAGELOG_TOKEN_BYTES]);
 
 /* Begins a transaction: what is read is what was committed last, until the next begin. A writer whose epoch
  * is over follows from now on as a reader, and is not FENCED here but at its commit. FENCED: the service was
@@ -125,6 +150,11 @@ enum pagelog_outcome pagelog_file_settle(struct pagelog_file *file);
 
 /* Forgets all changes since the last commit. */
 void pagelog_file_undo(struct pagelog_file *file);
+
+/* As pagelog_has_entry and pagelog_count_entries, in the name of the file's operator; DENIED where it has
+ * none. Commits that nobody waited for are waited for. */
+enum pagelog_outcome pagelog_file_has_entry(struct pagelog_file *file, uint64_t number, bool *has);
+enum pagelog_outcome pagelog_file_count_entries(struct pagelog_file *file, uint64_t *count);
 
 /* The reply that caused the last outcome that was not DONE, as pagelog_refused. */
 const struct pagelog_reply *pagelog_file_refused(const struct pagelog_file *file);

@@ -6,7 +6,7 @@
 #include "pagelog_common.h"
 #include "pagelog_file.h"
 
-enum { MARK_PAGE = 0, MARK_BYTES = 40, GROUP = 64 };
+enum { MARK_PAGE = 0, MARK_BYTES = 40, NAME_PLACE = MARK_BYTES, GROUP = 64 };
 
 /* With each such commit that changes it, a page is written as a whole, so that no get replays many more
  * blocks. */
@@ -40,7 +40,9 @@ struct pagelog_file {
     uint64_t torn; /* from this LSN on its transactions are not whole, until they are undone; 0: all are */
     uint64_t
         doubted; /* the LSN of the end mark of a commit whose blocks are still to be looked for; 0: of none */
-    bool is_open, is_fenced, is_broken, is_stale, is_foreign;
+    bool is_open, is_fenced, is_broken, is_stale, is_foreign, is_misnamed;
+    char name[PAGELOG_NAME_BYTES + 1]; /* of the options; empty: any */
+    bool is_named;        /* page 0 has a name after the mark: its length in a byte, and its bytes */
     uint64_t size, least; /* of the transaction: the size, and the least that it was since the last commit */
     uint64_t next;        /* of a follower: where the next pull begins */
     struct pending pending;
@@ -91,6 +93,12 @@ bool pagelog_has_mark(const uint8_t *block, struct mark *mark);
 /* Pages at an LSN, as the role that the file has. A writer that is fenced by it goes on as a secondary. */
 enum pagelog_outcome pagelog_fetch(struct pagelog_file *file, uint64_t lsn, const uint32_t *pages,
                                    size_t count, uint8_t *out);
+
+/* Whether page 0 has another name than the options. */
+bool pagelog_is_misnamed(const struct pagelog_file *file, const uint8_t *page);
+
+/* Notes that the database has another name, and returns MALFORMED. */
+enum pagelog_outcome pagelog_refuse_name(struct pagelog_file *file);
 
 /* Takes the newest transaction at an LSN of the log for the one that is read; what is in the cache stays only
  * where it is the same. */

@@ -67,15 +67,21 @@ static enum pagelog_outcome take_block(struct pagelog_file *file, const uint8_t 
     return PAGELOG_DONE;
 }
 
-/* Where the log has gone far ahead, takes its newest transaction at once, and what is in memory no more. */
-static enum pagelog_outcome leap(struct pagelog_file *file) {
+/* Where the log has gone far ahead, takes its newest transaction at once, and what is in memory no more.
+ * `*until` is the end of the log, up to which the rest is to be pulled; 0 where nothing is. */
+static enum pagelog_outcome leap(struct pagelog_file *file, uint64_t *until) {
     struct pagelog_reply status;
     enum pagelog_outcome outcome = pagelog_status(file->log, PAGELOG_SECONDARY, &status);
-    if (outcome != PAGELOG_DONE || status.hard < file->next + FAR_BEHIND) return outcome;
-    return pagelog_take_mark(file, status.hard);
+    bool is_far = outcome == PAGELOG_DONE && status.hard >= file->next + FAR_BEHIND;
+    *until = is_far ? 0 : status.hard;
+    return is_far ? pagelog_take_mark(file, status.hard) : outcome;
 }
 
+/* It ends where the log ended when it was behind, so that a writer that goes on for ever keeps nobody here:
+ * what was committed before the begin is there. After a leap nothing is pulled, however far the log is said
+ * to go on from that transaction. */
 enum pagelog_outcome pagelog_follow(struct pagelog_file *file) {
+    uint64_t until = UINT64_MAX;
     for (bool may_leap = true;;) {
         struct pagelog_reply pulled;
         size_t at = 0, length;
@@ -86,8 +92,9 @@ enum pagelog_outcome pagelog_follow(struct pagelog_file *file) {
             outcome = take_block(file, block, length);
         if (outcome != PAGELOG_DONE) return outcome;
         file->next = pulled.next;
-        if (pulled.hard != 0 || pulled.count == 0) return PAGELOG_DONE;
-        if (may_leap) outcome = leap(file);
+        if (pulled.hard != 0 || pulled.count == 0 || file->next > until) return PAGELOG_DONE;
+        if (may_leap) outcome = leap(file, &until);
+        if (until == 0) return outcome;
         may_leap = false;
         if (outcome != PAGELOG_DONE) return outcome;
     }

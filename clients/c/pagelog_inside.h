@@ -5,6 +5,8 @@
 #include "pagelog.h"
 #include "pagelog_common.h"
 
+#include <sys/types.h>
+
 enum { RECORD_PUT = 1, RECORD_ZERO = 2, PUT_HEAD_BYTES = 9, BLOCK_HEAD_BYTES = 12 };
 
 enum { SECTION_A = 1, SECTION_B, SECTION_C };
@@ -41,10 +43,21 @@ struct lent {
 /* Pieces that are lent at once, at most. */
 enum { MOST_LENT = 8 };
 
-/* A request in flight. */
+/* A request in flight: what its reply has to fit. */
 struct asked {
+    uint64_t lsn;
     uint32_t epoch;
+    uint16_t max;
     uint8_t operation;
+    uint8_t is_exact;
+};
+
+/* What a page has at an LSN of the log, from an offset on. */
+struct witness {
+    uint64_t lsn; /* 0: nothing is known */
+    uint32_t page;
+    uint16_t offset, length;
+    uint8_t bytes[PAGELOG_WITNESS_BYTES];
 };
 
 /* What is in flight of the append to come: the writes of its first blocks, a report after some of them. */
@@ -57,6 +70,7 @@ struct ahead {
 struct pagelog {
     char *host, *port;
     struct pagelog_options options;
+    pid_t process;               /* that has made it */
     int socket;                  /* -1: not connected */
     struct buffer output, input; /* requests that were not sent yet; replies not read yet */
     struct lent lent[MOST_LENT]; /* bytes of these requests that are not in the buffer; none of them empty */
@@ -68,12 +82,17 @@ struct pagelog {
     uint32_t epoch;               /* the newest that was heard of; 0: none yet */
     uint32_t writing_epoch;       /* 0: no writer */
     uint64_t end;                 /* the highest LSN known to be in the log */
+    struct witness witness;       /* of the last block that is known to be there */
     struct pagelog_zone zone;     /* of the writing epoch, as far as is known */
     bool owns_epoch;              /* it was begun by this object; another may join it */
     uint32_t lost_failovers;      /* sent since the writing epoch began, whose replies were lost */
     bool anew;                    /* the service was started anew */
     bool stuck;                   /* the window may hold blocks of an append that is not DONE */
     struct ahead ahead;           /* of the append to come */
+    bool (*goes_on)(void *);      /* asked while a call waits; NULL: nobody is */
+    void *waiter;                 /* its argument */
+    uint64_t waits_since;         /* when the first wait began since that was set; 0: none has */
+    bool is_given_up;             /* it has ended the wait */
     bool waits;                   /* something was sent since the last wait */
     uint64_t spin_ns;             /* how long a wait looks for its reply awake */
     uint64_t usual_ns;            /* how long the last waits took on average */
@@ -83,8 +102,30 @@ struct pagelog {
     struct pagelog_counts counts;
 };
 
+/* What a request's reply has to fit. */
+struct asked pagelog_asked_of(const struct pagelog_request *request);
+
+/* Whether this reply may come to that request. A request in another epoch than the current one is denied, so
+ * that a status has the epoch that was asked in. A page may be newer only where that was asked. */
+bool pagelog_answers(struct asked asked, const struct pagelog_reply *reply);
+
 /* Enters an outcome that no reply caused, and returns it. */
 enum pagelog_outcome pagelog_fail(struct pagelog *log, enum pagelog_outcome outcome);
+
+/* Whether this process has made the object, or is a child of that one. */
+bool pagelog_is_own(const struct pagelog *log);
+
+/* Sends this request alone over a connection that has nothing in flight, and reads its reply. */
+enum pagelog_outcome pagelog_exchange(struct pagelog *log, const struct pagelog_request *request,
+                                      struct pagelog_reply *reply);
+
+/* Notes the last record of a block that is in the log. */
+void pagelog_note_block(struct pagelog *log, const uint8_t *block);
+
+/* Whether the service that was connected to has the history that the object has seen: DONE where it has, or
+ * where the object's epoch is over and its principal may not look; FENCED where it has another; else why that
+ * could not be learned. */
+enum pagelog_outcome pagelog_confirm(struct pagelog *log);
 
 /* As pagelog_send, but the bytes of a long block are sent from where they lie: they have to stay there
  * until pagelog_push, or a receive. */
@@ -118,15 +159,24 @@ enum pagelog_outcome pagelog_distrust(struct pagelog *log);
 
 /* How long a call goes on with lost connections while nothing is done. */
 struct pagelog_patience {
+    struct pagelog *log;
     uint64_t until;
     unsigned ms, tries;
+    unsigned epochs; /* that replies have reported, and the call was asked again in */
 };
-struct pagelog_patience pagelog_patience_of(const struct pagelog *log);
+struct pagelog_patience pagelog_patience_of(struct pagelog *log);
+
+/* Whether who waits lets the wait go on. */
+bool pagelog_waits_on(struct pagelog *log);
 
 /* Something was done: the patience begins anew. */
 void pagelog_progress(struct pagelog_patience *patience);
 
 /* Whether there is patience for another try; it waits a little before, and longer each time. */
 bool pagelog_may_try_again(struct pagelog_patience *patience);
+
+/* Whether a call may be asked again in an epoch that a reply has reported: 64 times while there is patience,
+ * and twice without any, since that is how a call learns its epoch. */
+bool pagelog_may_change_epoch(struct pagelog_patience *patience);
 
 #endif

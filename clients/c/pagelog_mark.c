@@ -5,6 +5,10 @@
 
 static const uint8_t magic[8] = {'p', 'l', 'f', 'i', 'l', 'e', '0', '1'};
 
+/* Zeros of a block, at most. Each page of a file has one at least, so that a log bounds the size of its file:
+ * a mark beyond that is forged, and a writer that believed it would write zeros for hours. */
+enum { MOST_ZEROS = PAGELOG_BLOCK_BYTES / PAGELOG_ZERO_BYTES };
+
 bool pagelog_read_mark(const uint8_t *page, struct mark *mark) {
     static const uint8_t zeros[MARK_BYTES];
     memset(mark, 0, sizeof *mark);
@@ -14,7 +18,9 @@ bool pagelog_read_mark(const uint8_t *page, struct mark *mark) {
     mark->size = pagelog_read_number(page + 16, 8);
     mark->session = pagelog_read_number(page + 24, 8);
     mark->transaction = pagelog_read_number(page + 32, 8);
-    return mark->lsn > 0 && mark->size <= PAGELOG_FILE_MOST;
+    if (mark->size > PAGELOG_FILE_MOST) return false;
+    uint64_t least = ((uint64_t)pages_of(mark->size) + MOST_ZEROS - 1) / MOST_ZEROS;
+    return mark->lsn > 0 && mark->lsn >= least;
 }
 
 static void write_mark(uint8_t *bytes, const struct mark *mark) {
@@ -35,6 +41,9 @@ bool pagelog_has_mark(const uint8_t *block, struct mark *mark) {
            pagelog_read_mark(last.bytes, mark) && mark->lsn == records.lsn;
 }
 
+/* Bytes of a Put's head. */
+enum { PUT_BYTES = 9 };
+
 enum pagelog_outcome pagelog_append_ended(struct pagelog_file *file) {
     size_t count = pagelog_blocks_count(file->blocks);
     uint64_t asked = pagelog_now();
@@ -52,14 +61,40 @@ enum pagelog_outcome pagelog_append_full_group(struct pagelog_file *file) {
     return pagelog_blocks_count(file->blocks) >= GROUP ? pagelog_append_ended(file) : PAGELOG_DONE;
 }
 
-/* Where zeros come before the mark, both are in one block: nobody sees the page without its mark. */
+bool pagelog_is_misnamed(const struct pagelog_file *file, const uint8_t *page) {
+    size_t length = strlen(file->name), named = page[NAME_PLACE];
+    if (length == 0 || named == 0) return false;
+    return length != named || memcmp(page + NAME_PLACE + 1, file->name, named) != 0;
+}
+
+enum pagelog_outcome pagelog_refuse_name(struct pagelog_file *file) {
+    file->is_misnamed = true;
+    return pagelog_file_fail(file, PAGELOG_MALFORMED, "the database has another name");
+}
+
+/* Adds the name of the database, which page 0 has after the mark. */
+static enum pagelog_outcome add_name(struct pagelog_file *file) {
+    uint8_t bytes[1 + PAGELOG_NAME_BYTES];
+    size_t length = strlen(file->name);
+    if (length == 0) return PAGELOG_DONE;
+    bytes[0] = (uint8_t)length;
+    memcpy(bytes + 1, file->name, length);
+    return pagelog_blocks_put(file->blocks, MARK_PAGE, NAME_PLACE, bytes, (uint16_t)(1 + length));
+}
+
+/* Where zeros or a name come before the mark, all are in one block: nobody sees the page without its mark. */
 enum pagelog_outcome pagelog_add_mark(struct pagelog_file *file, struct mark *mark) {
+    enum { MOST_BEFORE = PAGELOG_ZERO_BYTES + PUT_BYTES + 1 + PAGELOG_NAME_BYTES };
     uint8_t bytes[MARK_BYTES];
+    bool is_image = mark->transaction % IMAGE_EACH == 0,
+         has_name = *file->name && (is_image || !file->is_named);
+    size_t before = has_name ? MOST_BEFORE : PAGELOG_ZERO_BYTES;
     enum pagelog_outcome outcome = PAGELOG_DONE;
-    mark->lsn = pagelog_blocks_room(file->blocks, MARK_PAGE, PAGELOG_ZERO_BYTES + MARK_BYTES);
+    mark->lsn = pagelog_blocks_room(file->blocks, MARK_PAGE, (uint16_t)(before + MARK_BYTES));
     if (mark->lsn == 0) return PAGELOG_NO_MEMORY;
     write_mark(bytes, mark);
-    if (mark->transaction % IMAGE_EACH == 0) outcome = pagelog_blocks_zero(file->blocks, MARK_PAGE);
+    if (is_image) outcome = pagelog_blocks_zero(file->blocks, MARK_PAGE);
+    if (outcome == PAGELOG_DONE && has_name) outcome = add_name(file);
     if (outcome == PAGELOG_DONE) outcome = pagelog_blocks_put(file->blocks, MARK_PAGE, 0, bytes, MARK_BYTES);
     return outcome == PAGELOG_DONE ? pagelog_blocks_end(file->blocks) : outcome;
 }
@@ -87,6 +122,9 @@ enum pagelog_outcome pagelog_take_mark(struct pagelog_file *file, uint64_t lsn) 
         file->is_far = false;
         file->next = mark.lsn + 1;
     }
+    if (pagelog_is_misnamed(file, page)) return pagelog_refuse_name(file);
+    file->is_named = page[NAME_PLACE] > 0;
     file->mark = mark;
+    pagelog_expect(file->log, lsn, MARK_PAGE, 0, page, MARK_BYTES);
     return PAGELOG_DONE;
 }

@@ -11,23 +11,25 @@ static enum pagelog_outcome out_of_memory(struct pagelog_file *file) {
 
 /* ---- Pages ---- */
 
+enum {
+    MOST_BEHIND = 1 << 16, /* blocks after the end mark that are pulled */
+    MOST_PAGES = 1 << 20,  /* pages that a repair keeps a list of */
+    MOST_MARKS = 1024,     /* of this session that are passed over */
+};
+
 /* A set of pages, as a list. */
 struct pages {
     uint32_t *numbers;
     size_t count, room;
+    bool is_all; /* there is no list: it is the first `count` pages of the file */
 };
 
-static bool add_page(struct pages *pages, uint32_t page) {
-    if (pages->count > 0 && pages->numbers[pages->count - 1] == page) return true;
-    if (pages->count == pages->room) {
-        size_t room = pages->room ? 2 * pages->room : 256;
-        uint32_t *numbers = realloc(pages->numbers, room * sizeof *numbers);
-        if (!numbers) return false;
-        pages->numbers = numbers;
-        pages->room = room;
-    }
-    pages->numbers[pages->count++] = page;
-    return true;
+/* Up to 64 of the pages, from an index on; how many. */
+static size_t group_of(const struct pages *pages, size_t first, uint32_t group[GROUP]) {
+    size_t count = pages->count - first < GROUP ? pages->count - first : GROUP;
+    for (size_t i = 0; i < count; i++)
+        group[i] = pages->is_all ? (uint32_t)(first + i + 1) : pages->numbers[first + i];
+    return count;
 }
 
 static int compare_numbers(const void *one, const void *other) {
@@ -45,6 +47,26 @@ static void sort_once_each(struct pages *pages) {
     pages->count = kept;
 }
 
+/* Makes room in a full list: pages that are there twice go first, so that it is never much longer than the
+ * file. */
+static bool make_room(struct pages *pages) {
+    sort_once_each(pages);
+    if (2 * pages->count < pages->room) return true;
+    size_t room = pages->room ? 2 * pages->room : 256;
+    uint32_t *numbers = realloc(pages->numbers, room * sizeof *numbers);
+    if (!numbers) return false;
+    pages->numbers = numbers;
+    pages->room = room;
+    return true;
+}
+
+static bool add_page(struct pages *pages, uint32_t page) {
+    if (pages->count > 0 && pages->numbers[pages->count - 1] == page) return true;
+    if (pages->count == pages->room && !make_room(pages)) return false;
+    pages->numbers[pages->count++] = page;
+    return true;
+}
+
 /* ---- The repair ---- */
 
 /* Adds the pages of the file that a block touches. */
@@ -57,11 +79,12 @@ static bool add_touched(struct pages *pages, const uint8_t *block, uint32_t last
     return true;
 }
 
-/* The pages of the file that the blocks after the end mark touch; all pages where this principal may not
- * pull. */
+/* The pages of the file that the blocks after the end mark touch. All pages, of which there is no list, where
+ * this principal may not pull, and where the blocks or the pages are so many that the file is the bound. */
 static enum pagelog_outcome touched_pages(struct pagelog_file *file, uint64_t end, struct pages *pages) {
     uint32_t last = pages_of(file->mark.size);
-    for (uint64_t next = file->mark.lsn + 1; next <= end;) {
+    uint64_t next = end - file->mark.lsn <= MOST_BEHIND ? file->mark.lsn + 1 : UINT64_MAX;
+    while (next <= end && pages->count <= MOST_PAGES) {
         struct pagelog_reply pulled;
         size_t at = 0, length;
         const uint8_t *block;
@@ -76,9 +99,8 @@ static enum pagelog_outcome touched_pages(struct pagelog_file *file, uint64_t en
             return PAGELOG_DONE;
         }
     }
-    pages->count = 0;
-    for (uint32_t page = 1; page <= last; page++)
-        if (!add_page(pages, page)) return out_of_memory(file);
+    pages->is_all = true;
+    pages->count = last;
     return PAGELOG_DONE;
 }
 
@@ -107,8 +129,9 @@ enum pagelog_outcome pagelog_repair(struct pagelog_file *file) {
     enum pagelog_outcome outcome = touched_pages(file, end, &pages);
     pagelog_blocks_restart(file->blocks, end + 1);
     for (size_t i = 0; i < pages.count && outcome == PAGELOG_DONE; i += GROUP) {
-        size_t count = pages.count - i < GROUP ? pages.count - i : GROUP;
-        outcome = add_repairs(file, end, pages.numbers + i, count);
+        uint32_t group[GROUP];
+        size_t count = group_of(&pages, i, group);
+        outcome = add_repairs(file, end, group, count);
     }
     free(pages.numbers);
     if (outcome == PAGELOG_DONE) outcome = pagelog_add_mark(file, &mark);
@@ -187,10 +210,14 @@ static enum pagelog_outcome look_for_doubted(struct pagelog_file *file) {
 }
 
 enum pagelog_outcome pagelog_take_whole(struct pagelog_file *file) {
+    unsigned marks = 0;
     enum pagelog_outcome outcome = pagelog_take_mark(file, pagelog_end(file->log));
     if (outcome == PAGELOG_DONE && file->doubted > 0) outcome = look_for_doubted(file);
     while (outcome == PAGELOG_DONE && file->torn > 0 && file->mark.lsn >= file->torn &&
-           file->mark.session == file->session)
+           file->mark.session == file->session) {
+        if (marks++ == MOST_MARKS)
+            return pagelog_file_fail(file, PAGELOG_MALFORMED, "there are more end marks than were written");
         outcome = pagelog_take_mark(file, file->mark.lsn - 1);
+    }
     return outcome;
 }

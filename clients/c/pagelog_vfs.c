@@ -5,6 +5,9 @@
  *   sqlite> .load clients/c/pagelog_vfs
  *   sqlite> .open 'file:NAME?vfs=pagelog&to=127.0.0.1:7400&db=0&id=2&token=HEX&op=1&optoken=HEX'
  *
+ * NAME is kept in the database by the first commit of a writer, and from then on it is opened by that name
+ * alone. A parameter that is none of those below, nor SQLite's, is an error.
+ *
  * Parameters of the URI; those that it lacks are looked for in the file that `credentials` names, a line
  * "NAME VALUE" for each, and then in the environment, as PAGELOG_TOKEN:
  *
@@ -30,8 +33,9 @@
  *   patience=MS      how long lost connections are opened again; as `timeout`, 10000
  *   spin=US          how long a wait for a reply may look for it before it sleeps, as long as the last
  *                    replies came so soon; 50; 0: it sleeps at once, which costs less of a processor
- *   unwaited=N       with synchronous=off up to N commits, 64 at most, may be on their way to the
- *                    service while nobody waits for them; 0
+ *   audit=N          how many entries the service's audit list may have; 16777216. A writer with `op` warns
+ * in SQLite's log once nine tenths are there unwaited=N       with synchronous=off up to N commits, 64 at
+ * most, may be on their way to the service while nobody waits for them; 0
  *
  * A transaction is committed by SQLITE_FCNTL_SYNC, which SQLite sends once for each, whatever `synchronous`
  * and `journal_mode` are: what was written since then becomes one transaction of the file. It waits until
@@ -42,32 +46,41 @@
  * What an error means:
  *
  *   SQLITE_READONLY      another writer has begun an epoch: the transaction is not in the database
- *                        and never will be; the connection goes on as a reader
- *   SQLITE_IOERR         the service is not there, or was started anew, or a page cannot be read or
- *                        written, whatever refuses it: the transaction is not in the database
+ *                        and never will be; the connection goes on as a reader, until it takes over again
+ *   SQLITE_IOERR         the service is not there, or another one is with another history (then for good,
+ *                        until the connection is closed), or a page cannot be read or written, whatever
+ *                        refuses it: the transaction is not in the database
  *   SQLITE_IOERR_FSYNC   of a COMMIT: in doubt; the next transaction sees whether it is in it;
  *                        with `unwaited`, of anything: of the last commits, which nobody waited for,
  *                        one or more may not be in the database; the next transaction sees which
- *   SQLITE_FULL          the audit list or the service's memory is full
+ *   SQLITE_FULL          the service's memory is full; with the extended code 269 the audit list is
  *   SQLITE_PERM          the table denies it, or there is no such database
  *   SQLITE_PROTOCOL      another session writes in this epoch, or what answers is no such service
  *   SQLITE_NOTADB        page 0 of the database has something else
- *   SQLITE_MISUSE        the URI lacks a parameter, or has one that cannot be read
- *   SQLITE_CANTOPEN      of an open: nothing answers; of a COMMIT to several databases: one of them is a
- *                        plain file with a journal, which a crash would leave half written, and nothing is
- *                        committed
+ *   SQLITE_MISUSE        the URI lacks a parameter, or has one that is unknown or cannot be read; a pragma
+ *                        has a number out of its range; the connection was opened before a fork, and
+ *                        this is a child
+ *   SQLITE_CANTOPEN      of an open: nothing answers, or the database has another name; of a COMMIT to
+ *                        several databases: one of them is a plain file with a journal, which a crash
+ *                        would leave half written, and nothing is committed
+ *
+ * A wait for the service that takes longer than a second asks the connection's busy handler, as of
+ * busy_timeout, and ends once that says so. Without one it ends by `timeout` and `patience`.
+ * What a statement may cost with a peer that lies is bounded as pagelog.h and pagelog_file.h say.
  *
  * `PRAGMA pagelog` reports the state of the connection; `PRAGMA pagelog_lsn` and the like one number of it;
  * `PRAGMA pagelog_error` the last error in words; `PRAGMA pagelog_check = 50` changes `check`, and
  * `PRAGMA pagelog_spin = 0` changes `spin`. `PRAGMA pagelog_unwaited = N` waits for what is on its way, and
- * then changes `unwaited`.
+ * then changes `unwaited`. `PRAGMA pagelog_take_over` begins an epoch again after another writer has, for all
+ * connections of the process, as an open with `op` does. `PRAGMA pagelog_entries` and `pagelog_entries_left`
+ * count the audit list by some 24 requests of the operator. SQLite has a VFS report numbers as texts.
  *
- * Connections of one process that write as one principal to one database share a file, with the settings of
- * the one that opened it, and lock as SQLite expects. Between processes there are no locks: there is the
- * epoch. A connection that keeps the lock (locking_mode=exclusive) is in one transaction of the file for as
- * long. So after a commit that was in doubt or lost it neither sees what became of it nor commits again,
- * until `PRAGMA locking_mode = normal` and one statement more have given the lock back; and after one that
- * was refused it may be refused all else until then, that statement included.
+ * Connections of one process that write as one principal to one database share a file, by whatever address
+ * they reach it, with the settings of the one that opened it, and lock as SQLite expects. Between processes
+ * there are no locks: there is the epoch. A connection that keeps the lock (locking_mode=exclusive) is in one
+ * transaction of the file for as long. So after a commit that was in doubt or lost it neither sees what
+ * became of it nor commits again, until `PRAGMA locking_mode = normal` and one statement more have given the
+ * lock back; and after one that was refused it may be refused all else until then, that statement included.
  */
 #include "pagelog_vfs_inside.h"
 
@@ -84,12 +97,13 @@ sqlite3_vfs *pagelog_real_vfs;
 static int open_database(sqlite3_filename name, struct connection *connection, int flags, int *out_flags) {
     struct pagelog_file_options options = {.reads_only = (flags & SQLITE_OPEN_READONLY) != 0};
     char address[VALUE_BYTES];
-    const char *wrong = pagelog_read_settings(name, &options, address);
+    uint64_t entries;
+    const char *wrong = pagelog_read_settings(name, &options, address, &entries);
     if (wrong) {
-        sqlite3_log(SQLITE_MISUSE, "pagelog: the setting %s is missing, or cannot be read", wrong);
+        sqlite3_log(SQLITE_MISUSE, "pagelog: the setting %s is missing, unknown, or cannot be read", wrong);
         return SQLITE_MISUSE;
     }
-    int code = pagelog_find_or_open(&options, &connection->database);
+    int code = pagelog_find_or_open(&options, entries, &connection->database);
     if (code != SQLITE_OK) return code;
     pagelog_open_connection(connection, name);
     if (out_flags && options.reads_only)
@@ -106,7 +120,7 @@ static int vfs_open(sqlite3_vfs *vfs, sqlite3_filename name, sqlite3_file *file,
     if (!(flags & (SQLITE_OPEN_MAIN_JOURNAL | SQLITE_OPEN_SUPER_JOURNAL)))
         return pagelog_real_vfs->xOpen(pagelog_real_vfs, name, file, flags, out_flags);
     bool is_super = flags & SQLITE_OPEN_SUPER_JOURNAL;
-    struct database *database = is_super ? NULL : pagelog_database_of_journal(name);
+    struct database *database = is_super ? NULL : pagelog_database_of_name(name);
     pagelog_open_journal((struct memory *)file, database, is_super);
     return SQLITE_OK;
 }
@@ -194,7 +208,8 @@ static int register_vfs(void) {
     pagelog_real_vfs = sqlite3_vfs_find(NULL);
     if (!pagelog_real_vfs) return SQLITE_ERROR;
     vfs.szOsFile = pagelog_real_vfs->szOsFile > least ? pagelog_real_vfs->szOsFile : least;
-    return sqlite3_vfs_register(&vfs, 0);
+    int code = pagelog_watch_forks();
+    return code == SQLITE_OK ? sqlite3_vfs_register(&vfs, 0) : code;
 }
 
 #ifdef PAGELOG_STATIC

@@ -2,6 +2,7 @@
  * outcome of a database's file is to SQLite. */
 #include "pagelog_vfs_inside.h"
 
+#include <pthread.h>
 #include <stdio.h>
 #include <string.h>
 
@@ -34,20 +35,41 @@ static int code_of(const struct pagelog_file *file, enum pagelog_outcome outcome
     case PAGELOG_NO_MEMORY:
         return kind == PAGELOG_REPLY_NO_MEMORY ? SQLITE_FULL : SQLITE_IOERR_NOMEM;
     case PAGELOG_AUDIT_FULL:
-        return SQLITE_FULL;
+        return FULL_LIST;
     case PAGELOG_MALFORMED:
+        if (pagelog_file_state_of(file).is_misnamed) return SQLITE_CANTOPEN;
         return pagelog_file_state_of(file).is_foreign ? SQLITE_NOTADB : SQLITE_PROTOCOL;
     }
     return SQLITE_ERROR;
 }
 
-int pagelog_result(struct database *database, enum pagelog_outcome outcome) {
-    if (outcome == PAGELOG_DONE) return SQLITE_OK;
-    int code = code_of(database->file, outcome);
+/* What the service has lost is not found by who opens the database from now on: its file is a new one. */
+static void unlist_database(struct database *database) {
+    sqlite3_mutex_enter(list_mutex());
+    struct database **at = &databases;
+    while (*at && *at != database)
+        at = &(*at)->next;
+    if (*at) *at = database->next;
+    sqlite3_mutex_leave(list_mutex());
+}
+
+/* Notes an outcome by its code. */
+static int note(struct database *database, int code) {
     if (code == SQLITE_IOERR_FSYNC) database->is_loss_untold = false;
+    if (pagelog_file_state_of(database->file).is_anew) unlist_database(database);
     pagelog_file_explain(database->file, database->error, sizeof database->error);
     sqlite3_log(code, "pagelog: %s", database->error);
     return code;
+}
+
+int pagelog_result(struct database *database, enum pagelog_outcome outcome) {
+    return outcome == PAGELOG_DONE ? SQLITE_OK : note(database, code_of(database->file, outcome));
+}
+
+int pagelog_result_of_begin(struct database *database, enum pagelog_outcome outcome) {
+    if (outcome == PAGELOG_DONE) return SQLITE_OK;
+    bool is_promised = outcome != PAGELOG_IN_DOUBT || pagelog_file_state_of(database->file).is_over;
+    return note(database, is_promised ? code_of(database->file, outcome) : SQLITE_IOERR);
 }
 
 /* ---- Databases ---- */
@@ -57,54 +79,89 @@ static void free_database(struct database *database) {
     sqlite3_free(database->room);
     sqlite3_mutex_free(database->mutex);
     sqlite3_free(database->key);
+    sqlite3_free(database->address);
+    sqlite3_free(database->name);
     sqlite3_free(database);
 }
 
-/* A database that is not open yet. */
-static struct database *make_database(const struct pagelog_file_options *options, char *key) {
-    struct database *database = sqlite3_malloc(sizeof *database);
-    if (!database) {
-        sqlite3_free(key);
-        return NULL;
-    }
-    memset(database, 0, sizeof *database);
-    database->key = key;
-    database->references = 1;
-    database->mutex = sqlite3_mutex_alloc(SQLITE_MUTEX_FAST);
-    database->file = pagelog_file_new(options);
-    if (database->file && database->mutex) return database;
-    free_database(database);
-    return NULL;
-}
-
-/* What connections must have in common to share a database. */
+/* What connections must have in common to share a database, beside the service. */
 static char *key_of(const struct pagelog_file_options *options) {
     char token[2 * PAGELOG_TOKEN_BYTES + 1];
     for (size_t i = 0; i < PAGELOG_TOKEN_BYTES; i++)
         sprintf(token + 2 * i, "%02x", options->service.token[i]);
-    return sqlite3_mprintf("%s %u %u %s", options->service.address, options->service.database,
-                           options->service.principal, token);
+    return sqlite3_mprintf("%u %u %s", options->service.database, options->service.principal, token);
 }
 
-/* The database of these options, listed where others may share it, with one reference more; NULL where memory
- * runs out. */
-static struct database *find_or_make(const struct pagelog_file_options *options) {
-    char *key = key_of(options);
-    if (!key) return NULL;
-    if (options->reads_only) return make_database(options, key);
-    sqlite3_mutex_enter(list_mutex());
+static void take_operator(struct database *database, const struct pagelog_file_options *options) {
+    if (!options->has_operator) return;
+    database->has_operator = true;
+    database->operator_principal = options->operator_principal;
+    memcpy(database->operator_token, options->operator_token, PAGELOG_TOKEN_BYTES);
+}
+
+/* A database that is not open yet; NULL where memory runs out. */
+static struct database *make_database(const struct pagelog_file_options *options) {
+    struct database *database = sqlite3_malloc(sizeof *database);
+    if (!database) return NULL;
+    memset(database, 0, sizeof *database);
+    database->references = 1;
+    database->key = key_of(options);
+    database->address = sqlite3_mprintf("%s", options->service.address);
+    database->name = sqlite3_mprintf("%s", options->name);
+    database->mutex = sqlite3_mutex_alloc(SQLITE_MUTEX_FAST);
+    database->file = pagelog_file_new(options);
+    take_operator(database, options);
+    if (database->key && database->address && database->name && database->mutex && database->file)
+        return database;
+    free_database(database);
+    return NULL;
+}
+
+/* The database in the list that this one is too, with one reference more; NULL where there is none. By its
+ * peer one service is known under each of its names. */
+static struct database *find(const struct database *wanted) {
     struct database *database = databases;
-    while (database && strcmp(database->key, key) != 0)
-        database = database->next;
-    if (database) {
-        database->references++;
-        sqlite3_free(key);
-    } else if ((database = make_database(options, key))) {
-        database->next = databases;
-        databases = database;
+    for (; database; database = database->next) {
+        bool is_there = strcmp(database->address, wanted->address) == 0 ||
+                        (*wanted->peer && strcmp(database->peer, wanted->peer) == 0);
+        if (is_there && strcmp(database->key, wanted->key) == 0) break;
+    }
+    if (database) database->references++;
+    return database;
+}
+
+/* As find, but lists `made` where there is none. */
+static struct database *find_or_list(struct database *made) {
+    sqlite3_mutex_enter(list_mutex());
+    struct database *found = find(made);
+    if (!found) {
+        made->next = databases;
+        databases = made;
     }
     sqlite3_mutex_leave(list_mutex());
-    return database;
+    return found;
+}
+
+static struct database *find_listed(const struct database *made) {
+    sqlite3_mutex_enter(list_mutex());
+    struct database *found = find(made);
+    sqlite3_mutex_leave(list_mutex());
+    return found;
+}
+
+/* Puts the database that connections share in the place of one that was made, unless this is the first. A
+ * reader has one of its own. */
+static int share(struct database **database) {
+    struct database *made = *database, *found = find_listed(made);
+    if (!found) {
+        enum pagelog_outcome outcome = pagelog_file_connect(made->file, made->peer, sizeof made->peer);
+        if (outcome != PAGELOG_DONE) return pagelog_result_of_begin(made, outcome);
+        found = find_or_list(made);
+    }
+    if (!found) return SQLITE_OK;
+    free_database(made);
+    *database = found;
+    return SQLITE_OK;
 }
 
 void pagelog_release(struct database *database) {
@@ -118,28 +175,72 @@ void pagelog_release(struct database *database) {
     if (is_last) free_database(database);
 }
 
-/* Opens a database, unless another connection has. Only those that share it wait for the service meanwhile.
- */
-static int ensure_open(struct database *database) {
-    int code = SQLITE_OK;
-    sqlite3_mutex_enter(database->mutex);
-    if (!database->is_open) {
-        code = pagelog_result(database, pagelog_file_open(database->file));
-        database->is_open = code == SQLITE_OK;
-    }
-    sqlite3_mutex_leave(database->mutex);
-    return code == SQLITE_IOERR ? SQLITE_CANTOPEN : code;
+int pagelog_take_over_if_wanted(struct database *database) {
+    if (!database->is_take_over_wanted || database->sharing > 0) return SQLITE_OK;
+    database->is_take_over_wanted = false;
+    pagelog_call_untold(database, pagelog_file_settle);
+    return pagelog_result_of_begin(
+        database,
+        pagelog_file_take_over(database->file, database->operator_principal, database->operator_token));
 }
 
-int pagelog_find_or_open(const struct pagelog_file_options *options, struct database **found) {
-    struct database *database = find_or_make(options);
+/* Another connection has opened the database. Where it was fenced since, who has an operator takes over for
+ * all of them, as soon as none reads. */
+static int join(struct database *database, const struct pagelog_file_options *options) {
+    if (!options->has_operator || pagelog_file_may_commit(database->file)) return SQLITE_OK;
+    take_operator(database, options);
+    database->is_take_over_wanted = true;
+    return pagelog_take_over_if_wanted(database);
+}
+
+/* One request when a writer opens, and one for each 64th of the list that it has filled itself. */
+void pagelog_warn_of_full_list(struct database *database) {
+    struct pagelog_file_state state = pagelog_file_state_of(database->file);
+    uint64_t since = state.wire.requests - database->looked, tenth = database->entries / 10;
+    bool is_due = database->looked == 0 || since > database->entries / 64, has = false;
+    if (!database->has_operator || !is_due || state.on_their_way > 0) return;
+    database->looked = state.wire.requests;
+    if (pagelog_file_has_entry(database->file, database->entries - tenth, &has) == PAGELOG_DONE && has)
+        sqlite3_log(
+            SQLITE_WARNING,
+            "pagelog: nine tenths of the audit list of %llu entries are full; once it is, the database "
+            "answers nothing any more",
+            database->entries);
+}
+
+/* Opens a database, unless another connection has. Only those that share it wait for the service meanwhile.
+ */
+static int ensure_open(struct database *database, const struct pagelog_file_options *options) {
+    int code;
+    sqlite3_mutex_enter(database->mutex);
+    pagelog_file_set_waiting(database->file, NULL, NULL);
+    if (database->is_open) {
+        code = join(database, options);
+    } else {
+        code = pagelog_result_of_begin(database, pagelog_file_open(database->file));
+        database->is_open = code == SQLITE_OK;
+        if (database->is_open) pagelog_warn_of_full_list(database);
+    }
+    return leave(database, code);
+}
+
+int pagelog_find_or_open(const struct pagelog_file_options *options, uint64_t entries,
+                         struct database **found) {
+    struct database *database = make_database(options);
     if (!database) return SQLITE_NOMEM;
-    int code = ensure_open(database);
+    database->entries = entries;
+    int code = options->reads_only ? SQLITE_OK : share(&database);
+    if (code == SQLITE_OK && strcmp(database->name, options->name) != 0) {
+        sqlite3_log(SQLITE_CANTOPEN, "pagelog: the database is open as %s, and has not the name %s",
+                    database->name, options->name);
+        code = SQLITE_CANTOPEN;
+    }
+    if (code == SQLITE_OK) code = ensure_open(database, options);
     if (code == SQLITE_OK)
         *found = database;
     else
         pagelog_release(database);
-    return code;
+    return code == SQLITE_IOERR ? SQLITE_CANTOPEN : code;
 }
 
 /* ---- Connections ---- */
@@ -160,6 +261,39 @@ void pagelog_unlist_connection(struct connection *connection) {
     *at = connection->next;
     sqlite3_mutex_leave(list_mutex());
 }
+
+/* ---- Forks ---- */
+
+/* The lists are whole in a child: no thread is amid a change of them while this process forks. */
+static void before_fork(void) {
+    sqlite3_mutex_enter(list_mutex());
+}
+
+static void after_fork_in_parent(void) {
+    sqlite3_mutex_leave(list_mutex());
+}
+
+/* The socket is the parent's, and so are the replies that it brings. What the child opens is its own. After
+ * vfork() this is not called, nor need be: such a child only starts another program. */
+static void after_fork_in_child(void) {
+    for (struct database *database = databases; database; database = database->next)
+        pagelog_file_abandon(database->file);
+    for (struct connection *connection = connections; connection; connection = connection->next) {
+        connection->database->is_inherited = true;
+        pagelog_file_abandon(connection->database->file);
+        pagelog_disown_connection(connection);
+    }
+    databases = NULL;
+    connections = NULL;
+    sqlite3_mutex_leave(list_mutex());
+}
+
+int pagelog_watch_forks(void) {
+    int error = pthread_atfork(before_fork, after_fork_in_parent, after_fork_in_child);
+    return error == 0 ? SQLITE_OK : SQLITE_NOMEM;
+}
+
+/* ---- Journals ---- */
 
 struct database *pagelog_database_of_name(const void *name) {
     sqlite3_mutex_enter(list_mutex());

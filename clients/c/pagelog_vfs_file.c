@@ -10,12 +10,32 @@ enum { VERSION_OFFSET = 24, VERSION_BYTES = 16 };
 /* Of a database: by which way it is written and read, each a byte. 2 says by a WAL. */
 enum { WAYS_OFFSET = 18, WAYS_BYTES = 2, BY_JOURNAL = 1, BY_WAL = 2 };
 
-/* A call of whose error SQLite does not hear. Where it loses commits the next statement tells it. */
-static void call_untold(struct database *database, enum pagelog_outcome (*call)(struct pagelog_file *file)) {
+void pagelog_call_untold(struct database *database, enum pagelog_outcome (*call)(struct pagelog_file *file)) {
     uint64_t losses = pagelog_file_losses(database->file);
     bool was_untold = database->is_loss_untold;
     pagelog_result(database, call(database->file));
     database->is_loss_untold = was_untold || pagelog_file_losses(database->file) > losses;
+}
+
+/* A connection without a busy handler ends no wait: SQLite says 0 for it, as for one whose time is over.
+ * Before version 3.41 no VFS can see an interrupt. */
+bool pagelog_connection_waits_on(void *argument) {
+    struct connection *connection = argument;
+#if SQLITE_VERSION_NUMBER >= 3041000
+    bool is_known = connection->sqlite && *connection->sqlite && sqlite3_libversion_number() >= 3041000;
+    if (is_known && sqlite3_is_interrupted(*connection->sqlite)) return false;
+#endif
+    if (!connection->busy) return true;
+    if (!connection->busy(connection->busy_argument)) return !connection->has_waited;
+    connection->has_waited = true;
+    return true;
+}
+
+/* Notes by whom waits are ended. */
+static int note_handler(struct connection *connection, void **handler) {
+    memcpy(&connection->busy, &handler[0], sizeof connection->busy);
+    connection->busy_argument = handler[1];
+    return SQLITE_OK;
 }
 
 /* Commits that nobody waited for are waited for by who closes. */
@@ -23,7 +43,8 @@ static int file_close(sqlite3_file *file) {
     struct connection *connection = (struct connection *)file;
     struct database *database = enter(file);
     pagelog_lower_lock(database, connection, SQLITE_LOCK_NONE);
-    call_untold(database, pagelog_file_settle);
+    pagelog_call_untold(database, pagelog_file_settle);
+    pagelog_file_set_waiting(database->file, NULL, NULL);
     leave(database, SQLITE_OK);
     pagelog_unlist_connection(connection);
     pagelog_release(database);
@@ -78,7 +99,7 @@ static bool is_too_early(const struct connection *connection) {
 
 /* SQLite undoes a statement that met another error of a read or a write in part only. */
 static int as_io_error(int code) {
-    bool is_known = code == SQLITE_OK || code == SQLITE_FULL || (code & 0xff) == SQLITE_IOERR;
+    bool is_known = code == SQLITE_OK || (code & 0xff) == SQLITE_FULL || (code & 0xff) == SQLITE_IOERR;
     return is_known ? code : SQLITE_IOERR;
 }
 
@@ -164,20 +185,39 @@ static int file_device_characteristics(sqlite3_file *file) {
     return CHARACTERISTICS;
 }
 
+/* A commit, or the end of a rollback, after which nothing differs. Where that is refused too, `PRAGMA
+ * pagelog_error` still reports why the commit was. */
+static int commit(struct connection *connection) {
+    struct database *database = connection->database;
+    char error[ERROR_BYTES];
+    bool is_rollback = connection->is_refused;
+    memcpy(error, database->error, sizeof error);
+    int code = note_refusal(connection, pagelog_result(database, pagelog_file_commit(database->file)));
+    if (is_rollback) memcpy(database->error, error, sizeof error);
+    return code;
+}
+
 static int file_control(sqlite3_file *file, int operation, void *argument) {
     struct connection *connection = (struct connection *)file;
     struct database *database = enter(file);
     int code = SQLITE_NOTFOUND;
     switch (operation) {
-    case SQLITE_FCNTL_SYNC: /* a commit, or the end of a rollback, after which nothing differs */
-        code = note_refusal(connection, pagelog_result(database, pagelog_file_commit(database->file)));
+    case SQLITE_FCNTL_SYNC:
+        code = commit(connection);
+        if (code == SQLITE_OK) pagelog_warn_of_full_list(database);
         note_error(file, code);
         connection->is_committed = code == SQLITE_OK;
         connection->lsn = pagelog_file_lsn(database->file);
         break;
     case SQLITE_FCNTL_COMMIT_PHASETWO: /* a VACUUM makes the file shorter after its commit */
-        call_untold(database, pagelog_file_commit);
+        pagelog_call_untold(database, pagelog_file_commit);
         connection->lsn = pagelog_file_lsn(database->file);
+        break;
+    case SQLITE_FCNTL_BUSYHANDLER:
+        code = note_handler(connection, argument);
+        break;
+    case SQLITE_FCNTL_PDB:
+        connection->sqlite = argument;
         break;
     case SQLITE_FCNTL_PRAGMA:
         code = pagelog_answer_pragma(connection, argument);
@@ -214,16 +254,12 @@ void pagelog_open_connection(struct connection *connection, sqlite3_filename nam
     connection->lock = SQLITE_LOCK_NONE;
     connection->is_sized = connection->is_refused = connection->is_committed = false;
     connection->is_exclusive = false;
+    connection->busy = NULL;
+    connection->sqlite = NULL;
     connection->journal_mode = "delete";
     connection->base.pMethods = &file_methods;
     pagelog_list_connection(connection, name);
     enter(&connection->base);
     note_cache(connection);
     leave(connection->database, SQLITE_OK);
-}
-
-struct database *pagelog_database_of_journal(sqlite3_filename name) {
-    sqlite3_file *file = name ? sqlite3_database_file_object(name) : NULL;
-    bool is_ours = file && file->pMethods == &file_methods;
-    return is_ours ? ((struct connection *)file)->database : NULL;
 }

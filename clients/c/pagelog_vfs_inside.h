@@ -19,6 +19,9 @@ enum {
     ERROR_BYTES = 160,
 };
 
+/* The audit list is full, by which SQLite's extended code differs from a service without memory. */
+enum { FULL_LIST = SQLITE_FULL | 1 << 8 };
+
 /* A journal in memory is written in order, and never longer than what it has. */
 enum { CHARACTERISTICS = SQLITE_IOCAP_SEQUENTIAL | SQLITE_IOCAP_SAFE_APPEND };
 
@@ -26,15 +29,24 @@ enum { CHARACTERISTICS = SQLITE_IOCAP_SEQUENTIAL | SQLITE_IOCAP_SAFE_APPEND };
 struct database {
     struct database *next;
     unsigned references;
-    char *key;
+    char *key, *address,
+        *name; /* who writes to which database; the service, and the database, as the URI has them */
+    char peer[VALUE_BYTES]; /* the address that this service was found at */
     sqlite3_mutex *mutex;
     struct pagelog_file *file;
     bool is_open;
     unsigned sharing;            /* connections with a lock, SQLITE_LOCK_SHARED or above */
     struct connection *reserved; /* the one with SQLITE_LOCK_RESERVED or above, or NULL */
     bool is_pending;             /* it waits for the others to go, or has gone on to SQLITE_LOCK_EXCLUSIVE */
-    bool is_loss_untold;         /* the file has lost commits, and no statement has told it */
-    unsigned char *room;         /* of the last journal, for the next one; NULL: none */
+    bool is_take_over_wanted;    /* by who has opened it, or by a pragma, while others read */
+    bool has_operator;           /* in whose name it is taken over */
+    uint32_t operator_principal;
+    uint8_t operator_token[PAGELOG_TOKEN_BYTES];
+    bool is_inherited;   /* this process is a child of the one that has opened it */
+    bool is_loss_untold; /* the file has lost commits, and no statement has told it */
+    uint64_t entries;    /* that the audit list may have */
+    uint64_t looked;     /* requests of this file when it was last looked how full that is */
+    unsigned char *room; /* of the last journal, for the next one; NULL: none */
     sqlite3_int64 room_bytes;
     char error[ERROR_BYTES];
 };
@@ -50,6 +62,11 @@ struct connection {
     bool is_sized;     /* SQLite has asked for the size of a sector */
     bool is_refused;   /* the last commit or end of a rollback was, and the lock was kept since */
     bool is_committed; /* the last commit was done, the lock was kept since, and nothing was written */
+    /* SQLite's busy handler of the connection, with its argument, and the connection of SQLite's. */
+    int (*busy)(void *);
+    void *busy_argument;
+    sqlite3 **sqlite;
+    bool has_waited; /* the handler has let the present call wait */
     /* What was set by `PRAGMA locking_mode` and `journal_mode`. */
     bool is_exclusive;
     const char *journal_mode;
@@ -67,11 +84,17 @@ struct memory {
 /* For what is not kept in the service: temporary files, time, random numbers. */
 extern sqlite3_vfs *pagelog_real_vfs;
 
+/* Whether a connection lets a wait for the service go on: its busy handler ends it, or sqlite3_interrupt. */
+bool pagelog_connection_waits_on(void *connection);
+
 /* The database of a connection, whose mutex is taken until `leave`, which returns the code that it is given.
- */
+ * What waits for the service meanwhile waits for this connection. */
 static inline struct database *enter(sqlite3_file *file) {
-    struct database *database = ((struct connection *)file)->database;
+    struct connection *connection = (struct connection *)file;
+    struct database *database = connection->database;
     sqlite3_mutex_enter(database->mutex);
+    connection->has_waited = false;
+    pagelog_file_set_waiting(database->file, pagelog_connection_waits_on, connection);
     return database;
 }
 
@@ -82,9 +105,15 @@ static inline int leave(struct database *database, int code) {
 
 /* ---- pagelog_vfs_settings.c ---- */
 
-/* Reads all settings; the name of the first one that is missing or cannot be read, or NULL. */
+enum { MOST_MS = 3600000, MOST_SPIN_US = 1000000 };
+
+/* Reads a number of at most `most`; false where the text is none. */
+bool pagelog_read_number_of(const char *text, uint64_t most, uint64_t *number);
+
+/* Reads all settings; the name of the first one that is missing, has no meaning, or cannot be read, or NULL.
+ */
 const char *pagelog_read_settings(sqlite3_filename uri, struct pagelog_file_options *options,
-                                  char address[VALUE_BYTES]);
+                                  char address[VALUE_BYTES], uint64_t *entries);
 
 /* A number of microseconds, as the wire has it. */
 unsigned pagelog_spin_of(uint64_t us);
@@ -94,8 +123,20 @@ unsigned pagelog_spin_of(uint64_t us);
 /* SQLite's code for an outcome, which is noted for PRAGMA pagelog_error and written to SQLite's log. */
 int pagelog_result(struct database *database, enum pagelog_outcome outcome);
 
-/* The database of these options, open, with one reference more. */
-int pagelog_find_or_open(const struct pagelog_file_options *options, struct database **found);
+/* As pagelog_result, of a call that has promised nothing: what is in doubt there is no commit of the
+ * caller's. */
+int pagelog_result_of_begin(struct database *database, enum pagelog_outcome outcome);
+
+/* Looks at times whether the audit list is full soon, and warns of it in SQLite's log. */
+void pagelog_warn_of_full_list(struct database *database);
+
+/* Takes over again where that is wanted, and no connection reads what is there now. */
+int pagelog_take_over_if_wanted(struct database *database);
+
+/* The database of these options, open, with one reference more. One that was fenced is taken over again where
+ * the options have an operator. */
+int pagelog_find_or_open(const struct pagelog_file_options *options, uint64_t entries,
+                         struct database **found);
 
 /* Gives a reference back; the last one frees the database. */
 void pagelog_release(struct database *database);
@@ -103,16 +144,25 @@ void pagelog_release(struct database *database);
 void pagelog_list_connection(struct connection *connection, sqlite3_filename name);
 void pagelog_unlist_connection(struct connection *connection);
 
+/* Has a child of fork() begin with no databases: what it inherits is closed and refused. */
+int pagelog_watch_forks(void);
+
 /* The database whose journal's name SQLite keeps here; NULL: it is none of ours, whatever the name. */
 struct database *pagelog_database_of_name(const void *name);
 
 /* ---- pagelog_vfs_file.c: a connection ---- */
 
+/* A call of whose error SQLite does not hear. Where it loses commits the next statement tells it. */
+void pagelog_call_untold(struct database *database, enum pagelog_outcome (*call)(struct pagelog_file *file));
+
 /* Makes a file of SQLite's a connection to its database, which is open. */
 void pagelog_open_connection(struct connection *connection, sqlite3_filename name);
 
-/* The database whose journal has this name; NULL: not known. */
-struct database *pagelog_database_of_journal(sqlite3_filename name);
+/* ---- pagelog_vfs_fork.c ---- */
+
+/* In a child of fork(): from now on a connection of the parent refuses to be used, and is closed without a
+ * word to the service. */
+void pagelog_disown_connection(struct connection *connection);
 
 /* ---- pagelog_vfs_locks.c ---- */
 

@@ -29,7 +29,8 @@ static void give_back_room(struct memory *memory) {
 
 static int memory_close(sqlite3_file *file) {
     struct memory *memory = (struct memory *)file;
-    if (memory->database && !memory->is_super) give_back_room(memory);
+    bool is_kept = memory->database && !memory->is_super && !memory->database->is_inherited;
+    if (is_kept) give_back_room(memory);
     sqlite3_free(memory->bytes);
     memory->bytes = NULL;
     return SQLITE_OK;

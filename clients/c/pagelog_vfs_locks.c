@@ -24,8 +24,9 @@ static int lock_shared(struct database *database) {
         database->is_loss_untold = false;
         return SQLITE_IOERR_FSYNC;
     }
-    int code =
-        database->sharing > 0 ? SQLITE_OK : pagelog_result(database, pagelog_file_begin(database->file));
+    int code = pagelog_take_over_if_wanted(database);
+    if (code == SQLITE_OK && database->sharing == 0)
+        code = pagelog_result_of_begin(database, pagelog_file_begin(database->file));
     if (code == SQLITE_OK) database->sharing++;
     return code;
 }

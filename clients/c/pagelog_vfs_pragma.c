@@ -2,7 +2,6 @@
  * here. */
 #include "pagelog_vfs_inside.h"
 
-#include <stdlib.h>
 #include <string.h>
 
 static const char *role_name(const struct pagelog_file_state *state) {
@@ -63,16 +62,58 @@ static char *text_of_pragma(struct database *database, const char *name) {
     return *name == '_' && number_of(&state, name + 1, &number) ? sqlite3_mprintf("%llu", number) : NULL;
 }
 
-/* Changes what a pragma of this name changes. */
-static int set_by_pragma(struct database *database, const char *name, unsigned long number) {
-    struct pagelog_file *file = database->file;
-    if (sqlite3_stricmp(name, "pagelog_check") == 0) pagelog_file_set_check(file, (unsigned)number);
-    if (sqlite3_stricmp(name, "pagelog_spin") == 0) pagelog_file_set_spin(file, pagelog_spin_of(number));
-    if (sqlite3_stricmp(name, "pagelog_unwaited") != 0) return SQLITE_OK;
-    int code = pagelog_result(database, pagelog_file_settle(file));
-    if (code == SQLITE_OK)
-        pagelog_file_set_unwaited(file, number < PAGELOG_WINDOW ? (unsigned)number : PAGELOG_WINDOW);
+/* Takes over by hand what another writer has fenced. Nobody may read what is there now. */
+static int take_over(struct connection *connection, char **words) {
+    struct database *database = connection->database;
+    if (!database->has_operator) {
+        *words = sqlite3_mprintf("no operator: the URI has no op and optoken");
+        return SQLITE_MISUSE;
+    }
+    if (database->sharing > 0) {
+        *words = sqlite3_mprintf("a connection of this process is in a transaction");
+        return SQLITE_BUSY;
+    }
+    database->is_take_over_wanted = true;
+    int code = pagelog_take_over_if_wanted(database);
+    if (code != SQLITE_OK) *words = sqlite3_mprintf("%s", database->error);
     return code;
+}
+
+/* Asks how many entries the audit list has, or may still have. */
+static int count_entries(struct database *database, bool is_left, char **words) {
+    uint64_t count = 0;
+    int code = pagelog_result(database, pagelog_file_count_entries(database->file, &count));
+    if (is_left) count = count < database->entries ? database->entries - count : 0;
+    *words = code == SQLITE_OK ? sqlite3_mprintf("%llu", count) : sqlite3_mprintf("%s", database->error);
+    return code;
+}
+
+/* Waits for what is on its way, and then changes how much may be. */
+static int set_unwaited(struct database *database, uint64_t number) {
+    int code = pagelog_result(database, pagelog_file_settle(database->file));
+    if (code == SQLITE_OK) pagelog_file_set_unwaited(database->file, (unsigned)number);
+    return code;
+}
+
+/* Changes what a pragma of this name changes. */
+static int set_by_pragma(struct database *database, const char *name, const char *text, char **words) {
+    const struct {
+        const char *name;
+        uint64_t most;
+    } settings[] = {{"_check", MOST_MS}, {"_spin", MOST_SPIN_US}, {"_unwaited", PAGELOG_WINDOW}};
+    uint64_t number = 0;
+    size_t i = 0;
+    while (i < 3 && sqlite3_stricmp(name, settings[i].name) != 0)
+        i++;
+    if (i == 3 || !pagelog_read_number_of(text, settings[i].most, &number)) {
+        *words = i == 3 ? sqlite3_mprintf("pagelog%s cannot be set", name)
+                        : sqlite3_mprintf("pagelog%s is a number from 0 to %llu", name, settings[i].most);
+        return SQLITE_MISUSE;
+    }
+    if (i == 2) return set_unwaited(database, number);
+    if (i == 0) pagelog_file_set_check(database->file, (unsigned)number);
+    if (i == 1) pagelog_file_set_spin(database->file, pagelog_spin_of(number));
+    return SQLITE_OK;
 }
 
 /* SQLite takes a WAL to be possible where one connection keeps the lock, whatever the VFS has. There is none
@@ -96,9 +137,20 @@ static int answer_mode(struct connection *connection, char **arguments) {
 int pagelog_answer_pragma(struct connection *connection, char **arguments) {
     struct database *database = connection->database;
     const char *name = arguments[1];
+    int code = SQLITE_OK;
     if (sqlite3_strnicmp(name, "pagelog", 7) != 0) return answer_mode(connection, arguments);
-    int code = arguments[2] ? set_by_pragma(database, name, strtoul(arguments[2], NULL, 10)) : SQLITE_OK;
+    name += 7;
+    bool is_take_over = sqlite3_stricmp(name, "_take_over") == 0,
+         is_left = sqlite3_stricmp(name, "_entries_left") == 0;
+    if (is_left || sqlite3_stricmp(name, "_entries") == 0)
+        return count_entries(database, is_left, &arguments[0]);
+    if (is_take_over)
+        code = take_over(connection, &arguments[0]);
+    else if (arguments[2])
+        code = set_by_pragma(database, name, arguments[2], &arguments[0]);
     if (code != SQLITE_OK) return code;
-    arguments[0] = text_of_pragma(database, name + 7);
-    return arguments[0] ? SQLITE_OK : SQLITE_NOTFOUND;
+    arguments[0] = text_of_pragma(database, is_take_over ? "_writing_epoch" : name);
+    if (arguments[0]) return SQLITE_OK;
+    arguments[0] = sqlite3_mprintf("no such pragma: pagelog%s", name);
+    return SQLITE_ERROR;
 }

@@ -3,12 +3,22 @@
 #include "pagelog_vfs_inside.h"
 
 #include <ctype.h>
+#include <errno.h>
 #include <stdio.h>
 #include <stdlib.h>
 #include <string.h>
 
 /* How long a wait looks for its reply, in microseconds. */
-enum { DEFAULT_SPIN_US = 50, MOST_SPIN_US = 1000000 };
+enum { DEFAULT_SPIN_US = 50 };
+
+/* Entries that an audit list may have, at most; the service's default. */
+enum { MOST_ENTRIES = 1 << 24 };
+
+/* The parameters of a URI: these, and SQLite's own. */
+static const char *const known[] = {
+    "to",          "db",    "id",     "token",  "op",      "optoken", "mode",      "at",       "check",
+    "stale",       "pages", "copies", "quorum", "written", "spin",    "timeout",   "patience", "unwaited",
+    "credentials", "audit", "vfs",    "cache",  "psow",    "nolock",  "immutable", "modeof"};
 
 /* Looks in the file `path` for a line "NAME VALUE". */
 static bool find_in_file(const char *path, const char *name, char *value) {
@@ -34,23 +44,40 @@ static bool find_in_environment(const char *name, char *value) {
     return true;
 }
 
-/* A setting: of the URI, of the file of credentials, or of the environment. */
+/* The first parameter that has no meaning, or NULL. */
+static const char *find_unknown(sqlite3_filename uri) {
+    const char *name;
+    for (int number = 0; (name = sqlite3_uri_key(uri, number)); number++) {
+        size_t i = 0;
+        while (i < sizeof known / sizeof *known && strcmp(known[i], name) != 0)
+            i++;
+        if (i == sizeof known / sizeof *known) return name;
+    }
+    return NULL;
+}
+
+/* A setting: of the URI, of the file of credentials, or of the environment. One that is too long is none that
+ * can be read. */
 static bool find_setting(sqlite3_filename uri, const char *name, char value[VALUE_BYTES]) {
     const char *text = sqlite3_uri_parameter(uri, name), *path = sqlite3_uri_parameter(uri, "credentials");
-    if (text && strlen(text) >= VALUE_BYTES) return false;
-    if (text) strcpy(value, text);
+    if (text) strcpy(value, strlen(text) < VALUE_BYTES ? text : "");
     return text || (path && find_in_file(path, name, value)) || find_in_environment(name, value);
+}
+
+bool pagelog_read_number_of(const char *text, uint64_t most, uint64_t *number) {
+    char *end;
+    errno = 0;
+    unsigned long long read = strtoull(text, &end, 10);
+    if (!isdigit((unsigned char)text[0]) || *end || errno || read > most) return false;
+    *number = read;
+    return true;
 }
 
 /* Reads a number of at most `most`; false where there is a setting that is none. `*number` stays where there
  * is none. */
 static bool read_setting(sqlite3_filename uri, const char *name, uint64_t most, uint64_t *number) {
-    char text[VALUE_BYTES], *end;
-    if (!find_setting(uri, name, text)) return true;
-    unsigned long long read = strtoull(text, &end, 10);
-    if (!isdigit((unsigned char)text[0]) || *end || read > most) return false;
-    *number = read;
-    return true;
+    char text[VALUE_BYTES];
+    return !find_setting(uri, name, text) || pagelog_read_number_of(text, most, number);
 }
 
 static int digit_of(char c) {
@@ -81,46 +108,71 @@ static bool read_operator(sqlite3_filename uri, struct pagelog_file_options *opt
 }
 
 unsigned pagelog_spin_of(uint64_t us) {
-    return us == 0 ? PAGELOG_NO_SPIN : us < MOST_SPIN_US ? (unsigned)us : MOST_SPIN_US;
+    return us == 0 ? PAGELOG_NO_SPIN : (unsigned)us;
 }
 
-const char *pagelog_read_settings(sqlite3_filename uri, struct pagelog_file_options *options,
-                                  char address[VALUE_BYTES]) {
-    uint64_t database = 0, id = UINT64_MAX, copies = 3, quorum = 0, written = 0, check = 0, pages = 0, at = 0,
-             timeout = 0, patience, stale = 0, spin = DEFAULT_SPIN_US, unwaited = 0;
+/* Who asks which service for which database: the name of the first setting that is wrong, or NULL. */
+static const char *read_service(sqlite3_filename uri, struct pagelog_options *service,
+                                char address[VALUE_BYTES]) {
+    uint64_t database = 0, id = UINT64_MAX;
     if (!find_setting(uri, "to", address)) return "to";
     if (!read_setting(uri, "id", UINT32_MAX, &id) || id == UINT64_MAX) return "id";
-    if (!read_token(uri, "token", options->service.token)) return "token";
+    if (!read_token(uri, "token", service->token)) return "token";
     if (!read_setting(uri, "db", UINT32_MAX, &database)) return "db";
-    if (!read_setting(uri, "at", PAGELOG_LAST_LSN, &at)) return "at";
+    service->address = address;
+    service->principal = (uint32_t)id;
+    service->database = (uint32_t)database;
+    return NULL;
+}
+
+/* The landing zone, and to how many of its copies is written. */
+static const char *read_zone(sqlite3_filename uri, struct pagelog_file_options *options) {
+    uint64_t copies = 3, written = 0;
     if (!read_setting(uri, "copies", 6, &copies) || (copies != 3 && copies != 6)) return "copies";
-    quorum = copies == 6 ? 4 : 2;
-    if (!read_setting(uri, "quorum", 4, &quorum) || quorum != (copies == 6 ? 4 : 2)) return "quorum";
+    uint64_t wanted = copies == 6 ? 4 : 2, quorum = wanted;
+    if (!read_setting(uri, "quorum", 4, &quorum) || quorum != wanted) return "quorum";
     if (!read_setting(uri, "written", copies, &written) || (written > 0 && written < quorum))
         return "written";
-    if (!read_setting(uri, "check", 3600000, &check)) return "check";
-    if (!read_setting(uri, "pages", UINT32_MAX, &pages)) return "pages";
-    if (!read_setting(uri, "timeout", 3600000, &timeout)) return "timeout";
-    patience = timeout;
-    if (!read_setting(uri, "patience", 3600000, &patience)) return "patience";
-    if (!read_setting(uri, "stale", 1, &stale)) return "stale";
-    if (!read_setting(uri, "spin", MOST_SPIN_US, &spin)) return "spin";
-    if (!read_setting(uri, "unwaited", PAGELOG_WINDOW, &unwaited)) return "unwaited";
-    options->reads_only = options->reads_only || at > 0;
-    if (!read_operator(uri, options)) return "op";
-    options->service.address = address;
-    options->service.principal = (uint32_t)id;
-    options->service.database = (uint32_t)database;
-    options->service.connect_ms = options->service.reply_ms = (unsigned)timeout;
-    options->service.patience_ms = (unsigned)patience;
-    options->service.spin_us = pagelog_spin_of(spin);
     options->service.copies = (unsigned)copies;
     options->service.quorum = (unsigned)quorum;
     options->written = (unsigned)written;
-    options->unwaited = (unsigned)unwaited;
-    options->check_ms = (unsigned)check;
-    options->cache_pages = (size_t)pages;
-    options->at = at;
-    options->may_be_stale = stale == 1;
     return NULL;
+}
+
+/* How long is waited. */
+static const char *read_waits(sqlite3_filename uri, struct pagelog_file_options *options) {
+    uint64_t check = 0, timeout = 0, spin = DEFAULT_SPIN_US, unwaited = 0;
+    if (!read_setting(uri, "check", MOST_MS, &check)) return "check";
+    if (!read_setting(uri, "timeout", MOST_MS, &timeout)) return "timeout";
+    uint64_t patience = timeout;
+    if (!read_setting(uri, "patience", MOST_MS, &patience)) return "patience";
+    if (!read_setting(uri, "spin", MOST_SPIN_US, &spin)) return "spin";
+    if (!read_setting(uri, "unwaited", PAGELOG_WINDOW, &unwaited)) return "unwaited";
+    options->service.connect_ms = options->service.reply_ms = (unsigned)timeout;
+    options->service.patience_ms = (unsigned)patience;
+    options->service.spin_us = pagelog_spin_of(spin);
+    options->check_ms = (unsigned)check;
+    options->unwaited = (unsigned)unwaited;
+    return NULL;
+}
+
+const char *pagelog_read_settings(sqlite3_filename uri, struct pagelog_file_options *options,
+                                  char address[VALUE_BYTES], uint64_t *entries) {
+    uint64_t pages = 0, stale = 0;
+    const char *wrong = find_unknown(uri);
+    *entries = MOST_ENTRIES;
+    if (!wrong && strlen(uri) > PAGELOG_NAME_BYTES) wrong = "(name)";
+    if (!wrong) wrong = read_service(uri, &options->service, address);
+    if (!wrong) wrong = read_zone(uri, options);
+    if (!wrong) wrong = read_waits(uri, options);
+    if (wrong) return wrong;
+    if (!read_setting(uri, "at", PAGELOG_LAST_LSN, &options->at)) return "at";
+    if (!read_setting(uri, "pages", UINT32_MAX, &pages)) return "pages";
+    if (!read_setting(uri, "stale", 1, &stale)) return "stale";
+    if (!read_setting(uri, "audit", MOST_ENTRIES, entries) || *entries == 0) return "audit";
+    options->reads_only = options->reads_only || options->at > 0;
+    options->cache_pages = (size_t)pages;
+    options->may_be_stale = stale == 1;
+    options->name = uri;
+    return read_operator(uri, options) ? NULL : "op";
 }

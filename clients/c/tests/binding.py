@@ -325,12 +325,12 @@ class Log:
 class FileOptions(Structure):
     _fields_ = [("service", Options), ("reads_only", c_bool), ("has_operator", c_bool), ("operator", c_uint32),
                 ("operator_token", Token), ("written", c_uint), ("unwaited", c_uint), ("check_ms", c_uint), ("cache_pages", c_size_t),
-                ("at", c_uint64), ("may_be_stale", c_bool)]
+                ("at", c_uint64), ("may_be_stale", c_bool), ("name", c_char_p)]
 
 
 class State(Structure):
     _fields_ = [("is_writer", c_bool), ("is_fenced", c_bool), ("is_broken", c_bool), ("is_stale", c_bool),
-                ("is_anew", c_bool), ("is_foreign", c_bool), ("is_over", c_bool),
+                ("is_anew", c_bool), ("is_foreign", c_bool), ("is_misnamed", c_bool), ("is_over", c_bool),
                 ("lsn", c_uint64), ("end", c_uint64), ("size", c_uint64), ("transaction", c_uint64),
                 ("epoch", c_uint32), ("writing_epoch", c_uint32), ("zone", Zone), ("cached_pages", c_size_t),
                 ("check_ms", c_uint), ("spin_us", c_uint), ("unwaited", c_uint), ("on_their_way", c_uint64),
@@ -357,11 +357,11 @@ class File:
     """A file with transactions."""
 
     def __init__(self, address, principal, reads_only=False, operator=None, written=0, check_ms=0, cache_pages=0, at=0,
-                 may_be_stale=False, database=0, reply_ms=300000, patience_ms=0, copies=0, quorum=0, unwaited=0):
+                 may_be_stale=False, database=0, reply_ms=300000, patience_ms=0, copies=0, quorum=0, unwaited=0, name=None):
         service = Options(address.encode(), principal, token(principal), database, 0, reply_ms, patience_ms, 0, copies,
                           quorum)
         options = FileOptions(service, reads_only, operator is not None, operator or 0, token(operator or 0), written,
-                              unwaited, check_ms, cache_pages, at, may_be_stale)
+                              unwaited, check_ms, cache_pages, at, may_be_stale, name and name.encode())
         self.made = lib.pagelog_file_new(byref(options))
 
     def __enter__(self):

@@ -28,7 +28,7 @@ def uri(address, principal=2, operator=1, name="test", **more):
 
 
 def connect(address, principal=2, operator=1, **more):
-    timeout = more.pop("busy", 5.0)
+    timeout = more.pop("busy", 300.0)  # a wait for the service ends with it too
     return sqlite3.connect(uri(address, principal, operator, **more), uri=True, isolation_level=None, timeout=timeout,
                            check_same_thread=False)
 
@@ -46,7 +46,8 @@ def code_of(action):
     try:
         action()
     except sqlite3.Error as error:
-        return getattr(error, "sqlite_errorname", type(error).__name__)
+        is_full_list = getattr(error, "sqlite_errorcode", 0) == 13 + 256  # an extended code of this VFS, unknown to Python
+        return "SQLITE_FULL_LIST" if is_full_list else getattr(error, "sqlite_errorname", type(error).__name__)
     return None
 
 

@@ -1,5 +1,6 @@
 """A running `pagelog serve`, its operator, and proxies in front of it that cut, hold or watch what passes."""
 
+import contextlib
 import os
 import pathlib
 import random
@@ -182,6 +183,7 @@ class Proxy:
         self.listener = socket.create_server((at, 0), backlog=64)
         self.address = "%s:%d" % self.listener.getsockname()
         self.cuts = self.accepted = 0
+        self.carried = []
         self.is_on = True
         self.thread = threading.Thread(target=self.accept, daemon=True)
         self.thread.start()
@@ -203,6 +205,13 @@ class Proxy:
         self.listener = socket.create_server((host, int(port)), backlog=64)
         threading.Thread(target=self.accept, daemon=True).start()
 
+    def cut(self):
+        """Ends each connection that is carried now."""
+        for end in self.carried:
+            with contextlib.suppress(OSError):
+                end.shutdown(socket.SHUT_RDWR)
+        self.carried = []
+
     def accept(self):
         listener = self.listener
         while self.is_on:
@@ -219,6 +228,7 @@ class Proxy:
         except OSError:
             client.close()
             return
+        self.carried += [client, server]
         for end in (client, server):
             end.setsockopt(socket.IPPROTO_TCP, socket.TCP_NODELAY, 1)
         try:

@@ -961,9 +961,9 @@ def test_a_joined_writer_without_the_role_of_a_secondary():
 
 def test_whose_block_it_is_where_nobody_may_look():
     """Under the start table another process of this principal joins the epoch that a writer has begun, and puts blocks at the
-    LSNs of its own, whose connection is lost before any of them has come. It is in doubt; where the last block was not sent,
-    it is not in the log; where the log has one that was not sent, it is another's."""
-    for count, others, wanted in ((1, 1, IN_DOUBT), (70, 64, LOST), (70, 70, CONFLICT)):
+    LSNs of its own, whose connection is lost before any of them has come. By the pages they are seen to be another's. It is in
+    doubt; where the last block was not sent, it is not in the log."""
+    for count, others, wanted in ((1, 1, IN_DOUBT), (70, 64, CONFLICT), (70, 70, CONFLICT)):
         is_cut = [False]
         with Service(table=START_TABLE) as service, Log(service.address, 3) as reader, Log(service.address, 2) as other:
 
@@ -984,7 +984,7 @@ def test_whose_block_it_is_where_nobody_may_look():
 
 
 def test_a_lost_report_where_nobody_may_look():
-    """It was carried out. The append is done where a write of each block was answered before, and else in doubt."""
+    """It was carried out. The append looks at the pages that its blocks touch, and is done."""
     for is_answered in (False, True):
         is_cut = [False]
         with Service(table=START_TABLE) as service, service.operator() as operator, Log(service.address, 3) as reader:
@@ -1003,7 +1003,7 @@ def test_a_lost_report_where_nobody_may_look():
                     log.append_ahead(blocks)
                 while is_answered and log.in_flight() > 0:
                     same("all is well", False, log.is_due())
-                same(f"{is_answered}", (DONE if is_answered else IN_DOUBT, 1), (log.append(blocks), proxy.cuts))
+                same(f"{is_answered}", (DONE, 1), (log.append(blocks), proxy.cuts))
                 same("log", blocks.all(), pulled(reader, 3))
                 same("take over", (DONE, 3), (log.take_over(), log.end))
 

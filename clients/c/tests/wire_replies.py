@@ -177,6 +177,28 @@ def test_a_status_in_another_epoch_than_was_asked_in_is_no_reply():
                 same(f"{what}: then", DONE, log.status()[0])
 
 
+def test_a_reply_to_another_question_is_no_reply():
+    """A page at another LSN than an exact get has, or at an older one than a get that is not; blocks that come before the LSN of
+    their pull, or more than were asked for, or whose next LSN is not beyond; entries of another number, or too many."""
+    peer = Peer()
+    page = lambda at: b"\2" + wire.number(at, 8) + bytes(8192)
+    blocks = lambda next_, *lsns: (b"\1" + wire.number(next_, 8) + wire.number(len(lsns), 2)
+                                   + b"".join(wire.frame(wire.block(lsn, [(0, 0, b"a")])) for lsn in lsns))
+    entries = lambda first, count: b"\3" + wire.number(count, 2) + b"".join(wire.number(first + i, 8) + LINE[8:] for i in range(count))
+    exact, newer = request(SECONDARY, wire.GET, lsn=5, exact=1), request(SECONDARY, wire.GET, lsn=5, exact=0)
+    pull, audit = request(SECONDARY, wire.PULL, hi=65535, lsn=5, max=2), request(OPERATOR, wire.AUDIT, lsn=5, max=2)
+    with Service() as service, Proxy(service.address, between=peer) as proxy, Log(proxy.address, 3) as log:
+        for asked, good, bad in ((exact, [page(5)], [page(4), page(6)]), (newer, [page(5), page(6)], [page(4)]),
+                                 (pull, [blocks(6), blocks(7, 5, 6)], [blocks(5), blocks(7, 4), blocks(9, 5, 6, 7), blocks(6, 6), blocks(8, 6, 5)]),
+                                 (audit, [entries(5, 0), entries(5, 2)], [entries(4, 1), entries(6, 1), entries(5, 3)])):
+            for body in good + bad:
+                peer.body = body
+                same("send", (DONE, DONE), (log.send(asked), log.send(asked)))
+                found, left = log.receive()[0], log.in_flight()
+                same(f"operation {asked.operation}: {body[:20].hex()}", (DONE, 1) if body in good else (MALFORMED, 0), (found, left))
+                log.disconnect()
+
+
 def test_no_writer_goes_by_a_status_in_another_epoch():
     """Neither one that begins, nor an append whose connection was lost after two copies had taken its block."""
     rule, cuts = AnotherEpoch(), [False]

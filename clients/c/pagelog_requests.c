@@ -1,0 +1,252 @@
+/* Requests in flight, and the waits for their replies. */
+#include "pagelog_connection.h"
+
+#include <poll.h>
+#include <string.h>
+#include <sys/socket.h>
+
+enum {
+    LEAST_LENT = 4096, /* bytes; fewer are sooner copied */
+    LEAST_REPLY = 5,   /* bytes of a frame of a reply, at least */
+    FEW_REPLIES = 3,   /* this many come at once, mostly */
+    LAST_REPLIES = 8,  /* of a group: those that a wait may look for */
+};
+
+/* ---- Waiting for replies ---- */
+
+/* How many bytes the wait is for: all replies to what is in flight, where nothing is done before they are
+ * there. */
+static size_t bytes_awaited(const struct pagelog *log) {
+    size_t has = held(&log->input), least = (log->unheard + log->asked_count) * LEAST_REPLY;
+    bool is_group = log->is_in_group && log->asked_count > FEW_REPLIES;
+    return is_group && least > has ? least - has : 1;
+}
+
+/* Notes how long a wait took for its last bytes. A long one counts as a few short ones, so that it is soon
+ * forgotten. */
+static void note_wait(struct pagelog *log, uint64_t ns) {
+    uint64_t most = 4 * log->spin_ns;
+    log->usual_ns = (7 * log->usual_ns + (ns < most ? ns : most)) / 8;
+}
+
+/* Looks for `wanted` bytes without sleeping, for `spin_ns` after the last that came at most: a thread that
+ * sleeps is woken some ten microseconds after its reply has come, or more. Only where the waits before took
+ * no longer, so that it mostly finds them. `*since` becomes the time at which the last bytes but those came.
+ * False where the connection has ended. */
+static bool look_awake(struct pagelog *log, size_t wanted, uint64_t *since) {
+    uint64_t now = *since;
+    while (held(&log->input) < wanted && now - *since < log->spin_ns) {
+        size_t before = held(&log->input);
+        if (!pagelog_read_some(log, MSG_DONTWAIT)) return false;
+        now = pagelog_now_ns();
+        if (held(&log->input) > before && held(&log->input) < wanted) *since = now;
+    }
+    return true;
+}
+
+/* From how many bytes on a poll says that the socket can be read. */
+static void set_least(struct pagelog *log, size_t least) {
+    int value = (int)least;
+    setsockopt(log->socket, SOL_SOCKET, SO_RCVLOWAT, &value, sizeof value);
+}
+
+/* Waits for `least` bytes, asleep, and reads them. A receive cannot wait for more than one by itself: it
+ * counts what has come since it began to wait. */
+static bool sleep_for(struct pagelog *log, size_t least, uint64_t deadline) {
+    short ready;
+    if (least == 1) return pagelog_read_some(log, 0);
+    set_least(log, least);
+    pagelog_wait_for(log, log->socket, POLLIN, deadline, &ready);
+    set_least(log, 1);
+    return pagelog_read_some(log, MSG_DONTWAIT);
+}
+
+/* Sleeps until all but the last replies of a group are there, as far as they are waited for, so that the wait
+ * is awake when the last ones come. */
+static bool sleep_before_last(struct pagelog *log, size_t wanted, uint64_t deadline) {
+    size_t last = LAST_REPLIES * LEAST_REPLY, until = wanted > last ? wanted - last : 0;
+    if (held(&log->input) < until && !pagelog_read_some(log, MSG_DONTWAIT)) return false;
+    return held(&log->input) >= until || sleep_for(log, until - held(&log->input), deadline);
+}
+
+/* The first wait for a reply: for `reply_ms`. */
+static bool wait_first(struct pagelog *log, uint64_t *deadline) {
+    uint64_t since = pagelog_now_ns();
+    size_t before = held(&log->input), wanted = before + bytes_awaited(log);
+    *deadline = since / 1000000 + log->options.reply_ms;
+    if (log->spin_ns > 0 && !sleep_before_last(log, wanted, *deadline)) return false;
+    if (held(&log->input) > before) since = pagelog_now_ns();
+    if (log->usual_ns < log->spin_ns && !look_awake(log, wanted, &since)) return false;
+    if (held(&log->input) < wanted && !sleep_for(log, wanted - held(&log->input), *deadline)) return false;
+    if (log->spin_ns > 0) note_wait(log, pagelog_now_ns() - since);
+    return true;
+}
+
+/* Waits for bytes of a reply and reads them: first for `reply_ms`, and again until the `*deadline` that the
+ * first wait had. */
+static bool read_more(struct pagelog *log, uint64_t *deadline) {
+    short ready;
+    if (log->waits) log->counts.round_trips++;
+    log->waits = false;
+    if (*deadline == 0) return wait_first(log, deadline);
+    return pagelog_wait_for(log, log->socket, POLLIN, *deadline, &ready) &&
+           pagelog_read_some(log, MSG_DONTWAIT);
+}
+
+/* The body of the next frame, once all of it is there. */
+static enum pagelog_outcome read_frame(struct pagelog *log, const uint8_t **body, size_t *length) {
+    uint64_t deadline = 0;
+    struct buffer *input = &log->input;
+    for (;;) {
+        if (held(input) >= 4) {
+            *length = (size_t)pagelog_read_number(input->bytes + input->start, 4);
+            if (*length > PAGELOG_REPLY_BYTES) return pagelog_distrust(log);
+            if (held(input) >= 4 + *length) break;
+        }
+        if (!read_more(log, &deadline)) return pagelog_lose(log);
+    }
+    *body = input->bytes + input->start + 4;
+    input->start += 4 + *length;
+    return PAGELOG_DONE;
+}
+
+/* ---- Requests in flight ---- */
+
+/* Queues a request. The bytes at its end stay where they are if they may be lent; even then the output has
+ * room for them. */
+static enum pagelog_outcome queue(struct pagelog *log, const struct pagelog_request *request, bool may_lend) {
+    struct buffer *output = &log->output;
+    uint8_t front[FRONT_BYTES];
+    size_t length = 0, front_length = pagelog_encode_front(request, front, &length);
+    if (log->asked_count == PAGELOG_IN_FLIGHT || front_length == 0)
+        return pagelog_fail(log, PAGELOG_MALFORMED);
+    if (!pagelog_reserve(output, pagelog_lent_bytes(log) + 4 + front_length + length))
+        return pagelog_fail(log, PAGELOG_NO_MEMORY);
+    uint8_t *at = pagelog_write_number(output->bytes + output->end, front_length + length, 4);
+    memcpy(at, front, front_length);
+    output->end += 4 + front_length;
+    if (may_lend && length >= LEAST_LENT && log->lent_count < MOST_LENT) {
+        log->lent[log->lent_count++] = (struct lent){held(output), length, request->bytes};
+    } else {
+        if (length > 0) memcpy(at + front_length, request->bytes, length);
+        output->end += length;
+    }
+    log->asked[(log->asked_first + log->asked_count++) % PAGELOG_IN_FLIGHT] = pagelog_asked_of(request);
+    log->counts.requests++;
+    return PAGELOG_DONE;
+}
+
+enum pagelog_outcome pagelog_send_as(struct pagelog *log, const struct pagelog_request *request) {
+    return queue(log, request, false);
+}
+
+/* The request as this object's principal asks it. */
+static struct pagelog_request own(const struct pagelog *log, const struct pagelog_request *request) {
+    struct pagelog_request whole = *request;
+    whole.principal = log->options.principal;
+    memcpy(whole.token, log->options.token, PAGELOG_TOKEN_BYTES);
+    whole.database = log->options.database;
+    whole.epoch = request->role == PAGELOG_PRIMARY ? log->writing_epoch : log->epoch;
+    return whole;
+}
+
+enum pagelog_outcome pagelog_send(struct pagelog *log, const struct pagelog_request *request) {
+    struct pagelog_request whole = own(log, request);
+    return queue(log, &whole, false);
+}
+
+enum pagelog_outcome pagelog_lend(struct pagelog *log, const struct pagelog_request *request) {
+    struct pagelog_request whole = own(log, request);
+    return queue(log, &whole, true);
+}
+
+void pagelog_pass_over(struct pagelog *log) {
+    log->unheard += log->asked_count;
+    log->asked_count = 0;
+}
+
+/* Reads the next reply, which is passed over. */
+static enum pagelog_outcome pass_over_one(struct pagelog *log) {
+    const uint8_t *body = NULL;
+    size_t length = 0;
+    struct pagelog_reply reply;
+    enum pagelog_outcome outcome = read_frame(log, &body, &length);
+    if (outcome != PAGELOG_DONE) return outcome;
+    const struct asked report = {.operation = PAGELOG_REPORT}; /* or a tidy, which is answered alike */
+    if (pagelog_decode_reply(body, length, &reply) != 0 || !pagelog_answers(report, &reply))
+        return pagelog_distrust(log);
+    if (reply.kind != PAGELOG_REPLY_DONE) log->is_tidying_refused = true;
+    log->unheard--;
+    log->counts.replies++;
+    return PAGELOG_DONE;
+}
+
+enum pagelog_outcome pagelog_receive(struct pagelog *log, struct pagelog_reply *reply) {
+    const uint8_t *body = NULL;
+    size_t length = 0;
+    memset(reply, 0, sizeof *reply);
+    if (log->asked_count == 0) return pagelog_fail(log, PAGELOG_MALFORMED);
+    enum pagelog_outcome outcome = pagelog_flush(log);
+    while (outcome == PAGELOG_DONE && log->unheard > 0)
+        outcome = pass_over_one(log);
+    if (outcome == PAGELOG_DONE) outcome = read_frame(log, &body, &length);
+    if (outcome != PAGELOG_DONE) return outcome;
+    struct asked asked = log->asked[log->asked_first];
+    log->asked_first = (log->asked_first + 1) % PAGELOG_IN_FLIGHT;
+    log->asked_count--;
+    if (pagelog_decode_reply(body, length, reply) != 0 || !pagelog_answers(asked, reply)) {
+        memset(reply, 0, sizeof *reply);
+        return pagelog_distrust(log);
+    }
+    log->counts.replies++;
+    return pagelog_notice(log, reply);
+}
+
+/* Sends a few bytes, which have room in a connection that nothing was sent over. */
+static bool send_alone(struct pagelog *log, const uint8_t *bytes, size_t length) {
+    ssize_t count = send(log->socket, bytes, length, MSG_NOSIGNAL | MSG_DONTWAIT);
+    log->counts.bytes_sent += count > 0 ? (uint64_t)count : 0;
+    log->waits = true;
+    return count == (ssize_t)length;
+}
+
+enum pagelog_outcome pagelog_exchange(struct pagelog *log, const struct pagelog_request *request,
+                                      struct pagelog_reply *reply) {
+    uint8_t frame[4 + FRONT_BYTES];
+    const uint8_t *body = NULL;
+    size_t length = pagelog_encode_request(request, frame + 4, FRONT_BYTES);
+    pagelog_write_number(frame, length, 4);
+    log->counts.requests++;
+    if (!send_alone(log, frame, 4 + length)) return pagelog_fail(log, PAGELOG_LOST);
+    enum pagelog_outcome outcome = read_frame(log, &body, &length);
+    if (outcome != PAGELOG_DONE) return outcome;
+    log->counts.replies++;
+    if (pagelog_decode_reply(body, length, reply) != 0 || !pagelog_answers(pagelog_asked_of(request), reply))
+        return pagelog_distrust(log);
+    return PAGELOG_DONE;
+}
+
+size_t pagelog_in_flight(const struct pagelog *log) {
+    return log->asked_count;
+}
+
+/* Whether the next frame is all there, and a reply that is Done. */
+static bool is_done_next(const struct pagelog *log) {
+    static const uint8_t frame[] = {0, 0, 0, 1, PAGELOG_REPLY_DONE};
+    return held(&log->input) >= sizeof frame &&
+           memcmp(log->input.bytes + log->input.start, frame, sizeof frame) == 0;
+}
+
+size_t pagelog_take_done(struct pagelog *log, bool *is_over) {
+    struct pagelog_reply reply;
+    size_t count = 0;
+    bool is_full = held(&log->input) >= MOST_INPUT; /* of what was not asked for, mostly */
+    *is_over = !pagelog_is_pushed(log) || (!is_full && !pagelog_read_some(log, MSG_DONTWAIT));
+    if (*is_over) return 0;
+    while (log->unheard > 0 && is_done_next(log))
+        pass_over_one(log);
+    while (log->asked_count > 0 && is_done_next(log) && pagelog_receive(log, &reply) == PAGELOG_DONE)
+        count++;
+    *is_over = held(&log->input) >= LEAST_REPLY;
+    return count;
+}
