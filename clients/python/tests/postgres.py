@@ -5,10 +5,14 @@ from __future__ import annotations
 import atexit
 import os
 import shutil
+import socket
 import subprocess
 import tempfile
+import threading
 from pathlib import Path
 from typing import Any
+
+from service import accept_each
 
 PATIENCE = 300
 """How many seconds a start or an end may take. What pg_ctl waits by itself, 60, is little on a machine with much else to do."""
@@ -78,3 +82,44 @@ def postgres() -> Postgres:
     if not _started:
         _started.append(Postgres())
     return _started[0]
+
+
+class SilentProxy:
+    """Passes on what goes to a PostgreSQL and comes from it, until it is told to be silent: its connections stay open then."""
+
+    def __init__(self, server: Postgres) -> None:
+        self.folder = Path(tempfile.mkdtemp(prefix="pagelog-silent-"))
+        self.server = server
+        self.is_silent = threading.Event()
+        self.listener = socket.socket(socket.AF_UNIX)
+        self.listener.bind(str(self.folder / ".s.PGSQL.5432"))
+        self.listener.listen()
+        accept_each(self.listener, self._serve)
+
+    def __enter__(self) -> SilentProxy:
+        return self
+
+    def __exit__(self, *_: object) -> None:
+        self.listener.close()
+        shutil.rmtree(self.folder, ignore_errors=True)
+
+    def url(self, of_server: str) -> str:
+        """The URL by which a database of the server is reached through this."""
+        return of_server.replace(str(self.server.folder), str(self.folder))
+
+    def _serve(self, client: socket.socket) -> None:
+        server = socket.socket(socket.AF_UNIX)
+        server.connect(str(self.server.folder / ".s.PGSQL.5432"))
+        threading.Thread(target=self._pass_on, args=(client, server), daemon=True).start()
+        self._pass_on(server, client)
+
+    def _pass_on(self, source: socket.socket, target: socket.socket) -> None:
+        try:
+            while data := source.recv(65536):
+                if self.is_silent.is_set():
+                    continue
+                target.sendall(data)
+        except OSError:
+            pass
+        if not self.is_silent.is_set():
+            target.close()

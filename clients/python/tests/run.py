@@ -17,24 +17,42 @@ from pathlib import Path
 
 sys.path.insert(0, str(Path(__file__).resolve().parent.parent / "src"))
 
-PATIENCE = 3600 if os.environ.get("PAGELOG_TEST_LONG") else 600
+PATIENCE = 3600 if os.environ.get("PAGELOG_TEST_LONG") else 2 * int(os.environ.get("PAGELOG_TEST_PATIENCE", "300"))
 """How many seconds a test may take before it is taken to hang. Most take less than one where the machine is idle."""
 PARTS = {
     "test_bytes": "blocks, requests and replies against the trial and the pages",
     "test_replies": "every reply, rule and fault of the service",
     "test_connection": "connections that are cut, silent or refused",
-    "test_primary": "commits, epochs and doubts",
+    "test_bounds": "peers that are no service, threads and forks",
+    "test_primary": "commits and epochs",
+    "test_doubts": "blocks whose replies were lost",
+    "test_histories": "a service that was restarted and restored",
     "test_reader": "readers, page servers and operators",
     "test_credentials": "credentials",
     "test_archive": "archives, whole up to their LSN",
+    "test_care": "damaged archives, and files and URLs that are wrong",
+    "test_ends": "what fills, hangs or is told to end",
     "test_followers": "archivers that are killed, cut off and told to end",
-    "test_restore": "restore, verify and move",
+    "test_restore": "restore and verify",
+    "test_moving": "moves",
+    "test_waiting": "services that wait for their restore, and the tables of fences",
     "test_zones": "six copies, and rows that end at an LSN",
-    "test_looking": "status, top, audit, metrics and explain",
+    "test_trail": "trails of audit lists, kept and asked",
+    "test_replay": "trails decided again by the plain model",
+    "test_alerts": "alert rules, and scrapes where something hangs",
+    "test_looking": "status, top, audit and metrics",
+    "test_explaining": "explain, and help",
+    "test_keepers": "named databases under a keeper",
+    "test_standbys": "standbys, switchovers, and keepers that are gone",
+    "test_attacks": "doubts, hangs and interrupts of keepers and of their clients",
+    "test_runs": "a run of a service, its tokens and its process",
+    "test_machine": "what a keeper decides",
+    "test_disks": "what durable means without a standby of PostgreSQL",
+    "test_referee": "one writer of an archive, by statements of PostgreSQL",
 }
 
 # What speaks to a service alone, and asks for nothing of its own processes, memory or workers.
-OF_ANY_SERVICE = ("test_replies", "test_primary", "test_reader")
+OF_ANY_SERVICE = ("test_replies", "test_primary", "test_doubts", "test_reader")
 
 
 class Timed(unittest.TestResult):

@@ -13,6 +13,7 @@ import sys
 import tempfile
 import threading
 from pathlib import Path
+from typing import Callable
 
 HERE = Path(__file__).resolve().parent
 TOP = HERE.parent.parent.parent
@@ -23,7 +24,7 @@ import pagelog  # noqa: E402
 
 PROGRAM = os.environ.get("PAGELOG") or str(TOP / "crates" / "pagelog" / "out" / "pagelog")
 TABLE = TOP / "crates" / "pagelog" / "data" / "t0.toml"
-PATIENCE = 300.0
+PATIENCE = float(os.environ.get("PAGELOG_TEST_PATIENCE", "300"))
 """How many seconds a test waits for what has to come: on a machine with much else to do anything may take its time."""
 IS_LONG = os.environ.get("PAGELOG_TEST_LONG") == "1"
 
@@ -154,6 +155,20 @@ def all_that_is_drawn(main: int) -> str:
     return drawn.decode(errors="replace")
 
 
+def accept_each(listener: socket.socket, serve: Callable[[socket.socket], None]) -> None:
+    """Serves each connection in a thread of its own, until the listener is closed."""
+
+    def accept() -> None:
+        while True:
+            try:
+                client, _ = listener.accept()
+            except OSError:
+                return
+            threading.Thread(target=serve, args=(client,), daemon=True).start()
+
+    threading.Thread(target=accept, daemon=True).start()
+
+
 class CuttingProxy:
     """Passes bytes on to a service, and cuts each connection after a number of bytes, drawn from a seed."""
 
@@ -165,22 +180,13 @@ class CuttingProxy:
         self.is_cutting = True
         self.listener = socket.create_server(("127.0.0.1", 0))
         self.address = f"127.0.0.1:{self.listener.getsockname()[1]}"
-        self.thread = threading.Thread(target=self._accept, daemon=True)
-        self.thread.start()
+        accept_each(self.listener, self._serve)
 
     def __enter__(self) -> CuttingProxy:
         return self
 
     def __exit__(self, *_: object) -> None:
         self.listener.close()
-
-    def _accept(self) -> None:
-        while True:
-            try:
-                client, _ = self.listener.accept()
-            except OSError:
-                return
-            threading.Thread(target=self._serve, args=(client,), daemon=True).start()
 
     def _serve(self, client: socket.socket) -> None:
         left = self.chance.randrange(self.least, self.most) if self.is_cutting else 1 << 60

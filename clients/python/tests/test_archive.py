@@ -87,7 +87,7 @@ class Keeping(Folder):
                 archive.keep(batch, 1)
         # A block of the next batch is there already, for whatever reason: the whole batch is given up.
         with archive.engine.begin() as connection:
-            connection.execute(_blocks.insert().values(log=archive._id, lsn=7, crc=0, data=b""))
+            connection.execute(_blocks.insert().values(log=archive.id, lsn=7, crc=0, data=b""))
         with self.assertRaises(sql.exc.IntegrityError):
             archive.keep(blocks[4:], 1)
         self.assertEqual((archive.archived, [block.lsn for block in archive.blocks()]), (4, [1, 2, 3, 4]))

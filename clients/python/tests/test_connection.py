@@ -81,15 +81,17 @@ class InOrder(unittest.TestCase):
 
 class Cuts(unittest.TestCase):
     def test_what_may_be_repeated_survives_cuts_at_any_byte(self) -> None:
-        with Service() as service, CuttingProxy(service.address, least=30, most=1500) as proxy, proxy.connection() as connection:
-            credentials = pagelog.Credentials.of(2, token(2))
-            primary = pagelog.Primary(connection, credentials, alone=True)
-            lsns = list(primary.stream([put(0, lsn.to_bytes(8, "big"))] for lsn in range(1, 201)))
-            self.assertEqual(lsns, list(range(1, 201)))
-            self.assertGreater(proxy.cuts, 20)
-            with service.reader() as reader:
-                blocks = list(reader.blocks(1, follow=False))
-            self.assertEqual([int.from_bytes(block.records[0].data, "big") for block in blocks], lsns)  # type: ignore[union-attr]
+        """A witness pulls small blocks; without one whole pages have to come through."""
+        for least, most, has_witness, count in ((30, 1500, True, 200), (9000, 30000, False, 400)):
+            with Service() as service, CuttingProxy(service.address, least=least, most=most) as proxy, proxy.connection() as connection:
+                witness = self.enterContext(pagelog.Reader(proxy.connection(), pagelog.Credentials.of(3, token(3)))) if has_witness else None
+                primary = pagelog.Primary(connection, pagelog.Credentials.of(2, token(2)), alone=True, witness=witness)
+                lsns = list(primary.stream([put(0, lsn.to_bytes(8, "big"))] for lsn in range(1, count + 1)))
+                self.assertEqual(lsns, list(range(1, count + 1)))
+                self.assertGreater(proxy.cuts, 4)
+                with service.reader() as reader:
+                    blocks = list(reader.blocks(1, follow=False))
+                self.assertEqual([int.from_bytes(block.records[0].data, "big") for block in blocks], lsns)  # type: ignore[union-attr]
 
     def test_reads_survive_cuts_and_stay_in_order(self) -> None:
         with Service() as service, service.connection() as direct:

@@ -16,7 +16,7 @@ from unittest import mock
 import sqlalchemy as sql
 
 from pagelog.archive import Archive
-from pagelog.desk import keeping_words
+from pagelog.desk.archive_words import Follower
 from pagelog.keeping import Archiver
 from postgres import postgres
 from service import IS_LONG, PATIENCE, CuttingProxy, Service, fill
@@ -103,7 +103,7 @@ class Followers(Folder):
             fill(primary, 30)
             process = self.follow(self.url, small.credentials_file())
             out, error = process.communicate(timeout=PATIENCE)
-        self.assertEqual((process.returncode, "AuditListFull" in error), (1, True))
+        self.assertEqual((process.returncode, "AuditListFull" in error), (4, True))
         self.assertEqual(self.archive().archived, 30)
         self.assertIn("archived 30 of 30", out)
 
@@ -134,8 +134,9 @@ class Followers(Folder):
         fault = sql.exc.DatabaseError("commit", None, Exception("the table is not there"))
         archiver, said = mock.Mock(**{"resume.side_effect": [lost, fault]}), io.StringIO()
         with contextlib.redirect_stderr(said), mock.patch("time.sleep"):
-            keeping_words._follow(archiver, 0, lambda: False)
-            self.assertRaises(sql.exc.DatabaseError, keeping_words._follow, archiver, 0, lambda: False)
+            follower = Follower(archiver, 0, lambda: False)
+            follower.follow()
+            self.assertRaises(sql.exc.DatabaseError, follower.follow)
         self.assertEqual(said.getvalue(), "pagelogctl: archive: (builtins.Exception) server closed the connection; trying again\n")
 
 

@@ -1,4 +1,4 @@
-"""status, top, audit, metrics and explain: what they show of a real service."""
+"""status, top, audit and metrics: what they show of a real service."""
 
 from __future__ import annotations
 
@@ -12,7 +12,6 @@ import signal
 import struct
 import subprocess
 import sys
-import tempfile
 import termios
 import time
 import unittest
@@ -22,12 +21,11 @@ from pathlib import Path
 import pagelog
 
 from pagelog.archive import Archive
-from pagelog.desk.explain import ExplainError, Question, Table, differences, explain
-from pagelog.desk.explain_all import all_differences
-from pagelog.desk.watch import Watch, duration
+from pagelog.desk.durations import duration
+from pagelog.desk.watch import Watch
 from pagelog.keeping import Archiver
 from pagelog.request import Pull
-from service import PATIENCE, SOURCE, TABLE, Service, all_that_is_drawn, fill, token
+from service import PATIENCE, SOURCE, Service, all_that_is_drawn, fill
 from test_archive import words
 
 HERE = Path(__file__).resolve().parent
@@ -69,10 +67,20 @@ class Looks(unittest.TestCase):
         for key, count in look.requests.items():
             same = [e for e in counted if (e.role.word, e.operation.word, e.rule or "allowed") == key]
             self.assertEqual(len(same), count, key)
-        self.assertEqual(look.requests_rate, (look.entries - first.entries) / 10)
+        self.assertEqual(look.requests_rate, (look.entries - first.entries - look.own) / 10)
+        self.assertIn(look.own, (3, 4, 5))  # a status, two audits or three, and what was applied at the look before
         assert look.full_in is not None and look.requests_rate is not None
         self.assertAlmostEqual(look.full_in, (5000 - look.entries) / look.requests_rate)
         self.assertAlmostEqual(look.used, look.entries / 5000)
+
+    def test_a_look_asks_for_partitions_that_were_advanced_since(self) -> None:
+        fill(self.primary, 10)
+        watch = Watch(self.operator, reader=self.reader, limit=5000, from_start=True)
+        with self.service.page_server(partitions=(0, 1, 2, 3)) as server:
+            server.step()
+        self.assertEqual(watch.look().applied, dict.fromkeys(range(4), 10))
+        first, second = watch.look(), watch.look()
+        self.assertEqual((second.applied, second.entries - first.entries), (first.applied, 2))
 
     def test_a_watch_begins_at_the_end(self) -> None:
         self.reader.answers([Pull(99)] * 200)
@@ -100,11 +108,11 @@ class Looks(unittest.TestCase):
         fill(self.primary, 12)
         out = ends(words("status", "--credentials", self.file, "--db", "0", "--db", "1"))
         one, two = out.splitlines()
-        self.assertRegex(one, r"^db 0: epoch 1, primary 2, 12 blocks hardened; audit list \d+ of 5000 \(\d\.\d%\), full in .* at \d+\.\d requests a second$")
+        self.assertRegex(one, r"^db 0: epoch 1, primary 2, 12 blocks hardened; audit list \d+ of 5000 \(\d\.\d%; \[service\] audit\), full in - at \d+\.\d requests a second$")
         self.assertRegex(two, r"^db 1: epoch 1, primary 2, 0 blocks hardened; ")
         fields = json.loads(ends(words("status", "--credentials", self.file, "--json")))
         self.assertEqual((fields["hard"], fields["epoch"], fields["landing"], fields["audit_limit"]), (12, 1, 12, 5000))
-        self.assertGreater(fields["full_in_seconds"], 0)
+        self.assertEqual((fields["full_in_seconds"], fields["requests_a_second"], fields["audit_limit_from"]), (None, 0.0, "[service] audit"))
         out = ends(words("status", "--credentials", self.file, "--db", "0", "--db", "9"), status=1)
         self.assertIn("db 9: the service has no database of this number", out)
         self.assertIn("db 0: epoch 1", out)
@@ -114,7 +122,7 @@ class Looks(unittest.TestCase):
             while True:
                 self.reader.answers([Pull(99)] * 500)
                 self.reader.status()
-        out = ends(words("status", "--credentials", self.file), status=1)
+        out = ends(words("status", "--credentials", self.file), status=4)
         self.assertIn("the audit list is full: this database answers nothing any more", out)
 
     def test_audit(self) -> None:
@@ -180,7 +188,7 @@ class Looks(unittest.TestCase):
             again = scrape(address)
             self.assertGreater(again['pagelog_audit_entries{db="0"}'], found['pagelog_audit_entries{db="0"}'])
             self.assertNotIn('pagelog_audit_full_in_seconds{db="0"}', found)
-            self.assertGreater(again['pagelog_audit_full_in_seconds{db="0"}'], 0)
+            self.assertNotIn('pagelog_audit_full_in_seconds{db="0"}', again)  # nobody asked but the exporter
             check_alerts(self, set(name.partition("{")[0] for name in found))
             self.service.stop()
             self.assertEqual(scrape(address)['pagelog_up{db="0"}'], 0)
@@ -196,6 +204,18 @@ class Looks(unittest.TestCase):
         self.assertEqual(len(re.findall(r"\b0 +1 +2 +30 ", out)), 2)
         self.assertIn("UnknownDatabase", out)
         self.assertIn("full in", out)
+
+    def test_top_warns_before_the_list_is_full(self) -> None:
+        quiet = ends(words("top", "--credentials", self.file, "--count", "1", COLUMNS="150"))
+        self.assertNotIn("move the database", quiet)
+        self.reader.answers([Pull(99)] * 4600)
+        url = f"sqlite:///{self.service.folder}/archive.db"
+        Archive(url, create=True).close()
+        fill(self.primary, 20)
+        out = ends(words("top", "--credentials", self.file, "--count", "1", "--url", url, COLUMNS="150"))
+        self.assertRegex(out, r"db 0: \d+ entries are left of its audit list; 20 blocks are not archived, which want 2: move the database")
+        fields = json.loads(ends(words("top", "--credentials", self.file, "--count", "1", "--url", url, "--json")))
+        self.assertEqual((fields["db"], fields["hard"], fields["archived"]), (0, 20, 0))
 
     def test_top_on_a_narrow_terminal_leaves_columns_out(self) -> None:
         fill(self.primary, 30)
@@ -248,130 +268,6 @@ def check_alerts(test: unittest.TestCase, names: set[str]) -> None:
     text = (HERE.parent / "prometheus" / "alerts.yml").read_text()
     used = set(re.findall(r"pagelog_\w+", "\n".join(line for line in text.splitlines() if "expr" in line or "(" in line)))
     test.assertEqual(used - names, set())
-    test.assertEqual(text.count("- alert:"), 4)
-
-
-class Explaining(unittest.TestCase):
-    def setUp(self) -> None:
-        self.folder = Path(self.enterContext(tempfile.TemporaryDirectory()))
-
-    def table(self, text: str, name: str = "table.toml") -> Table:
-        (self.folder / name).write_text(text)
-        return Table(self.folder / name)
-
-    def test_which_row_decides(self) -> None:
-        table = Table(TABLE)
-        cases = {
-            "principal 1 tidy": "row 1", "principal 2 write 5": "row 2", "principal 3 get 458752": "B3", "principal 3 get 458751": "row 4",
-            "principal 3 pull 0..3": "row 4", "principal 4 advance 3": "row 5", "principal 4 advance 4": "B0", "principal 4 as page_server pull": "B0",
-            "principal 4 as page_server pull 1..3": "row 5", "principal 5 report": "row 6", "principal 9 status": "A1", "principal 2 tidy": "B0",
-            "principal 2 as primary tidy": "A5", "principal 1 failover 9": "row 1", "principal 1 set_table": "row 1", "principal 1 audit": "row 1",
-            "principal 5 offer 1,4": "row 6", "principal 3 as secondary status": "row 4", "principal 3 as secondary write": "A5",
-        }  # fmt: skip
-        for words_, place in cases.items():
-            decision = explain(table, Question.parse(words_))
-            self.assertEqual((decision.place, decision.is_allowed), (place, place.startswith("row")), words_)
-
-    def test_it_is_what_a_service_decides(self) -> None:
-        """The same requests, asked of a service with the table: the verdict and the row of a denial are the same."""
-        text = TABLE.read_text() + '\n[[row]]\nverdict = "deny"\nrole = "primary"\nop = ["get"]\nfrom = 2\nto = 9\n[[row]]\nverdict = "allow"\nwho = 3\n'
-        table = self.table(text)
-        with Service(table=text) as service, service.connection() as connection:
-            for principal in range(1, 6):
-                for role, operation, argument in (("primary", "get", "200000"), ("secondary", "get", "458752"), ("page_server", "pull", "0..3"),
-                                                  ("page_server", "pull", "0..4"), ("operator", "status", ""), ("operator", "audit", "")):  # fmt: skip
-                    question = Question.parse(f"principal {principal} as {role} {operation} {argument}".strip())
-                    head = pagelog.request.Head(principal, table.token(principal), question.role, 0, 1)
-                    reply = connection.ask(pagelog.request.Request(head, question.act(b"")))
-                    if role == "primary" and principal != 2:
-                        continue  # explain takes the one who asks for the primary
-                    decision = explain(table, question)
-                    denied = isinstance(reply, pagelog.reply.Denied) and reply.section is not pagelog.Section.C
-                    self.assertEqual(decision.is_allowed, not denied, question)
-                    if denied:
-                        self.assertEqual(decision.place, f"{reply.section.name}{reply.row}", question)  # type: ignore[union-attr]
-
-    def test_a_single_principal_and_many_rows(self) -> None:
-        one = f'[[principal]]\nid = 0\ntoken = "{"0a" * 16}"\n'
-        rows = "".join(f'[[row]]\nverdict = "allow"\nop = ["advance"]\nfrom = {at}\nto = {at}\n' for at in range(60))
-        table = self.table(one + '[[row]]\nverdict = "allow"\nrole = "operator"\n' + rows)
-        for partition in (0, 59):
-            self.assertEqual(explain(table, Question.parse(f"principal 0 advance {partition}")).place, f"row {partition + 2}")
-        self.assertEqual(explain(table, Question.parse("principal 0 advance 60")).place, "B0")
-
-    def test_what_differs(self) -> None:
-        new = self.table(TABLE.read_text().replace("from = 7\nto = 7", "from = 6\nto = 7").replace("to = 3", "to = 4"), "new.toml")
-        asked = ["principal 3 get 458752", "principal 3 get 393216", "principal 4 advance 4", "principal 2 write 1", "principal 9 tidy"]
-        found = differences(Table(TABLE), new, [Question.parse(words_) for words_ in asked])
-        self.assertEqual([(one.question.words, one.old.place, one.new.place) for one in found],
-                         [("principal 3 get 393216", "row 4", "B3"), ("principal 4 advance 4", "B0", "row 5")])  # fmt: skip
-        (self.folder / "requests").write_text("# who may\n\n" + "\n".join(asked) + "\n")
-        out = ends(words("explain", "--diff", TABLE, self.folder / "new.toml", self.folder / "requests"), status=1)
-        self.assertEqual(out.count("principal "), 2)
-        self.assertIn("t0.toml: denied by B0 NoRowMatches", out)
-        ends(words("explain", "--diff", TABLE, TABLE, self.folder / "requests"))
-
-    def test_what_differs_among_all_requests(self) -> None:
-        """Row 3 denies one partition more, row 5 allows one more, and principal 5 has gone."""
-        text = TABLE.read_text().replace("from = 7\nto = 7", "from = 6\nto = 7").replace("to = 3", "to = 4")
-        gone = text.replace(f'[[principal]]\nid = 5\ntoken = "{token(5)}"\n', "").replace("who = 5\n", "who = 2\n")
-        new = self.table(gone, "new.toml")
-        found = [(one.question.words, one.old.place, one.new.place) for one in all_differences(Table(TABLE), new)]
-        of_four = [(f"principal 4 as page_server {words_}", "B0", "row 5") for words_ in ("pull 4..4", "pull 0..4", "advance 4")]
-        self.assertEqual([one for one in found if one[0].startswith("principal 4")], of_four)
-        self.assertEqual([one for one in found if one[0].startswith("principal 3")],
-                         [("principal 3 as secondary get 393216", "row 4", "B3")])  # fmt: skip
-        of_five = [one for one in found if one[0].startswith("principal 5")]
-        self.assertEqual({one[1:] for one in of_five}, {("row 6", "A1")})
-        self.assertIn("principal 5 as primary status", [one[0] for one in of_five])
-        self.assertEqual({one[0][:11] for one in found}, {"principal 3", "principal 4", "principal 5"})
-        self.assertEqual(list(all_differences(new, new)), [])
-        with self.assertRaisesRegex(ExplainError, "fault 11"):
-            list(all_differences(new, self.table(TABLE.read_text().replace("to = 3", 'to = "x"'), "no_table.toml")))
-        one_more = self.table(TABLE.read_text().replace("to = 3", "to = 4"), "one_more.toml")
-        out = ends(words("explain", "--diff", TABLE, self.folder / one_more.name), status=1)
-        self.assertEqual(out.count("one_more.toml: allowed by row 5"), 3)
-
-    def test_what_cannot_be_asked(self) -> None:
-        for words_ in ("", "principal x tidy", "principal 3 pulls", "principal 3 as king pull", "principal 3 get 4294967296"):
-            with self.subTest(words_), self.assertRaises(ExplainError):
-                explain(Table(TABLE), Question.parse(words_))
-        with self.assertRaisesRegex(ExplainError, "fault 12, nobody may set the table"):
-            explain(self.table(TABLE.read_text().replace('role = "operator"', 'role = "primary"', 1)), Question.parse("principal 1 tidy"))
-        for text in ("[[principal", "principal = 1\n", "[[principal]]\nid = 'x'\n"):
-            with self.assertRaises(ExplainError):
-                explain(self.table(text), Question.parse("principal 1 tidy"))
-        out = ends(words("explain", TABLE, "principal 3 pull 0..3"))
-        self.assertEqual(out, "principal 3 pull 0..3: allowed by row 4 of the table: verdict allow who 3 role secondary (then the log decides: here C1 "
-                         "AboveTheEnd, as it is empty)\n")  # fmt: skip
-
-
-class Help(unittest.TestCase):
-    def test_every_word_has_help_with_an_example(self) -> None:
-        from click.testing import CliRunner
-
-        from pagelog.desk.words import WORDS, pagelogctl
-
-        for word in WORDS:
-            result = CliRunner().invoke(pagelogctl, [word, "--help"])
-            self.assertEqual(result.exit_code, 0, result.output)
-            self.assertIn(f"pagelogctl {word}", result.output)
-            self.assertRegex(result.output, r"Examples?:")
-        self.assertEqual(CliRunner().invoke(pagelogctl, ["completion", "bash"]).exit_code, 0)
-        self.assertEqual(CliRunner().invoke(pagelogctl, ["nothing"]).exit_code, 2)
-
-    def test_what_is_not_installed_is_named(self) -> None:
-        code = "import sys; sys.path.insert(0, sys.argv[1]); sys.modules['sqlalchemy'] = None; sys.argv[:] = ['', 'verify', '--offline']; " \
-               "from pagelog.command import main; main()"  # fmt: skip
-        done = subprocess.run([sys.executable, "-B", "-c", code, str(SOURCE)], capture_output=True, text=True)
-        self.assertEqual(done.returncode, 1)
-        self.assertRegex(done.stderr, r"\Apagelogctl needs sqlalchemy.*: apt-get install .*\n\Z")
-
-    def test_the_library_needs_nothing(self) -> None:
-        code = "import sys; sys.path.insert(0, sys.argv[1]); import pagelog; print(sorted(m for m in sys.modules if m.split('.')[0] in " \
-               "('click', 'rich', 'sqlalchemy', 'psycopg2', 'prometheus_client')))"  # fmt: skip
-        out = subprocess.run([sys.executable, "-B", "-c", code, str(SOURCE)], capture_output=True, text=True, check=True).stdout
-        self.assertEqual(out.strip(), "[]")
 
 
 if __name__ == "__main__":

@@ -76,7 +76,8 @@ class Reading(unittest.TestCase):
         """Whoever answers so is no service, and what waits for more would wait for ever."""
         list(self.primary.stream([put(0, b"x")] for _ in range(3)))
         self.reader.status()
-        self.reader._ask_all = lambda acts, *_: [pagelog.reply.Blocks(act.lsn, ()) for act in acts]  # type: ignore[method-assign, attr-defined, union-attr]
+        self.reader.connection.exchange = lambda requests, *_: (  # type: ignore[method-assign]
+            pagelog.reply.Blocks(request.act.lsn, ()) for request in requests)  # type: ignore[union-attr]
         for asks in (lambda: self.reader.span(1), lambda: list(self.reader.blocks(1, follow=False))):
             with self.assertRaises(pagelog.UnexpectedReply):
                 asks()

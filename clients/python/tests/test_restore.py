@@ -1,24 +1,27 @@
-"""Restore, verify and move: two services that have one log, LSN for LSN."""
+"""Restore and verify: two services that have one log, LSN for LSN."""
 
 from __future__ import annotations
 
+import contextlib
+import io
 import os
 import pty
 import signal
 import subprocess
 import sys
 import tempfile
-import threading
 import time
 import unittest
 import zlib
 from pathlib import Path
 from typing import Iterable, Iterator
+from unittest import mock
 
 import pagelog
 from pagelog import Block, Operation, Put
 from pagelog.archive import Archive, BrokenArchive, _blocks, _logs
-from pagelog.keeping import Archiver, Move, NotFenced, OtherLog, OtherService, all_blocks, restore, verify
+from pagelog.desk import options
+from pagelog.keeping import Archiver, OtherLog, OtherService, all_blocks, restore, verify
 from postgres import postgres
 from service import PATIENCE, SOURCE, TABLE, Service, all_that_is_drawn, fill, put, token
 from test_archive import words
@@ -213,14 +216,14 @@ class Verifying(Pair):
     def test_pages_are_compared(self) -> None:
         """A replay that is wrong is noticed: the sampled pages of the service are those of the log."""
         self.archived(40)
-        taken = pagelog.keeping._Replay.take
+        taken = pagelog.comparing.Replay.take
 
         def skips_some(replay: object, block: Block) -> None:
             if block.lsn % 3:
                 taken(replay, block)  # type: ignore[arg-type]
 
-        pagelog.keeping._Replay.take = skips_some  # type: ignore[method-assign, assignment]
-        self.addCleanup(setattr, pagelog.keeping._Replay, "take", taken)
+        pagelog.comparing.Replay.take = skips_some  # type: ignore[method-assign, assignment]
+        self.addCleanup(setattr, pagelog.comparing.Replay, "take", taken)
         with self.assertRaisesRegex(OtherLog, "page"), self.source.reader() as reader:
             verify(self.archive, reader, seed=1)
 
@@ -238,7 +241,7 @@ class Verifying(Pair):
             verify(self.archive, reader)
 
     def test_the_sample_is_replayed_from_the_first_record(self) -> None:
-        replay = pagelog.keeping._Replay(seed=12345, count=8)
+        replay = pagelog.comparing.Replay(seed=12345, count=8)
         plain: dict[int, bytearray] = {}
         for lsn in range(1, 300):
             records = [Put(lsn * 7 % 100, lsn % 9, bytes([lsn % 256]) * 3), Put(lsn * 13 % 31, 0, b"z")]
@@ -253,198 +256,6 @@ class Verifying(Pair):
                     page[:] = bytes(8192)
         self.assertEqual(len(replay.pages), 8)
         self.assertEqual(replay.pages, {number: plain[number] for number in replay.pages})
-
-
-class Moving(Pair):
-    def mover(self, **options: object) -> Move:
-        archiver = Archiver(self.enterContext(self.source.reader()), self.archive)
-        operator = self.enterContext(self.source.operator())
-        target = self.enterContext(self.target.primary(alone=True))
-        check = self.enterContext(self.target.reader())
-        return Move(archiver, operator, target, check, 1, **options)  # type: ignore[arg-type]
-
-    def write_until_denied(self, ended: list[object], pause: float = 0.0) -> None:
-        try:
-            with self.source.primary() as primary:
-                while True:
-                    primary.append(put(1, b"while it moves"))
-                    ended[:] = [primary.commit()]
-                    time.sleep(pause)
-        except pagelog.PagelogError as error:
-            ended.append(error)
-
-    def test_with_a_writer_that_goes_on(self) -> None:
-        fill(self.primary, 200)
-        ended: list[object] = []
-        writer = threading.Thread(target=self.write_until_denied, args=(ended, 0.002))
-        writer.start()
-        while not ended:  # where it has committed nothing before the fence, it never is denied as this epoch's primary
-            time.sleep(0.002)
-        done = self.mover().run()
-        writer.join(PATIENCE)
-        last, error = ended
-        self.assertIsInstance(error, pagelog.OlderEpoch)
-        # All that was acknowledged is in the target; the one in flight may be.
-        self.assertIn(done.hard, (last, last + 1))  # type: ignore[operator]
-        self.assertGreaterEqual(done.behind, 0)
-        self.assertEqual(done.epoch, 2)
-        self.same_logs(done.hard)
-        self.assertEqual(self.archive.archived, done.hard)
-        with self.source.operator() as operator, self.target.primary() as primary:
-            self.assertEqual((operator.status().epoch, operator.status().primary), (2, 1))
-            primary.append(put(1, b"on"))
-            self.assertEqual(primary.commit(), done.hard + 1)
-
-    def test_to_another_number_of_the_same_service(self) -> None:
-        with Service(dbs=2) as service:
-            with service.primary() as primary:
-                fill(primary, 50)
-            done = self.words_move(service, service, to_db=1)
-            self.assertRegex(done, r"^moved 50 blocks, alike in both; the source is fenced in epoch 2, 0 blocks before its end; ")
-            with service.reader(db=1) as reader, service.reader() as source:
-                self.assertEqual(list(all_blocks(reader, 1, 50)), list(all_blocks(source, 1, 50)))
-
-    def words_move(self, source: Service, target: Service, *, to_db: int = 0) -> str:
-        old, new = source.credentials_file(name="old.toml"), target.credentials_file(name="new.toml")
-        process = words("move", "--from", old, "--to", new, "--to-db", to_db, "--url", self.url)
-        out, error = process.communicate(timeout=PATIENCE)
-        self.assertEqual((process.returncode, error), (0, ""))
-        return out
-
-    def test_before_the_audit_list_is_full(self) -> None:
-        """A small audit list fills while a writer goes on; the move is done before, and the writer goes on elsewhere."""
-        with Service(audit=30000) as small:
-            self.source = small
-            ended: list[object] = []
-            writer = threading.Thread(target=self.write_until_denied, args=(ended, 0.005))
-            writer.start()
-            with small.operator() as operator:
-                while operator.status().hard < 300:
-                    time.sleep(0.05)
-                done = self.mover().run()
-                writer.join(PATIENCE)
-                used = operator.count_of_entries()
-            self.assertLess(used, 30000)
-            # Each of 300 blocks at least had three requests, and the move had some.
-            self.assertGreater(used, 900)
-            self.assertIsInstance(ended[1], pagelog.OlderEpoch)
-            self.same_logs(done.hard)
-            with self.target.primary() as primary:
-                primary.append(put(1, b"on"))
-                self.assertEqual(primary.commit(), done.hard + 1)
-
-    def test_where_the_audit_list_is_full_already_the_archive_is_left(self) -> None:
-        with Service(audit=400) as small:
-            with small.primary() as primary:
-                fill(primary, 60)
-            with small.reader() as reader:
-                Archiver(reader, self.archive).run(follow=False)
-                with self.assertRaises(pagelog.AuditListFull):
-                    while True:
-                        reader.status()
-            self.source = small
-            with self.assertRaises(pagelog.AuditListFull):
-                self.mover().run()
-            self.assertEqual(self.restore().blocks, 60)
-
-    def test_a_source_that_is_never_near_is_not_fenced(self) -> None:
-        fill(self.primary, 10)
-        move = self.mover(within=-1, patience=0.2)
-        with self.assertRaises(NotFenced):
-            move.run()
-        self.assertEqual(self.reader.status().epoch, 1)
-        move.within = 64
-        self.assertEqual(move.run().hard, 10)
-
-    def test_a_target_that_is_not_fresh_is_refused_before_the_fence(self) -> None:
-        fill(self.primary, 10)
-        with self.target.primary() as primary:
-            fill(primary, 2, seed=77)
-        with self.assertRaises(OtherLog):
-            self.mover().run()
-        self.assertEqual(self.reader.status().epoch, 1)
-
-    def test_a_target_that_is_not_to_be_read_is_refused_before_the_fence(self) -> None:
-        fill(self.primary, 10)
-        move = self.mover()
-        move.reader = self.enterContext(pagelog.Reader.at(self.target.address, 3, token(9)))
-        with self.assertRaises(pagelog.rules.UnknownPrincipal):
-            move.run()
-        self.assertEqual(self.reader.status().epoch, 1)
-
-    def test_a_failover_after_the_fence_is_told(self) -> None:
-        """A writer takes the source over while the logs are compared, and what it writes is not in the target."""
-        fill(self.primary, 10)
-        move = self.mover()
-        check = move._check
-
-        def a_writer_comes(told: pagelog.keeping.Progress) -> int:
-            hard = check(told)
-            with self.source.operator() as operator:
-                writer = pagelog.Primary.take_over(self.source.connection(), pagelog.Credentials.of(2, token(2)), operator)
-            list(writer.stream([[put(1, b"after the fence")]]))
-            writer.close()
-            return hard
-
-        move._check = a_writer_comes  # type: ignore[method-assign]
-        with self.assertRaisesRegex(NotFenced, "epoch 3, with primary 2"):
-            move.run()
-        move._check = check  # type: ignore[method-assign]
-        self.assertEqual(self.mover().run().hard, 11)
-        self.same_logs(11)
-
-    def test_a_fence_of_another_service_is_told(self) -> None:
-        """The operator's address is that of another, which is fenced, and the source's writer goes on."""
-        fill(self.primary, 10)
-        with Service() as other, other.primary() as primary:
-            fill(primary, 10)
-            for service, error in ((other, NotFenced), (self.target, pagelog.OlderEpoch)):
-                move = self.mover()
-                move.operator = self.enterContext(service.operator())
-                with self.assertRaises(error):
-                    move.run()
-
-    def test_a_source_that_is_the_target_is_told(self) -> None:
-        fill(self.primary, 10)
-        self.target = self.source
-        with self.assertRaises(pagelog.OlderEpoch):
-            self.mover().run()
-
-    def write_without_report(self, block: Block) -> None:
-        head = pagelog.request.Head(2, bytes.fromhex(token(2)), pagelog.Role.PRIMARY, 0, 1)
-        with self.source.connection() as connection:
-            list(connection.exchange([pagelog.request.Request(head, pagelog.request.Write(copy, block)) for copy in (0, 1)]))
-
-    def test_what_the_fence_hardens_is_counted(self) -> None:
-        fill(self.primary, 10)
-        for lsn in (11, 12):
-            self.write_without_report(Block.of(lsn, [put(1, b"x")]))
-        done = self.mover().run()
-        self.assertEqual((done.hard, done.behind), (12, 2))
-        self.same_logs(12)
-
-    def test_an_end_after_the_fence_is_told(self) -> None:
-        """The source's last block is of a partition that the target's table denies."""
-        fill(self.primary, 10, empties=False)
-        old, new = self.source.credentials_file(name="old.toml"), self.target.credentials_file(name="new.toml")
-        self.write_without_report(Block.of(11, [Put(7 * 65536, 0, b"hardened by the fence")]))
-        with self.target.operator() as operator:
-            denies = '[[row]]\nverdict = "deny"\nwho = 2\nop = ["write"]\nfrom = 7\nto = 7\n'
-            operator.set_table(TABLE.read_text().replace("[[row]]", denies + "[[row]]", 1))
-        process = words("move", "--from", old, "--to", new, "--url", self.url)
-        _, error = process.communicate(timeout=PATIENCE)
-        self.assertEqual(process.returncode, 1)
-        self.assertIn("the source was fenced in epoch 2, and the move is not done: run it again", error)
-
-    def test_the_check_finds_a_difference(self) -> None:
-        fill(self.primary, 30)
-        move = self.mover()
-        move.run()
-        with self.target.primary() as primary:
-            primary.append(put(0, b"more"))
-            primary.commit()
-        with self.assertRaises(OtherLog):
-            move._check(lambda _, __: None)
 
 
 class Words(Pair):
@@ -473,8 +284,8 @@ class Words(Pair):
         old, new = self.source.credentials_file(name="old.toml"), self.target.credentials_file(secondary=self.source.address)
         cases = [
             (("restore", "--credentials", new), f"[primary] is at {self.target.address} and [secondary] at {self.source.address}: "),
-            (("move", "--from", old, "--to", new), f"[primary] is at {self.target.address} and [secondary] at {self.source.address}: "),
-            (("move", "--from", new, "--to", old), f"[secondary] is at {self.source.address} and [operator] at {self.target.address}: "),
+            (("move", "--from", old, "--to", new, "--table", TABLE), f"[primary] is at {self.target.address} and [secondary] at {self.source.address}: "),
+            (("move", "--from", new, "--to", old, "--table", TABLE), f"[secondary] is at {self.source.address} and [operator] at {self.target.address}: "),
         ]
         for arguments, text in cases:
             process = words(*arguments, "--url", self.url)
@@ -496,6 +307,19 @@ class Words(Pair):
         self.assertEqual(process.returncode, 0)
         self.assertRegex(drawn, r"restored .*/300")
         self.assertRegex(out, r"^restored 300: 300 blocks and \d+ pages are alike\n$")
+
+    def test_a_line_each_minute_where_there_is_no_terminal(self) -> None:
+        seconds, said = [0.0], io.StringIO()
+        with mock.patch.object(options.time, "monotonic", lambda: seconds[0]), contextlib.redirect_stderr(said):
+            with options.bar("restored") as told:
+                for step in (100, 200):
+                    for done in range(step):
+                        seconds[0] += 1.0
+                        told(done + 1, step)
+        lines = said.getvalue().splitlines()
+        self.assertEqual(lines[0], "pagelogctl: restored 60 of 100, 40 s left")
+        self.assertEqual(lines[1], "pagelogctl: restored 20 of 200, 2.9 min left")
+        self.assertEqual(len(lines), 5)
 
     def test_a_restore_that_is_killed_goes_on(self) -> None:
         self.archived(400)

@@ -24,7 +24,10 @@ from pagelog.errors import (
 )  # fmt: skip
 from pagelog.faults import BlockFault, FrameFault, MalformedRequest, ReplyFault, RequestFault
 from pagelog.operator import Operator
+from pagelog.named import NamedPrimary
+from pagelog.named_reader import NamedReader
 from pagelog.page_server import PageServer
+from pagelog.place import Lost
 from pagelog.primary import Primary
 from pagelog.reader import Reader, Span
 from pagelog.reply import Blocks, Entry, Page, State
@@ -40,7 +43,8 @@ __version__ = "0.1.0"
 __all__ = [
     "AboveTheEnd", "AboveTheWindow", "Account", "Accounts", "Address", "AuditListFull", "BelowQuorum", "Block",
     "BlockFault", "Blocks", "Connection", "ConnectionLost", "Credentials", "CredentialsError", "Denial", "Entry",
-    "Fault", "FrameFault", "HardenedAlready", "InDoubt", "LastEpoch", "LogWentBack", "MalformedRequest", "NewerEpoch",
+    "Fault", "FrameFault", "HardenedAlready", "InDoubt", "LastEpoch", "LogWentBack", "Lost", "MalformedRequest", "NamedPrimary",
+    "NamedReader", "NewerEpoch",
     "NoRowMatches", "NoSuchCopy", "NoTable", "OlderEpoch", "Operation", "Operator", "OtherContent", "OtherPrimary",
     "OutOfMemory", "PAGE_SIZE", "Page", "PageServer", "PagelogError", "Primary", "Put", "Reader", "Record", "Refusal",
     "ReplyFault", "RequestFault", "Role", "RoleLacksOperation", "Section", "Span", "State", "TableFault", "TableRow",

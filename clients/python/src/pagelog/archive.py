@@ -7,17 +7,20 @@ archiver, all blocks up to the archived LSN are there, and none twice.
 
 from __future__ import annotations
 
-import os
 import time
 import zlib
 from dataclasses import dataclass
-from typing import Any, Iterator, Sequence
+from typing import Any, Callable, Iterator, Sequence
 
 import sqlalchemy as sql
 from sqlalchemy.engine import Engine
 
+from pagelog.archive_engine import ArchiveError as ArchiveError
+from pagelog.archive_engine import engine_of, file_of, parsed_url
+from pagelog.archive_tables import blocks as _blocks
+from pagelog.archive_tables import logs as _logs
+from pagelog.archive_tables import metadata as _metadata
 from pagelog.block import HIGHEST_LSN, Block
-from pagelog.errors import PagelogError
 from pagelog.faults import BlockFault
 
 DEFAULT_URL = "sqlite:///pagelog-archive.db"
@@ -26,30 +29,6 @@ FORMAT = 1
 """The number of the tables' form, which each log of an archive carries."""
 _READ_SIZE = 512
 _TRIES = 5
-
-_metadata = sql.MetaData()
-_logs = sql.Table(
-    "pagelog_log",
-    _metadata,
-    sql.Column("id", sql.Integer, primary_key=True),
-    sql.Column("name", sql.String(200), nullable=False, unique=True),
-    sql.Column("format", sql.Integer, nullable=False),
-    sql.Column("archived", sql.BigInteger, nullable=False),
-    sql.Column("epoch", sql.BigInteger, nullable=False),
-)
-_blocks = sql.Table(
-    "pagelog_block",
-    _metadata,
-    sql.Column("log", sql.Integer, sql.ForeignKey("pagelog_log.id"), primary_key=True, autoincrement=False),
-    sql.Column("lsn", sql.BigInteger, primary_key=True, autoincrement=False),
-    sql.Column("crc", sql.BigInteger, nullable=False),
-    sql.Column("data", sql.LargeBinary, nullable=False),
-)
-
-
-class ArchiveError(PagelogError):
-    """Something is wrong with an archive, or with what it is to be used for."""
-
 
 class NoArchive(ArchiveError):
     """There is no log of this name in the archive, or no archive at the URL."""
@@ -82,11 +61,11 @@ class Archive:
     def __init__(self, url: str, log: str = "0", *, create: bool = False) -> None:
         """Opens the archive of the log of this name; with `create` makes what is not there. Raises `NoArchive`."""
         self.log = log
-        if not create and _file_is_missing(url):
+        if not create and file_is_missing(url):
             raise NoArchive("there is no archive at this URL")
-        self.engine = _engine(url)
+        self.engine = engine_of(url)
         try:
-            self._id = self._make() if create else self._find(False)
+            self.id = self._make() if create else self._find(False)
         except UnicodeDecodeError as error:  # SQLite quotes the damage
             self.close()
             raise ArchiveError("the archive's tables cannot be read: its file is damaged") from error
@@ -124,7 +103,7 @@ class Archive:
                     connection.execute(_logs.insert().values(values))
                     row = connection.execute(sql.select(_logs).where(_logs.c.name == self.log)).first()
         except (sql.exc.OperationalError, sql.exc.ProgrammingError) as error:
-            if create or not _tables_are_missing(self.engine):
+            if create or not tables_are_missing(self.engine):
                 raise
             raise NoArchive("there is no archive at this URL") from error
         if row is None:
@@ -147,12 +126,20 @@ class Archive:
 
     @property
     def epoch(self) -> int:
-        """The epoch of the service when the last batch was kept."""
-        return int(self._row().epoch)
+        """The highest epoch that an archiver has seen, 0 at the beginning. A restored service has to be above it."""
+        epoch = self._row().epoch
+        if not isinstance(epoch, int):
+            raise ArchiveError(f"the epoch is {epoch!r}, which is no number: the archive is damaged")
+        return epoch
+
+    def note_epoch(self, epoch: int) -> None:
+        """Keeps an epoch that was seen, if it is higher than those before."""
+        with self.engine.begin() as connection:
+            connection.execute(_logs.update().where(_logs.c.id == self.id, _logs.c.epoch < epoch).values(epoch=epoch))
 
     def _row(self) -> Any:
         with self.engine.begin() as connection:
-            return connection.execute(sql.select(_logs).where(_logs.c.id == self._id)).one()
+            return connection.execute(sql.select(_logs).where(_logs.c.id == self.id)).one()
 
     def keep(self, blocks: Sequence[Block], epoch: int) -> int:
         """Keeps a batch, which has every LSN from the archived one on, in one transaction. Returns the archived LSN.
@@ -164,12 +151,12 @@ class Archive:
         first, last = blocks[0].lsn, blocks[-1].lsn
         if [block.lsn for block in blocks] != list(range(first, last + 1)):
             raise ValueError(f"the batch does not have every LSN from {first} to {last}")
-        rows = [{"log": self._id, "lsn": block.lsn, "crc": zlib.crc32(block.data), "data": block.data} for block in blocks]
+        rows = [{"log": self.id, "lsn": block.lsn, "crc": zlib.crc32(block.data), "data": block.data} for block in blocks]
         with self.engine.begin() as connection:
             moved = connection.execute(
                 _logs.update()
-                .where(_logs.c.id == self._id, _logs.c.archived == first - 1)
-                .values(archived=last, epoch=epoch)
+                .where(_logs.c.id == self.id, _logs.c.archived == first - 1)
+                .values(archived=last, epoch=sql.case((_logs.c.epoch < epoch, epoch), else_=_logs.c.epoch))
             )
             if moved.rowcount != 1:
                 raise OtherArchiver(f"the archived LSN is not {first - 1} any more")
@@ -189,7 +176,7 @@ class Archive:
 
     def _read(self, first: int, last: int) -> Iterator[Block]:
         wanted = sql.select(_blocks.c.lsn, _blocks.c.crc, _blocks.c.data).where(
-            _blocks.c.log == self._id, _blocks.c.lsn >= first, _blocks.c.lsn <= last
+            _blocks.c.log == self.id, _blocks.c.lsn >= first, _blocks.c.lsn <= last
         )
         try:
             with self.engine.begin() as connection:
@@ -206,19 +193,31 @@ class Archive:
         if len(rows) != last - first + 1:
             raise BrokenArchive(first + len(rows), "it is missing")
 
-    def check(self) -> Sizes:
-        """Reads every block, and counts them. Raises `BrokenArchive`."""
-        blocks = empty = size = 0
-        for block in self.blocks():
+    def bytes(self) -> int:
+        """How many bytes the blocks have. The database adds them up."""
+        wanted = sql.select(sql.func.coalesce(sql.func.sum(sql.func.length(_blocks.c.data)), 0)).where(_blocks.c.log == self.id)
+        with self.engine.begin() as connection:
+            return int(connection.execute(wanted).scalar_one())
+
+    def check(self, last: int = HIGHEST_LSN, *, told: Callable[[int, int], None] = lambda _, __: None) -> Sizes:
+        """Reads every block, or those up to LSN `last`, and counts them. Raises `BrokenArchive`."""
+        blocks, empty, size, end = 0, 0, 0, min(last, self.archived)
+        for block in self.blocks(1, end):
             blocks, empty, size = blocks + 1, empty + block.is_empty, size + len(block.data)
+            if blocks % _READ_SIZE == 0:
+                told(blocks, end)
+        if last >= self.archived:
+            self._check_above()
+        return Sizes(blocks, empty, size)
+
+    def _check_above(self) -> None:
         above = sql.select(sql.func.min(_blocks.c.lsn)).where(
-            _logs.c.id == self._id, _blocks.c.log == self._id, _blocks.c.lsn > _logs.c.archived
+            _logs.c.id == self.id, _blocks.c.log == self.id, _blocks.c.lsn > _logs.c.archived
         )
         with self.engine.begin() as connection:
             lsn = connection.execute(above).scalar_one()
         if lsn is not None:
             raise BrokenArchive(lsn, "a block is kept above the archived LSN")
-        return Sizes(blocks, empty, size)
 
 
 def _block(lsn: int, row: Any) -> Block:
@@ -236,42 +235,20 @@ def _block(lsn: int, row: Any) -> Block:
     return block
 
 
-def _engine(url: str) -> Engine:
-    parsed = sql.engine.make_url(url)
-    engine = sql.create_engine(parsed, future=True, pool_pre_ping=parsed.get_backend_name() != "sqlite")
-    if parsed.get_backend_name() == "sqlite":
-        sql.event.listen(engine, "connect", _prepare_sqlite)
-    return engine
-
-
-def _prepare_sqlite(connection: Any, _: object) -> None:
-    """A commit is on the disk before it returns, and readers do not wait for the archiver."""
-    cursor = connection.cursor()
-    cursor.execute("PRAGMA busy_timeout=10000")
-    cursor.execute("PRAGMA journal_mode=WAL")
-    cursor.execute("PRAGMA synchronous=FULL")
-    cursor.close()
-
-
 def is_in_memory(url: str) -> bool:
-    """Whether it is a database of SQLite that ends with its process."""
-    parsed = sql.engine.make_url(url)
-    if parsed.get_backend_name() != "sqlite":
-        return False
-    file = str(parsed.database or ":memory:")
-    return file.removeprefix("file:").startswith(":memory:") or parsed.query.get("mode") == "memory"
+    """Whether it is a database of SQLite that ends with its process. Raises `ArchiveError` for a URL that is none."""
+    parsed = parsed_url(url)
+    return parsed.get_backend_name() == "sqlite" and file_of(parsed) is None
 
 
-def _file_is_missing(url: str) -> bool:
+def file_is_missing(url: str) -> bool:
     """Whether it is a file of SQLite that is not there. To look into it would make it."""
-    parsed = sql.engine.make_url(url)
-    if parsed.get_backend_name() != "sqlite" or not parsed.database:
-        return False
-    file = str(parsed.database)
-    return file != ":memory:" and not file.startswith("file:") and not os.path.exists(file)
+    file = file_of(parsed_url(url))
+    return file is not None and not file.exists()
 
 
-def _tables_are_missing(engine: Engine) -> bool:
+def tables_are_missing(engine: Engine) -> bool:
+    """Whether the database has no archive."""
     try:
         return not sql.inspect(engine).has_table("pagelog_log")
     except sql.exc.SQLAlchemyError:

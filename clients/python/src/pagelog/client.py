@@ -2,19 +2,23 @@
 
 from __future__ import annotations
 
+from contextlib import closing
 from types import TracebackType
-from typing import Iterable, Iterator, Sequence, TypeVar
+from typing import Any, Sequence, TypeVar
 
 from pagelog.block import HIGHEST_PARTITION
 from pagelog.connection import Address, Connection
 from pagelog.credentials import Account, Credentials
 from pagelog.errors import LogWentBack, UnexpectedReply
-from pagelog.reply import Denied, Page, Reply, State, expect
+from pagelog.matching import mismatch
+from pagelog.reply import Denied, Page, Reply, State, expect, refusal_of
 from pagelog.request import Act, Get, Head, Request, Role, Status
 from pagelog.rules import Section
 
 FIRST_EPOCH = 1
 ALL_PARTITIONS = (0, HIGHEST_PARTITION)
+MOST_EPOCHS = 64
+"""In how many epochs one after the other a call asks again. A service whose epoch is another each time is none."""
 Self = TypeVar("Self", bound="Client")
 
 
@@ -23,6 +27,13 @@ def reported_epoch(reply: Reply) -> int | None:
     if isinstance(reply, Denied) and reply.section is Section.A and reply.row in (2, 3):
         return reply.value
     return None
+
+
+def lets_in(reply: Reply) -> bool:
+    """Whether the reply shows that the table lists the principal: it is no refusal, or a denial by another rule than A1."""
+    if isinstance(reply, Denied):
+        return (reply.section, reply.row) != (Section.A, 1)
+    return refusal_of(reply) is None
 
 
 class Client:
@@ -43,17 +54,22 @@ class Client:
         self.epoch = FIRST_EPOCH
         self.hard_seen = 0
         """The highest hardened end that a reply reported."""
+        self.was_let_in = False
+        """Whether a reply to anything but a write or a failover has shown that the table lists this principal, or once did."""
         self._head: Head | None = None
 
     @classmethod
-    def open(cls: type[Self], account: Account, database: int = 0, *, timeout: float = 10.0) -> Self:
-        """A client over a connection of its own."""
-        return cls(Connection(account.to, timeout=timeout), account.credentials, database)
+    def open(cls: type[Self], account: Account, database: int = 0, *, timeout: float = 10.0, **options: Any) -> Self:
+        """A client over a connection of its own. The options are those of the class, as `quorum` of a primary."""
+        return cls(Connection(account.to, timeout=timeout), account.credentials, database, **options)
 
     @classmethod
-    def at(cls: type[Self], address: Address | str, id: int, token: str, database: int = 0) -> Self:
-        """A client of the service at an address as `127.0.0.1:7400`; the token has 32 hexadecimal digits."""
-        return cls(Connection(address), Credentials.of(id, token), database)
+    def at(cls: type[Self], address: Address | str, id: int, token: str, database: int = 0, **options: Any) -> Self:
+        """A client of the service at an address as `127.0.0.1:7400`; the token has 32 hexadecimal digits.
+
+        The options are those of the class, as `quorum` of a primary.
+        """
+        return cls(Connection(address), Credentials.of(id, token), database, **options)
 
     def __enter__(self: Self) -> Self:
         return self
@@ -107,29 +123,47 @@ class Client:
         With `over` they are fewer where that connection was lost: those that came over it.
         """
         replies: list[Reply | None] = [None] * len(acts)
-        while True:
+        for _ in range(MOST_EPOCHS):
             left = [at for at, reply in enumerate(replies) if reply is None]
             if not left:
                 return [reply for reply in replies if reply is not None]
-            epoch, came = None, 0
-            asked = (self._request(acts[at]) for at in left)
-            for reply, at in zip(self.connection.exchange(asked, in_flight, over), left):
+            epoch, came = self._ask_once(acts, left, replies, in_flight, over)
+            if epoch is not None:
+                self._adopt(epoch)
+            elif came < len(left):
+                return [reply for reply in replies[: left[came]] if reply is not None]
+        raise UnexpectedReply(f"{MOST_EPOCHS} epochs ended while it was asked")
+
+    def _ask_once(
+        self, acts: Sequence[Act], left: Sequence[int], replies: list[Reply | None], in_flight: int, over: int | None
+    ) -> tuple[int | None, int]:
+        """Asks those that are left, and puts their replies into `replies`. Returns the epoch of the last denial for the sake
+        of another, and how many replies came.
+        """
+        epoch, came = None, 0
+        asked = (self._request(acts[at]) for at in left)
+        with closing(self.connection.exchange(asked, in_flight, over)) as exchange:
+            for reply, at in zip(exchange, left):
                 told, came = reported_epoch(reply), came + 1
+                self.was_let_in = self.was_let_in or lets_in(reply)
                 if told is None:
+                    self._check_answers(acts[at], reply)
                     replies[at] = reply
                 else:
                     epoch = told
-            if epoch is not None:
-                if epoch == self.epoch:
-                    raise UnexpectedReply(f"a denial for the sake of epoch {epoch}, in which it was asked")
-                self._take_over(epoch)
-            elif came < len(left):
-                return [reply for reply in replies[: left[came]] if reply is not None]
+        return epoch, came
 
-    def _stream(self, acts: Iterable[Act], in_flight: int) -> Iterator[Reply]:
-        """The replies to acts that are made as room is, in order; a denial for the epoch's sake is among them."""
-        return self.connection.exchange((self._request(act) for act in acts), in_flight)
+    def _check_answers(self, act: Act, reply: Reply) -> None:
+        """A reply that does not answer its request does not come from the service."""
+        fault = mismatch(act, self.epoch, reply)
+        if fault is not None:
+            self.connection.close()
+            raise UnexpectedReply(fault)
 
+    def _adopt(self, epoch: int) -> None:
+        if epoch == self.epoch:
+            raise UnexpectedReply(f"a denial for the sake of epoch {epoch}, in which it was asked")
+        self._take_over(epoch)
 
 
 class PageClient(Client):

@@ -4,12 +4,12 @@ from __future__ import annotations
 
 import sys
 
-LACKS = "apt-get install python3-click python3-rich python3-sqlalchemy python3-psycopg2 python3-prometheus-client"
+LACKS = "apt-get install python3-click python3-rich python3-sqlalchemy python3-psycopg python3-psycopg2 python3-prometheus-client"
 """The line that installs all that the words need."""
 
 
 def main() -> None:
-    """Runs a word. Exit status: 0 done, 1 a fault or a difference, 2 wrong arguments, 130 interrupted."""
+    """Runs a word. `pagelogctl --help` has the exit statuses."""
     try:
         from pagelog.desk.words import pagelogctl
 
@@ -17,3 +17,5 @@ def main() -> None:
     except ModuleNotFoundError as error:
         print(f"pagelogctl needs {error.name}: {LACKS}", file=sys.stderr)
         sys.exit(1)
+    except KeyboardInterrupt:
+        sys.exit(130)

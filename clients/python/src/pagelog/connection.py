@@ -2,14 +2,17 @@
 
 from __future__ import annotations
 
+import logging
+import os
 import select
 import socket
+import threading
 import time
 from collections import deque
 from dataclasses import dataclass
 from itertools import islice
 from types import TracebackType
-from typing import Iterable, Iterator, NamedTuple
+from typing import Generator, Iterable, NamedTuple
 
 from pagelog.errors import ConnectionLost, InDoubt, PagelogError, TimedOut, Unreachable
 from pagelog.faults import FrameFault
@@ -19,6 +22,7 @@ from pagelog.request import Request
 REPLY_SIZE = 1 << 20
 """The most bytes of a reply's body."""
 _RECEIVE_SIZE = 1 << 18
+_logger = logging.getLogger("pagelog")
 
 
 @dataclass(frozen=True)
@@ -69,15 +73,22 @@ class Connection:
     `timeout` is in seconds: the longest wait for a connection, and the longest without a byte in either direction.
     `attempts` is how often in a row, 1 or more, a connection is tried before `Unreachable` or `ConnectionLost`; a
     reply that came begins the count anew. `pause` is the wait in seconds before the second attempt, doubled for each
-    further one up to a second.
+    further one up to a second. `reply_timeout` is the longest wait for one whole reply, however many bytes come meanwhile;
+    by default it is six times `timeout`, and at least a minute.
 
-    The service never closes an idle connection, and counts it, so close it, or use it in a `with`. It is for one
-    thread at a time.
+    The service never closes an idle connection, and counts it, so close it, or use it in a `with`. It is for one thread at a
+    time; `close` of another thread ends a request with `ConnectionLost`. It is for one process: a child that a fork makes may
+    not use a connection that its parent has used (`RuntimeError`). The logger `pagelog` reports each connection that is made
+    again, and each wait before one.
     """
 
-    def __init__(self, address: Address | str, *, timeout: float = 10.0, attempts: int = 5, pause: float = 0.05) -> None:
+    def __init__(
+        self, address: Address | str, *, timeout: float = 10.0, attempts: int = 5, pause: float = 0.05,
+        reply_timeout: float | None = None,
+    ) -> None:  # fmt: skip
         self.address = Address.parse(address) if isinstance(address, str) else address
         self.timeout = timeout
+        self.reply_timeout = max(60.0, 6 * timeout) if reply_timeout is None else reply_timeout
         self.attempts = max(1, attempts)
         self.pause = pause
         self.connects = 0
@@ -87,6 +98,9 @@ class Connection:
         self._in = bytearray()
         self._failures = 0
         self._in_use = False
+        self._thread = 0
+        self._is_closed_by_other = False
+        self._process = os.getpid()
         self._waiting: deque[_Waiting] = deque()
         self._in_flight = 0
         self._most = 64
@@ -103,7 +117,11 @@ class Connection:
         return self._socket is not None
 
     def close(self) -> None:
-        """Closes the socket. The next request connects again."""
+        """Closes the socket. The next request connects again. A request of another thread ends with `ConnectionLost`."""
+        if self._in_use and self._thread != threading.get_ident() and self._process == os.getpid():
+            self._is_closed_by_other = True
+            self._wake()
+            return
         if self._socket is not None:
             self._socket.close()
         self._socket = None
@@ -111,12 +129,20 @@ class Connection:
         self._out.clear()
         self._in.clear()
 
+    def _wake(self) -> None:
+        """Ends the wait of the thread that uses the socket."""
+        try:
+            if self._socket is not None:
+                self._socket.shutdown(socket.SHUT_RDWR)
+        except OSError:
+            pass  # it has ended already
+
     def ask(self, request: Request) -> Reply:
         """The reply to one request. Raises as `exchange` does."""
         [reply] = self.exchange((request,), in_flight=1)
         return reply
 
-    def exchange(self, requests: Iterable[Request], in_flight: int = 64, over: int | None = None) -> Iterator[Reply]:
+    def exchange(self, requests: Iterable[Request], in_flight: int = 64, over: int | None = None) -> Generator[Reply, None, None]:
         """The replies to the requests, in order, with at most `in_flight` requests in flight.
 
         The next request is taken from `requests` when there is room for it. An iterator that is left before its end
@@ -129,13 +155,14 @@ class Connection:
         for answer in self.answers(requests, in_flight, over):
             yield answer.reply
 
-    def answers(self, requests: Iterable[Request], in_flight: int = 64, over: int | None = None) -> Iterator[Answer]:
+    def answers(self, requests: Iterable[Request], in_flight: int = 64, over: int | None = None) -> Generator[Answer, None, None]:
         """As `exchange`, and says of each reply whether its request was repeated."""
         if in_flight < 1:
             raise ValueError(f"{in_flight} requests in flight: at least 1 is")
+        self._check_process()
         if self._in_use:
             raise RuntimeError("the connection is in use: end the exchange that was begun on it first")
-        self._in_use = True
+        self._in_use, self._thread, self._is_closed_by_other = True, threading.get_ident(), False
         self._most = in_flight
         source = map(_Waiting, requests)
         try:
@@ -153,6 +180,13 @@ class Connection:
                 self._waiting.clear()
                 self.close()
 
+    def _check_process(self) -> None:
+        """A child that a fork made would read replies to its parent."""
+        if self._process != os.getpid():
+            if self.connects:
+                raise RuntimeError(f"the connection was made in process {self._process}: make another one in this process")
+            self._process = os.getpid()
+
     def _first_reply(self, in_flight: int, stays: bool) -> Reply | None:
         """The reply to the first that waits, over as many connections as it takes; None where it stays on one that is lost."""
         while True:
@@ -165,6 +199,8 @@ class Connection:
                 self.close()
                 self._most = max(1, self._most // 2)
                 self._end_in_doubt(error)
+                if self._is_closed_by_other:
+                    raise ConnectionLost(f"{self.address}: another thread closed the connection") from error
                 if stays and not isinstance(error, TimedOut):
                     return None
                 self._give_up_or_wait(error)
@@ -194,7 +230,11 @@ class Connection:
         if self._failures >= self.attempts or isinstance(error, TimedOut):
             self._failures = 0
             raise error
-        time.sleep(min(1.0, self.pause * 2 ** (self._failures - 1)))
+        wait = min(1.0, self.pause * 2 ** (self._failures - 1))
+        again = sum(1 for asked in self._waiting if asked.sent)
+        _logger.info("%s; connecting again in %.3f s, attempt %d of %d, and %d requests are sent again", error, wait,
+                     self._failures + 1, self.attempts, again)  # fmt: skip
+        time.sleep(wait)
 
     def _connect(self) -> None:
         try:
@@ -205,13 +245,18 @@ class Connection:
         made.setblocking(False)
         self._socket = made
         self.connects += 1
+        if self.connects > 1:
+            _logger.info("%s: connected again, for the %d. time", self.address, self.connects)
 
     def _body(self) -> bytes:
         """The body of the next frame. What is to be sent is sent meanwhile, so that neither side waits for the other."""
+        deadline = time.monotonic() + self.reply_timeout
         while True:
             body = self._take_frame()
             if body is not None:
                 return body
+            if time.monotonic() > deadline:
+                raise TimedOut(f"{self.address}: no whole reply came in {self.reply_timeout} s")
             self._move()
 
     def _take_frame(self) -> bytes | None:

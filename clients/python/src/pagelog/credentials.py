@@ -17,7 +17,7 @@ import stat
 import tomllib
 from dataclasses import dataclass, field
 from pathlib import Path
-from typing import Any, Mapping
+from typing import Any, Mapping, Sequence
 
 from pagelog.connection import Address
 from pagelog.errors import CredentialsError
@@ -64,13 +64,17 @@ class Accounts:
     """The accounts of a file and of the environment, by role, and what else the file says.
 
     `archive_url` is the `url` of the section `archive`. The section `service` says what no reply of a service reports:
-    `audit_limit` is its `audit`, how many entries an audit list holds, and `quorum` its `quorum`, 2 or 4.
+    `audit_limit` is its `audit`, how many entries an audit list holds, `quorum` its `quorum`, 2 or 4, and `memory` its
+    `memory`, how many bytes of memory the service may take.
     """
 
     of_role: Mapping[Role, Account]
     archive_url: str | None = None
     audit_limit: int | None = None
     quorum: int = QUORUM
+    memory: int | None = None
+    keeper: Mapping[str, Any] = field(default_factory=dict)
+    """The section `keeper`, which `pagelogctl keep` reads."""
 
     def account(self, role: Role) -> Account:
         """The account of this role. Raises `CredentialsError` where there is none."""
@@ -88,18 +92,22 @@ def load(file: str | Path | None = None, environment: Mapping[str, str] | None =
     environment = os.environ if environment is None else environment
     name = file if file is not None else environment.get(FILE_VARIABLE)
     document = _read(Path(name)) if name else {}
-    unknown = set(document) - {role.word for role in Role} - {"archive", "service"}
+    unknown = set(document) - {role.word for role in Role} - {"archive", "service", "keeper"}
     if unknown:
         raise CredentialsError(f"{name}: there is no section [{sorted(unknown)[0]}]")
     sections = {role: {**_section(document, role.word), **_variables(environment, role)} for role in Role}
     accounts = {role: _account(role, section) for role, section in sections.items() if section}
-    service = _section(document, "service")
-    limit, quorum = service.get("audit"), service.get("quorum", QUORUM)
+    archive, service = _section(document, "archive", ("url",)), _section(document, "service", ("audit", "quorum", "memory"))
+    url, limit, quorum, memory = archive.get("url"), service.get("audit"), service.get("quorum", QUORUM), service.get("memory")
+    if url is not None and not isinstance(url, str):
+        raise CredentialsError("[archive]: url is a text")
     if limit is not None and (type(limit) is not int or not 1 <= limit <= 1 << 24):
         raise CredentialsError("[service]: audit is a number from 1 to 16777216")
     if type(quorum) is not int or quorum not in COPIES_OF_QUORUM:
         raise CredentialsError("[service]: quorum is 2 or 4")
-    return Accounts(accounts, _section(document, "archive").get("url"), limit, quorum)
+    if memory is not None and (type(memory) is not int or memory < 1):
+        raise CredentialsError("[service]: memory is a number of bytes, 1 or more")
+    return Accounts(accounts, url, limit, quorum, memory, _section(document, "keeper"))
 
 
 def _read(file: Path) -> dict[str, Any]:
@@ -115,10 +123,14 @@ def _read(file: Path) -> dict[str, Any]:
         raise CredentialsError(f"{file.name}: {error}") from error
 
 
-def _section(document: Mapping[str, Any], name: str) -> dict[str, Any]:
+def _section(document: Mapping[str, Any], name: str, keys: Sequence[str] | None = None) -> dict[str, Any]:
+    """The section of this name, which has no other keys than these."""
     section = document.get(name, {})
     if not isinstance(section, dict):
         raise CredentialsError(f"{name} is no section")
+    unknown = set(section) - set(section if keys is None else keys)
+    if unknown:
+        raise CredentialsError(f"[{name}] has no key {min(unknown)!r}: it may have {', '.join(keys or ())}")
     return dict(section)
 
 
@@ -127,7 +139,8 @@ def _variables(environment: Mapping[str, str], role: Role) -> dict[str, Any]:
     for key in _KEYS:
         value = environment.get(f"PAGELOG_{role.name}_{key.upper()}")
         if value is not None:
-            found[key] = int(value) if key == "id" and value.isdecimal() else value
+            # A number of more digits than an id may have stays a text, which is no id.
+            found[key] = int(value) if key == "id" and value.isdecimal() and len(value) <= 10 else value
     return found
 
 

@@ -2,8 +2,6 @@
 
 from __future__ import annotations
 
-from typing import ClassVar
-
 from pagelog.errors import Fault, Refusal, first_line
 
 

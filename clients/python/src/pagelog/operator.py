@@ -5,7 +5,9 @@ from __future__ import annotations
 import time
 from typing import Callable, Iterator
 
-from pagelog.client import Client, reported_epoch
+from pagelog.audit_list import AuditFollower
+from pagelog.client import MOST_EPOCHS, Client, reported_epoch
+from pagelog.errors import UnexpectedReply
 from pagelog.reply import Done, Entries, Entry, expect
 from pagelog.request import AUDIT_MAX, Audit, Failover, Head, Request, Role, SetTable, Tidy
 
@@ -22,19 +24,18 @@ class Operator(Client):
         is over already. Raises `UnlistedPrimary`, `LastEpoch`, and `InDoubt` where the connection was lost before the reply.
         """
         ended = self.status().epoch if epoch is None else epoch
-        while True:
+        for _ in range(MOST_EPOCHS):
             head = Head(self.credentials.id, self.credentials.token, self.role, self.database, ended)
             reply = self.connection.ask(Request(head, Failover(to)))
             told = reported_epoch(reply)
-            if told is None:
-                break
-            self._take_over(told)
-            if epoch is not None or told == ended:
-                break
+            if told is not None:
+                self._take_over(told)
+            if told is None or epoch is not None or told == ended:
+                expect(Done, reply)
+                self.epoch = ended + 1
+                return self.epoch
             ended = told  # another failover came between
-        expect(Done, reply)
-        self.epoch = ended + 1
-        return self.epoch
+        raise UnexpectedReply(f"{MOST_EPOCHS} epochs ended while it was asked")
 
     def set_table(self, text: str | bytes) -> None:
         """Puts this table in force from the next request on. Raises `NoTable`, whose `fault` says what is wrong."""
@@ -48,10 +49,11 @@ class Operator(Client):
         """The entries from number `first` on, at most `max`, 1 to 1,024; none where there are none yet."""
         return expect(Entries, self._ask(Audit(first, max))).entries
 
-    def count_of_entries(self) -> int:
+    def count_of_entries(self, least: int = 0) -> int:
         """How many entries the audit list had before this call, which costs some 25 entries itself: found by halves.
 
-        What others ask meanwhile may be counted too.
+        It has `least` of them, which is known from before: the call costs the fewer, the less was added. What others ask
+        meanwhile may be counted too.
         """
         epoch = self.epoch
         self.status()
@@ -63,26 +65,32 @@ class Operator(Client):
             own += 1
             return bool(found)
 
-        low, high = 0, 1
-        while has(high):
-            low, high = high, high * 4
+        # A database that was moved has another list, which may be shorter.
+        low, step = (least if least == 0 or has(least) else 0), 1
+        while has(low + step):
+            low, step = low + step, step * 4
+        high = low + step
         while high - low > 1:
             middle = (low + high) // 2
             low, high = (middle, high) if has(middle) else (low, middle)
         return low
 
     def entries(
-        self, first: int = 1, *, follow: bool = False, idle: float = 1.0, stop: Callable[[], bool] = lambda: False
-    ) -> Iterator[Entry]:
+        self, first: int = 1, *, follow: bool = False, idle: float = 1.0, stop: Callable[[], bool] = lambda: False,
+        renewed: Callable[[], None] = lambda: None,
+    ) -> Iterator[Entry]:  # fmt: skip
         """The entries from number `first` on. With `follow` it waits for more, asking each `idle` seconds.
 
         Each question is an entry itself. One who follows does not take its own questions for news: it waits where
-        there are fewer entries than one question can bring.
+        there are fewer entries than one question can bring. Where the service was started anew, it calls `renewed`, and goes
+        on with number 1 of the new list.
         """
+        follower = AuditFollower(self, first, marks=follow)
         while not stop():
-            found = self.audit(first)
+            found = follower.step()
+            if follower.is_new_list:
+                renewed()
             yield from found
-            first += len(found)
             if len(found) < AUDIT_MAX:
                 if not follow:
                     return

@@ -14,6 +14,10 @@ from pagelog.reply import Done, expect
 from pagelog.request import STEPS_MAX, Advance, Role
 
 
+_MOST_LSNS = 1 << 20
+"""By how many LSNs a step advances at most, whatever a status says."""
+
+
 class PageServer(Client):
     """Keeps partitions applied up to the hardened end, so that gets that are not exact find their pages there.
 
@@ -34,14 +38,14 @@ class PageServer(Client):
         self._connects = 0
 
     def step(self) -> int:
-        """Advances all partitions to the hardened end. Returns by how many LSNs it had moved, 0 if not at all.
+        """Advances all partitions to the hardened end, by at most 2^20 LSNs. Returns by how many it did, 0 if not at all.
 
         It costs one request where there is nothing to do, and one more for each 1,024 LSNs of each partition.
         """
         hard = self.status().hard
         if self._connects != self.connection.connects:
             self.applied, self._connects = 0, self.connection.connects
-        moved = hard - self.applied
+        moved = min(hard - self.applied, _MOST_LSNS)
         if moved:
             acts = [Advance(partition, steps) for partition in self.partitions for steps in _steps(moved)]
             try:
@@ -50,7 +54,7 @@ class PageServer(Client):
             except InDoubt:
                 # How many were done is not known. All of them are asked for again by the next step.
                 return 0
-        self.applied = hard
+        self.applied += moved
         return moved
 
     def forget(self) -> None:

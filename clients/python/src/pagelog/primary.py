@@ -2,17 +2,20 @@
 
 from __future__ import annotations
 
+import logging
 from collections import deque
-from dataclasses import dataclass, field
-from itertools import islice, takewhile
-from typing import Iterable, Iterator, Sequence
+from contextlib import closing
+from itertools import chain, takewhile
+from typing import TYPE_CHECKING, Iterable, Iterator, Sequence
 
-from pagelog.block import BLOCK_SIZE, EMPTY_BLOCK_SIZE, Block, Record, encode_record
-from pagelog.client import PageClient
+from pagelog.block import Block, Record
+from pagelog.client import PageClient, reported_epoch
 from pagelog.connection import Answer, Connection
 from pagelog.credentials import Credentials
-from pagelog.errors import InDoubt, LogWentBack, Refusal, UnexpectedReply
+from pagelog.errors import ConnectionLost, InDoubt, LogWentBack, PagelogError, Refusal, UnexpectedReply
+from pagelog.in_flight import Sent, Step, Turn, checked_copies, gets_of, groups_of, is_in_log, pages_show
 from pagelog.operator import Operator
+from pagelog.packing import Packer
 from pagelog.reader import Reader
 from pagelog.reply import Done, State, expect, refusal_of
 from pagelog.request import COPIES_OF_QUORUM, QUORUM, Report, Request, Role, Status, Write
@@ -20,55 +23,12 @@ from pagelog.rules import (
     AboveTheWindow, BelowQuorum, HardenedAlready, NewerEpoch, OlderEpoch, OtherContent, OtherPrimary, Section, UnknownPrincipal,
 )  # fmt: skip
 
+if TYPE_CHECKING:
+    from pagelog.named import NamedPrimary
+
 WINDOW = 64
 """How many LSNs above the hardened end may be written."""
-_MOST_RECORDS = 65535
-
-
-class Packer:
-    """Fills a block with records, as many as fit into 32,768 bytes."""
-
-    def __init__(self) -> None:
-        self.records: list[Record] = []
-        self._partitions: set[int] = set()
-        self._size = EMPTY_BLOCK_SIZE
-
-    def add(self, record: Record) -> bool:
-        """Adds the record, if it fits."""
-        partition = record.partition
-        size = self._size + len(encode_record(record)) + (0 if partition in self._partitions else 2)
-        if size > BLOCK_SIZE or len(self.records) == _MOST_RECORDS:
-            return False
-        self._size = size
-        self._partitions.add(partition)
-        self.records.append(record)
-        return True
-
-
-@dataclass(slots=True)
-class _Sent:
-    """A block that is not known to be hardened: which copies it is in, and whether it may be in others too.
-
-    `copies` has for each copy over which connection, counted from 1, the service said so. `is_anothers`: the service has
-    another block at its LSN.
-    """
-
-    block: Block
-    copies: dict[int, int] = field(default_factory=dict)
-    attempts: int = 0
-    is_anothers: bool = False
-
-    def stands(self, connection: int, quorum: int) -> bool:
-        """Whether it is in `quorum` copies of the service that this connection leads to. Another may be a new one."""
-        return sum(1 for told in self.copies.values() if told == connection) >= quorum
-
-
-@dataclass(frozen=True, slots=True)
-class _Step:
-    """What a request was for: a write of this block to a copy, or the report of it and those before it."""
-
-    sent: _Sent
-    copy: int | None
+_logger = logging.getLogger("pagelog")
 
 
 class Primary(PageClient):
@@ -83,8 +43,10 @@ class Primary(PageClient):
 
     An epoch belongs to a principal and not to a process. Two processes that write as one principal in one epoch mix
     their blocks, so begin with `take_over`, unless nobody else has the credentials. Where a connection is lost, its
-    writes without a reply are repeated; to distinguish one's own block from another's then needs an epoch of one's own, or a
-    `witness` that may pull. Without either it is `InDoubt`.
+    writes without a reply are repeated. Where the log has their LSN meanwhile, whose block that is has to be looked up,
+    since the new connection may lead to a service that was restored: by a `witness` that may pull, or by gets of the pages
+    that the block changes, where nobody else writes in the epoch (`alone`), or the service had said that it has it.
+    Without either it is `InDoubt`.
 
     No reply says how many copies there are and what their quorum is: three and two, unless the table that was in force
     when the epoch began says `copies = 6` and `quorum = 4`. Say `quorum=4` then. Where that is wrong the first commit
@@ -114,7 +76,7 @@ class Primary(PageClient):
         """
         super().__init__(connection, credentials, database)
         self.quorum = quorum
-        self.copies = _checked_copies(quorum, copies)
+        self.copies = checked_copies(quorum, copies)
         self.witness = witness
         self.durable = 0
         """The LSN up to which the log is known to be hardened."""
@@ -122,11 +84,9 @@ class Primary(PageClient):
         self._is_fixed = epoch is not None
         self._has_begun = False
         self._is_quorum_shown = False
-        self._is_cut_short = False
-        """Whether the last hardening was refused with a group left that was not sent."""
         self._ended: Refusal | None = None
         self._packer = Packer()
-        self._unhardened: deque[_Sent] = deque()
+        self._unhardened: deque[Sent] = deque()
         if epoch is not None:
             self.epoch = epoch
 
@@ -142,13 +102,21 @@ class Primary(PageClient):
         witness: Reader | None = None,
     ) -> Primary:
         """The primary of a new epoch, which the operator begins for it. Whoever wrote before is denied from then on."""
-        _checked_copies(quorum, copies)
+        checked_copies(quorum, copies)
         epoch = operator.failover(credentials.id)
-        made = cls(
-            connection, credentials, operator.database, epoch=epoch, alone=True, quorum=quorum, copies=copies, witness=witness
-        )
+        made = cls(connection, credentials, operator.database, epoch=epoch, alone=True, quorum=quorum, copies=copies, witness=witness)
         made.begin()
         return made
+
+    @classmethod
+    def named(
+        cls, name: str, *, keepers: Sequence[str], principal: int, token: str, operator: tuple[int, str], quorum: int = QUORUM,
+        patience: float = 60.0, timeout: float = 10.0,
+    ) -> NamedPrimary:  # fmt: skip
+        """The writer of a named database, which its keepers have somewhere, as `host:port`; `operator` is an id and a token."""
+        from pagelog.named import NamedPrimary
+
+        return NamedPrimary(name, keepers, principal, token, operator, quorum=quorum, patience=patience, timeout=timeout)
 
     def begin(self) -> State:
         """Learns the epoch and the end of the log, once; append and commit do it by themselves.
@@ -226,7 +194,7 @@ class Primary(PageClient):
         if not 1 <= group <= WINDOW:
             raise ValueError(f"a group is 1 to {WINDOW} blocks")
         self.commit()
-        return self._harden(_groups(self._in_order(blocks), group), in_flight)
+        return self._harden(groups_of(self._in_order(blocks), group), in_flight)
 
     def _prepare(self) -> None:
         self._check_ended()
@@ -239,7 +207,7 @@ class Primary(PageClient):
 
     def _close_block(self) -> None:
         if self._packer.records:
-            self._unhardened.append(_Sent(Block.of(self.next_lsn, self._packer.records)))
+            self._unhardened.append(Sent(Block.of(self.next_lsn, self._packer.records)))
             self._packer = Packer()
 
     def _blocks_of(self, transactions: Iterable[Sequence[Record]]) -> Iterator[Block]:
@@ -258,62 +226,92 @@ class Primary(PageClient):
 
     def _harden(self, groups: Iterable[Sequence[Block]], in_flight: int) -> Iterator[int]:
         """Writes and reports group by group, and yields the LSN of each group's end when the service has said so."""
-        plan: deque[_Step] = deque()
-        told: list[tuple[Refusal, bool]] = []
-        reports: list[int] = []
-        self._is_cut_short = False
-        for answer in self.connection.answers(self._requests(groups, plan, told), in_flight):
-            step = plan.popleft()
-            refusal = self._refusal(step, answer)
-            if refusal is not None:
-                # Nothing more is sent. What is in flight is read, so that it is known which copies each block is in.
-                told.append((refusal, answer.repeated))
-                if step.copy is None:
-                    reports.append(step.sent.block.lsn)
-                elif isinstance(refusal, OtherContent) or (isinstance(refusal, HardenedAlready) and not step.sent.copies):
-                    step.sent.is_anothers = True
-                    step.sent.copies.clear()
-            elif step.copy is not None:
-                step.sent.copies[step.copy] = self.connection.connects
-                # Only with a quorum of 4 there is such a copy.
-                self._is_quorum_shown |= step.copy >= COPIES_OF_QUORUM[QUORUM]
-            elif self._are_ours(step.sent.block.lsn):
-                self._is_quorum_shown |= self.quorum == QUORUM
-                yield self._hardened(step.sent.block.lsn)
-        if told:
-            error = self._settle(*told[0])
-            yield from (lsn for lsn in reports if lsn <= self.durable)
-            if error is None and self._is_cut_short:
-                error = told[0][0]  # what was sent is in the log, and the rest was not sent
+        left, tries = iter(groups), 0
+        while True:
+            before, turn = self.durable, Turn()
+            yield from self._take_turn(left, in_flight, turn)
+            if turn.refusals:
+                yield from self._end_turn(turn, left)
+                return
+            if not turn.ended:
+                return
+            error = self._look_up(turn.doubtful[-1]) if turn.doubtful else None
+            yield from (lsn for lsn in turn.doubtful if lsn <= self.durable)
             if error is not None:
                 raise error
+            again = [lsn for lsn in turn.doubtful if lsn > self.durable]
+            tries = tries + 1 if again and self.durable == before else 0
+            if tries > self.connection.attempts:
+                raise ConnectionLost(f"no connection lasted until LSN {self.durable + 1} was looked up")
+            left = chain(self._groups_to(again), left)
+
+    def _take_turn(self, left: Iterator[Sequence[Block]], in_flight: int, turn: Turn) -> Iterator[int]:
+        """Sends groups until there are none, or until a reply is a refusal, or leaves a doubt. What is in flight then is
+        read, so that it is known which copies each block is in.
+        """
+        for answer in self.connection.answers(self._requests(left, turn.plan, turn.ended), in_flight):
+            step, connection = turn.plan.popleft(), self.connection.connects
+            refusal = self._refusal(answer)
+            if step.copy is not None:
+                self._note_write(step.sent, step.copy, refusal, answer.repeated, turn)
+            elif refusal is not None:
+                turn.refuse(refusal, answer.repeated, report=step.sent.block.lsn)
+            elif turn.doubtful or not self._are_ours(step.sent.block.lsn, connection):
+                turn.doubt(step.sent.block.lsn)
+            else:
+                self._is_quorum_shown |= self.quorum == QUORUM
+                yield self._hardened(step.sent.block.lsn)
+
+    def _note_write(self, sent: Sent, copy: int, refusal: Refusal | None, repeated: bool, turn: Turn) -> None:
+        """That a repeated write finds its LSN hardened is no refusal: whose block it is is looked up."""
+        connection = self.connection.connects
+        if refusal is None:
+            sent.copies[copy] = connection
+            # Only with a quorum of 4 there is such a copy.
+            self._is_quorum_shown |= copy >= COPIES_OF_QUORUM[QUORUM]
+            return
+        is_hardened, is_repeated = isinstance(refusal, HardenedAlready), repeated or sent.attempts > 1
+        if is_hardened and is_repeated and not sent.is_anothers:
+            if not sent.came_over(connection):
+                turn.ended.append(refusal)
+            return
+        turn.refuse(refusal, repeated)
+        if isinstance(refusal, OtherContent) or (is_hardened and not sent.came_over(connection)):
+            sent.is_anothers = True
+            sent.copies.clear()
+
+    def _end_turn(self, turn: Turn, left: Iterator[Sequence[Block]]) -> Iterator[int]:
+        error = self._settle(*turn.refusals[0])
+        yield from (lsn for lsn in turn.reports if lsn <= self.durable)
+        if error is None and next(left, None) is not None:
+            error = turn.refusals[0][0]  # what was sent is in the log, and the rest was not sent
+        if error is not None:
+            raise error
 
     def _requests(
-        self, groups: Iterable[Sequence[Block]], plan: deque[_Step], told: Sequence[object]
+        self, groups: Iterable[Sequence[Block]], plan: deque[Step], ended: Sequence[object]
     ) -> Iterator[Request]:
-        """A write for each block and copy, and a report for each group, until a refusal has come."""
+        """A write for each block and copy, and a report for each group, until `ended` has something."""
         known = {sent.block.lsn: sent for sent in self._unhardened}
-        for group in groups:
-            if told:
-                self._is_cut_short = True
-                return
+        left = iter(groups)
+        while not ended and (group := next(left, None)) is not None:
             sending = [known.get(block.lsn) or self._new(block) for block in group]
             for sent in sending:
                 sent.attempts += 1
                 for copy in self.copies:
-                    plan.append(_Step(sent, copy))
+                    plan.append(Step(sent, copy))
                     yield self._request(Write(copy, sent.block))
-            plan.append(_Step(sending[-1], None))
+            plan.append(Step(sending[-1], None))
             yield self._request(Report(sending[-1].block.lsn))
 
-    def _new(self, block: Block) -> _Sent:
-        sent = _Sent(block)
+    def _new(self, block: Block) -> Sent:
+        sent = Sent(block)
         self._unhardened.append(sent)
         return sent
 
-    def _are_ours(self, lsn: int) -> bool:
-        """Whether a copy has taken each block up to this LSN. What a report hardens may be another's, and is refused above."""
-        return all(sent.copies for sent in takewhile(lambda sent: sent.block.lsn <= lsn, self._unhardened))
+    def _are_ours(self, lsn: int, connection: int) -> bool:
+        """Whether the service of this connection took each block up to this LSN. A report hardens another's too."""
+        return all(sent.came_over(connection) for sent in takewhile(lambda sent: sent.block.lsn <= lsn, self._unhardened))
 
     def _hardened(self, lsn: int) -> int:
         while self._unhardened and self._unhardened[0].block.lsn <= lsn:
@@ -321,27 +319,64 @@ class Primary(PageClient):
         self.durable = max(self.durable, lsn)
         return lsn
 
-    def _refusal(self, step: _Step, answer: Answer) -> Refusal | None:
-        """Why the step was not done, if it was not. That a repeated write finds its own block hardened is not a refusal."""
+    def _refusal(self, answer: Answer) -> Refusal | None:
+        """Why a write or a report was not done, if it was not."""
         if isinstance(answer.reply, Done):
             return None
         refusal = refusal_of(answer.reply)
         if refusal is None:
+            self.connection.close()
             raise UnexpectedReply(f"a {type(answer.reply).__name__} to a write or a report")
-        is_repeated = answer.repeated or step.sent.attempts > 1
-        if isinstance(refusal, HardenedAlready) and is_repeated and self._is_ours(step.sent):
-            return None
         return refusal
 
-    def _is_ours(self, sent: _Sent) -> bool:
-        """Whether the hardened block of this LSN, which was written in this epoch or before, is the one we sent."""
-        if sent.is_anothers:
-            return False
-        if self._alone or sent.copies:
-            return True
-        if self.witness is None:
+    def _groups_to(self, ends: Iterable[int]) -> list[list[Block]]:
+        """What is not known to be hardened, in groups that end at these LSNs."""
+        groups, first = [], self.durable + 1
+        for end in ends:
+            groups.append([sent.block for sent in self._unhardened if first <= sent.block.lsn <= end])
+            first = end + 1
+        return groups
+
+    def _look_up(self, last: int) -> Exception | None:
+        """Looks whose the blocks up to LSN `last` are in the log of the service that there is a connection to. All of them are
+        hardened there. Ends where the connection is lost. Returns what is to be raised: `HardenedAlready` for the first block of
+        another, or why it cannot look, as `InDoubt`.
+        """
+        try:
+            return self._look_up_each(last)
+        except PagelogError as error:
+            return error
+
+    def _look_up_each(self, last: int) -> Exception | None:
+        connection = self.connection.connects
+        for sent in list(takewhile(lambda sent: sent.block.lsn <= last, self._unhardened)):
+            is_ours = sent.came_over(connection) or self._is_ours(sent, connection)
+            if is_ours is None:
+                break
+            _logger.info("LSN %d, whose connection was lost, is %s", sent.block.lsn, "ours" if is_ours else "another's")
+            if not is_ours:
+                sent.is_anothers = True
+                sent.copies.clear()
+                return HardenedAlready(Section.C, 2, sent.block.lsn)
+            self._hardened(sent.block.lsn)
+        return None
+
+    def _is_ours(self, sent: Sent, connection: int) -> bool | None:
+        """Whether the hardened block of this LSN is the one we sent; None where the connection was lost.
+
+        Another connection may lead to another service, which was restored, and where another writes in an epoch of the same
+        number. So neither an epoch of one's own nor what was said over an earlier connection is enough.
+        """
+        if self.witness is not None:
+            return is_in_log(self.witness, sent.block)
+        if not self._alone and not sent.copies:
             raise InDoubt(f"LSN {sent.block.lsn} is hardened, and the connection was lost before the reply")
-        return _is_in_log(self.witness, sent.block)
+        asked = gets_of(sent.block)
+        with closing(self.connection.exchange(map(self._request, asked), 64, connection)) as exchange:
+            replies = list(exchange)
+        if len(replies) < len(asked) or any(reported_epoch(reply) is not None for reply in replies):
+            return None
+        return pages_show(sent.block, replies)
 
     def _settle(self, refusal: Refusal, was_repeated: bool) -> Exception | None:
         """What is to be raised; None where all that was sent is in the log all the same."""
@@ -365,7 +400,7 @@ class Primary(PageClient):
             if self.witness is None:
                 lsn = self._unhardened[0].block.lsn
                 return InDoubt(f"epoch {self.epoch} ended, and whether LSN {lsn} is in the log was not told")
-            while self._unhardened and _is_in_log(self.witness, self._unhardened[0].block):
+            while self._unhardened and is_in_log(self.witness, self._unhardened[0].block):
                 self._hardened(self._unhardened[0].block.lsn)
         return refusal if self._unhardened else None
 
@@ -375,28 +410,3 @@ class Primary(PageClient):
             self._ended = OlderEpoch(Section.A, 2, epoch)
             raise self._ended
         super()._take_over(epoch)
-
-
-def _checked_copies(quorum: int, copies: Sequence[int] | None) -> tuple[int, ...]:
-    """The copies that are written, by default the first `quorum`."""
-    if quorum not in COPIES_OF_QUORUM:
-        raise ValueError("a quorum is 2 or 4")
-    chosen = tuple(range(quorum) if copies is None else copies)
-    there = COPIES_OF_QUORUM[quorum]
-    if len(set(chosen)) != len(chosen) or not set(range(there)).issuperset(chosen) or len(chosen) < quorum:
-        raise ValueError(f"copies are {quorum} to {there} different ones of 0 to {there - 1}")
-    return chosen
-
-
-def _is_in_log(witness: Reader, block: Block) -> bool:
-    """Whether the log has this very block at its LSN. A block without records is never served, and so known by its gap."""
-    span = witness.span(block.lsn, pulls=1)
-    if span.last < block.lsn:
-        return False
-    served = next((found for found in span.blocks if found.lsn == block.lsn), None)
-    return block.is_empty if served is None else served == block
-
-
-def _groups(blocks: Iterator[Block], size: int) -> Iterator[list[Block]]:
-    while group := list(islice(blocks, size)):
-        yield group

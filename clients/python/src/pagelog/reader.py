@@ -2,17 +2,22 @@
 
 from __future__ import annotations
 
+import logging
 import time
 from dataclasses import dataclass
-from typing import Callable, Iterator, Sequence
+from typing import TYPE_CHECKING, Callable, Iterator, Sequence
 
 from pagelog.block import Block
-from pagelog.client import ALL_PARTITIONS, PageClient
-from pagelog.errors import ConnectionLost, LogWentBack, TimedOut, UnexpectedReply
-from pagelog.reply import Blocks, Denied, Reply, expect, refusal_of
+from pagelog.client import ALL_PARTITIONS, PageClient, reported_epoch
+from pagelog.errors import ConnectionLost, LogWentBack, TimedOut
+from pagelog.reply import Blocks, Denied, NoMemory, Reply, expect, refusal_of
 from pagelog.request import PULL_MAX, Act, Pull, Role
 from pagelog.rules import AboveTheEnd, Section
 
+if TYPE_CHECKING:
+    from pagelog.named_reader import NamedReader
+
+_logger = logging.getLogger("pagelog")
 QUICKEST = 0.005
 """The first wait, in seconds, of one who follows and finds nothing new. It is doubled from then on."""
 
@@ -32,9 +37,20 @@ class Span:
 
 
 class Reader(PageClient):
-    """Reads the hardened log of a database, as a secondary. A failover does not disturb it."""
+    """Reads the hardened log of a database, as a secondary. A failover does not disturb it.
+
+    Whenever the connection was made anew, a block that it has pulled is pulled again and compared, before any other reply is
+    believed: `LogWentBack` where the service has another log, as after a restore that lacks what was seen. A reader that has
+    pulled no block compares none.
+    """
 
     role = Role.SECONDARY
+    compares_logs = True
+    """Whether it does so. One that compares more by itself, as an archiver, takes this upon itself."""
+    _seen: tuple[Block, tuple[int, int]] | None = None
+    """The last block that was pulled, and of which partitions."""
+    _seen_over = 0
+    """Over which connection that, or one equal to it, has come."""
     _at_once: int | None = None
     """How many pulls of a span are in flight together, where a line that was cut let no more through."""
     _most = PULL_MAX
@@ -42,9 +58,58 @@ class Reader(PageClient):
     _whole = 0
     """How many blocks have come since over the connection that there is."""
 
+    @classmethod
+    def named(
+        cls, name: str, *, keepers: Sequence[str], principal: int, token: str, durable_only: bool = False, patience: float = 60.0,
+        timeout: float = 10.0,
+    ) -> NamedReader:  # fmt: skip
+        """The reader of a named database, which its keepers have somewhere; with `durable_only` of what cannot be lost."""
+        from pagelog.named_reader import NamedReader
+
+        return NamedReader(name, keepers, principal, token, durable_only=durable_only, patience=patience, timeout=timeout)
+
     def answers(self, acts: Sequence[Act]) -> list[Reply]:
         """The replies to gets, pulls and statuses that are asked together. None is turned into an exception."""
         return self._ask_all(acts)
+
+    def forget(self) -> None:
+        """Takes the service to be a new one, of which nothing was seen."""
+        super().forget()
+        self._seen = None
+
+    def _ask_all(self, acts: Sequence[Act], in_flight: int = 64, over: int | None = None) -> list[Reply]:
+        """As every client, and compares a block where the connection is another than before."""
+        for _ in range(max(2, self.connection.attempts)):
+            replies = super()._ask_all(acts, in_flight, over)
+            if self._is_log_that_was_seen():
+                return replies
+            if over is not None:
+                return []
+        raise ConnectionLost("no connection lasted until the log was compared with what was seen of it")
+
+    def _is_log_that_was_seen(self) -> bool:
+        """Whether the service of this connection has the block that was seen; False where the connection was lost again.
+
+        Raises `LogWentBack` where it has not. Where the table does not let it look any more there is nothing to compare.
+        """
+        connects = self.connection.connects
+        if self._seen is None or connects == self._seen_over or not self.compares_logs:
+            return True
+        block, partitions = self._seen
+        for reply in self.connection.exchange((self._request(Pull(block.lsn, 1, *partitions)),), 1, connects):
+            if reported_epoch(reply) is not None:
+                return False
+            is_above = isinstance(reply, Denied) and (reply.section, reply.row) == (Section.C, 1)
+            if is_above or (isinstance(reply, Blocks) and reply.blocks != (block,)):
+                raise LogWentBack(f"the block at LSN {block.lsn} is not the one that was seen: the service has another log")
+            if not isinstance(reply, NoMemory):  # then it is compared with the next request
+                self._seen_over = connects
+            return True
+        return False
+
+    def _remember(self, blocks: Sequence[Block], partitions: tuple[int, int]) -> None:
+        if blocks:
+            self._seen, self._seen_over = (blocks[-1], partitions), self.connection.connects
 
     def applied(self, partition: int) -> int:
         """The applied LSN of a partition, 0 where no page server has advanced it."""
@@ -57,6 +122,7 @@ class Reader(PageClient):
         """
         blocks = expect(Blocks, self._ask(Pull(lsn, max, *partitions)))
         self._saw_hard_at_least(blocks.next - 1)
+        self._remember(blocks.blocks, partitions)
         return blocks
 
     def span(self, lsn: int, *, pulls: int = 64, partitions: tuple[int, int] = ALL_PARTITIONS) -> Span:
@@ -114,11 +180,10 @@ class Reader(PageClient):
             if (blocks or behind) and refusal_of(reply) is not None:
                 break  # rows of a table may end at an LSN, and memory may run out; what was served is not lost
             pulled = expect(Blocks, reply)
-            if pulled.next <= start:
-                raise UnexpectedReply(f"a pull from LSN {start} goes on at LSN {pulled.next}")
             blocks.extend(block for block in pulled.blocks if block.lsn > last)
             last = max(last, pulled.next - 1)
             self._saw_hard_at_least(last)
+        self._remember(blocks, partitions)
         return Span(starts[0], last, tuple(blocks), self.connection.connects)
 
     def _is_at_end(self, reply: Reply, lsn: int) -> bool:
@@ -172,5 +237,6 @@ class Reader(PageClient):
             elif not follow:
                 return
             else:
+                _logger.debug("nothing is hardened from LSN %d on; asking again in %.3f s", lsn, min(wait, idle))
                 time.sleep(min(wait, idle))
                 wait = min(wait * 2, idle)

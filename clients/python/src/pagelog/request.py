@@ -188,9 +188,12 @@ class Failover:
 
 @dataclass(frozen=True, slots=True)
 class SetTable:
-    """Puts a table in force; its text has at most 65,506 bytes. Not repeated: another one may have come between."""
+    """Puts a table in force; its text has at most 65,506 bytes. Not repeated: another one may have come between.
 
-    text: bytes
+    The text has the tokens of all principals, and is in no debug text.
+    """
+
+    text: bytes = field(repr=False)
     operation: ClassVar[Operation] = Operation.SET_TABLE
     repeatable: ClassVar[bool] = False
 

@@ -158,9 +158,9 @@ class NoTable(Denial):
     sentence = "the text is not a table"
 
     @property
-    def fault(self) -> TableFault:
-        """What is wrong with the text."""
-        return TableFault(self.value)
+    def fault(self) -> TableFault | None:
+        """What is wrong with the text; None where the value is that of no fault, and so not from the service."""
+        return TableFault(self.value) if self.value in set(TableFault) else None
 
 
 class UnlistedPrimary(Denial):

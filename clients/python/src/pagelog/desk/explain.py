@@ -48,7 +48,7 @@ class Question:
     @classmethod
     def parse(cls, words: str) -> Question:
         """From words. Raises `ExplainError`."""
-        found = re.fullmatch(r"principal (\d+)(?: as (\w+))? (\w+)(?: ([\d.,]+))?(?: at (\d+))?", " ".join(words.split()))
+        found = re.fullmatch(r"principal (\d{1,20})(?: as (\w+))? (\w+)(?: ([\d.,]{1,4000}))?(?: at (\d{1,20}))?", " ".join(words.split()))
         if found is None or found[3] not in _ROLES:
             raise ExplainError(f"{words!r} is not of the form: principal N [as ROLE] OPERATION [ARGUMENT] [at LSN]")
         if found[5] and found[3] not in _WITH_LSN:
@@ -176,11 +176,17 @@ def _words(value: Any) -> str:
 
 def program() -> str:
     """The program to ask: of the environment, of the path, or the one that this checkout built. Raises `ExplainError`."""
-    built = Path(__file__).resolve().parents[5] / "crates" / "pagelog" / "out" / "pagelog"
-    found = os.environ.get(PROGRAM_VARIABLE) or shutil.which("pagelog") or (str(built) if built.exists() else None)
+    found = os.environ.get(PROGRAM_VARIABLE) or shutil.which("pagelog") or _built()
     if found is None:
         raise ExplainError(f"there is no program pagelog on the path; name one in {PROGRAM_VARIABLE}")
     return found
+
+
+def _built() -> str | None:
+    """What this checkout built, where the package is in one."""
+    above = Path(__file__).resolve().parents
+    built = above[min(5, len(above) - 1)] / "crates" / "pagelog" / "out" / "pagelog"
+    return str(built) if built.exists() else None
 
 
 def explain(table: Table, question: Question) -> Decision:
@@ -233,12 +239,6 @@ def _log_words(reply: Reply) -> str:
     return f" (then the log decides: here C{reply.row} {rule.rule}, as it is empty)" if reply.row == 1 else f" (then C{reply.row} {rule.rule})"
 
 
-def _play(table: Table, text: str, question: Question) -> Reply:
-    """The program's reply to the request, under this text."""
-    [reply] = play(table, text, question.principal, [question])
-    return reply
-
-
 def play(table: Table, text: str, principal: int, questions: Sequence[Question]) -> list[Reply]:
     """The program's replies to requests of one principal, one after the other on one database, under this text."""
     primary = principal if table.lists(principal) else next((one.get("id", 0) for one in table.principals), 0)
@@ -250,7 +250,8 @@ def play(table: Table, text: str, principal: int, questions: Sequence[Question])
         command = [program(), "play", "--table", file.name, "--primary", str(primary)]
         done = subprocess.run(command, input="".join(f"{body.hex()}\n" for body in bodies), capture_output=True, text=True)
     if done.returncode != 0:
-        raise ExplainError(f"{table.name}: {_fault_words(done.stderr.strip())}")
+        _, _, fault = done.stderr.strip().rpartition("\n")
+        raise ExplainError(f"{table.name}: {_fault_words(fault)}")
     return [decode_reply(bytes.fromhex(line)) for line in done.stdout.split()]
 
 

@@ -9,12 +9,13 @@ import click
 
 from pagelog.desk.explain import Question, Table, differences, explain, questions_of
 from pagelog.desk.explain_all import all_differences
-from pagelog.desk.options import faults
+from pagelog.desk.options import fail, faults
+from pagelog.errors import PagelogError
 
 
 @click.command("explain")
 @click.option("--diff", "is_diff", is_flag=True, help="Compare two tables: by the requests on the lines of FILE, or by all kinds of requests.")
-@click.argument("arguments", nargs=-1, required=True, metavar="TABLE REQUEST... | --diff OLD NEW [FILE]")
+@click.argument("arguments", nargs=-1, required=True, type=click.Path(), metavar="TABLE REQUEST... | --diff OLD NEW [FILE]")
 @faults
 def explain_word(is_diff: bool, arguments: tuple[str, ...]) -> None:
     """Say which row of a table decides a request, before the table is set.
@@ -24,7 +25,8 @@ def explain_word(is_diff: bool, arguments: tuple[str, ...]) -> None:
     the partitions of a write, an offer or a pull (0..3 or 1,4), the page of a get, the partition of an advance, and the
     principal of a failover. The LSN, by default the lowest, matters for rows that end at one (`through`).
 
-    With --diff the requests that are decided otherwise are listed, and the exit status is 1 if there are any. Without a FILE
+    With --diff the requests that are decided otherwise are listed, and the exit status is as of diff(1): 0 if there are none, 1 if
+    there are, and 2 for a fault. Without a FILE
     of requests they are those of each principal, role and operation, at the first and last partition of each row's range, at
     the ones beside it, and at each LSN that a row ends at and the next.
 
@@ -38,17 +40,26 @@ def explain_word(is_diff: bool, arguments: tuple[str, ...]) -> None:
     if is_diff:
         if len(arguments) not in (2, 3):
             raise click.UsageError("--diff takes OLD NEW, and FILE if need be")
-        old, new = Table(Path(arguments[0])), Table(Path(arguments[1]))
-        found = differences(old, new, questions_of(Path(arguments[2]))) if arguments[2:] else all_differences(old, new)
-        count = 0
-        for count, difference in enumerate(found, 1):
-            click.echo(f"{difference.question.words}\n  {old.name}: {difference.old}\n  {new.name}: {difference.new}")
+        try:
+            count = _show_differences(*map(Path, arguments))
+        except PagelogError as error:
+            fail(f"{type(error).__name__}: {error}", 2)
         sys.exit(1 if count else 0)
     if len(arguments) < 2:
         raise click.UsageError("which request? As: principal 3 pull 0..3")
     table = Table(Path(arguments[0]))
     for words in arguments[1:]:
         click.echo(f"{words}: {explain(table, Question.parse(words))}")
+
+
+def _show_differences(old_file: Path, new_file: Path, requests: Path | None = None) -> int:
+    """Shows what two tables decide otherwise, and returns how many requests that are."""
+    old, new = Table(old_file), Table(new_file)
+    found = differences(old, new, questions_of(requests)) if requests else all_differences(old, new)
+    count = 0
+    for count, difference in enumerate(found, 1):
+        click.echo(f"{difference.question.words}\n  {old.name}: {difference.old}\n  {new.name}: {difference.new}")
+    return count
 
 
 @click.command("completion")

@@ -2,6 +2,7 @@
 
 from __future__ import annotations
 
+import os
 import select
 import sys
 import termios
@@ -26,12 +27,15 @@ def raw_keys() -> Iterator[None]:
 
 
 def pressed_q(seconds: float) -> bool:
-    """Waits this long at most, and says whether q was pressed meanwhile."""
+    """Waits this long at most, and says whether q was pressed meanwhile. All keys that came are taken, and no other is kept."""
     if not sys.stdin.isatty():
         time.sleep(seconds)
         return False
     deadline = time.monotonic() + seconds
-    while (left := deadline - time.monotonic()) > 0:
-        if select.select([sys.stdin], [], [], min(left, 0.2))[0] and sys.stdin.read(1) == "q":
+    while True:
+        left = deadline - time.monotonic()
+        # Not by sys.stdin.read, which would keep what it reads too much where no select sees it.
+        if select.select([sys.stdin], [], [], max(0.0, min(left, 0.2)))[0] and b"q" in os.read(sys.stdin.fileno(), 1024):
             return True
-    return False
+        if left <= 0:
+            return False

@@ -2,70 +2,156 @@
 
 from __future__ import annotations
 
+import socket
 import threading
-from typing import Iterable, Mapping
+from socketserver import ThreadingMixIn
+from typing import Any, Callable, Iterable, Mapping
+from wsgiref.simple_server import WSGIRequestHandler, WSGIServer, make_server
 
+from prometheus_client import CollectorRegistry
 from prometheus_client.core import CounterMetricFamily, GaugeMetricFamily, Metric
+from prometheus_client.exposition import make_wsgi_app
 from prometheus_client.registry import Collector
-from sqlalchemy.exc import SQLAlchemyError
 
-from pagelog.archive import Archive
-from pagelog.desk.watch import Watch
-from pagelog.errors import PagelogError
+from pagelog.desk.side_by_side import Task, look_at_all
+from pagelog.desk.watch import Look, Watch
+from pagelog.errors import ConnectionLost, LogWentBack, TimedOut
+
+_GAUGES = {
+    "up": "1 where the database answers its operator in time.",
+    "epoch": "The current epoch.",
+    "primary": "The id of the epoch's primary.",
+    "hardened_blocks": "Blocks in the log, which is the LSN of its end.",
+    "audit_entries": "Entries of the audit list.",
+    "audit_limit": "How many entries the audit list holds; then the database answers nothing.",
+    "audit_full_in_seconds": "In how many seconds the audit list is full, at the rate since the scrape before.",
+    "archive_up": "1 where the archive answers in time.",
+    "archived_blocks": "The archived LSN.",
+    "backlog_entries": "Entries of the audit list that it takes to archive what is not archived.",
+}
+_COUNTERS = {
+    "audit_uncounted": "Entries that came too fast to be read: no request among them is counted.",
+    "fenced_requests": "Requests of a primary that were denied since its epoch is over, or another's.",
+    "log_went_back": "How often the service was found to be started anew.",
+}
+_PULL_BLOCKS = 16
+_IDLE_SECONDS = 10.0
+
+
+class WatchedDatabase:
+    """A database that is looked at again and again, and need not be there when that begins."""
+
+    def __init__(self, make: Callable[[], Watch]) -> None:
+        self._make = make
+        self._watch: Watch | None = None
+        self.went_back = 0
+
+    def look(self) -> Look:
+        """A look. A connection that was lost since the one before, as by a restart or a move, is no reason to find it down."""
+        for _ in range(2):
+            try:
+                return self._look()
+            except LogWentBack:
+                self.went_back += 1
+            except ConnectionLost as error:
+                if isinstance(error, TimedOut):
+                    raise
+        return self._look()
+
+    def _look(self) -> Look:
+        if self._watch is None:
+            self._watch = self._make()
+        return self._watch.look()
 
 
 class DatabaseCollector(Collector):
-    """Looks at each database once a scrape. One that does not answer has `pagelog_up` 0 and nothing else."""
+    """Looks at all databases and archives at each scrape, side by side, for at most `within` seconds.
 
-    def __init__(self, watches: Mapping[int, Watch], archives: Mapping[int, Archive]) -> None:
-        self._watches = watches
-        self._archives = archives
+    One that does not answer by then has `pagelog_up` or `pagelog_archive_up` 0, and nothing else.
+    """
+
+    def __init__(self, watches: Mapping[int, Callable[[], Watch]], archived: Mapping[int, Callable[[], int]], within: float = 4.0) -> None:
+        self.within = within
+        self._databases = {db: WatchedDatabase(make) for db, make in watches.items()}
+        self._looks = {db: Task(database.look) for db, database in self._databases.items()}
+        self._archived = {db: Task(look) for db, look in archived.items()}
         self._turn = threading.Lock()
+
+    def describe(self) -> Iterable[Metric]:
+        """Nothing is looked at when it is registered."""
+        return []
 
     def collect(self) -> Iterable[Metric]:
         """The metrics of all databases."""
         with self._turn:
-            return list(self._families())
+            tasks: list[tuple[tuple[str, int], Task[Any]]] = [(("look", db), task) for db, task in self._looks.items()]
+            tasks += [(("archived", db), task) for db, task in self._archived.items()]
+            found = look_at_all(tasks, self.within)
+            return list(self._families(found))
 
-    def _families(self) -> Iterable[Metric]:
-        up = GaugeMetricFamily("pagelog_up", "1 where the database answers its operator.", labels=["db"])
-        gauges = {
-            name: GaugeMetricFamily(f"pagelog_{name}", text, labels=["db"])
-            for name, text in (
-                ("epoch", "The current epoch."),
-                ("primary", "The id of the epoch's primary."),
-                ("hardened_blocks", "Blocks in the log, which is the LSN of its end."),
-                ("audit_entries", "Entries of the audit list that were read."),
-                ("audit_limit", "How many entries the audit list holds; then the database answers nothing."),
-                ("audit_full_in_seconds", "In how many seconds the audit list is full, at the rate since the scrape before."),
-                ("archived_blocks", "The archived LSN."),
-            )
-        }
+    def _families(self, found: Mapping[tuple[str, int], object]) -> Iterable[Metric]:
+        gauges = {name: GaugeMetricFamily(f"pagelog_{name}", text, labels=["db"]) for name, text in _GAUGES.items()}
+        counters = {name: CounterMetricFamily(f"pagelog_{name}", text, labels=["db"]) for name, text in _COUNTERS.items()}
         applied = GaugeMetricFamily("pagelog_applied_lsn", "The applied LSN of a partition.", labels=["db", "partition"])
         requests = CounterMetricFamily(
             "pagelog_requests", "Requests by role, operation and verdict: allowed, or the rule that denied.",
             labels=["db", "role", "operation", "verdict"],
         )  # fmt: skip
-        for database, watch in self._watches.items():
-            db = str(database)
-            try:
-                if database in self._archives:
-                    gauges["archived_blocks"].add_metric([db], self._archives[database].archived)
-            except SQLAlchemyError:
-                pass  # the archive does not answer: its number is left out, and an alert on it says so
-            try:
-                look = watch.look()
-            except PagelogError:
-                up.add_metric([db], 0)
-                continue
-            up.add_metric([db], 1)
-            for name, value in (("epoch", look.state.epoch), ("primary", look.state.primary), ("hardened_blocks", look.state.hard),
-                                ("audit_entries", look.entries), ("audit_limit", look.limit)):  # fmt: skip
-                gauges[name].add_metric([db], value)
-            if look.full_in is not None:
-                gauges["audit_full_in_seconds"].add_metric([db], look.full_in)
-            for partition, lsn in look.applied.items():
-                applied.add_metric([db, str(partition)], lsn)
-            for (role, operation, verdict), count in sorted(look.requests.items()):
-                requests.add_metric([db, role, operation, verdict], count)
-        yield from (up, *gauges.values(), applied, requests)
+        for db, database in self._databases.items():
+            look, archived = found["look", db], found.get(("archived", db))
+            gauges["up"].add_metric([str(db)], isinstance(look, Look))
+            counters["log_went_back"].add_metric([str(db)], database.went_back)
+            if db in self._archived:
+                gauges["archive_up"].add_metric([str(db)], isinstance(archived, int))
+            if isinstance(archived, int):
+                gauges["archived_blocks"].add_metric([str(db)], archived)
+            if isinstance(look, Look):
+                _add_look(str(db), look, archived, gauges, counters)
+                for partition, lsn in look.applied.items():
+                    applied.add_metric([str(db), str(partition)], lsn)
+                for (role, operation, verdict), count in sorted(look.requests.items()):
+                    requests.add_metric([str(db), role, operation, verdict], count)
+        yield from (*gauges.values(), *counters.values(), applied, requests)
+
+
+def _add_look(
+    db: str, look: Look, archived: object, gauges: Mapping[str, GaugeMetricFamily], counters: Mapping[str, CounterMetricFamily]
+) -> None:
+    for name, value in (("epoch", look.state.epoch), ("primary", look.state.primary), ("hardened_blocks", look.state.hard),
+                        ("audit_entries", look.entries), ("audit_limit", look.limit)):  # fmt: skip
+        gauges[name].add_metric([db], value)
+    if look.full_in is not None:
+        gauges["audit_full_in_seconds"].add_metric([db], look.full_in)
+    if isinstance(archived, int):
+        gauges["backlog_entries"].add_metric([db], -(-max(0, look.state.hard - archived) // _PULL_BLOCKS))
+    counters["audit_uncounted"].add_metric([db], look.uncounted)
+    counters["fenced_requests"].add_metric([db], look.fenced)
+
+
+# Serving.
+
+
+class _Server(ThreadingMixIn, WSGIServer):
+    """A thread for each connection, which ends with the program."""
+
+    daemon_threads = True
+
+
+class _Handler(WSGIRequestHandler):
+    """One that says nothing on standard error, and ends a connection that asks nothing."""
+
+    timeout = _IDLE_SECONDS
+
+    def log_message(self, format: str, *arguments: object) -> None:
+        """Nothing."""
+
+
+def serve(collector: Collector, host: str, port: int) -> int:
+    """Serves the metrics in threads of their own. Returns the port. Raises `OSError`."""
+    registry = CollectorRegistry()
+    registry.register(collector)
+    family, address = socket.getaddrinfo(host, port, type=socket.SOCK_STREAM)[0][::4]
+    kind: type[_Server] = type("_ServerOfFamily", (_Server,), {"address_family": family})
+    made: WSGIServer = make_server(address[0], port, make_wsgi_app(registry), kind, _Handler)
+    threading.Thread(target=made.serve_forever, daemon=True).start()
+    return int(made.server_port)

@@ -6,6 +6,7 @@ import functools
 import os
 import signal
 import sys
+import time
 from contextlib import contextmanager
 from types import FrameType
 from typing import Any, Callable, Iterator, NoReturn, TypeVar
@@ -16,12 +17,63 @@ from click.core import ParameterSource
 from pagelog.client import Client
 from pagelog.connection import Connection
 from pagelog.credentials import FILE_VARIABLE, Accounts, load
-from pagelog.errors import PagelogError
+from pagelog.desk.durations import duration
+from pagelog.errors import AuditListFull, ConnectionLost, InDoubt, OutOfMemory, PagelogError, Unreachable
+from pagelog.rules import BelowQuorum, NoSuchCopy
 
 Word = TypeVar("Word", bound=Callable[..., Any])
 Kind = TypeVar("Kind", bound=Client)
 URL_VARIABLE = "PAGELOG_ARCHIVE_URL"
 """The variable of the environment that has the archive's URL, with a password if need be."""
+
+
+FAULT, AGAIN, LIST_FULL = 1, 3, 4
+"""Exit statuses, beside 0 for done and 2 for wrong arguments: a person has to look; it may be tried again later as it is; the
+audit list is full, or so near to it that the database was fenced.
+"""
+NOT_YET = "service: denied A1, though let in before: it waits for its restore, or the table has another token; trying again"
+DEFAULT_TIMEOUT = 10.0
+_STEP_SECONDS = 4.0
+_LINE_SECONDS = 60.0
+_urls: list[str] = []
+"""The archive's URL that this program uses, for its errors."""
+
+
+def status_of(error: PagelogError) -> int:
+    """The exit status of a fault."""
+    if isinstance(error, AuditListFull):
+        return LIST_FULL
+    return AGAIN if isinstance(error, (Unreachable, ConnectionLost, InDoubt, OutOfMemory)) else FAULT
+
+
+def hint_of(error: PagelogError) -> str:
+    """Which option a denial speaks of."""
+    if isinstance(error, BelowQuorum):
+        return "; where the table says copies = 6, say --quorum 4"
+    return "; where the table says copies = 3, say --quorum 2" if isinstance(error, NoSuchCopy) else ""
+
+
+def is_of_the_archive(error: Exception) -> bool:
+    """Whether the archive's database raised it."""
+    return type(error).__module__.startswith("sqlalchemy")
+
+
+def is_lost_archive(error: Exception) -> bool:
+    """Whether the archive's database is away for a moment, or busy. Where the line breaks amid a reply, psycopg2 says
+    DatabaseError, as of many other faults.
+    """
+    return type(error).__name__ == "OperationalError" or bool(getattr(error, "connection_invalidated", False))
+
+
+def fail(text: str, status: int = FAULT) -> NoReturn:
+    """Ends with this line and this status."""
+    click.echo(f"pagelogctl: {text}", err=True)
+    sys.exit(status)
+
+
+def json_option(word: Word) -> Word:
+    """--json."""
+    return click.option("--json", "as_json", is_flag=True, help="One JSON object a line.")(word)
 
 
 def credentials_option(word: Word) -> Word:
@@ -34,7 +86,7 @@ def credentials_option(word: Word) -> Word:
             fail(str(error))
 
     return click.option(
-        "--credentials", "accounts", metavar="FILE", envvar=FILE_VARIABLE, callback=read,
+        "--credentials", "accounts", metavar="FILE", type=click.Path(), envvar=FILE_VARIABLE, callback=read,
         help=f"The TOML file with a section for each role: to, id, token. Mode 600. [env: {FILE_VARIABLE}]",
     )(word)  # fmt: skip
 
@@ -58,7 +110,7 @@ def url_options(word: Word) -> Word:
 def _url(context: click.Context, parameter: click.Parameter, value: str | None) -> str | None:
     if value and context.get_parameter_source(parameter.name or "") is ParameterSource.COMMANDLINE:
         _, _, rest = value.partition("://")
-        if ":" in rest.rpartition("@")[0] or "password=" in rest:
+        if ":" in (rest or value).rpartition("@")[0] or "password=" in value:
             raise click.UsageError(f"a password is not for the command line, where others see it: put the URL into {URL_VARIABLE}")
     return value
 
@@ -66,8 +118,11 @@ def _url(context: click.Context, parameter: click.Parameter, value: str | None) 
 def url_of(url: str | None, accounts: Accounts) -> str:
     """The archive's URL: the option's, the file's, or the default. Ends where it is of a database in memory."""
     from pagelog.archive import DEFAULT_URL, is_in_memory
+    from pagelog.archive_engine import bound_waits
 
     found = url or accounts.archive_url or DEFAULT_URL
+    _urls.append(found)
+    bound_waits()
     if is_in_memory(found):
         fail("an archive in memory is gone when this ends: name a file, as sqlite:///FILE")
     return found
@@ -87,7 +142,14 @@ def quorum_of(quorum: str | None, accounts: Accounts) -> int:
 def client(kind: type[Kind], accounts: Accounts, db: int, **options: Any) -> Kind:
     """A client of this kind, from its section of the credentials."""
     account = accounts.account(kind.role)
-    return kind(Connection(account.to, attempts=8), account.credentials, db, **options)
+    return kind(Connection(account.to, timeout=timeout(), attempts=8), account.credentials, db, **options)
+
+
+def timeout() -> float:
+    """What --timeout of `pagelogctl` says."""
+    context = click.get_current_context(silent=True)
+    found = context.find_root().params.get("timeout") if context else None
+    return float(found) if found else DEFAULT_TIMEOUT
 
 
 def one_service(accounts: Accounts, one: type[Client], other: type[Client], what: str) -> None:
@@ -98,63 +160,115 @@ def one_service(accounts: Accounts, one: type[Client], other: type[Client], what
 
 
 def faults(word: Word) -> Word:
-    """A fault is one line on standard error, and exit status 1."""
+    """A fault is one line on standard error, and the exit status that it has in `statuses`."""
 
     @functools.wraps(word)
     def run(*arguments: Any, **options: Any) -> Any:
+        signal.signal(signal.SIGTERM, _end)
         try:
             return word(*arguments, **options)
         except PagelogError as error:
-            fail(f"{type(error).__name__}: {error}")
+            fail(f"{type(error).__name__}: {error}{hint_of(error)}", status_of(error))
         except ModuleNotFoundError as error:
             from pagelog.command import LACKS
 
             fail(f"this needs {error.name}: {LACKS}")
         except BrokenPipeError:
             os.dup2(os.open(os.devnull, os.O_WRONLY), sys.stdout.fileno())
-            sys.exit(1)
+            sys.exit(FAULT)
+        except Ended as ended:
+            fail(str(ended), 128 + signal.SIGTERM)
+        except KeyboardInterrupt:
+            fail("interrupted", 128 + signal.SIGINT)  # click would say 1
         except Exception as error:
-            if not type(error).__module__.startswith("sqlalchemy"):
+            if not is_of_the_archive(error):
                 raise
-            fail(f"archive: {str(error).splitlines()[0]}")
+            fail(f"archive: {first_line_of(error)}", AGAIN if is_lost_archive(error) else FAULT)
 
     return run  # type: ignore[return-value]
 
 
-def fail(text: str) -> NoReturn:
-    """Ends with this line and status 1."""
-    click.echo(f"pagelogctl: {text}", err=True)
-    sys.exit(1)
+def first_line_of(error: Exception) -> str:
+    """What a database says, without the password that the archive's URL may have."""
+    from pagelog.archive_engine import without_password
+
+    lines = str(error).splitlines() or [type(error).__name__]
+    return without_password(lines[0], _urls[-1] if _urls else None)
 
 
 @contextmanager
 def bar(what: str) -> Iterator[Callable[[int, int], None]]:
-    """A progress bar on standard error where that is a terminal, and else nothing."""
+    """Progress on standard error: a bar with the time left where that is a terminal, and else a line each minute."""
     if not sys.stderr.isatty():
-        yield lambda _, __: None
+        yield _Lines(what).tell
         return
     from rich.console import Console
     from rich.progress import BarColumn, MofNCompleteColumn, Progress, TextColumn, TimeRemainingColumn
 
     columns = (TextColumn("{task.description}"), BarColumn(), MofNCompleteColumn(), TimeRemainingColumn())
     with Progress(*columns, console=Console(stderr=True), transient=True) as progress:
-        task = progress.add_task(what, total=None)
-        yield lambda done, total: progress.update(task, completed=done, total=max(total, done))
+        task, last = progress.add_task(what, total=None), 0
+
+        def tell(done: int, total: int) -> None:
+            nonlocal last
+            if done < last:
+                progress.reset(task)  # the next step of the work, which has its own time left
+            last = done
+            progress.update(task, completed=done, total=max(total, done))
+
+        yield tell
+
+
+class _Lines:
+    """Progress where nobody looks at a terminal."""
+
+    def __init__(self, what: str) -> None:
+        self.what = what
+        self.began = self.told = time.monotonic()
+        self.last = 0
+
+    def tell(self, done: int, total: int) -> None:
+        """A line each minute. Where it begins from the front again, it is the next step of the work."""
+        now = time.monotonic()
+        if done < self.last:
+            self.began = now
+        self.last = done
+        if now - self.told >= _LINE_SECONDS:
+            self.told = now
+            left = f", {duration((total - done) * (now - self.began) / done)} left" if 0 < done < total else ""
+            click.echo(f"pagelogctl: {self.what} {done} of {total}{left}", err=True)
 
 
 @contextmanager
 def stopping() -> Iterator[Callable[[], bool]]:
-    """Says whether SIGTERM or SIGINT has come, so that a piece of work ends between two steps."""
+    """Says whether SIGTERM or SIGINT has come, so that a piece of work ends between two steps.
+
+    Where a step takes longer than four seconds after that, as where something is silent, `Ended` ends it.
+    """
     came: list[int] = []
 
     def take(number: int, _: FrameType | None) -> None:
-        if came:
+        if came and number == signal.SIGINT:
             raise KeyboardInterrupt
         came.append(number)
+        signal.setitimer(signal.ITIMER_REAL, _STEP_SECONDS)
 
-    before = {number: signal.signal(number, take) for number in (signal.SIGTERM, signal.SIGINT)}
+    def give_up(_: int, __: FrameType | None) -> None:
+        raise Ended("ended amid a step, since something was silent; what was kept is whole")
+
+    handlers = {signal.SIGTERM: take, signal.SIGINT: take, signal.SIGALRM: give_up}
+    before = {number: signal.signal(number, handler) for number, handler in handlers.items()}
     try:
         yield lambda: bool(came)
     finally:
+        signal.setitimer(signal.ITIMER_REAL, 0)
         for number, handler in before.items():
             signal.signal(number, handler)
+
+
+class Ended(BaseException):
+    """A signal ends the program amid a step."""
+
+
+def _end(_: int, __: FrameType | None) -> None:
+    raise Ended("ended by SIGTERM")

@@ -10,7 +10,9 @@ from rich.panel import Panel
 from rich.table import Table
 from rich.text import Text
 
-from pagelog.desk.watch import Look, duration
+from pagelog.desk.durations import duration
+from pagelog.desk.watch import Look
+from pagelog.request import PULL_MAX
 
 
 @dataclass(frozen=True)
@@ -46,7 +48,18 @@ def page(address: str, lines: Mapping[int, Line], at: str, width: int = 150) -> 
         cells = _cells(line)
         table.add_row(*(cells[number] for number in shown if number < len(cells)))
     errors = [Text(f"db {line.database}: {line.error}", style="red") for line in lines.values() if line.error]
-    return Panel(Group(table, *errors, Text(), _denials(lines)), title=f"pagelog {address}", subtitle=f"{at}   q or Ctrl-C ends", title_align="left")
+    warnings = [Text(words, style="bold red") for line in lines.values() if (words := warning(line))]
+    return Panel(Group(table, *errors, *warnings, Text(), _denials(lines)), title=f"pagelog {address}", subtitle=f"{at}   q or Ctrl-C ends", title_align="left")
+
+
+def warning(line: Line) -> str:
+    """What an operator has to do soon, or nothing."""
+    look = line.look
+    if look is None or not (look.used > 0.9 or (look.full_in is not None and look.full_in < 3600)):
+        return ""
+    lag = 0 if line.archived is None else max(0, look.state.hard - line.archived)
+    return (f"db {line.database}: {max(0, look.limit - look.entries):,} entries are left of its audit list; {lag:,} blocks are not archived, which "
+            f"want {-(-lag // PULL_MAX):,}: move the database")  # fmt: skip
 
 
 def _cells(line: Line) -> list[RenderableType]:

@@ -2,6 +2,7 @@
 
 from __future__ import annotations
 
+import logging
 from importlib import import_module
 
 import click
@@ -10,13 +11,27 @@ import pagelog
 
 WORDS = {
     "status": "looking_words",
-    "top": "looking_words",
-    "audit": "looking_words",
-    "metrics": "looking_words",
-    "archive": "keeping_words",
-    "restore": "keeping_words",
-    "verify": "keeping_words",
-    "move": "keeping_words",
+    "top": "top_words",
+    "audit": "audit_words",
+    "metrics": "metrics_words",
+    "archive": "archive_words",
+    "restore": "restore_words",
+    "waiting-table": "waiting_words",
+    "verify": "restore_words",
+    "move": "move_words",
+    "logs": "logs_words",
+    "mend": "logs_words",
+    "keep": "keeper_words",
+    "create": "keeper_words",
+    "pause": "keeper_words",
+    "resume": "keeper_words",
+    "kept": "keeper_words",
+    "where": "keeper_words",
+    "switchover": "keeper_words",
+    "drop": "keeper_words",
+    "record": "trail_words",
+    "trail": "trail_words",
+    "replay": "trail_words",
     "explain": "explain_words",
     "completion": "explain_words",
 }
@@ -34,16 +49,24 @@ class Words(click.Group):
         """The word of this name."""
         if cmd_name not in WORDS:
             return None
-        found = getattr(import_module(f"pagelog.desk.{WORDS[cmd_name]}"), f"{cmd_name}_word")
+        found = getattr(import_module(f"pagelog.desk.{WORDS[cmd_name]}"), f"{cmd_name.replace('-', '_')}_word")
         assert isinstance(found, click.Command)
         return found
 
 
 @click.group(cls=Words, context_settings={"help_option_names": ["-h", "--help"], "max_content_width": 100})
 @click.version_option(pagelog.__version__, prog_name="pagelogctl")
-def pagelogctl() -> None:
+@click.option("--timeout", default=10.0, show_default=True, type=click.FloatRange(0.1), metavar="SECONDS",
+              help="How long a service may be silent before a request ends.")  # fmt: skip
+@click.option("--verbose", is_flag=True, help="Report each connection that is made again, on standard error.")
+def pagelogctl(timeout: float, verbose: bool) -> None:
     """Looks at the databases of a service, keeps what they hold, and moves them.
 
     Credentials are in a TOML file of mode 600, named by --credentials or PAGELOG_CREDENTIALS, with a section for each role
     that a word needs: [primary], [secondary], [page_server], [operator], each with to, id and token.
+
+    Exit status: 0 done; 1 a person has to look, as where two logs differ; 2 wrong arguments; 3 it may be tried again as it is,
+    as where a service is away; 4 the audit list is full, or so near to it that the database was fenced; 130 interrupted.
     """
+    if verbose:
+        logging.basicConfig(level=logging.INFO, format="%(asctime)s %(message)s")

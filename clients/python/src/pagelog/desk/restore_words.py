@@ -1,0 +1,98 @@
+"""restore and verify."""
+
+from __future__ import annotations
+
+import json
+from dataclasses import asdict
+
+import click
+
+from pagelog.archive import Archive
+from pagelog.block import HIGHEST_LSN
+from pagelog.comparing import Verified, verify
+from pagelog.credentials import Accounts
+from pagelog.desk.options import (
+    bar, client, credentials_option, db_option, faults, json_option, one_service, quorum_of, quorum_option, url_of, url_options,
+)  # fmt: skip
+from pagelog.operator import Operator
+from pagelog.primary import Primary
+from pagelog.reader import Reader
+from pagelog.restoring import restore, set_real_table
+from pagelog.tables import TableText
+
+last_option = click.option("--last", metavar="LSN", type=click.IntRange(0, HIGHEST_LSN), help="Only the blocks up to this one. [default: all]")
+
+
+@click.command("restore")
+@credentials_option
+@db_option
+@url_options
+@quorum_option
+@last_option
+@click.option("--table", metavar="FILE", type=click.Path(), help="The real table, set at the end: the service was started with the one "
+              "that `waiting-table` makes, and lets nobody else in before.")  # fmt: skip
+@json_option
+@faults
+def restore_word(
+    accounts: Accounts, db: int, url: str | None, log: str | None, quorum: str | None, last: int | None, table: str | None, as_json: bool
+) -> None:
+    """Fill a fresh database from an archive, LSN for LSN. Needs [primary], [secondary] and [operator], all at one address.
+
+    First the database's epoch is raised above all that were archived, so that writers of the time before are denied. Nothing is
+    overwritten: a database that has anything but the beginning of the archived log is refused. A restore that was broken off
+    goes on where it was. In the end all blocks are compared, and a sample of pages. With --last what is above that LSN is left
+    out, damaged or not; an archiver refuses the database then, until its log has another name.
+
+    \b
+    Examples:
+      pagelogctl restore --credentials c.toml --db 0 --url sqlite:///db0.db
+      pagelogctl restore --credentials restore.toml --db 0 --table table.toml
+    """
+    one_service(accounts, Primary, Reader, "both are of the database that is filled")
+    one_service(accounts, Primary, Operator, "both are of the database that is filled")
+    real = TableText.read(table) if table else None
+    with Archive(url_of(url, accounts), log or str(db)) as archive, client(Reader, accounts, db) as reader:
+        writes = client(Primary, accounts, db, alone=True, quorum=quorum_of(quorum, accounts))
+        with writes as primary, client(Operator, accounts, db) as operator, bar("restored") as told:
+            done = restore(archive, primary, reader, operator=operator, last=HIGHEST_LSN if last is None else last, told=told)
+            if real is not None:
+                set_real_table(operator, real.text)
+    _tell(done, as_json, f"restored {done.archived}", {"table_set": real is not None, "epoch": operator.epoch})
+
+
+@click.command("verify")
+@credentials_option
+@db_option
+@url_options
+@last_option
+@click.option("--offline", is_flag=True, help="Read the archive alone, and ask no service: every block has to be there and sound.")
+@json_option
+@faults
+def verify_word(
+    accounts: Accounts, db: int, url: str | None, log: str | None, last: int | None, offline: bool, as_json: bool
+) -> None:
+    """Compare an archive with a database: all archived blocks, and a sample of pages. Needs [secondary].
+
+    Exit status 1 at the first difference, with its LSN.
+
+    \b
+    Example:
+      pagelogctl verify --credentials c.toml --db 0 --url sqlite:///db0.db
+    """
+    upto = HIGHEST_LSN if last is None else last
+    with Archive(url_of(url, accounts), log or str(db)) as archive:
+        with bar("read") as told:
+            sizes = archive.check(upto, told=told)
+        if offline:
+            text = f"sound: {sizes.blocks} blocks, {sizes.empty} of them empty, {sizes.bytes} bytes"
+            click.echo(json.dumps(asdict(sizes)) if as_json else text)
+            return
+        with client(Reader, accounts, db) as reader, bar("verified") as told:
+            done = verify(archive, reader, last=upto, told=told)
+    _tell(done, as_json, f"verified {done.archived} of {done.hard}", {})
+
+
+def _tell(done: Verified, as_json: bool, words: str, more: dict[str, object]) -> None:
+    denied = f" ({done.denied_pages} pages are denied by the table)" if done.denied_pages else ""
+    text = f"{words}: {done.blocks} blocks and {done.pages} pages are alike{denied}"
+    click.echo(json.dumps(asdict(done) | more) if as_json else text)

@@ -1,0 +1,148 @@
+"""top."""
+
+from __future__ import annotations
+
+import json
+import time
+from contextlib import ExitStack
+from functools import partial
+from typing import Any, Callable, Iterator
+
+import click
+
+from pagelog.credentials import Accounts
+from pagelog.desk.looking_words import dbs_option, limit_option, watch_of
+from pagelog.desk.options import credentials_option, faults, json_option, stopping, timeout, url_of, url_options
+from pagelog.desk.side_by_side import Task, look_at_all
+from pagelog.desk.watch import Look, Watch
+from pagelog.request import Role
+
+
+@click.command("top")
+@credentials_option
+@dbs_option
+@url_options
+@limit_option
+@click.option("--interval", default=2.0, show_default=True, type=click.FloatRange(0), metavar="SECONDS", help="How often to look.")
+@click.option("--from-start", is_flag=True, help="Read the audit list from its beginning, for all denials there were.")
+@click.option("--count", default=0, metavar="N", help="End after N looks. [default: never]")
+@json_option
+@faults
+def top_word(
+    accounts: Accounts, dbs: tuple[int, ...], url: str | None, log: str | None, limit: int | None, interval: float, from_start: bool,
+    count: int, as_json: bool,
+) -> None:  # fmt: skip
+    """Watch databases live: epoch, primary, hardened end, rates, denials, the archive's lag and the audit list.
+
+    Needs [operator]; with [secondary] applied LSNs are shown, and with --url the lag of the archive. A look costs two or
+    three entries of the audit list. Databases and archives are looked at side by side; one that does not answer within
+    two seconds is shown so. Where the output is not a terminal, each look is printed. q ends.
+
+    \b
+    Example:
+      pagelogctl top --credentials c.toml --db 0 --db 1 --url sqlite:///db0.db
+    """
+    from rich.console import Console
+
+    from pagelog.desk.top import Line, page
+
+    address = str(accounts.account(Role.OPERATOR).to)
+    with ExitStack() as stack, stopping() as stop:
+        archive = url_of(url, accounts) if url or accounts.archive_url else None
+        looks = Looks(accounts, dbs, limit, stack, from_start)
+        archived = {db: Task(partial(archived_of, archive, log or str(db))) for db in dbs} if archive else {}
+
+        def lines() -> dict[int, Line]:
+            found = looks.all(archived)
+            return {db: Line(db, *found[db]) for db in dbs}
+
+        console = Console()
+
+        def draw() -> Any:
+            return lines() if as_json else page(address, lines(), time.strftime("%H:%M:%S"), console.width)
+
+        for screen in _screens(draw, interval, count, stop, console, as_json):
+            if as_json:
+                _print_json(screen)
+            elif not console.is_terminal:
+                console.print(screen)
+
+
+class Looks:
+    """Looks at databases side by side, for at most two seconds, and less than --timeout."""
+
+    def __init__(self, accounts: Accounts, dbs: tuple[int, ...], limit: int | None, stack: ExitStack, from_start: bool) -> None:
+        self._watches: dict[int, Watch] = {}
+        self.seconds = min(2.0, timeout())
+        seconds = self.seconds
+
+        def look(db: int) -> Look:
+            if db not in self._watches:
+                self._watches[db] = watch_of(accounts, db, limit, stack, seconds, from_start=from_start)
+            return self._watches[db].look()
+
+        self._tasks = {db: Task(partial(look, db)) for db in dbs}
+
+    def all(self, archived: dict[int, Task[int]]) -> dict[int, tuple[Look | None, str, int | None]]:
+        """Of each database a look, or why there is none, and its archived LSN where an archive answers."""
+        tasks: list[tuple[tuple[str, int], Task[Any]]] = [(("look", db), task) for db, task in self._tasks.items()]
+        found = look_at_all([*tasks, *((("archived", db), task) for db, task in archived.items())], self.seconds)
+        lines: dict[int, tuple[Look | None, str, int | None]] = {}
+        for db in self._tasks:
+            look, kept = found["look", db], found.get(("archived", db))
+            error = f"{type(look).__name__}: {look}" if isinstance(look, Exception) else ""
+            lines[db] = (look if isinstance(look, Look) else None, error, kept if isinstance(kept, int) else None)
+        return lines
+
+
+def archived_of(url: str, log: str) -> int:
+    """The archived LSN of a log."""
+    from pagelog.archive import Archive
+
+    with Archive(url, log) as archive:
+        return archive.archived
+
+
+def _print_json(lines: dict[int, Any]) -> None:
+    for db, line in lines.items():
+        look = line.look
+        fields: dict[str, object] = {"db": db, "time": round(time.time(), 3), "archived": line.archived}
+        if look is None:
+            fields["error"] = line.error
+        else:
+            fields |= {"epoch": look.state.epoch, "primary": look.state.primary, "hard": look.state.hard, "audit_entries": look.entries,
+                       "audit_limit": look.limit, "full_in_seconds": look.full_in, "blocks_a_second": look.blocks_rate,
+                       "reads_a_second": look.reads_rate, "requests_a_second": look.requests_rate, "denials": look.denials,
+                       "applied": look.applied}  # fmt: skip
+        click.echo(json.dumps(fields))
+
+
+def _screens(draw: Callable[[], Any], interval: float, count: int, stop: Callable[[], bool], console: Any, as_json: bool) -> Iterator[Any]:
+    """Draws again and again; on a terminal in place, until q."""
+    from rich.live import Live
+
+    from pagelog.desk.keys import pressed_q, raw_keys
+
+    shown = 0
+    with ExitStack() as stack:
+        live = None
+        if console.is_terminal and not as_json:
+            stack.enter_context(raw_keys())
+            live = stack.enter_context(Live(console=console, screen=True, auto_refresh=False))
+        while not stop():
+            screen = draw()
+            if live is not None:
+                live.update(screen, refresh=True)
+            yield screen
+            shown += 1
+            if count and shown >= count:
+                return
+            if pressed_q(interval) if live is not None else _sleep(interval, stop):
+                return
+
+
+def _sleep(seconds: float, stop: Callable[[], bool]) -> bool:
+    deadline = time.monotonic() + seconds
+    while (left := deadline - time.monotonic()) > 0 and not stop():
+        time.sleep(min(0.2, left))
+    return False

@@ -1,0 +1,363 @@
+"""record, trail and replay."""
+
+from __future__ import annotations
+
+import json
+import sys
+import time
+from contextlib import ExitStack
+from datetime import datetime
+from pathlib import Path
+from typing import Any, Callable, Iterator
+
+import click
+
+from pagelog.archive import Archive, NoArchive
+from pagelog.credentials import FILE_VARIABLE, Accounts, load
+from pagelog.desk.audit_words import entry_fields, entry_line
+from pagelog.desk.options import (
+    URL_VARIABLE, _url, bar, client, credentials_option, db_option, fail, faults, first_line_of, is_lost_archive,
+    is_of_the_archive, json_option, stopping, url_of,
+)  # fmt: skip
+from pagelog.errors import ConnectionLost, OutOfMemory, Unreachable
+from pagelog.keeping import all_blocks, compare
+from pagelog.operator import Operator
+from pagelog.reader import Reader
+from pagelog.request import Operation
+from pagelog.trail.keeper import TrailKeeper
+from pagelog.trail.pages import compare_pages
+from pagelog.trail.question import Question, Seen, Summary, answer, micros, moment
+from pagelog.trail.replay import Replayed, replay
+from pagelog.trail.seal import seal
+from pagelog.trail.store import NoTrail, Start, Trail, TrailList
+
+url_option = click.option(
+    "--url", metavar="URL", envvar=URL_VARIABLE, callback=_url,
+    help=f"Where the trail is, and the archive beside it, as sqlite:///FILE or postgresql://HOST/NAME. [env: {URL_VARIABLE}]",
+)  # fmt: skip
+start_table_option = click.option("--table", metavar="FILE", type=click.Path(exists=True, dir_okay=False, path_type=Path),
+                                  help="The table that the database began with. It goes with --primary.")  # fmt: skip
+start_primary_option = click.option("--primary", metavar="N", type=click.IntRange(0, (1 << 32) - 1), help="The first primary.")
+texts_option = click.option("--set-table", "texts", metavar="FILE", multiple=True,
+                            type=click.Path(exists=True, dir_okay=False, path_type=Path),
+                            help="A table that was set later; may be given more than once.")  # fmt: skip
+list_option = click.option("--list", "run", metavar="N", type=click.IntRange(1), help="Only the N-th list of the trail. A service that "
+                           "was started anew began a new one. [default: all]")  # fmt: skip
+
+
+def start_of(table: Path | None, primary: int | None) -> Start | None:
+    """What a database began from, as the two options say it."""
+    if (table is None) != (primary is None):
+        raise click.UsageError("--table and --primary go together")
+    return Start(table.read_bytes(), primary) if table is not None and primary is not None else None
+
+
+def chosen(trail: Trail, run: int | None) -> list[TrailList]:
+    """The lists that --list chooses."""
+    lists = trail.lists()
+    if run is None:
+        return lists
+    if run > len(lists):
+        raise NoTrail(f"the trail of {trail.log!r} has {len(lists)} lists")
+    return [lists[run - 1]]
+
+
+# Keeping.
+
+
+@click.command("record")
+@click.argument("name")
+@credentials_option
+@db_option
+@url_option
+@start_table_option
+@start_primary_option
+@texts_option
+@click.option("--follow", is_flag=True, help="Go on with what comes, until SIGTERM or SIGINT.")
+@click.option("--idle", default=15.0, show_default=True, type=click.FloatRange(0), metavar="SECONDS",
+              help="The longest wait before the service is asked again. Each question is an entry of the audit list too.")  # fmt: skip
+@click.option("--keep", metavar="DAYS", type=click.IntRange(1), help="Take away what was seen on earlier days. A list without its "
+              "beginning cannot be replayed. [default: keep all]")  # fmt: skip
+@faults
+def record_word(
+    name: str, accounts: Accounts, db: int, url: str | None, table: Path | None, primary: int | None, texts: tuple[Path, ...],
+    follow: bool, idle: float, keep: int | None,
+) -> None:  # fmt: skip
+    """Keep the audit list of a database as a trail, beside its archive. Needs [operator].
+
+    Each line is kept with the time at which it was seen. Prints `recorded N of list L`: lines 1 to N are kept. A service that was
+    started anew begins a new list; the old one says how it ended. With --table and --primary the trail can be replayed.
+
+    \b
+    Example:
+      pagelogctl record shop --follow --credentials c.toml --db 0 --url sqlite:///db0.db --table t0.toml --primary 2
+    """
+    start = start_of(table, primary)
+    with Trail(url_of(url, accounts), name, create=True) as trail, client(Operator, accounts, db) as operator:
+        keeper = TrailKeeper(operator, trail, start=start)
+        tell = _Told(trail)
+        try:
+            with stopping() as stop:
+                keeper.step()
+                for text in texts:
+                    keeper.give_table(text.read_bytes())
+                if not follow:
+                    keeper.run(follow=False, keep=keep, told=tell, stop=stop)
+                while follow and not stop():
+                    _follow(keeper, lambda: keeper.run(follow=True, idle=idle, keep=keep, told=tell, stop=stop))
+            _seal(trail)
+        finally:
+            for one in trail.lists()[-1:]:
+                _say_recorded(one)
+
+
+def _follow(keeper: TrailKeeper, run: Callable[[], int]) -> None:
+    """Follows until it is stopped, or until the service or the archive is lost for a moment."""
+    try:
+        keeper.resume()
+        run()
+    except (ConnectionLost, Unreachable, OutOfMemory) as error:
+        _wait(f"service: {error}")
+    except Exception as error:
+        if not is_of_the_archive(error) or not is_lost_archive(error):
+            raise
+        _wait(f"archive: {first_line_of(error)}")
+
+
+def _wait(text: str) -> None:
+    click.echo(f"pagelogctl: {text}; trying again", err=True)
+    time.sleep(1)
+
+
+class _Told:
+    """Says how far the trail is and seals what was archived, once a minute, and when a new list begins."""
+
+    def __init__(self, trail: Trail) -> None:
+        self._trail = trail
+        self._run, self._last = 0, 0.0
+
+    def __call__(self, one: TrailList) -> None:
+        if one.run != self._run or time.monotonic() - self._last >= 60:
+            _seal(self._trail)
+            _say_recorded(one)
+            self._run, self._last = one.run, time.monotonic()
+
+
+def _seal(trail: Trail) -> None:
+    """Seals what the archive beside the trail has, if there is one."""
+    try:
+        with Archive(trail.url, trail.log) as archive:
+            seal(trail, archive)
+    except NoArchive:
+        pass
+
+
+def _say_recorded(one: TrailList) -> None:
+    click.echo(f"recorded {one.kept} of list {one.run}" + (f", which ended: {one.ended}" if one.ended else ""))
+
+
+# Asking.
+
+
+@click.command("trail")
+@click.argument("name")
+@url_option
+@list_option
+@click.option("--since", metavar="TIME", help="From when on, as 14:00, 14:00:30 or 2026-11-28T14:00. A time of day is the last that has passed.")
+@click.option("--until", metavar="TIME", help="Up to when. A time of day is the first behind --since.")
+@click.option("--principal", metavar="N", type=click.IntRange(0, (1 << 32) - 1), help="Only requests of this principal.")
+@click.option("--op", metavar="WORD", type=click.Choice([operation.word for operation in Operation]), help="Only this operation, as failover.")
+@click.option("--denied", is_flag=True, help="Only what was denied.")
+@click.option("--summary", is_flag=True, help="Count the lines by minute, principal and rule.")
+@click.option("--plot", metavar="FILE", type=click.Path(dir_okay=False), help="Draw requests and denials by minute, and epochs, as SVG. Needs python3-pygal.")
+@json_option
+@click.option("--follow", is_flag=True, help="Go on with what is recorded.")
+@faults
+def trail_word(
+    name: str, url: str | None, run: int | None, since: str | None, until: str | None, principal: int | None, op: str | None,
+    denied: bool, summary: bool, plot: str | None, as_json: bool, follow: bool,
+) -> None:  # fmt: skip
+    """Show what was decided in some time, from a trail that `record` keeps. It asks no service.
+
+    The time of a line is when it was seen: it was decided by then, and after the line before it was.
+
+    \b
+    Examples:
+      pagelogctl trail shop --since 14:00 --until 14:10 --denied
+      pagelogctl trail shop --op failover --json
+      pagelogctl trail shop --since 14:00 --plot shop.svg
+    """
+    question = Question(*_times(since, until), principal, _operation(op), denied)
+    if plot is not None:
+        _need_pygal()
+    with Trail(url_of(url, Accounts({})), name) as trail, stopping() as stop:
+        if summary or plot is not None:
+            counted = Summary()
+            for one in chosen(trail, run):
+                counted.take(answer(trail, one, question))
+            if plot is not None:
+                from pagelog.desk.trail_plot import draw
+
+                draw(counted, f"Trail of {name}", plot)
+            if summary:
+                _show_summary(counted, as_json)
+            return
+        for found in _lines(trail, run, question, follow, stop):
+            click.echo(_json(found) if as_json else _words(found))
+
+
+def _times(since: str | None, until: str | None) -> tuple[int | None, int | None]:
+    now = datetime.now().astimezone()
+    try:
+        first = moment(since, None, now) if since else None
+        last = moment(until, first, now) if until else None
+    except ValueError as error:
+        raise click.UsageError(f"a time is as 14:05, 14:05:30 or 2026-11-28T14:05: {error}")
+    return (micros(first) if first else None), (micros(last) if last else None)
+
+
+def _operation(word: str | None) -> Operation | None:
+    return next((operation for operation in Operation if operation.word == word), None)
+
+
+def _need_pygal() -> None:
+    try:
+        import pygal  # noqa: F401
+    except ModuleNotFoundError as error:
+        fail(f"--plot needs {error.name}: apt-get install python3-pygal")
+
+
+def _lines(trail: Trail, run: int | None, question: Question, follow: bool, stop: Callable[[], bool]) -> Iterator[Seen | TrailList]:
+    """The lines that are asked for, and each list behind its last line, if that is in the time."""
+    following = {one.id: 1 for one in chosen(trail, run)}
+    is_ended: set[int] = set()
+    while not stop():
+        for one in chosen(trail, run):
+            yield from answer(trail, one, question, following.get(one.id, 1))
+            following[one.id] = one.kept + 1
+            if one.ended is not None and one.id not in is_ended and _is_in_time(one, question):
+                is_ended.add(one.id)
+                yield one
+        if not follow:
+            return
+        time.sleep(0.5)
+
+
+def _is_in_time(one: TrailList, question: Question) -> bool:
+    ended = one.ended_seen or one.seen
+    return (question.since is None or ended >= question.since) and (question.until is None or one.seen < question.until)
+
+
+def _time(seen: int) -> datetime:
+    return datetime.fromtimestamp(seen / 1e6).astimezone()
+
+
+def _words(found: Seen | TrailList) -> str:
+    if isinstance(found, TrailList):
+        return (f"{_clock(found.ended_seen or found.seen)} list {found.run} ends behind line {found.kept}, seen at {_clock(found.seen)}: "
+                f"{found.ended}")  # fmt: skip
+    return f"{_clock(found.seen)} list {found.run}: {entry_line(found.entry)}"
+
+
+def _clock(seen: int) -> str:
+    return _time(seen).strftime("%Y-%m-%d %H:%M:%S.") + f"{seen // 1000 % 1000:03}"
+
+
+def _json(found: Seen | TrailList) -> str:
+    if isinstance(found, TrailList):
+        fields: dict[str, Any] = {"seen": _time(found.ended_seen or found.seen).isoformat(), "list": found.run, "ended": found.ended,
+                                  "last": found.kept, "last_seen": _time(found.seen).isoformat()}  # fmt: skip
+        return json.dumps(fields)
+    return json.dumps({"seen": _time(found.seen).isoformat(), "list": found.run, **entry_fields(found.entry)})
+
+
+def _show_summary(counted: Summary, as_json: bool) -> None:
+    rows = [(_time(minute), principal, rule or "allowed", count) for (minute, principal, rule), count in sorted(counted.counts.items())]
+    if as_json:
+        for when, principal, rule, count in rows:
+            click.echo(json.dumps({"minute": when.isoformat(), "principal": principal, "rule": rule, "count": count}))
+        return
+    from rich.console import Console
+    from rich.table import Table
+
+    table = Table("minute, as seen", "principal", "verdict", "lines")
+    for when, principal, rule, count in rows:
+        table.add_row(when.strftime("%Y-%m-%d %H:%M"), str(principal), rule, str(count), style="red" if rule != "allowed" else None)
+    Console().print(table)
+
+
+# Replaying.
+
+
+def _accounts(_: click.Context, __: click.Parameter, value: str | None) -> Accounts | None:
+    return load(value) if value else None
+
+
+@click.command("replay")
+@click.argument("name")
+@url_option
+@list_option
+@start_table_option
+@start_primary_option
+@texts_option
+@click.option("--credentials", "accounts", metavar="FILE", callback=_accounts, help="With it, the blocks of the service are compared too, and "
+              f"pages at random, as [secondary]. {FILE_VARIABLE} is not taken here.")  # fmt: skip
+@db_option
+@faults
+def replay_word(
+    name: str, url: str | None, run: int | None, table: Path | None, primary: int | None, texts: tuple[Path, ...],
+    accounts: Accounts | None, db: int,
+) -> None:  # fmt: skip
+    """Decide every line of a trail again by the rules alone, from the start table and the archived blocks.
+
+    The rules are those of the plain model, which shares no code with the service. Each line has to have the same verdict, section,
+    row and value. The first that differs is named, and the exit status is 1. What no line holds is listed as not checked: the
+    block of a denied or annulled write, and the text of a denied table.
+
+    \b
+    Example:
+      pagelogctl replay shop --url sqlite:///db0.db --table t0.toml --primary 2
+    """
+    start, more = start_of(table, primary), [text.read_bytes() for text in texts]
+    where = url_of(url, Accounts({}))
+    with ExitStack() as stack:
+        trail = stack.enter_context(Trail(where, name))
+        archive = _archive(where, name, stack)
+        hard = 0
+        for one in chosen(trail, run):
+            with bar(f"list {one.run}") as told:
+                done = replay(trail, one, archive, start=start, texts=more, told=told)
+            _say_replayed(one, done)
+            hard = done.blocks
+        if accounts is not None and archive is not None:
+            _compare(archive, stack.enter_context(client(Reader, accounts, db)), hard)
+
+
+def _archive(url: str, name: str, stack: ExitStack) -> Archive | None:
+    try:
+        return stack.enter_context(Archive(url, name))
+    except NoArchive as error:
+        click.echo(f"pagelogctl: {error}: no block is compared", err=True)
+        return None
+
+
+def _compare(archive: Archive, reader: Reader, hard: int) -> None:
+    """The service has the blocks of the archive, and makes pages of them."""
+    blocks = compare(all_blocks(reader, 1, hard), archive.blocks(1, hard))
+    pages = compare_pages(archive, reader, hard)
+    click.echo(f"{blocks} blocks and {pages.alike} pages of the service are those of the archive; {pages.denied} more pages are denied "
+               "by the table")  # fmt: skip
+
+
+def _say_replayed(one: TrailList, done: Replayed) -> None:
+    click.echo(f"list {one.run}: {done.lines} lines are decided likewise; epoch {done.epoch}, {done.hard} blocks hardened, "
+               f"{done.blocks} of them archived, which fit; digest {one.digest.hex()[:16]}")  # fmt: skip
+    for what, count in sorted(done.unchecked.items()):
+        click.echo(f"  not checked: {count} lines, which depend on {what}")
+    if done.archived > done.hard:
+        click.echo(f"  not checked: blocks {done.hard + 1} to {done.archived} are archived, and the trail ends before they were hardened")
+    if done.hard > done.blocks:
+        click.echo(f"  not checked: blocks {done.blocks + 1} to {done.hard} are hardened by the trail, and not archived")
+    if one.ended:
+        click.echo(f"  the list ended: {one.ended}")
+    sys.stdout.flush()

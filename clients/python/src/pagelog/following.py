@@ -1,0 +1,60 @@
+"""What a writer and a reader of a named database have in common: keepers, a principal, and where the database was last."""
+
+from __future__ import annotations
+
+from types import TracebackType
+from typing import Sequence, TypeVar
+
+from pagelog.connection import Connection
+from pagelog.credentials import Credentials
+from pagelog.errors import AuditListFull, ConnectionLost, InDoubt, LogWentBack, TurnsSpent, Unreachable
+from pagelog.keeper.table import token_of
+from pagelog.place import Keepers, Place
+from pagelog.rules import UnknownPrincipal
+
+GONE = (ConnectionLost, Unreachable, UnknownPrincipal, LogWentBack, AuditListFull, TurnsSpent, InDoubt)
+"""What is raised where the service is gone, or is another run's: the keepers know where the database is now."""
+Self = TypeVar("Self", bound="Following")
+
+
+class NamedAccount:
+    """A principal of the table of a named database, and its credentials in each run."""
+
+    def __init__(self, name: str, id: int, token: str) -> None:
+        self._name = name
+        self._credentials = Credentials.of(id, token)
+
+    def of(self, place: Place) -> Credentials:
+        """Those at this place."""
+        return Credentials(self._credentials.id, token_of(self._credentials.token, self._name, place.run))
+
+
+class Following:
+    """One who follows a named database. `patience` is for a place or an answer of the keepers, `timeout` for a reply of the
+    service, in seconds."""
+
+    def __init__(
+        self, name: str, keepers: Sequence[str], principal: int, token: str, *, patience: float = 60.0, timeout: float = 10.0
+    ) -> None:
+        self.keepers = Keepers(name, keepers, patience)
+        self.place: Place | None = None
+        self._account = NamedAccount(name, principal, token)
+        self._timeout = timeout
+
+    def __enter__(self: Self) -> Self:
+        return self
+
+    def __exit__(self, kind: type[BaseException] | None, error: BaseException | None, trace: TracebackType | None) -> None:
+        self.close()
+
+    def close(self) -> None:
+        """Closes all connections. A later call opens them again; a writer that is closed writes nothing of its tail again."""
+        self.keepers.close()
+        self._leave()
+
+    def _leave(self) -> None:
+        """Closes the connections to the service."""
+        raise NotImplementedError
+
+    def _connection(self, place: Place, attempts: int = 1) -> Connection:
+        return Connection(place.address, timeout=self._timeout, attempts=attempts)

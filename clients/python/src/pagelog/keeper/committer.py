@@ -1,0 +1,115 @@
+"""Batches of all databases of a keeper, each statement with as many as are due."""
+
+from __future__ import annotations
+
+import asyncio
+from dataclasses import dataclass, field
+from functools import partial
+
+from pagelog.keeper.referee import Away, Doubt, KeeperError, Refused
+from pagelog.keeper.rows import Batch, Kept
+from pagelog.keeper.session import Session
+
+MOST = 16 << 20
+"""The most bytes of one statement, unless one batch alone has more."""
+
+
+class Fenced(KeeperError):
+    """The run holds its database no more. Nothing of the batch is archived."""
+
+
+@dataclass
+class _Due:
+    batch: Batch
+    future: asyncio.Future[Kept] = field(repr=False)
+
+
+class Committer:
+    """Keeps batches, in one statement for all that came while the last one was under way.
+
+    A batch is told to be kept when its commit has returned, and so is replicated, and no sooner. One in doubt is looked up
+    by a statement that writes, for as long as that takes.
+    """
+
+    def __init__(self, session: Session, idle: float) -> None:
+        """Without a batch for `idle` seconds the connection is closed."""
+        self._session = session
+        self._idle = idle
+        self._due: list[_Due] = []
+        self._came = asyncio.Event()
+        self._looking: set[asyncio.Task[None]] = set()
+        self.kept = 0
+        """How many blocks were archived."""
+
+    async def keep(self, batch: Batch) -> Kept:
+        """What is archived of the run, once the batch is; less where it has to be tried again. Raises `Fenced`."""
+        due = _Due(batch, asyncio.get_running_loop().create_future())
+        self._due.append(due)
+        self._came.set()
+        return await due.future
+
+    async def run(self) -> None:
+        """Goes on until it is cancelled."""
+        try:
+            await self._run()
+        finally:
+            for looking in self._looking:
+                looking.cancel()
+
+    async def _run(self) -> None:
+        while True:
+            try:
+                await asyncio.wait_for(self._came.wait(), self._idle)
+            except asyncio.TimeoutError:
+                await self._session.close()
+                await self._came.wait()
+            batches = self._taken()
+            try:
+                kept = await self._session.ask(self._session.referee.keep, [due.batch for due in batches])
+            except (Doubt, Refused, Away):
+                kept = frozenset()
+            for due in batches:
+                if due.batch.log in kept:
+                    self._answer(due, Kept(due.batch.new, due.batch.chain, due.batch.generation))
+                else:  # beside what comes next: a row that is locked holds up no other database
+                    looking = asyncio.create_task(self._look_up(due))
+                    self._looking.add(looking)
+                    looking.add_done_callback(partial(self._looked_up, due))
+
+    def _taken(self) -> list[_Due]:
+        size, count = 0, 0
+        for due in self._due:
+            size += sum(map(len, due.batch.blocks))
+            if count and size > MOST:
+                break
+            count += 1
+        taken, self._due = self._due[:count], self._due[count:]
+        if not self._due:
+            self._came.clear()
+        return taken
+
+    async def _look_up(self, due: _Due) -> None:
+        """What became of a batch that is in doubt, or was not kept."""
+        wait = 0.05
+        while not due.future.cancelled():
+            try:
+                found = await self._session.ask(self._session.referee.kept, due.batch.log, due.batch.run)
+            except (Doubt, Refused, Away):
+                await asyncio.sleep(wait)
+                wait = min(1.0, 2 * wait)
+                continue
+            if found is not None:
+                self._answer(due, found)
+            elif not due.future.done():
+                due.future.set_exception(Fenced("the run holds its database no more"))
+            return
+
+    def _looked_up(self, due: _Due, looking: asyncio.Task[None]) -> None:
+        self._looking.discard(looking)
+        if not looking.cancelled() and (error := looking.exception()) is not None and not due.future.done():
+            due.future.set_exception(error)
+
+    def _answer(self, due: _Due, kept: Kept) -> None:
+        if not due.future.done():
+            self.kept += kept.archived - due.batch.old
+            due.future.set_result(kept)

@@ -1,0 +1,391 @@
+"""One database of a keeper: does what is decided of it, archives it while it is held, and answers who waits."""
+
+from __future__ import annotations
+
+import asyncio
+from dataclasses import dataclass, field, replace
+from typing import Any, Callable, Coroutine
+
+from pagelog.errors import AuditListFull, PagelogError, TurnsSpent
+from pagelog.keeper.archiver import Archiver
+from pagelog.keeper.committer import Committer
+from pagelog.keeper.lines import Line
+from pagelog.keeper.machine import Action, Facts, Kind, Own, State, Stillness, decide, state_of
+from pagelog.keeper.referee import Away, Doubt, Referee, Refused
+from pagelog.keeper.rows import Row, StandbyRow
+from pagelog.keeper.run import Run, new_run
+from pagelog.keeper.served import Served, seconds
+from pagelog.keeper.session import Session
+from pagelog.keeper.settings import Settings
+from pagelog.keeper.waits import Waits
+
+
+@dataclass
+class Shared:
+    """What the databases of a keeper share. `say` logs a sentence of a database."""
+
+    settings: Settings
+    life: str
+    session: Session
+    committer: Committer
+    say: Callable[[str, str], None]
+    ending: bool = False
+    tasks: set[asyncio.Task[None]] = field(default_factory=set)
+
+    def spawn(self, work: Coroutine[Any, Any, None], what: str) -> asyncio.Task[None]:
+        """A task whose end by an error is said: a database that nobody keeps would be the result."""
+        task = asyncio.create_task(work)
+        self.tasks.add(task)
+
+        def ended(_: asyncio.Task[None]) -> None:
+            self.tasks.discard(task)
+            if not task.cancelled() and (error := task.exception()) is not None:
+                self.say(what, f"fault of the keeper: {type(error).__name__}: {error}")
+
+        task.add_done_callback(ended)
+        return task
+
+
+class Database:
+    """The facts of one database, and the work on it: one action at a time, and beside it the archiving."""
+
+    def __init__(self, shared: Shared, row: Row) -> None:
+        self.shared = shared
+        self.row = row
+        self.served: Served | None = None
+        self.doing = Action.NOTHING
+        self.why = ""
+        self.waits = Waits(row.name)
+        self._beat: int | None = None
+        self._others: tuple[StandbyRow, ...] = ()
+        self._let_go = self._failed = -1
+        self._still, self._silent = Stillness(shared.settings.ttl), Stillness(shared.settings.ttl)
+        self._still_for = 0.0
+        self._acting: asyncio.Task[None] | None = None
+        self._archiving: asyncio.Task[None] | None = None
+        self._looking: asyncio.Task[None] | None = None
+        self._archiver: Archiver | None = None
+        self._news = False
+
+    # Facts.
+
+    def see(self, row: Row, beat: int | None, others: tuple[StandbyRow, ...]) -> None:
+        """What a look has shown. `beat` is the holder's."""
+        now = seconds()
+        self.row, self._beat, self._others = row, beat, others
+        self._still_for = self._still.see((row.generation, row.run, row.archived, row.wanted, beat), now)
+        served = self.served
+        if served is not None and served.process is not None:
+            served.silent = self._silent.see((served.run, served.answers), now)
+            if self._archiver is not None and served.hangs:
+                self._archiver.stir()
+            if self._looking is None or self._looking.done():
+                self._looking = self.shared.spawn(self._look(served), self.row.name)
+            if self._archiver is not None and self._archiver.may_begin_again and self.holds and served.is_alive:
+                self._begin_archiving(served)  # it was told that it is fenced, and is not
+        self.kick()
+
+    def facts(self) -> Facts:
+        """All that is known, for a decision."""
+        settings, served, own = self.shared.settings, self.served, None
+        if served is not None:
+            own = Own(served.run, served.kind, served.generation, served.reached, served.is_alive, served.silent,
+                      served.share(settings.program.audit, settings.memory))  # fmt: skip
+        return Facts(settings.name, settings.ttl, self.row, own, self._still_for, self._others, settings.standby,
+                     self.shared.ending, self._let_go, self._failed)  # fmt: skip
+
+    @property
+    def state(self) -> State:
+        """What the database is to this keeper."""
+        return state_of(self.facts(), self.doing)
+
+    @property
+    def holds(self) -> bool:
+        """Whether this keeper is the holder, as far as it knows."""
+        return self.served is not None and self.served.run == self.row.run
+
+    @property
+    def is_at_rest(self) -> bool:
+        """Whether this keeper has no service of it, and does nothing about it."""
+        return self.served is None and (self._acting is None or self._acting.done())
+
+    async def _look(self, served: Served) -> None:
+        try:
+            await asyncio.to_thread(served.look)
+        except (AuditListFull, TurnsSpent):
+            served.is_broken = True
+            self.kick()
+        except PagelogError as error:
+            self.shared.say(self.row.name, f"the service does not answer its keeper: {error}")
+        if served.hard > served.reached and served is self.served:
+            self._ring()
+
+    def _ring(self) -> None:
+        if self._archiver is not None:
+            self._archiver.ring()
+
+    # Acting.
+
+    def kick(self) -> None:
+        """Decides, and does what is decided, unless it is at it already."""
+        self._news = True
+        if self._acting is None or self._acting.done():
+            self._acting = self.shared.spawn(self._act(), self.row.name)
+
+    async def _act(self) -> None:
+        goes_on = False
+        while goes_on or self._news:
+            self._news = False
+            decision = decide(self.facts())
+            if decision.why != self.why:
+                self.why = decision.why
+                self.shared.say(self.row.name, decision.why)
+            self.doing = decision.action
+            try:
+                goes_on = await self._do(decision.action)
+            except (Away, Doubt, Refused) as error:
+                self.shared.say(self.row.name, f"{decision.action.value}: {error}")
+                goes_on = False  # the next look shows what became of it
+            finally:
+                self.doing = Action.NOTHING
+
+    async def _do(self, action: Action) -> bool:
+        """Does it. Returns whether there are new facts to decide from."""
+        match action:
+            case Action.TAKE:
+                return await self._take()
+            case Action.FILL:
+                return await self._fill()
+            case Action.ADOPT:
+                return await self._adopt()
+            case Action.CLOSE:
+                return await self._close()
+            case Action.RELEASE:
+                return await self._release()
+            case Action.END:
+                return await self._end()
+            case Action.STAND_BY:
+                return await self._stand_by()
+            case Action.UNWISH:
+                await self._ask(self._referee.wish, self.row.name, None)
+                return False
+            case _:
+                return await self._follow()
+
+    @property
+    def _referee(self) -> Referee:
+        return self.shared.session.referee
+
+    async def _ask(self, call: Callable[..., Any], *arguments: Any) -> Any:
+        return await self.shared.session.ask(call, *arguments)
+
+    async def _new_served(self, run: str) -> Served:
+        text, secret = await self._ask(self._referee.table, self.row.id)
+        return Served(self.row.name, run, text, secret, timeout=self.shared.settings.ttl)
+
+    async def _take(self) -> bool:
+        served = self.served or await self._new_served(new_run())
+        kept = await self._ask(self._referee.take, self.row, served.run, self._beat)
+        if kept is None:
+            return False
+        served.kind, served.generation, self.served = Kind.HOLDER, kept.generation, served
+        self.row = replace(self.row, generation=kept.generation, run=served.run, holder=self.shared.settings.name, address=None,
+                           archived=kept.archived, base=kept.archived, chain=kept.chain, wanted=None)  # fmt: skip
+        return True
+
+    async def _fill(self) -> bool:
+        served, row = self._own, self.row
+        served.kind, served.generation = Kind.HOLDER, row.generation
+        is_fresh = served.process is None
+        try:
+            if is_fresh:
+                await asyncio.to_thread(served.start, self.shared.settings.program)
+            self._watch(served)
+            await self._filled(served, row.base, row.chain)
+            await asyncio.to_thread(served.check, row.base, row.chain)
+            await asyncio.to_thread(served.open)
+        except PagelogError as error:
+            self.shared.say(row.name, f"it could not be filled: {error}")
+            served.is_broken = True
+            if is_fresh:  # else it was a standby, and a fresh one may do better
+                self._failed = row.generation
+            return True
+        assert served.process is not None
+        if self._archiver is None:
+            self._begin_archiving(served)  # first: whether the address is published may be in doubt
+        if not await self._ask(self._referee.publish, row.id, served.run, served.process.address):
+            return False
+        self.row = replace(row, address=served.process.address)
+        return True
+
+    async def _filled(self, served: Served, archived: int, chain: bytes) -> None:
+        """Fills it up to this position, over a connection to the archive of its own."""
+        if archived > served.reached:
+            settings = self.shared.settings
+            referee = Referee(settings.url, settings.name, self.shared.life)
+            try:
+                await asyncio.to_thread(served.follow, referee, self.row.id, archived, chain)
+            finally:
+                referee.close()
+
+    async def _adopt(self) -> bool:
+        row, settings = self.row, self.shared.settings
+        assert row.run is not None
+        process = None
+        if row.address is not None:
+            process = await asyncio.to_thread(Run.adopt, settings.program.folder, row.name, row.run)
+        kept = None if process is None else await self._ask(self._referee.kept, row.id, row.run)
+        if process is None or kept is None:
+            await self._ask(self._referee.release, row.id, row.run)
+            self.row = replace(row, run=None, holder=None, address=None)
+            return True
+        served = await self._new_served(row.run)
+        served.serve(process)
+        served.generation, served.reached, served.chain = row.generation, kept.archived, kept.chain
+        self.served = served
+        self._watch(served)
+        try:
+            await asyncio.to_thread(served.open)  # it may have been closed in its earlier life
+        except PagelogError as error:
+            self.shared.say(row.name, f"it could not be adopted: {error}")
+            served.is_broken = True
+            return True
+        self._begin_archiving(served)
+        return True
+
+    async def _stand_by(self) -> bool:
+        served = await self._new_served(new_run())
+        served.kind, self.served = Kind.STANDBY, served
+        try:
+            await asyncio.to_thread(served.start, self.shared.settings.program)
+            self._watch(served)
+            await self._filled(served, self.row.archived, self.row.chain)
+        except PagelogError as error:
+            return await self._give_up(served, error)
+        await self._note_standby(served)
+        return False
+
+    async def _note_standby(self, served: Served) -> None:
+        assert served.process is not None
+        await self._ask(self._referee.stand_by, self.row.id, served.process.address, served.run, served.reached)
+        served.is_noted = True
+
+    async def _follow(self) -> bool:
+        """A standby follows the archive, as far as a look has shown it, and never more."""
+        served = self.served
+        if served is not None and served.kind is Kind.STANDBY and served.reached < self.row.archived:
+            try:
+                await self._filled(served, self.row.archived, self.row.chain)
+            except PagelogError as error:
+                return await self._give_up(served, error)
+        if served is not None and served.kind is Kind.STANDBY and not served.is_noted:
+            await self._note_standby(served)
+        return False
+
+    async def _give_up(self, served: Served, error: PagelogError) -> bool:
+        self.shared.say(self.row.name, f"the standby was given up: {error}")
+        served.is_broken = True
+        return await self._end()
+
+    async def _close(self) -> bool:
+        """Fence, the rest into the archive, release: nothing is lost, not even what nobody has asked durable."""
+        served = self._own
+        try:
+            end = await asyncio.to_thread(served.close)
+        except PagelogError as error:
+            self.shared.say(self.row.name, f"its table could not be closed: {error}")
+            return False
+        if self._archiver is None or not await self._archiver.reached(end):
+            return False
+        return await self._release()
+
+    async def _release(self) -> bool:
+        served, row = self._own, self.row
+        if not served.is_alive or self.doing is Action.RELEASE:
+            await self._ended(served)
+        archived = await self._ask(self._referee.release, row.id, served.run)
+        if archived is None:
+            return False
+        self.served, self._let_go = None, row.generation
+        self.row = replace(row, run=None, holder=None, address=None, archived=archived)
+        for line in self.waits.taken():
+            line.say("over", row.name, row.generation, archived + row.shift)
+        await self._ended(served)
+        return not self.shared.ending
+
+    async def _end(self) -> bool:
+        served = self.served
+        if served is None:
+            return False
+        self.served = None
+        await self._ended(served)
+        if served.kind is Kind.STANDBY:
+            await self._ask(self._referee.stand_down, self.row.id)
+        for line, positions in self.waits.taken().items():
+            self.shared.spawn(self._tell_fate(line, served.generation, max(positions)), self.row.name)
+        return True
+
+    @property
+    def _own(self) -> Served:
+        assert self.served is not None
+        return self.served
+
+    def _watch(self, served: Served) -> None:
+        """Its end is noticed at once."""
+        assert served.process is not None
+        asyncio.get_running_loop().add_reader(served.process.descriptor, self._has_died, served)
+
+    def _has_died(self, served: Served) -> None:
+        assert served.process is not None
+        asyncio.get_running_loop().remove_reader(served.process.descriptor)
+        if self._archiver is not None:
+            self._archiver.stir()
+        self.kick()
+
+    async def _ended(self, served: Served) -> None:
+        """Its process is killed, once."""
+        for task in (self._archiving, self._looking):
+            if task is not None:
+                task.cancel()
+        self._archiver = self._archiving = self._looking = None
+        process, served.process = served.process, None
+        served.is_broken = True
+        if process is not None:
+            asyncio.get_running_loop().remove_reader(process.descriptor)
+            await asyncio.to_thread(process.end)
+
+    def _begin_archiving(self, served: Served) -> None:
+        archiver = Archiver(self.row, served, self.waits, self.shared.committer, self.shared.say, self._news_of_archiver)
+        self._archiver, self._archiving = archiver, self.shared.spawn(archiver.run(), self.row.name)
+
+    def _news_of_archiver(self) -> None:
+        self.shared.session.woken.set()
+        self.kick()
+
+    # Who waits.
+
+    def wait(self, line: Line, generation: int, position: int) -> None:
+        """Answers `durable`, at once or later."""
+        served = self.served
+        if served is None or not self.holds or generation != served.generation:
+            self.shared.spawn(self._tell_fate(line, generation, position), self.row.name)
+        elif position <= served.reached + self.row.shift:
+            line.say("durable", self.row.name, generation, served.reached + self.row.shift)
+        else:
+            self.waits.add(line, position)
+            self._ring()
+
+    async def _tell_fate(self, line: Line, generation: int, position: int) -> None:
+        """What became of a generation that is not this keeper's: by a statement that writes, as its end is final."""
+        end = await self._fate(generation)
+        if end is None:
+            line.say("elsewhere", self.row.name, generation)
+        else:
+            line.say("over", self.row.name, generation, end)
+
+    async def _fate(self, generation: int) -> int | None:
+        try:
+            found = await self._ask(self._referee.fate, self.row.name, generation)
+        except (Away, Doubt, Refused):
+            return None
+        return None if found is None else int(found)

@@ -1,0 +1,230 @@
+"""The loop of a keeper: looks, has each database decide and act, and answers the lines."""
+
+from __future__ import annotations
+
+import asyncio
+import json
+import logging
+import secrets
+import signal
+from concurrent.futures import ThreadPoolExecutor
+from typing import Any
+
+from pagelog.keeper.committer import Committer
+from pagelog.keeper.database import Database, Shared
+from pagelog.keeper.lines import Line, Server
+from pagelog.keeper.machine import Stillness
+from pagelog.keeper.notify import notify
+from pagelog.keeper.referee import KeeperError, Referee, Superseded
+from pagelog.keeper.rows import Look, StandbyRow, Synchronous
+from pagelog.keeper.run import end_orphans
+from pagelog.keeper.served import seconds
+from pagelog.keeper.session import Session
+from pagelog.keeper.settings import Settings
+
+LOOKS = 4
+"""How many looks there are in a ttl."""
+_log = logging.getLogger("pagelog.keeper")
+
+
+class Keeper:
+    """A keeper. `run` is all that it does; `ended` makes it hand over what it holds, and end."""
+
+    def __init__(self, settings: Settings) -> None:
+        self.settings = settings
+        self.life = secrets.token_hex(8)
+        self.databases: dict[int, Database] = {}
+        self.look = Look()
+        self.lines = settings.lines
+        self._session = Session(self._referee(listens=True), settings.ttl)
+        self._writer = Session(self._referee(), 2 * settings.ttl)
+        self._shared = Shared(settings, self.life, self._session, Committer(self._writer, settings.ttl), self._say)
+        self._server = Server(self)
+        self._lives: dict[str, Stillness] = {}
+        self._living: set[str] = set()
+        self.synchronous = Synchronous()
+        self._said = ""
+        self._stops = False
+
+    def _referee(self, *, listens: bool = False) -> Referee:
+        return Referee(self.settings.url, self.settings.name, self.life, listens=listens,
+                       requires_standby=self.settings.require_standby)  # fmt: skip
+
+    def _say(self, name: str, sentence: str) -> None:
+        _log.info("%s: %s", name, sentence)
+
+    def _say_of_referee(self, sentence: str) -> None:
+        """A line for each change."""
+        if sentence != self._said:
+            self._said = sentence
+            self._say("the referee", sentence)
+
+    # Its life.
+
+    async def run(self) -> int:
+        """Keeps until it is told to end, or another has its name, or nothing can be archived any more. Returns the exit status."""
+        loop = asyncio.get_running_loop()
+        loop.set_default_executor(ThreadPoolExecutor(64))
+        for number in (signal.SIGTERM, signal.SIGINT):
+            loop.add_signal_handler(number, self.end)
+        self.settings.program.folder.mkdir(parents=True, exist_ok=True, mode=0o700)
+        self.lines = await self._server.start(self.settings.lines)
+        notify("READY=1")  # PostgreSQL may be away still
+        self._shared.spawn(self._live(), "the watchdog")
+        committing = self._shared.spawn(self._shared.committer.run(), "the committer")
+        try:
+            await self._begin()
+            await self._look()
+            print(f"listening {self.lines}", flush=True)
+            while not self._is_over():
+                if committing.done():
+                    return 1  # its next life adopts what it has
+                await self._look()
+                await self._session.rest(self.settings.ttl / LOOKS)
+            return 0
+        except Superseded as error:
+            _log.error("%s", error)
+            return 3
+        finally:
+            await self._stop()
+
+    async def _live(self) -> None:
+        """Tells systemd that it lives, also while a statement waits for PostgreSQL: it is cut, and later each time."""
+        while True:
+            notify("WATCHDOG=1")
+            await asyncio.sleep(self.settings.ttl / LOOKS)
+
+    def end(self) -> None:
+        """Hands over what it holds, and ends; told again, it ends at once, and leaves the services to its next life."""
+        self._stops, self._shared.ending = self._shared.ending, True
+        self._session.woken.set()
+
+    def _is_over(self) -> bool:
+        return self._stops or (self._shared.ending and all(each.is_at_rest for each in self.databases.values()))
+
+    async def _begin(self) -> None:
+        """Takes its name, and ends the services of an earlier life that hold nothing."""
+        while not self._is_over():
+            try:
+                await self._session.ask(self._session.referee.prepare)
+                await self._session.ask(self._session.referee.register, self.lines)
+                look = await self._session.ask(self._session.referee.look)
+            except Superseded:
+                raise
+            except KeeperError as error:
+                self._say_of_referee(str(error))
+                await asyncio.sleep(self.settings.ttl / LOOKS)
+                continue
+            wanted = {row.run for row in look.rows if row.run is not None and row.holder == self.settings.name}
+            for name in await asyncio.to_thread(end_orphans, self.settings.program.folder, wanted):
+                self._say(name, "a service of an earlier life that held nothing was ended")
+            return
+
+    async def _stop(self) -> None:
+        await self._server.stop()
+        for session in (self._session, self._writer):
+            session.referee.cut()  # no thread is left that waits for PostgreSQL
+        for task in list(self._shared.tasks):
+            task.cancel()
+        await asyncio.gather(*self._shared.tasks, return_exceptions=True)
+        for database in self.databases.values():
+            if database.served is not None and database.served.process is not None:
+                asyncio.get_running_loop().remove_reader(database.served.process.descriptor)
+        await self._session.close()
+        await self._writer.close()
+
+    # Looking.
+
+    async def _look(self) -> None:
+        reached = {
+            each.row.id: each.served.reached for each in self.databases.values() if each.served is not None and not each.holds
+        }
+        try:
+            self.look = await self._session.ask(self._session.referee.look, reached, self._report())
+        except Superseded:
+            raise
+        except KeeperError as error:
+            self.synchronous = Synchronous()
+            self._say_of_referee(str(error))
+            await asyncio.sleep(self.settings.ttl / LOOKS / 4)
+            return
+        self.synchronous = self.look.synchronous
+        self._say_of_referee(self.synchronous.meaning)
+        self._see_lives()
+        for row in self.look.rows:
+            database = self.databases.get(row.id)
+            if database is None and row.dropped:
+                continue
+            if database is None:
+                database = self.databases[row.id] = Database(self._shared, row)
+            holder = self.look.keeper(row.holder)
+            database.see(row, None if holder is None else holder.beat, self._others(row.id))
+
+    def _see_lives(self) -> None:
+        now = seconds()
+        for keeper in self.look.keepers:
+            seen = self._lives.setdefault(keeper.name, Stillness(self.settings.ttl)).see((keeper.run, keeper.beat), now)
+            (self._living.add if seen < self.settings.ttl else self._living.discard)(keeper.name)
+
+    def _others(self, log: int) -> tuple[StandbyRow, ...]:
+        return tuple(standby for standby in self.look.standbys_of(log)
+                     if standby.keeper != self.settings.name and standby.keeper in self._living)  # fmt: skip
+
+    def _report(self) -> str:
+        """What `kept` shows of the services of this keeper."""
+        audit, report = self.settings.program.audit, {}
+        for each in self.databases.values():
+            if each.served is not None and each.served.process is not None:
+                report[each.row.name] = {"state": each.state.value, "entries_left": audit - each.served.entries,
+                                         "memory": each.served.process.memory >> 20, "hard": each.served.hard}  # fmt: skip
+        return json.dumps(report)
+
+    # Answering.
+
+    def _named(self, name: str) -> Database | None:
+        return next((each for each in self.databases.values() if each.row.name == name and not each.row.dropped), None)
+
+    def where(self, name: str) -> tuple[object, ...]:
+        """Where a database is, as the last look has shown it, or as it is here."""
+        database = self._named(name)
+        if database is None:
+            return ("unknown", name)
+        row, served = database.row, database.served
+        holder = self.look.keeper(row.holder)
+        if row.address is None or (holder is None and not database.holds):
+            return ("nowhere", name)
+        archived = served.reached if served is not None and database.holds else row.archived
+        lines = self.lines if database.holds or holder is None else holder.lines
+        return ("at", name, row.generation, row.run, row.address, archived + row.shift, lines, row.base + row.shift, row.shift)
+
+    def standby(self, name: str) -> tuple[object, ...]:
+        """A standby of it, whichever keeper has it: the last look says how far it is, and of an own one what it has."""
+        database = self._named(name)
+        known = () if database is None else self.look.standbys_of(database.row.id)
+        found = next((each for each in known if each.keeper in self._living), None)
+        if database is None or found is None:
+            return ("standby", name, "-", "-", "-")
+        own = database.served
+        reached = own.reached if own is not None and own.run == found.run and not database.holds else found.reached
+        return ("standby", name, found.address, found.run, reached + database.row.shift)
+
+    def durable(self, line: Line, name: str, generation: int, position: int) -> None:
+        """Answers now or later."""
+        database = self._named(name)
+        if database is None:
+            line.say("unknown", name)
+        else:
+            database.wait(line, generation, position)
+
+    def gone(self, line: Line) -> None:
+        """Nobody waits over it any more."""
+        for database in self.databases.values():
+            database.waits.gone(line)
+
+    def states(self) -> list[dict[str, Any]]:
+        """What is known of each database, for the metrics."""
+        return [
+            {"name": each.row.name, "state": each.state.value, "generation": each.row.generation, "archived": each.row.archived,
+             "behind": 0 if each.served is None else max(0, each.served.hard - each.served.reached), "waits": len(each.waits)}
+            for each in list(self.databases.values()) if not each.row.dropped
+        ]  # fmt: skip

@@ -1,0 +1,105 @@
+"""Fills a service with blocks of the archive: frames are made of bytes, with no object for each, and many are in flight."""
+
+from __future__ import annotations
+
+import select
+import socket
+from typing import Iterable, Sequence
+
+from pagelog.connection import Address
+from pagelog.credentials import Credentials
+from pagelog.errors import ConnectionLost, TimedOut, UnexpectedReply, Unreachable
+from pagelog.reply import decode_reply, refusal_of
+from pagelog.request import QUORUM, Head, Operation, Role
+
+GROUP = 64
+"""Blocks with one report after them: the window."""
+EPOCH = 1
+"""A service that is being filled is in its first epoch."""
+_DONE = b"\0\0\0\1\0"
+_MOST_UNSENT = 1 << 20
+
+
+class Loader:
+    """A connection over which the keeper writes blocks, as the primary of the first epoch."""
+
+    def __init__(self, address: str, credentials: Credentials, *, quorum: int = QUORUM, timeout: float = 10.0) -> None:
+        """Raises `Unreachable`."""
+        self._prefix = Head(credentials.id, credentials.token, Role.PRIMARY, 0, EPOCH).prefix
+        self._copies = range(quorum)
+        self._timeout = timeout
+        self._unsent = bytearray()
+        self._replies = bytearray()
+        self._owed = 0
+        place = Address.parse(address)
+        try:
+            self._socket = socket.create_connection((place.host, place.port), timeout)
+        except OSError as error:
+            raise Unreachable(f"{address}: {error}") from error
+        self._socket.setblocking(False)
+
+    def __enter__(self) -> Loader:
+        return self
+
+    def __exit__(self, *_: object) -> None:
+        self._socket.close()
+
+    def load(self, first: int, pieces: Iterable[Sequence[bytes]]) -> int:
+        """Writes and hardens blocks that have the LSNs from `first` on. Returns the LSN of the last.
+
+        Raises the `Refusal` of a reply, `ConnectionLost` and `TimedOut`.
+        """
+        lsn = first - 1
+        for piece in pieces:
+            for at in range(0, len(piece), GROUP):
+                group = piece[at : at + GROUP]
+                lsn += len(group)
+                self._add(group, lsn)
+                self._move(_MOST_UNSENT)
+        while self._owed:
+            self._move(0)
+        return lsn
+
+    def _add(self, group: Sequence[bytes], last: int) -> None:
+        heads = [self._prefix + bytes((Operation.WRITE, copy)) for copy in self._copies]
+        size = len(heads[0])
+        parts = [part for block in group for head in heads for part in ((size + len(block)).to_bytes(4, "big"), head, block)]
+        report = self._prefix + bytes((Operation.REPORT,)) + last.to_bytes(8, "big")
+        self._unsent += b"".join((*parts, len(report).to_bytes(4, "big"), report))
+        self._owed += len(group) * len(heads) + 1
+
+    def _move(self, most: int) -> None:
+        """Sends and receives until at most so many bytes are unsent; with 0 until something has come, too."""
+        while len(self._unsent) > most or (most == 0 and self._owed):
+            poll = select.poll()
+            poll.register(self._socket, select.POLLIN | (select.POLLOUT if self._unsent else 0))
+            ready = poll.poll(self._timeout * 1000)
+            if not ready:
+                raise TimedOut(f"nothing came in {self._timeout} s")
+            try:
+                if self._unsent:
+                    del self._unsent[: self._socket.send(self._unsent)]
+                if ready[0][1] & ~select.POLLOUT:
+                    self._take(self._socket.recv(1 << 18))
+            except BlockingIOError:
+                continue
+            except OSError as error:
+                raise ConnectionLost(str(error)) from error
+
+    def _take(self, data: bytes) -> None:
+        if not data:
+            raise ConnectionLost("the service ended the connection")
+        self._replies += data
+        count = len(self._replies) // len(_DONE)
+        if self._replies[: count * len(_DONE)] != _DONE * count:
+            self._raise_first()
+        del self._replies[: count * len(_DONE)]
+        self._owed -= count
+
+    def _raise_first(self) -> None:
+        """Raises the first reply that is not Done."""
+        while self._replies.startswith(_DONE):
+            del self._replies[: len(_DONE)]
+        length = int.from_bytes(self._replies[:4], "big")
+        refusal = refusal_of(decode_reply(bytes(self._replies[4 : 4 + length])))
+        raise refusal or UnexpectedReply("a reply to a write that is not Done")

@@ -1,0 +1,208 @@
+"""What a keeper decides of one database: from facts to one action and its reason, a sentence. There is no IO here.
+
+Facts decide when to try; whether it succeeds is the referee's condition. No clock of another machine is compared: who wants
+to take over has to see the holder's beat stand still for a ttl of its own clock, in an unbroken series of looks.
+"""
+
+from __future__ import annotations
+
+from dataclasses import dataclass
+from enum import Enum
+
+from pagelog.keeper.rows import Row, StandbyRow
+
+ROLL_AT = 0.8
+"""The share of the audit list, or of the memory, at which a holder goes over to a fresh service."""
+ANEW_AT = 0.5
+"""The share of the audit list at which a standby is made anew: what it fills while it follows is missing after a take-over."""
+NEAR = 1024
+"""How many blocks a standby may lack when a switchover closes the table."""
+
+
+class Kind(Enum):
+    """What a run of this keeper is for."""
+
+    HOLDER = "holder"
+    STANDBY = "standby"
+
+
+class Action(Enum):
+    """What is to be done next. Each ends in new facts."""
+
+    NOTHING = "nothing"
+    TAKE = "take"
+    FILL = "fill"
+    ADOPT = "adopt"
+    CLOSE = "close"
+    RELEASE = "release"
+    END = "end"
+    STAND_BY = "stand by"
+    UNWISH = "unwish"
+
+
+class State(Enum):
+    """What a database is to this keeper, for who looks at it."""
+
+    AWAY = "away"
+    STANDBY = "standby"
+    TAKING = "taking"
+    SERVING = "serving"
+    CLOSING = "closing"
+
+
+@dataclass(frozen=True)
+class Own:
+    """The run that this keeper has of the database. `silent` is for how many seconds its service has not answered."""
+
+    run: str
+    kind: Kind
+    generation: int = 0
+    reached: int = 0
+    alive: bool = True
+    silent: float = 0.0
+    share: float = 0.0
+
+
+@dataclass(frozen=True)
+class Facts:
+    """All that a decision rests on. `row` is None where the referee has no such database.
+
+    `still` is for how many seconds the row and the holder's beat have not changed, in an unbroken series of looks.
+    `others` are standbys of keepers that live. `let_go` is the generation that this keeper ended last, and `failed` one for which
+    it could fill no fresh service.
+    """
+
+    me: str
+    ttl: float
+    row: Row | None
+    own: Own | None = None
+    still: float = 0.0
+    others: tuple[StandbyRow, ...] = ()
+    stands_by: bool = False
+    ending: bool = False
+    let_go: int = -1
+    failed: int = -1
+
+
+@dataclass(frozen=True)
+class Decision:
+    """An action, and why."""
+
+    action: Action
+    why: str
+
+
+def decide(facts: Facts) -> Decision:
+    """What to do now."""
+    row, own = facts.row, facts.own
+    if row is None:
+        if own is None:
+            return Decision(Action.NOTHING, "the referee has no such database")
+        return Decision(Action.NOTHING, "the referee knows nothing of the database: PostgreSQL went back, and the service is kept")
+    if row.dropped:
+        return Decision(Action.END if own else Action.NOTHING, "the database was dropped")
+    if own is not None and own.run == row.run:
+        return _of_the_holder(facts, row, own)
+    if own is not None and own.kind is Kind.HOLDER:
+        return _of_a_run_that_is_over(row, own)
+    if own is not None and (not own.alive or own.silent >= facts.ttl):
+        return Decision(Action.END, "the standby's service ended or hangs")
+    if facts.ending:
+        return Decision(Action.END if own else Action.NOTHING, "the keeper ends")
+    if row.run is not None and row.holder == facts.me:
+        return Decision(Action.ADOPT, f"generation {row.generation} is of an earlier life of this keeper")
+    return _of_a_released(facts, row) if row.run is None else _of_another_holder(facts, row)
+
+
+def _of_the_holder(facts: Facts, row: Row, own: Own) -> Decision:
+    if not own.alive:
+        return Decision(Action.RELEASE, "the service ended")
+    if row.address is None:
+        return Decision(Action.FILL, f"generation {row.generation} begins at position {row.base}")
+    if own.silent >= facts.ttl:
+        return Decision(Action.RELEASE, f"the service has not answered for {own.silent:.1f} s")
+    if facts.ending:
+        return Decision(Action.CLOSE, "the keeper ends")
+    if row.paused:
+        return Decision(Action.NOTHING, "serves; paused")
+    if row.wanted == facts.me:
+        return Decision(Action.UNWISH, "it is here already")
+    if own.share >= ROLL_AT:  # a wish may wait for ever
+        return Decision(Action.CLOSE, f"its list or its memory is {own.share:.0%} full")
+    if row.wanted is not None:
+        return _of_a_wish(facts, row)
+    return Decision(Action.NOTHING, "serves")
+
+
+def _of_a_wish(facts: Facts, row: Row) -> Decision:
+    wanted = [standby for standby in facts.others if row.wanted in (standby.keeper, "*")]
+    reached = max((standby.reached for standby in wanted), default=-1)
+    if reached < 0:
+        return Decision(Action.NOTHING, f"serves; a switchover to {row.wanted} waits for its standby")
+    if row.archived - reached > NEAR:
+        return Decision(Action.NOTHING, f"serves; the standby that is wanted lacks {row.archived - reached} blocks")
+    return Decision(Action.CLOSE, f"a switchover to {row.wanted} was asked for")
+
+
+def _of_a_run_that_is_over(row: Row, own: Own) -> Decision:
+    if row.generation > own.generation:
+        return Decision(Action.END, f"generation {row.generation} of {row.holder or 'nobody'} has begun")
+    if row.generation == own.generation and row.run is None:
+        return Decision(Action.END, f"generation {row.generation} was released")
+    return Decision(
+        Action.NOTHING, f"the referee knows nothing of generation {own.generation}: PostgreSQL went back, and the service is kept"
+    )
+
+
+def _of_a_released(facts: Facts, row: Row) -> Decision:
+    if row.paused:
+        return Decision(Action.NOTHING, "nobody has it; paused")
+    if row.wanted not in (None, "*", facts.me) and facts.still < facts.ttl:
+        return Decision(Action.NOTHING, f"nobody has it; {row.wanted} is wanted")
+    if row.wanted == "*" and facts.let_go == row.generation and facts.still < facts.ttl:
+        return Decision(Action.NOTHING, "nobody has it; any other keeper is wanted")
+    if facts.failed == row.generation and facts.still < facts.ttl:
+        return Decision(Action.NOTHING, "nobody has it; it could not be filled here just now")
+    if facts.own is None and facts.others and row.wanted != facts.me and facts.still < facts.ttl / 2:
+        return Decision(Action.NOTHING, f"nobody has it; {facts.others[0].keeper} has a standby")
+    return Decision(Action.TAKE, "nobody has it")
+
+
+def _of_another_holder(facts: Facts, row: Row) -> Decision:
+    wait = facts.ttl * (1.5 if facts.own is None and facts.others else 1)
+    if facts.still >= wait and not row.paused:
+        return Decision(Action.TAKE, f"the beat of {row.holder} has stood still for {facts.still:.1f} s")
+    if facts.own is not None:
+        if facts.own.share >= ANEW_AT:
+            return Decision(Action.END, f"the standby's list or memory is {facts.own.share:.0%} full: it is made anew")
+        return Decision(Action.NOTHING, f"follows {row.holder} at position {facts.own.reached}")
+    if row.address is not None and (facts.stands_by or row.wanted in (facts.me, "*")):
+        return Decision(Action.STAND_BY, f"{row.holder} has it")
+    return Decision(Action.NOTHING, f"{row.holder} has it")
+
+
+def state_of(facts: Facts, doing: Action = Action.NOTHING) -> State:
+    """What the database is to this keeper, while it does this."""
+    if facts.own is None:
+        return State.TAKING if doing in (Action.TAKE, Action.ADOPT) else State.AWAY
+    if doing is Action.CLOSE:
+        return State.CLOSING
+    if facts.own.kind is Kind.STANDBY:
+        return State.TAKING if doing is Action.TAKE else State.STANDBY
+    return State.TAKING if doing is Action.FILL or facts.row is None or facts.row.address is None else State.SERVING
+
+
+class Stillness:
+    """For how long something has not changed, by one's own clock, in looks that are never more than half a ttl apart."""
+
+    def __init__(self, ttl: float) -> None:
+        self.ttl = ttl
+        self._what: object = None
+        self._since = self._last = float("-inf")
+
+    def see(self, what: object, now: float) -> float:
+        """Seconds since it was first seen as it is now. A series that was broken, as by a stop of this process, begins anew."""
+        if what != self._what or now - self._last > self.ttl / 2:
+            self._what, self._since = what, now
+        self._last = now
+        return now - self._since

@@ -1,0 +1,398 @@
+"""The referee: every statement that keepers make of PostgreSQL.
+
+Each is one statement that is committed by itself, so that a keeper which stands still between two never holds a lock. What
+a keeper acts upon comes from a statement that writes: its commit waits for the synchronous standby, and so for all that it
+has read. A plain SELECT would believe a primary that was cut off, or came back without its standby.
+"""
+
+from __future__ import annotations
+
+import hashlib
+import os
+import re
+import socket
+import threading
+import time
+import zlib
+from typing import Any, Iterable, Iterator, Mapping, Sequence
+
+import psycopg
+from psycopg.conninfo import conninfo_to_dict, make_conninfo
+
+from pagelog.errors import PagelogError
+from pagelog.keeper import statements
+from pagelog.keeper.rows import Batch, KeeperRow, Kept, Look, Row, StandbyRow, Synchronous
+from pagelog.keeper.schema import CHANNEL, FORMAT, script
+
+PIECE = 2048
+"""How many blocks are read from the archive at once."""
+LONGEST = 60.0
+"""Seconds after which a read of one piece is cut, as from a server that stands still."""
+NAME = re.compile(r"[A-Za-z0-9_][A-Za-z0-9_.-]{0,62}")
+"""What a name of a database or a keeper may be."""
+
+
+class KeeperError(PagelogError):
+    """Something is wrong with a keeper, or with what the referee knows."""
+
+
+class Away(KeeperError):
+    """PostgreSQL cannot be reached. Nothing was asked."""
+
+
+class Refused(KeeperError):
+    """PostgreSQL refused the statement, as for want of room on its disk. Nothing was changed."""
+
+
+class Doubt(KeeperError):
+    """It is not known whether the statement was committed and replicated. Another statement that writes finds out."""
+
+
+class OneDisk(Doubt):
+    """A synchronous standby is required, and PostgreSQL has none: what was committed may be on one disk alone."""
+
+
+class Superseded(KeeperError):
+    """Another keeper has this keeper's name by now."""
+
+
+class BrokenArchive(KeeperError):
+    """A block of the archive is missing or damaged; or all of them together are not those that were archived."""
+
+
+def digest(chain: bytes, blocks: Iterable[bytes]) -> bytes:
+    """The digest of the blocks behind those that `chain` is the digest of; of no blocks at all it is empty."""
+    for block in blocks:
+        chain = hashlib.blake2b(chain + block, digest_size=16).digest()
+    return chain
+
+
+def plain_url(url: str) -> str:
+    """The URL without the driver that SQLAlchemy would use, as `postgresql+psycopg2://`."""
+    return re.sub(r"^postgresql\+\w+:", "postgresql:", url)
+
+
+class Referee:
+    """One connection to PostgreSQL, made when it is needed. It is for one thread at a time, but for `cut`."""
+
+    def __init__(self, url: str, me: str = "", run: str = "", *, patience: int = 5, listens: bool = False,
+                 requires_standby: bool = False) -> None:  # fmt: skip
+        """`me` and `run` are the name of the keeper and of its present life. `patience` is for a connect, in seconds.
+
+        With `listens` the notifications of releases and wishes come, too. With `requires_standby` a statement raises `OneDisk`
+        unless a synchronous standby has flushed it.
+        """
+        self.me = me
+        self.run = run
+        self._options = conninfo_to_dict(plain_url(url))
+        self._patience = patience
+        self._listens = listens
+        self._requires_standby = requires_standby
+        self._connection: psycopg.Connection[Any] | None = None
+        self._warnings: list[str] = []
+        self.notified: list[str] = []
+        """The notifications that came since this list was emptied."""
+
+    # The connection.
+
+    def close(self) -> None:
+        """Closes the connection. The next statement makes another."""
+        if self._connection is not None:
+            self._connection.close()
+        self._connection = None
+
+    def cut(self) -> None:
+        """Ends a statement that hangs in another thread: its connection is shut down. A cancel would let a commit pass."""
+        connection = self._connection
+        try:
+            if connection is not None and not connection.closed:
+                with socket.socket(fileno=os.dup(connection.fileno())) as line:
+                    line.shutdown(socket.SHUT_RDWR)
+        except (OSError, psycopg.Error):
+            pass  # it is gone already
+
+    def turn_hosts(self) -> None:
+        """The next connection tries the second host first. An old primary that still runs would be taken again and again."""
+        for key in ("host", "port", "hostaddr"):
+            first, comma, rest = str(self._options.get(key) or "").partition(",")
+            if comma:
+                self._options[key] = f"{rest},{first}"
+
+    @property
+    def descriptor(self) -> int | None:
+        """The socket, which can be read where a notification has come; None without a connection."""
+        connection = self._connection
+        return None if connection is None or connection.closed else connection.fileno()
+
+    def _connected(self) -> psycopg.Connection[Any]:
+        if self._connection is not None and not self._connection.closed:
+            return self._connection
+        words: dict[str, Any] = {"connect_timeout": self._patience, "target_session_attrs": "read-write",
+                                 "keepalives_idle": 5, "keepalives_interval": 2, "keepalives_count": 3, "options": "-c lock_timeout=3s",
+                                 "application_name": _session_name(self.me), **self._options}  # fmt: skip
+        try:
+            made = psycopg.connect(make_conninfo(**words), autocommit=True)
+            made.add_notice_handler(self._take_notice)
+            made.add_notify_handler(lambda notify: self.notified.append(notify.payload))
+            made.execute("SELECT set_config('synchronous_commit', 'on', false) "
+                         "WHERE current_setting('synchronous_commit') NOT IN ('on', 'remote_apply')")  # fmt: skip
+            if self._listens:
+                made.execute(f"LISTEN {CHANNEL}")
+        except psycopg.Error as error:
+            self.turn_hosts()
+            raise Away(f"PostgreSQL: {_line(error)}") from error
+        self._connection = made
+        return made
+
+    def _take_notice(self, notice: psycopg.errors.Diagnostic) -> None:
+        """A commit whose wait for the standby was cancelled succeeds, with a warning."""
+        if notice.severity_nonlocalized not in ("NOTICE", "INFO", "LOG", "DEBUG"):
+            self._warnings.append(str(notice.message_primary))
+
+    def _ask(self, statement: str, values: Mapping[str, Any] | Sequence[Any] = (), *, binary: bool = False) -> list[Any]:
+        """The rows of one statement that is committed by itself. Raises `Away`, `Refused` or `Doubt`."""
+        connection = self._connected()
+        self._warnings.clear()
+        try:
+            rows = connection.execute(statement, values or None, binary=binary).fetchall()
+        except psycopg.Error as error:
+            if error.sqlstate is not None and not error.sqlstate.startswith("57P") and not connection.closed:
+                raise Refused(f"PostgreSQL: {_line(error)}") from error
+            self.close()
+            self.turn_hosts()
+            raise Doubt(f"PostgreSQL: {_line(error)}") from error
+        if self._warnings:
+            raise Doubt(f"PostgreSQL: {self._warnings[0]}")
+        if self._requires_standby:
+            self._confirm(connection)
+        return rows
+
+    def _confirm(self, connection: psycopg.Connection[Any]) -> None:
+        """Returns once a synchronous standby has all that is flushed here. A commit alone does not say so: it waits for none where
+        `synchronous_standby_names` is empty, and stops to wait, without a warning, where that becomes empty."""
+        wanted: int | None = None
+        while True:
+            try:
+                [[flushed, reached]] = connection.execute(statements.REACHED).fetchall()
+            except psycopg.Error as error:
+                self.close()
+                self.turn_hosts()
+                raise Doubt(f"PostgreSQL: {_line(error)}") from error
+            if reached is None:
+                raise OneDisk("nothing becomes durable: a synchronous standby is required, and this role sees none in PostgreSQL")
+            wanted = flushed if wanted is None else wanted
+            if reached >= wanted:
+                return
+            time.sleep(0.002)  # it is connected, and has not reported yet
+
+    # What is there.
+
+    def prepare(self) -> None:
+        """Makes the tables that are not there. Where all are, no lock is taken, nor is a right to make any needed."""
+        if self._ask("SELECT to_regclass('pagelog_standby') IS NOT NULL") == [(True,)]:
+            return
+        try:
+            self._connected().execute(script())
+        except psycopg.Error as error:
+            self.close()
+            raise Refused(f"PostgreSQL: {_line(error)}") from error
+
+    def register(self, lines: str) -> None:
+        """Takes the keeper's name for this life of it. An earlier one that still runs finds itself superseded."""
+        self._ask("INSERT INTO pagelog_keeper (name, run, lines) VALUES (%s, %s, %s) ON CONFLICT (name) DO UPDATE "
+                  "SET run = excluded.run, lines = excluded.lines, beat = pagelog_keeper.beat + 1 RETURNING beat",
+                  (self.me, self.run, lines))  # fmt: skip
+
+    def look(self, reached: Mapping[int, int] = {}, report: str | None = None) -> Look:
+        """Raises the own beat, says how far the own standbys are, and returns all there is.
+
+        Raises `Superseded` where another keeper has the name by now.
+        """
+        [[own, *found]] = self._ask(statements.LOOK, {
+            "me": self.me, "run": self.run, "report": report, "logs": _array(reached), "reached": _array(reached.values()),
+        })  # fmt: skip
+        if own != 1:
+            raise Superseded(f"another keeper has the name {self.me}")
+        return _look_of(*found)
+
+    def everything(self) -> Look:
+        """What a look returns, for who is no keeper."""
+        [[_, *found]] = self._ask(statements.LOOK, {"me": "", "run": "", "report": None, "logs": "{}", "reached": "{}"})
+        return _look_of(*found)
+
+    def table(self, log: int) -> tuple[str, bytes]:
+        """The text of the table of a database, and the secret of its keepers."""
+        found = self._ask("SELECT text, secret FROM pagelog_table WHERE log = %s", (log,))
+        if not found:
+            raise KeeperError(f"the referee has no table of database {log}")
+        return str(found[0][0]), bytes(found[0][1])
+
+    # Who holds a database.
+
+    def take(self, seen: Row, run: str, beat: int | None = None) -> Kept | None:
+        """Makes this keeper the holder, in a new generation of this run, if all is as it was seen.
+
+        `beat` is that of the holder, as it was seen. Returns what is archived and will stay so; None where it has changed.
+        """
+        values = {"id": seen.id, "generation": seen.generation, "archived": seen.archived, "seen_run": seen.run, "run": run,
+                  "me": self.me, "beat": beat}  # fmt: skip
+        try:
+            found = self._ask(statements.TAKE, values)
+        except Refused as error:
+            if isinstance(error.__cause__, psycopg.errors.LockNotAvailable):
+                self._end_sessions(seen.holder)
+            raise
+        return Kept(found[0][1], bytes(found[0][2]), found[0][0]) if found else None
+
+    def _end_sessions(self, keeper: str | None) -> None:
+        """Ends the sessions of a keeper that stands still with a row locked, as between the two last messages of a statement."""
+        if keeper is not None and keeper != self.me:
+            self._ask("SELECT pg_terminate_backend(pid) FROM pg_stat_activity WHERE application_name = %s AND usename = current_user",
+                      (_session_name(keeper),))  # fmt: skip
+
+    def publish(self, log: int, run: str, address: str) -> bool:
+        """Tells everyone the address. False where the run holds the database no more."""
+        return bool(self._ask("UPDATE pagelog_log SET address = %s WHERE id = %s AND run = %s RETURNING id", (address, log, run)))
+
+    def release(self, log: int, run: str) -> int | None:
+        """Ends the generation of this run: nothing more is archived of it. Returns the archived position, or None."""
+        found = self._ask(
+            "WITH ended AS (UPDATE pagelog_log SET run = NULL, holder = NULL, address = NULL WHERE id = %s AND run = %s "
+            f"RETURNING name, archived) SELECT archived, pg_notify('{CHANNEL}', name) FROM ended", (log, run))  # fmt: skip
+        return int(found[0][0]) if found else None
+
+    # The archive.
+
+    def keep(self, batches: Sequence[Batch]) -> frozenset[int]:
+        """Archives the batches whose run still holds its database, at the archived position that they follow.
+
+        Returns the ids of the databases whose batch is kept, whole; of the others nothing is.
+        """
+        blocks = [block for batch in batches for block in batch.blocks]
+        starts, at = [], 1
+        for block in blocks:
+            starts.append(at)
+            at += len(block)
+        found = self._ask(statements.KEEP, {
+            "logs": _array(batch.log for batch in batches), "runs": [batch.run for batch in batches],
+            "generations": _array(batch.generation for batch in batches),
+            "olds": _array(batch.old for batch in batches), "news": _array(batch.new for batch in batches),
+            "chains": b"".join(batch.chain.rjust(16, b"\0") for batch in batches),
+            "owners": _array(batch.log for batch in batches for _ in batch.blocks),
+            "lsns": _array(batch.old + at for batch in batches for at in range(1, len(batch.blocks) + 1)),
+            "crcs": _array(map(zlib.crc32, blocks)), "starts": _array(starts), "lengths": _array(map(len, blocks)),
+            "bytes": b"".join(blocks),
+        })  # fmt: skip
+        return frozenset(int(row[0]) for row in found)
+
+    def kept(self, log: int, run: str) -> Kept | None:
+        """What is archived of a run, after a batch in doubt or one that was not kept: it waits for one that still runs.
+
+        None where the run holds the database no more.
+        """
+        found = self._ask("UPDATE pagelog_log SET archived = archived WHERE id = %s AND run = %s "
+                          "RETURNING archived, chain, generation", (log, run))  # fmt: skip
+        return Kept(found[0][0], bytes(found[0][1]), found[0][2]) if found else None
+
+    def fate(self, name: str, generation: int) -> int | None:
+        """The position at which a generation ended. All up to it is durable, and nothing above it will ever be.
+
+        None while it has not ended, and where the referee has no such generation.
+        """
+        found = self._ask(statements.FATE, {"me": self.me, "name": name, "generation": generation})
+        return None if not found or found[0][0] is None else int(found[0][0])
+
+    def blocks(self, log: int, first: int, last: int) -> Iterator[list[bytes]]:
+        """The archived blocks from `first` to `last`, in pieces, each block checked. Raises `BrokenArchive`.
+
+        `last` is at most an archived position that a statement which wrote has returned.
+        """
+        for start in range(first, last + 1, PIECE):
+            yield self._piece(log, start, min(last, start + PIECE - 1))
+
+    def _piece(self, log: int, first: int, last: int) -> list[bytes]:
+        hangs = threading.Timer(LONGEST, self.cut)
+        hangs.start()
+        try:
+            [[count, data, heads]] = self._ask(statements.PIECE, (log, first, last), binary=True)
+        finally:
+            hangs.cancel()
+        if count != last - first + 1:
+            raise BrokenArchive(f"{last - first + 1 - count} of the archived blocks {first} to {last} are missing")
+        blocks, at = [], 0
+        for number, lsn in enumerate(range(first, last + 1)):
+            length, crc = int.from_bytes(heads[12 * number : 12 * number + 4], "big"), heads[12 * number + 4 : 12 * number + 12]
+            block = data[at : at + length]
+            if int.from_bytes(block[:8], "big") != lsn or zlib.crc32(block) != int.from_bytes(crc, "big"):
+                raise BrokenArchive(f"the archived block {lsn} is not the one that was kept")
+            blocks.append(block)
+            at += length
+        return blocks
+
+    # Standbys.
+
+    def stand_by(self, log: int, address: str, run: str, reached: int) -> None:
+        """Says where this keeper has a standby."""
+        self._ask("INSERT INTO pagelog_standby (log, keeper, address, run, reached) VALUES (%s, %s, %s, %s, %s) "
+                  "ON CONFLICT (log, keeper) DO UPDATE SET address = excluded.address, run = excluded.run, "
+                  "reached = excluded.reached RETURNING log", (log, self.me, address, run, reached))  # fmt: skip
+
+    def stand_down(self, log: int) -> None:
+        """Says that this keeper has no standby any more."""
+        self._ask("DELETE FROM pagelog_standby WHERE log = %s AND keeper = %s RETURNING log", (log, self.me))
+
+    # What a person asks for.
+
+    def create(self, name: str, table: str, secret: bytes) -> bool:
+        """A new named database with this table. False where there is one of this name."""
+        made = self._ask(
+            "WITH made AS (INSERT INTO pagelog_log (name, format, archived, epoch) VALUES (%s, %s, 0, 1) "
+            "ON CONFLICT (name) DO NOTHING RETURNING id, name) "
+            "INSERT INTO pagelog_table (log, text, secret) SELECT id, %s, %s FROM made "
+            f"RETURNING log, pg_notify('{CHANNEL}', '')", (name, FORMAT, table, secret))  # fmt: skip
+        return bool(made)
+
+    def drop(self, name: str) -> bool:
+        """Ends a named database for good: its keeper ends its service, and its blocks are deleted.
+
+        Its row stays, under a name that no database can have, so that a keeper which held it knows.
+        """
+        found = self._ask(
+            "WITH gone AS (UPDATE pagelog_log SET dropped = true, name = name || '!' || id, run = NULL, holder = NULL, "
+            "address = NULL WHERE name = %s AND format = %s AND NOT dropped RETURNING id) "
+            f"SELECT id, pg_notify('{CHANNEL}', '') FROM gone", (name, FORMAT))  # fmt: skip
+        while found and self._ask("DELETE FROM pagelog_block WHERE (log, lsn) IN (SELECT log, lsn FROM pagelog_block "
+                                  "WHERE log = %s ORDER BY lsn LIMIT 10000) RETURNING lsn", (found[0][0],)):  # fmt: skip
+            pass
+        return bool(found)
+
+    def pause(self, name: str | None, paused: bool) -> int:
+        """Keepers take nothing over while it is paused. Without a name it is for all. Returns how many there are."""
+        found = self._ask(
+            "WITH told AS (UPDATE pagelog_log SET paused = %s WHERE format = %s AND NOT dropped AND name = COALESCE(%s, name) "
+            f"RETURNING id) SELECT id, pg_notify('{CHANNEL}', '') FROM told", (paused, FORMAT, name))  # fmt: skip
+        return len(found)
+
+    def wish(self, name: str, keeper: str | None) -> bool:
+        """Asks for a switchover to a keeper, or with `*` to any other; None takes the wish back. False without that name."""
+        return bool(self._ask(
+            "WITH told AS (UPDATE pagelog_log SET wanted = %s WHERE name = %s AND format = %s AND NOT dropped RETURNING id) "
+            f"SELECT id, pg_notify('{CHANNEL}', '') FROM told", (keeper, name, FORMAT)))  # fmt: skip
+
+
+def _array(numbers: Iterable[int]) -> str:
+    """An array of whole numbers as PostgreSQL reads it."""
+    return "{" + ",".join(map(str, numbers)) + "}"
+
+
+def _session_name(keeper: str) -> str:
+    return f"pagelog keeper {keeper}"[:63]
+
+
+def _line(error: Exception) -> str:
+    return (str(error).strip() or type(error).__name__).splitlines()[0]
+
+
+def _look_of(keepers: list[Any], rows: list[Any], standbys: list[Any], names: str, count: int | None) -> Look:
+    return Look(tuple(map(Row.of, rows)), tuple(KeeperRow(**found) for found in keepers),
+                tuple(StandbyRow(**found) for found in standbys), Synchronous(names, count))  # fmt: skip

@@ -1,0 +1,123 @@
+"""What the referee knows, as a look returns it."""
+
+from __future__ import annotations
+
+from dataclasses import dataclass, field
+from typing import Any, Mapping
+
+
+@dataclass(frozen=True)
+class Row:
+    """A named database. `run` is None where it was released, `address` where its service may not be used yet.
+
+    Positions are LSNs plus the `shift` of the generation. `base` was the archived position when the generation began.
+    """
+
+    id: int
+    name: str
+    generation: int = 0
+    run: str | None = None
+    holder: str | None = None
+    address: str | None = None
+    archived: int = 0
+    base: int = 0
+    shift: int = 0
+    chain: bytes = field(default=b"", repr=False)
+    wanted: str | None = None
+    paused: bool = False
+    dropped: bool = False
+
+    @classmethod
+    def of(cls, found: Mapping[str, Any]) -> Row:
+        """From a row of the look, whose chain is hexadecimal."""
+        fields: dict[str, Any] = {**found, "chain": bytes.fromhex(found["chain"])}
+        return cls(**fields)
+
+
+@dataclass(frozen=True)
+class KeeperRow:
+    """A keeper: its `beat` rises with each of its looks, and `lines` is the address of its lines."""
+
+    name: str
+    run: str
+    lines: str
+    beat: int
+    report: Mapping[str, Any] = field(default_factory=dict)
+
+
+@dataclass(frozen=True)
+class StandbyRow:
+    """A standby of a keeper, which has the archive's blocks up to `reached`."""
+
+    log: int
+    keeper: str
+    address: str
+    run: str
+    reached: int
+
+
+@dataclass(frozen=True)
+class Synchronous:
+    """PostgreSQL's synchronous standbys: `names` is its setting, and `count` are connected; None where the role may not see that."""
+
+    names: str = ""
+    count: int | None = 0
+
+    @property
+    def meaning(self) -> str:
+        """What durable means now."""
+        if not self.names:
+            return "durable means one disk: PostgreSQL has no synchronous standby"
+        if self.count is None:
+            return "PostgreSQL has synchronous_standby_names, but this role may not see its standbys: grant it pg_read_all_stats"
+        if self.count == 0:
+            return "nothing becomes durable: PostgreSQL waits for a synchronous standby"
+        return f"durable means another disk too: PostgreSQL has {self.count} synchronous standby{'s' * (self.count > 1)}"
+
+
+@dataclass(frozen=True)
+class Look:
+    """All of it at one moment, confirmed by a statement that wrote."""
+
+    rows: tuple[Row, ...] = ()
+    keepers: tuple[KeeperRow, ...] = ()
+    standbys: tuple[StandbyRow, ...] = ()
+    synchronous: Synchronous = Synchronous()
+
+    def row(self, name: str) -> Row | None:
+        """The database of this name, if it was not dropped."""
+        return next((row for row in self.rows if row.name == name and not row.dropped), None)
+
+    def keeper(self, name: str | None) -> KeeperRow | None:
+        """The keeper of this name."""
+        return next((keeper for keeper in self.keepers if keeper.name == name), None)
+
+    def standbys_of(self, log: int) -> tuple[StandbyRow, ...]:
+        """The standbys of a database."""
+        return tuple(standby for standby in self.standbys if standby.log == log)
+
+
+@dataclass(frozen=True)
+class Batch:
+    """Blocks that follow on position `old` in the archive of a run; `chain` is the digest with them."""
+
+    log: int
+    run: str
+    generation: int
+    old: int
+    chain: bytes = field(repr=False)
+    blocks: tuple[bytes, ...] = field(repr=False)
+
+    @property
+    def new(self) -> int:
+        """The archived position once it is kept."""
+        return self.old + len(self.blocks)
+
+
+@dataclass(frozen=True)
+class Kept:
+    """The archived position of a run, and the digest of all blocks up to it."""
+
+    archived: int
+    chain: bytes = field(repr=False)
+    generation: int = 0

@@ -1,0 +1,228 @@
+"""One process of a service: how it is started, what is noted of it so that a later keeper can adopt it, how it ends."""
+
+from __future__ import annotations
+
+import json
+import os
+import secrets
+import select
+import signal
+import subprocess
+from dataclasses import dataclass, replace
+from pathlib import Path
+from typing import Iterator
+
+from pagelog.errors import PagelogError
+from pagelog.keeper.table import KEEPER
+
+WORKERS = 4
+"""Threads of a service."""
+
+
+class NotStarted(PagelogError):
+    """The service did not begin to listen."""
+
+
+@dataclass(frozen=True)
+class Program:
+    """How services are started: the program, the host that they listen at, the folder of their files, and the audit list."""
+
+    path: str
+    host: str
+    folder: Path
+    audit: int = 1 << 24
+    patience: float = 60.0
+
+
+@dataclass(frozen=True)
+class Facts:
+    """What is noted of a process. Another process may have its number later; `started` and `boot` tell them apart."""
+
+    name: str
+    run: str
+    pid: int
+    started: int
+    boot: str
+    address: str | None = None
+
+    @property
+    def file_name(self) -> str:
+        """The name of its file."""
+        return f"{self.name}.{self.run}.json"
+
+
+def new_run() -> str:
+    """A name of a run that no other has."""
+    return secrets.token_hex(8)
+
+
+class Run:
+    """A running service, that this keeper started or adopted. It outlives its keeper."""
+
+    def __init__(self, folder: Path, facts: Facts, descriptor: int, child: subprocess.Popen[bytes] | None = None) -> None:
+        self.folder = folder
+        self.facts = facts
+        self.descriptor = descriptor
+        """A pidfd, which can be read once the process has ended."""
+        self._child = child
+
+    @property
+    def name(self) -> str:
+        """The run's name."""
+        return self.facts.run
+
+    @property
+    def address(self) -> str:
+        """Where it listens."""
+        assert self.facts.address is not None
+        return self.facts.address
+
+    @classmethod
+    def start(cls, program: Program, name: str, run: str, table: str, *, listen: str | None = None) -> Run:
+        """Starts a service with this table, and waits until it listens. Raises `NotStarted`."""
+        file, said = program.folder / f"{name}.{run}.table", program.folder / f"{name}.{run}.said"
+        words = [program.path, "serve", "--listen", listen or f"{program.host}:0", "--table", str(file), "--primary", str(KEEPER),
+                 "--dbs", "1", "--workers", str(WORKERS), "--connections", str((1 << 32) - 1), "--audit", str(program.audit),
+                 "--idle-polls", "0"]  # fmt: skip
+        child = None
+        try:
+            with os.fdopen(os.open(file, os.O_WRONLY | os.O_CREAT | os.O_EXCL, 0o600), "w") as opened:
+                opened.write(table)
+            with said.open("wb") as errors:
+                child = subprocess.Popen(words, stdin=subprocess.DEVNULL, stdout=subprocess.PIPE, stderr=errors, start_new_session=True)
+            made = cls(program.folder, _facts_of(name, run, child.pid), os.pidfd_open(child.pid), child)
+            made._note(None)
+            made._note(_address(child, program.patience))
+            return made
+        except (OSError, NotStarted) as error:
+            why = said.read_text(errors="replace").strip() if said.exists() else ""
+            if child is not None:
+                child.kill()
+                child.wait()
+            _forget(program.folder, name, run)
+            raise NotStarted(f"{name}: the service did not start: {why or error}") from error
+        finally:
+            file.unlink(missing_ok=True)
+
+    @classmethod
+    def adopt(cls, folder: Path, name: str, run: str) -> Run | None:
+        """The service of this run, if its process is still there."""
+        return next((cls(folder, facts, descriptor) for facts, descriptor in _noted(folder)
+                     if _is_wanted(facts, descriptor, name, run)), None)  # fmt: skip
+
+    def _note(self, address: str | None) -> None:
+        self.facts = replace(self.facts, address=address)
+        file = self.folder / self.facts.file_name
+        fresh = file.with_name(file.name + ".new")
+        fresh.write_text(json.dumps(vars(self.facts)))
+        fresh.replace(file)
+
+    @property
+    def is_alive(self) -> bool:
+        """Whether the process has not ended."""
+        return not _is_readable(self.descriptor, 0)
+
+    @property
+    def memory(self) -> int:
+        """Bytes of the machine's memory that it holds; 0 where it has ended."""
+        try:
+            return int(Path(f"/proc/{self.facts.pid}/statm").read_text().split()[1]) * os.sysconf("SC_PAGE_SIZE")
+        except (OSError, IndexError, ValueError):
+            return 0
+
+    def end(self) -> None:
+        """Kills the process, waits for its end, and removes its files. It keeps nothing that would have to be saved."""
+        try:
+            signal.pidfd_send_signal(self.descriptor, signal.SIGKILL)
+        except ProcessLookupError:
+            pass
+        _is_readable(self.descriptor)
+        self.leave()
+        _forget(self.folder, self.facts.name, self.facts.run)
+
+    def leave(self) -> None:
+        """Takes notice of a process that has ended, and closes its descriptors. One that runs goes on."""
+        if self._child is not None:
+            if not self.is_alive:
+                self._child.wait()
+            if self._child.stdout is not None:
+                self._child.stdout.close()
+            self._child.returncode = self._child.returncode or 0
+        os.close(self.descriptor)
+
+
+def end_orphans(folder: Path, wanted: set[str]) -> list[str]:
+    """Ends the services of this folder whose runs are not among those. Returns the names of their databases."""
+    ended = []
+    for facts, descriptor in _noted(folder):
+        if facts.run in wanted:
+            os.close(descriptor)
+        else:
+            Run(folder, facts, descriptor).end()
+            ended.append(facts.name)
+    return ended
+
+
+def _noted(folder: Path) -> Iterator[tuple[Facts, int]]:
+    """The services that are noted and still run, each with a pidfd. Notes of others are removed."""
+    for file in sorted(folder.glob("*.json")):
+        try:
+            facts = Facts(**json.loads(file.read_text()))
+        except (OSError, ValueError, TypeError):
+            continue
+        descriptor = _opened(facts)
+        if descriptor is None:
+            _forget(folder, facts.name, facts.run)
+        else:
+            yield facts, descriptor
+
+
+def _opened(facts: Facts) -> int | None:
+    """A pidfd of the very process that was noted, if it still runs."""
+    try:
+        descriptor = os.pidfd_open(facts.pid)
+    except OSError:
+        return None
+    try:
+        now = _facts_of(facts.name, facts.run, facts.pid)
+        if (now.started, now.boot) == (facts.started, facts.boot) and not _is_readable(descriptor, 0):
+            return descriptor
+    except (OSError, ValueError, IndexError):
+        pass
+    os.close(descriptor)
+    return None
+
+
+def _is_wanted(facts: Facts, descriptor: int, name: str, run: str) -> bool:
+    if (facts.name, facts.run) == (name, run) and facts.address is not None:
+        return True
+    os.close(descriptor)
+    return False
+
+
+def _facts_of(name: str, run: str, pid: int) -> Facts:
+    """The facts of a process that runs. Its name, in parentheses, may have spaces."""
+    fields = Path(f"/proc/{pid}/stat").read_text().rpartition(")")[2].split()
+    return Facts(name, run, pid, int(fields[19]), Path("/proc/sys/kernel/random/boot_id").read_text().strip())
+
+
+def _is_readable(descriptor: int, patience: float | None = None) -> bool:
+    """Waits for it, in seconds, or for ever. A `select` would fail where a thousand files are open."""
+    poll = select.poll()
+    poll.register(descriptor, select.POLLIN)
+    return bool(poll.poll(None if patience is None else 1000 * patience))
+
+
+def _address(child: subprocess.Popen[bytes], patience: float) -> str:
+    assert child.stdout is not None
+    if not _is_readable(child.stdout.fileno(), patience):
+        raise NotStarted(f"it said nothing in {patience} s")
+    line = child.stdout.readline().decode(errors="replace").split()
+    if len(line) != 2 or line[0] != "listening":
+        raise NotStarted("it ended")
+    return line[1]
+
+
+def _forget(folder: Path, name: str, run: str) -> None:
+    for end in ("json", "said", "table"):
+        (folder / f"{name}.{run}.{end}").unlink(missing_ok=True)

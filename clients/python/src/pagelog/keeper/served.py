@@ -1,0 +1,164 @@
+"""A service that this keeper has, and what is asked of it, in threads: filled, followed, pulled, opened, closed."""
+
+from __future__ import annotations
+
+import time
+from typing import Iterator, Sequence
+
+from pagelog.block import Block
+from pagelog.connection import Connection
+from pagelog.keeper.loading import Loader
+from pagelog.keeper.machine import Kind
+from pagelog.keeper.referee import BrokenArchive, Referee, digest
+from pagelog.keeper.run import Program, Run
+from pagelog.keeper.table import KEEPER, Form, keeper_of, quorum_of, table_of_run
+from pagelog.operator import Operator
+from pagelog.reader import Reader
+from pagelog.reply import Entries, State, expect
+from pagelog.request import Audit, Status
+
+PULLS = 64
+"""Pulls of one batch: 1,024 blocks at most, 32 MiB."""
+
+
+class Served:
+    """The service of one run of a database. `reached` and `chain` are of the blocks that it was filled with, or that are
+    archived of it. One thread at a time calls each of its methods; `look`, `pulled` and the others may run side by side."""
+
+    def __init__(self, name: str, run: str, text: str, secret: bytes, *, timeout: float) -> None:
+        self.database = name
+        self.run = run
+        self.kind = Kind.HOLDER
+        self.generation = 0
+        self.reached = 0
+        self.chain = b""
+        self.hard = 0
+        self.answers = 0
+        """How many looks it has answered."""
+        self.silent = 0.0
+        """For how many seconds it has answered none, in an unbroken series of the keeper's looks."""
+        self.is_broken = False
+        """Whether it refuses its keeper for good."""
+        self.is_noted = False
+        """Whether the referee is known to have noted it as a standby."""
+        self.process: Run | None = None
+        self._text, self._secret, self._timeout = text, secret, timeout
+        self._entries, self._step = 0, 1
+
+    @property
+    def is_alive(self) -> bool:
+        """Whether there is no reason to end it: it runs, or was not started yet."""
+        return not self.is_broken and (self.process is None or self.process.is_alive)
+
+    @property
+    def hangs(self) -> bool:
+        """Whether it has answered no look for as long as it may."""
+        return self.silent >= self._timeout
+
+    # Its beginning and its end.
+
+    def start(self, program: Program) -> None:
+        """Starts it, closed. Raises `NotStarted`."""
+        self.serve(Run.start(program, self.database, self.run, self._table(Form.READING)))
+
+    def serve(self, process: Run) -> None:
+        """Takes this process for its own."""
+        credentials, self.process = keeper_of(self._secret, self.database, self.run), process
+        self._operator = Operator(self._connection(), credentials)
+        self._looker = Operator(self._connection(), credentials)
+        self._reader = Reader(self._connection(), credentials)
+
+    def end(self) -> None:
+        """Kills it, and removes what is noted of it."""
+        if self.process is not None:
+            self.process.end()
+
+    def _connection(self) -> Connection:
+        assert self.process is not None
+        return Connection(self.process.address, timeout=self._timeout, attempts=2)
+
+    def _table(self, form: Form) -> str:
+        return table_of_run(self._text, self._secret, self.database, self.run, form)
+
+    # Filling.
+
+    def follow(self, referee: Referee, log: int, archived: int, wanted: bytes) -> None:
+        """Fills it with what it lacks of the archive, up to a position that a statement which wrote has returned.
+
+        `wanted` is the digest that it has returned. Raises `BrokenArchive` where the blocks have another: they are read without a
+        write, and a server that was cut off may have others. Nobody reads what is above `reached` meanwhile.
+        """
+        if archived <= self.reached:
+            return
+        assert self.process is not None
+        credentials, chain = keeper_of(self._secret, self.database, self.run), self.chain
+
+        def pieces() -> Iterator[Sequence[bytes]]:
+            nonlocal chain
+            for piece in referee.blocks(log, self.reached + 1, archived):
+                chain = digest(chain, piece)
+                yield piece
+
+        with Loader(self.process.address, credentials, quorum=quorum_of(self._text), timeout=self._timeout) as loader:
+            loader.load(self.reached + 1, pieces())
+        if chain != wanted:
+            raise BrokenArchive(f"{self.database}: the blocks up to {archived} are not those that were archived")
+        self.reached, self.chain, self.hard = archived, chain, archived
+
+    def check(self, archived: int, chain: bytes) -> None:
+        """Raises `BrokenArchive` where it does not have exactly what is archived."""
+        if (self.reached, self.chain) != (archived, chain):
+            raise BrokenArchive(f"{self.database}: the service was filled with other blocks than the {archived} that are archived")
+        hard = self._operator.status().hard
+        if hard != archived:
+            raise BrokenArchive(f"{self.database}: the service has {hard} blocks where {archived} are archived")
+
+    def open(self) -> None:
+        """From now on its table is that of the database."""
+        self._operator.set_table(self._table(Form.OPEN))
+
+    def close(self) -> int:
+        """Lets nobody write any more, and returns the position of its end: table first, so that no writer undoes the fence."""
+        self._operator.set_table(self._table(Form.READING))
+        self._operator.failover(KEEPER)
+        self.hard = self._operator.status().hard
+        return self.hard
+
+    # Looking.
+
+    def look(self) -> None:
+        """Asks for its end, and how many entries its audit list has at least: two entries, and more where the list has grown."""
+        has_more = True
+        while has_more:
+            probe = self._entries + self._step
+            state, entries = self._looker._ask_all((Status(), Audit(probe, 1)))
+            self.hard = expect(State, state).hard
+            has_more = bool(expect(Entries, entries).entries)
+            if has_more:
+                self._entries = probe
+            self._step = 2 * self._step if has_more else max(1, self._step // 2)
+        self.answers += 1
+
+    def share(self, audit: int, memory: int) -> float:
+        """How full its audit list or its memory is, the greater of the two: 0 to 1."""
+        held = self.process.memory / memory if memory and self.process is not None else 0.0
+        return max(self._entries / audit, held)
+
+    @property
+    def entries(self) -> int:
+        """How many entries its audit list is known to have."""
+        return self._entries
+
+    # Pulling.
+
+    def pulled(self, position: int) -> list[bytes]:
+        """The next blocks behind this position, at most 1,024. A block without records is served by no pull."""
+        span = self._reader.span(position + 1, pulls=PULLS)
+        found = {block.lsn: block.data for block in span.blocks}
+        self.hard = max(self.hard, span.last)
+        return [found.get(lsn) or Block.of(lsn).data for lsn in range(span.first, span.last + 1)]
+
+
+def seconds() -> float:
+    """The keeper's own clock, which stands still for nobody else."""
+    return time.monotonic()

@@ -1,0 +1,69 @@
+"""The event loop's way to a referee: one statement at a time, in a thread, and cut where it hangs."""
+
+from __future__ import annotations
+
+import asyncio
+from concurrent.futures import ThreadPoolExecutor
+from typing import Any, Callable, TypeVar
+
+from pagelog.keeper.referee import Referee
+
+Result = TypeVar("Result")
+_LONGEST = 60.0
+
+
+class Session:
+    """A referee and its turn. A statement that hangs is cut after `deadline` seconds, and each further one later: PostgreSQL
+    keeps a process for each that waits for its standby."""
+
+    def __init__(self, referee: Referee, deadline: float) -> None:
+        self.referee = referee
+        self._shortest = self._deadline = deadline
+        self._turn = asyncio.Lock()
+        self._thread = ThreadPoolExecutor(1)  # of its own: services that hang hold up no beat
+        self.woken = asyncio.Event()
+        """Set when a notification has come."""
+
+    async def ask(self, call: Callable[..., Result], *arguments: Any) -> Result:
+        """What the call returns or raises; it is a method of the referee."""
+        async with self._turn:
+            work = asyncio.get_running_loop().run_in_executor(self._thread, call, *arguments)
+            done, _ = await asyncio.wait({work}, timeout=self._deadline)
+            if done:
+                self._deadline = self._shortest
+            else:
+                self._deadline = min(_LONGEST, 2 * self._deadline)
+                self.referee.cut()
+            try:
+                return await work
+            finally:
+                self._take_notified()
+
+    def _take_notified(self) -> None:
+        """A notification may come with the reply of a statement. Then nothing is left at the socket to wake anyone."""
+        if self.referee.notified:
+            self.referee.notified.clear()
+            self.woken.set()
+
+    async def rest(self, seconds: float) -> None:
+        """Waits so long, or until a notification comes."""
+        loop, descriptor = asyncio.get_running_loop(), self.referee.descriptor
+        if descriptor is not None:
+            loop.add_reader(descriptor, self._readable)
+        try:
+            await asyncio.wait_for(self.woken.wait(), seconds)
+        except asyncio.TimeoutError:
+            pass
+        finally:
+            if descriptor is not None:
+                loop.remove_reader(descriptor)
+        self.woken.clear()
+
+    def _readable(self) -> None:
+        if not self._turn.locked():  # else it is the reply of a statement
+            self.woken.set()
+
+    async def close(self) -> None:
+        """Closes the connection, if no statement is being asked."""
+        async with self._turn:
+            self.referee.close()

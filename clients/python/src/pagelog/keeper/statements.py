@@ -1,0 +1,75 @@
+"""The longer statements of the referee. Each is committed by itself, under the conditions that it has."""
+
+from pagelog.keeper.schema import FORMAT
+
+LOOK = f"""
+WITH me AS (
+  UPDATE pagelog_keeper SET beat = beat + 1, report = COALESCE(%(report)s::jsonb, report)
+  WHERE name = %(me)s AND run = %(run)s RETURNING name),
+stood AS (
+  UPDATE pagelog_standby s SET reached = v.reached
+  FROM unnest(%(logs)s::integer[], %(reached)s::bigint[]) AS v(log, reached)
+  WHERE s.log = v.log AND s.keeper IN (SELECT name FROM me) AND s.reached <> v.reached RETURNING 1)
+SELECT (SELECT count(*) FROM me),
+  (SELECT COALESCE(json_agg(k), '[]') FROM (SELECT name, run, lines, beat, report FROM pagelog_keeper) k),
+  (SELECT COALESCE(json_agg(l), '[]') FROM (
+    SELECT id, name, generation, run, holder, address, archived, base, shift, encode(chain, 'hex') AS chain, wanted, paused,
+      dropped FROM pagelog_log WHERE format = {FORMAT} ORDER BY name) l),
+  (SELECT COALESCE(json_agg(s), '[]') FROM (SELECT log, keeper, address, run, reached FROM pagelog_standby) s),
+  current_setting('synchronous_standby_names'),
+  CASE WHEN pg_has_role('pg_read_all_stats', 'USAGE')
+    THEN (SELECT count(*) FROM pg_stat_replication WHERE sync_state IN ('sync', 'quorum')) END
+"""
+
+REACHED = """
+SELECT (pg_current_wal_flush_lsn() - '0/0')::bigint, (SELECT (max(flush_lsn) - '0/0')::bigint FROM pg_stat_replication
+  WHERE sync_state IN ('sync', 'quorum'))
+"""
+
+TAKE = """
+WITH taken AS (
+  UPDATE pagelog_log SET generation = next_generation, next_generation = next_generation + 1, run = %(run)s, holder = %(me)s,
+    address = NULL, base = archived, wanted = NULL
+  WHERE id = %(id)s AND generation = %(generation)s AND archived = %(archived)s AND run IS NOT DISTINCT FROM %(seen_run)s::text
+    AND NOT paused AND NOT dropped
+    AND (%(beat)s::bigint IS NULL OR NOT EXISTS (SELECT 1 FROM pagelog_keeper k WHERE k.name = holder AND k.beat > %(beat)s::bigint))
+  RETURNING id, generation, archived, chain, shift),
+begun AS (
+  INSERT INTO pagelog_generation (log, generation, run, holder, base, shift)
+  SELECT id, generation, %(run)s, %(me)s, archived, shift FROM taken),
+gone AS (DELETE FROM pagelog_standby WHERE log IN (SELECT id FROM taken) AND keeper = %(me)s)
+SELECT generation, archived, chain FROM taken
+"""
+
+KEEP = """
+WITH due AS (
+  SELECT d.log, d.run, d.generation, d.old, d.new, substring(%(chains)b::bytea FROM (16 * d.n - 15)::integer FOR 16) AS chain
+  FROM unnest(%(logs)s::integer[], %(runs)s::text[], %(generations)s::bigint[], %(olds)s::bigint[], %(news)s::bigint[])
+    WITH ORDINALITY AS d(log, run, generation, old, new, n)),
+fence AS (
+  UPDATE pagelog_log l SET archived = due.new, chain = due.chain FROM due
+  WHERE l.id = due.log AND l.run = due.run AND l.generation = due.generation AND l.archived = due.old RETURNING l.id),
+kept AS (
+  INSERT INTO pagelog_block (log, lsn, crc, data)
+  SELECT b.log, b.lsn, b.crc, substring(%(bytes)b::bytea FROM b.start FOR b.length)
+  FROM unnest(%(owners)s::integer[], %(lsns)s::bigint[], %(crcs)s::bigint[], %(starts)s::integer[], %(lengths)s::integer[])
+    AS b(log, lsn, crc, start, length)
+  WHERE b.log IN (SELECT id FROM fence))
+SELECT id FROM fence
+"""
+
+FATE = f"""
+WITH me AS (UPDATE pagelog_keeper SET beat = beat WHERE name = %(me)s RETURNING 1)
+SELECT COALESCE(
+  (SELECT g.base FROM pagelog_generation g WHERE g.log = l.id AND g.generation > %(generation)s ORDER BY g.generation LIMIT 1),
+  CASE WHEN l.run IS NULL AND l.generation = %(generation)s THEN l.archived END)
+FROM pagelog_log l
+WHERE l.name = %(name)s AND l.format = {FORMAT} AND EXISTS (SELECT 1 FROM me)
+  AND EXISTS (SELECT 1 FROM pagelog_generation g WHERE g.log = l.id AND g.generation = %(generation)s)
+"""
+
+PIECE = """
+SELECT count(*)::integer, COALESCE(string_agg(data, ''::bytea ORDER BY lsn), ''),
+  COALESCE(string_agg(int4send(length(data)) || int8send(crc), ''::bytea ORDER BY lsn), '')
+FROM pagelog_block WHERE log = %s AND lsn BETWEEN %s AND %s
+"""

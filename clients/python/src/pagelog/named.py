@@ -1,0 +1,288 @@
+"""A writer of a named database, which follows it from generation to generation.
+
+    primary = Primary.named("shop", keepers=["10.0.0.1:7500"], principal=2, token=.., operator=(1, ..))
+    primary.append(Put(page=0, offset=0, data=b"hello"))
+    position = primary.commit(durable=True)
+
+A position is what an LSN is to one service, and stands for the same block in all generations.
+"""
+
+from __future__ import annotations
+
+import time
+from typing import Sequence
+
+from pagelog.block import Block, Record
+from pagelog.credentials import Credentials
+from pagelog.errors import InDoubt, OutOfMemory, PagelogError, TimedOut
+from pagelog.following import GONE, Following, NamedAccount
+from pagelog.keeper.table import KEEPER
+from pagelog.operator import Operator
+from pagelog.packing import Packer
+from pagelog.place import QUICKEST, SLOWEST, Lost, Place
+from pagelog.primary import Primary
+from pagelog.reader import Reader
+from pagelog.request import QUORUM
+from pagelog.rules import NoRowMatches, OlderEpoch, OtherPrimary, TableRow
+
+TAIL = 16 << 20
+"""The most bytes of blocks that are kept because they are not known to be durable. Then a commit waits for the archive."""
+_DENIED = (OlderEpoch, OtherPrimary, TableRow, NoRowMatches)
+
+
+class _NotToBeKnown(InDoubt):
+    """The table lets the writer not look at its own blocks, so that no further try helps."""
+
+
+class NamedPrimary(Following):
+    """Writes a named database, in an epoch of its own in each generation.
+
+    `commit` returns a position once the blocks are in the log of the service; a death of that service may still take them,
+    until they are durable. They are kept here meanwhile, and written again into the next generation, at the same positions,
+    if nobody else has written there: so what a living writer has committed survives the service. `Lost` is raised where
+    another has gone on. A denial as `OlderEpoch` is raised where another writer has begun an epoch, as of any `Primary`.
+
+    It begins with a failover to itself, for which it needs an operator. Where its table lets it pull as a secondary, it finds
+    out by itself what became of a commit that was cut off; else that may be `InDoubt`. It is for one thread at a time.
+    """
+
+    def __init__(
+        self, name: str, keepers: Sequence[str], principal: int, token: str, operator: tuple[int, str], *, quorum: int = QUORUM,
+        patience: float = 60.0, timeout: float = 10.0,
+    ) -> None:  # fmt: skip
+        """`patience` is for a place or an answer of the keepers, `timeout` for a reply of the service, in seconds."""
+        super().__init__(name, keepers, principal, token, patience=patience, timeout=timeout)
+        self.end = 0
+        """The position of the last block of the log, as far as this writer knows."""
+        self.durable_end = 0
+        """The position up to which the database is known to be durable."""
+        self._operator, self._quorum = NamedAccount(name, *operator), quorum
+        self._primary: Primary | None = None
+        self._epoch: int | None = None
+        """The epoch that this writer has begun last, in the generation of its place; None once something was lost."""
+        self._told = 0
+        """The highest position that a commit has returned, if it is not known to be lost."""
+        self._ended: PagelogError | None = None
+        self._records: list[Record] = []
+        self._tail: list[Block] = []
+        """Blocks above `durable_end` up to `end`, and those of a commit that is under way."""
+
+    def _leave(self) -> None:
+        if self._primary is not None:
+            self._primary.close()
+            if self._primary.witness is not None:
+                self._primary.witness.close()
+        self._primary = None
+
+    # Writing.
+
+    def append(self, *records: Record) -> None:
+        """Puts records into the commit that is open. Raises as `Primary.append` for a faulty one, which is not taken."""
+        for record in records:
+            Block.of(1, (record,))
+            self._records.append(record)
+
+    def commit(self, *, durable: bool = False) -> int:
+        """Writes what was appended, and returns the position of its end; with `durable` once the archive has it.
+
+        Raises `Lost` where another writer has gone on before it, or before an earlier commit that was not durable: nothing of
+        either is in the database. After `TimedOut` and the like it may be called again, and goes on.
+        """
+        if self._ended is not None:
+            raise self._ended
+        if self._primary is None:
+            self._move()
+        self._pack()
+        self._write_all()
+        self._told = self.end
+        if durable or sum(len(block.data) for block in self._tail) > TAIL:
+            self.durable(self.end)
+        return self.end
+
+    def durable(self, position: int) -> None:
+        """Returns once the archive has all up to the position, which a commit has returned.
+
+        Raises `Lost` where it never will: that is final, and so is a return.
+        """
+        last = self._tail[-1].lsn if self._tail else self.end
+        if position > last and self._ended is not None:
+            raise Lost(last + 1)
+        if position > last:
+            raise ValueError(f"position {position} was not committed: the end is {last}")
+        while position > self.durable_end:
+            if self._ended is None:
+                self._write_all()
+            assert self.place is not None
+            fate = self.keepers.fate(self.place.generation, position, self.place.lines)
+            self._is_durable(fate.end)
+            if fate.is_over and position > fate.end:
+                if self._ended is not None:
+                    raise Lost(fate.end + 1)
+                self._move(is_over=True)
+
+    def _pack(self) -> None:
+        """Makes blocks of what was appended."""
+        packer, position = Packer(), (self._tail[-1].lsn if self._tail else self.end) + 1
+        for record in self._records:
+            if not packer.add(record):
+                self._tail.append(Block.of(position, packer.records))
+                packer, position = Packer(), position + 1
+                packer.add(record)
+        if packer.records:
+            self._tail.append(Block.of(position, packer.records))
+        self._records = []
+
+    def _write_all(self) -> None:
+        """Writes what is above the end, wherever the database is by then."""
+        while self._tail and self._tail[-1].lsn > self.end:
+            self._write()
+
+    def _write(self) -> None:
+        """Writes the blocks above the end, here or in the next generation."""
+        if self._primary is None:
+            if self._ended is not None:
+                return self._end_for(self._ended)  # it was fenced as it began
+            self._move()
+            return
+        try:
+            for lsn in self._primary.harden([block for block in self._tail if block.lsn > self.end]):
+                self.end = max(self.end, lsn)
+        except OutOfMemory:
+            raise
+        except (*GONE, *_DENIED) as error:
+            self._move(error)
+
+    # Moving.
+
+    def _move(self, error: PagelogError | None = None, *, is_over: bool = False) -> None:
+        """Begins an epoch where the database is now, and brings the tail along.
+
+        `error` is what it is for: it is raised where another writer is the cause. If the generation `is_over`, the next is waited for.
+        """
+        before = -1 if self.place is None else self.place.generation
+        deadline, wait = time.monotonic() + self.keepers.patience, QUICKEST
+        while True:
+            place = self.keepers.place(before)
+            is_next = place.generation > before
+            if not is_next and isinstance(error, _DENIED) and self._is_anothers(place):
+                self._leave()
+                return self._end_for(error)
+            if (is_next or not is_over) and self._is_settled(place):
+                return
+            if time.monotonic() > deadline:
+                raise error or TimedOut(f"in {self.keepers.patience} s no generation of {self.keepers.name} could be used")
+            time.sleep(wait)
+            wait = min(SLOWEST, 2 * wait)
+
+    def _count_at(self, place: Place) -> None:
+        """What of the blocks above the end is in the log, though no reply has said so."""
+        try:
+            with Reader(self._connection(place), self._account.of(place)) as witness:
+                for block in [block for block in self._tail if block.lsn > self.end]:
+                    if block.lsn > witness.status().hard + place.shift or not self._is_there(witness, block):
+                        break
+                    self.end = block.lsn
+        except PagelogError as doubt:
+            raise InDoubt(f"another writer has gone on, and what is in the log above position {self.end} is not known") from doubt
+
+    def _end_for(self, error: PagelogError) -> None:
+        """Another writer has begun an epoch: what is not in the log now never will be, and this writer writes no more.
+
+        Raises the error, unless all that was to be written is in the log; `Lost` where a commit had returned.
+        """
+        self._ended = error
+        was_cut = bool(self._tail) and self._tail[-1].lsn > self.end
+        self._tail = [block for block in self._tail if block.lsn <= self.end]
+        if self.end < self._told:
+            raise Lost(self.end + 1) from error
+        if was_cut:
+            raise error
+
+    def _is_anothers(self, place: Place) -> bool:
+        """Whether another client's failover is what denied; it may have been the keeper, who closes the generation."""
+        try:
+            with Operator(self._connection(place), self._operator.of(place)) as operator:
+                return operator.status().primary != KEEPER
+        except PagelogError:
+            return False
+
+    def _is_settled(self, place: Place) -> bool:
+        """Whether this writer has begun an epoch at the place. What became of the tail is settled then."""
+        self._leave()
+        credentials = self._account.of(place)
+        witness = Reader(self._connection(place, 3), credentials)
+        try:
+            # Looked at before, so that a writer which has lost something fences nobody.
+            is_next = self.place is not None and place.generation > self.place.generation
+            hard = self._hard(witness) if self._tail and is_next else None
+            if hard is not None:
+                self._settle_tail(place, witness, hard + place.shift)
+            self._primary = self._began(place, credentials, witness)
+            self._settle_tail(place, witness, self._primary.durable + place.shift)
+        except _NotToBeKnown:
+            raise
+        except (OlderEpoch, OtherPrimary) as error:
+            self._ended = error
+            self._count_at(place)
+            self._end_for(error)
+            return True
+        except (*GONE, TableRow, NoRowMatches):
+            self._leave()
+            witness.close()
+            return False
+        self.end, self.place = self._primary.durable + place.shift, place
+        self._is_durable(place.archived)
+        return True
+
+    def _hard(self, witness: Reader) -> int | None:
+        """The end of the log; None where the table does not let this principal look."""
+        try:
+            return witness.status().hard
+        except (TableRow, NoRowMatches):
+            return None
+
+    def _began(self, place: Place, credentials: Credentials, witness: Reader) -> Primary:
+        """The primary of a new epoch. In the generation that it was in, it follows on the epoch that this writer has begun last:
+        another writer that came since is not fenced."""
+        known = self._epoch if self.place is not None and self.place.generation == place.generation else None
+        with Operator(self._connection(place, 3), self._operator.of(place)) as operator:
+            while True:
+                try:
+                    self._epoch = operator.failover(credentials.id, epoch=known)
+                    break
+                except OlderEpoch as error:
+                    if operator.status().primary not in (KEEPER, credentials.id):
+                        raise
+                    known = error.epoch
+        primary = Primary(self._connection(place, 3), credentials, epoch=self._epoch, alone=True, quorum=self._quorum, witness=witness)
+        primary.begin()
+        return primary
+
+    def _settle_tail(self, place: Place, witness: Reader, hard: int) -> None:
+        """Compares what the log has of the tail. The rest is to be written again, if the log ends where it begins.
+
+        Raises `Lost` for the first block of it that is not there and never will be.
+        """
+        if self.place is None:
+            self.durable_end = min(hard, place.archived)
+        lost = next((block.lsn for block in self._tail if block.lsn <= hard and not self._is_there(witness, block)), None)
+        if lost is None and self._tail and hard < self._tail[0].lsn - 1:
+            lost = hard + 1  # what was durable is missing: the archive went back
+        if lost is not None:
+            self._tail, self.end, self.place, self._epoch = [], hard, place, None
+            self._told = min(self._told, lost - 1)
+            self._leave()
+            raise Lost(lost)
+
+    def _is_there(self, witness: Reader, block: Block) -> bool:
+        """Whether the log has this very block at its position."""
+        try:
+            span = witness.span(block.lsn, pulls=1)
+        except (TableRow, NoRowMatches) as error:
+            raise _NotToBeKnown(f"whether position {block.lsn} is this writer's is not known: its table lets it pull nothing") from error
+        found = {served.lsn: served for served in span.blocks}
+        return found.get(block.lsn, Block.of(block.lsn)) == block
+
+    def _is_durable(self, end: int) -> None:
+        self.durable_end = max(self.durable_end, min(end, self.end))
+        self._tail = [block for block in self._tail if block.lsn > self.durable_end]

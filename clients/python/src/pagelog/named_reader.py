@@ -1,0 +1,117 @@
+"""A reader of a named database, which follows it from generation to generation."""
+
+from __future__ import annotations
+
+import time
+from typing import Callable, Iterator, Sequence, TypeVar
+
+from pagelog.block import Block
+from pagelog.following import GONE, Following
+from pagelog.place import QUICKEST, SLOWEST
+from pagelog.reader import Reader
+from pagelog.reply import Page
+from pagelog.rules import AboveTheEnd, Section
+
+Result = TypeVar("Result")
+
+
+class NamedReader(Following):
+    """Reads a named database, and follows it. Positions take the place of LSNs.
+
+    Without `durable_only` it sees what is in the log of the service, which may be lost with it: then a position that was
+    read may later have another block. With it, it sees what is durable, at a standby where there is one.
+    """
+
+    def __init__(
+        self, name: str, keepers: Sequence[str], principal: int, token: str, *, durable_only: bool = False, patience: float = 60.0,
+        timeout: float = 10.0,
+    ) -> None:  # fmt: skip
+        super().__init__(name, keepers, principal, token, patience=patience, timeout=timeout)
+        self.durable_only = durable_only
+        self._reader: Reader | None = None
+        self._least = self._durable = 0
+        self._shunned: str | None = None
+
+    def _leave(self) -> None:
+        if self._reader is not None:
+            self._reader.close()
+        self._reader = None
+
+    @property
+    def _run(self) -> str | None:
+        return None if self.place is None else self.place.run
+
+    def end(self) -> int:
+        """The position up to which it can be read now: of the log, or with `durable_only` what is durable."""
+        while True:
+            hard = self._asked(lambda reader: reader.status().hard) + (0 if self.place is None else self.place.shift)
+            if not self.durable_only:
+                return hard
+            if self._is_confirmed():
+                return min(hard, self._durable)
+            self._leave()
+
+    def _is_confirmed(self) -> bool:
+        """Whether the run that is read from is the holder's or a standby's still. How far its blocks are the archive's is known
+        then: those of a run that is over may be others, and a standby becomes a holder when it takes over."""
+        assert self.place is not None
+        told = [place for place in (self.keepers.where(), self.keepers.standby()) if place is not None]
+        same = [place.archived for place in told if place.run == self.place.run]
+        self._durable = max(self._durable, *same, 0)
+        return bool(same) or not told
+
+    def page(self, number: int, position: int | None = None) -> Page:
+        """The page at this position, by default at the end. Raises `AboveTheEnd`."""
+        return self.pages((number,), position)[0]
+
+    def pages(self, numbers: Sequence[int], position: int | None = None) -> list[Page]:
+        """Pages at one position."""
+        while True:
+            end = self.end() if position is None or self.durable_only else 0
+            at, run = end if position is None else position, self._run
+            if self.durable_only and at > end:
+                raise AboveTheEnd(Section.C, 1, end)
+            found = self._asked(lambda reader: reader.pages(numbers, at))
+            if not self.durable_only or run == self._run:
+                return found  # else it was read from another run than the one that the end is of
+
+    def blocks(self, position: int = 1, *, follow: bool = True, idle: float = 0.5, stop: Callable[[], bool] = lambda: False) -> Iterator[Block]:
+        """The blocks from this position on, in order, each once, as of a `Reader`."""
+        wait = QUICKEST
+        while not stop():
+            end, run = self.end(), self._run
+            if end >= position:
+                first = position
+                span = self._asked(lambda reader: reader.span(first, pulls=64))
+                if self.durable_only and run != self._run:
+                    continue  # it was read from another run than the one that the end is of
+                yield from (block for block in span.blocks if block.lsn <= end)
+                position, wait = min(span.last, end) + 1, QUICKEST
+            elif not follow:
+                return
+            else:
+                time.sleep(min(wait, idle))
+                wait = min(2 * wait, idle)
+
+    def _asked(self, call: Callable[[Reader], Result]) -> Result:
+        deadline, wait = time.monotonic() + self.keepers.patience, QUICKEST
+        while True:
+            try:
+                return call(self._reader or self._opened())
+            except GONE:
+                self._shunned = self._run
+                self._leave()
+                if time.monotonic() > deadline:
+                    raise
+            time.sleep(wait)
+            wait = min(SLOWEST, 2 * wait)
+
+    def _opened(self) -> Reader:
+        standby = self.keepers.standby() if self.durable_only else None
+        if standby is not None and standby.run == self._shunned:
+            standby = None  # it did not answer just now: the keepers may have no better word of it yet
+        self.place = standby or self.keepers.place(self._least)
+        self._least = max(self._least, self.place.generation)
+        self._durable = self.place.archived
+        self._reader = Reader(self._connection(self.place), self._account.of(self.place))
+        return self._reader

@@ -1,0 +1,191 @@
+"""Where a named database is, and how far it is durable: a client of the keepers' lines."""
+
+from __future__ import annotations
+
+import os
+import socket
+import time
+from dataclasses import dataclass
+from typing import Sequence
+
+from pagelog.connection import Address
+from pagelog.errors import PagelogError, TimedOut
+
+QUICKEST, SLOWEST = 0.005, 0.2
+"""Seconds between two rounds of questions, the first and the longest."""
+_ANSWER = 1.0
+_SILENCE = 3.0
+_LONGEST = 1024
+
+
+class UnknownName(PagelogError):
+    """The keepers know of no database of this name."""
+
+
+class Lost(PagelogError):
+    """What was committed at `position`, and after it, is not in the database and never will be: another went on there.
+
+    It is final. Positions from there on are used again.
+    """
+
+    def __init__(self, position: int) -> None:
+        self.position = position
+        super().__init__(f"position {position} is lost")
+
+
+@dataclass(frozen=True)
+class Place:
+    """Where a generation is served. A position is an LSN of its service plus `shift`; it began with all up to `base`."""
+
+    generation: int
+    run: str
+    address: str
+    archived: int
+    lines: str
+    base: int
+    shift: int
+
+
+@dataclass(frozen=True)
+class Fate:
+    """How far a generation is durable. If it `is_over`, nothing above `end` will ever be."""
+
+    end: int
+    is_over: bool
+
+
+class _Line:
+    """A connection to a keeper, one question at a time."""
+
+    def __init__(self, address: str) -> None:
+        place = Address.parse(address)
+        self._socket = socket.create_connection((place.host, place.port), _ANSWER)
+        self._socket.setsockopt(socket.IPPROTO_TCP, socket.TCP_NODELAY, 1)
+        self._left = b""
+
+    def close(self) -> None:
+        self._socket.close()
+
+    def ask(self, words: Sequence[object], timeout: float) -> list[str]:
+        """The words of the answer. Raises `OSError`."""
+        self._socket.settimeout(timeout)
+        self._socket.sendall(" ".join(map(str, words)).encode() + b"\n")
+        while b"\n" not in self._left:
+            data = self._socket.recv(_LONGEST)
+            if not data or len(self._left) > _LONGEST:
+                raise ConnectionError("the keeper ended the connection")
+            self._left += data
+        line, _, self._left = self._left.partition(b"\n")
+        return line.decode(errors="replace").split()
+
+
+class Keepers:
+    """The keepers of a named database. Any of them answers; those that do not are left out, as long as one does."""
+
+    def __init__(self, name: str, addresses: Sequence[str], patience: float = 60.0) -> None:
+        """`patience` is in seconds, for a place or an answer."""
+        if not addresses or isinstance(addresses, str):
+            raise ValueError("keepers are a list of HOST:PORT")
+        for address in addresses:
+            Address.parse(address)
+        self.name = name
+        self.patience = patience
+        self._addresses = list(addresses)
+        self._lines: dict[str, _Line] = {}
+        self._process = os.getpid()
+
+    def close(self) -> None:
+        """Closes all connections. A later question opens them again."""
+        for line in self._lines.values():
+            line.close()
+        self._lines.clear()
+
+    def _ask(self, address: str, words: Sequence[object], timeout: float = _ANSWER) -> list[str]:
+        """The answer of one keeper; of no words where it does not answer. Its connection is made anew then."""
+        if self._process != os.getpid():
+            self.close()  # a child that a fork made would read answers to its parent
+            self._process = os.getpid()
+        is_answered = False
+        try:
+            if address not in self._lines:
+                self._lines[address] = _Line(address)
+            answer = self._lines[address].ask(words, timeout)
+            is_answered = True
+            return answer
+        except (OSError, ValueError):
+            return []
+        finally:
+            # Where it was interrupted, too: the next question over it would get the answer to this one.
+            if not is_answered and (line := self._lines.pop(address, None)) is not None:
+                line.close()
+
+    def where(self) -> Place | None:
+        """The place of the highest generation that a keeper knows of; None where nobody serves it now.
+
+        Raises `UnknownName` where all that answer say so.
+        """
+        answers = [self._ask(address, ("where", self.name)) for address in self._addresses]
+        places = [place for place in map(_place, answers) if place is not None]
+        if places:
+            return max(places, key=lambda place: place.generation)
+        if any(answers) and all(words[:1] == ["unknown"] for words in answers if words):
+            raise UnknownName(f"the keepers know of no database {self.name}")
+        return None
+
+    def place(self, least: int = 0) -> Place:
+        """The place, of generation `least` or a later one, once there is one. Raises `TimedOut`."""
+        deadline, wait = time.monotonic() + self.patience, QUICKEST
+        while True:
+            found = self.where()
+            if found is not None and found.generation >= least:
+                return found
+            if time.monotonic() > deadline:
+                raise TimedOut(f"no keeper has said in {self.patience} s where {self.name} is")
+            time.sleep(wait)
+            wait = min(SLOWEST, 2 * wait)
+
+    def standby(self) -> Place | None:
+        """A standby of it, which has durable blocks alone; None where no keeper knows of one."""
+        for address in self._addresses:
+            words = self._ask(address, ("standby", self.name))
+            if len(words) == 5 and words[0] == "standby" and words[4].isdecimal():
+                return Place(0, words[3], words[2], int(words[4]), address, 0, 0)
+        return None
+
+    def fate(self, generation: int, position: int, lines: str | None = None) -> Fate:
+        """How far this generation is durable, once it is so up to the position, or is over. Raises `TimedOut`.
+
+        `lines` are those of its holder, who is asked first. The answer is the same from every keeper.
+        """
+        deadline, wait = time.monotonic() + self.patience, QUICKEST
+        asked = [lines] if lines else []
+        while True:
+            for address in (*asked, *(address for address in self._addresses if address not in asked)):
+                left = min(_SILENCE, max(0.1, deadline - time.monotonic()))
+                answer = self._ask(address, ("durable", self.name, generation, position), left)
+                found = _fate(answer, position)
+                if found is not None:
+                    return found
+            if time.monotonic() > deadline:
+                raise TimedOut(f"no keeper has said in {self.patience} s what became of position {position} of {self.name}")
+            place = self.where()
+            asked = [place.lines] if place is not None else []
+            time.sleep(wait)
+            wait = min(SLOWEST, 2 * wait)
+
+
+def _place(words: list[str]) -> Place | None:
+    match words:
+        case ["at", _, generation, run, address, archived, lines, base, shift]:
+            return Place(int(generation), run, address, int(archived), lines, int(base), int(shift))
+        case _:
+            return None
+
+
+def _fate(words: list[str], position: int) -> Fate | None:
+    if len(words) != 4 or not words[3].isdecimal():
+        return None
+    end = int(words[3])
+    if words[0] == "over":
+        return Fate(end, True)
+    return Fate(end, False) if words[0] == "durable" and end >= position else None

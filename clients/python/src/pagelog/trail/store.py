@@ -1,0 +1,387 @@
+"""A trail in a database that SQLAlchemy reaches by a URL, beside the archive of the same log.
+
+A trail has *lists*: one for each audit list that was followed, since a service that is started anew begins a new one. A list
+has *pieces*: the lines that one reply brought, with the one time at which they were seen. A piece and the number of the last
+line are one transaction, so whatever ends the keeper, all lines up to that number are there, and none twice.
+
+Each piece has a digest of itself and of the digest of the piece before it, by which damage and edits are found.
+"""
+
+from __future__ import annotations
+
+import hashlib
+import struct
+import time
+import zlib
+from dataclasses import dataclass
+from datetime import datetime, timezone
+from typing import Any, Iterator
+
+import sqlalchemy as sql
+from sqlalchemy.engine import Engine
+
+from pagelog.archive import file_is_missing
+from pagelog.archive_engine import engine_of
+from pagelog.reply import LINE_SIZE
+from pagelog.trail.texts import TrailError, without_tokens
+
+FORMAT = 1
+"""The number of the tables' form, which each list carries."""
+NO_DIGEST = bytes(32)
+"""What stands before the first piece of a list."""
+_PIECES = 64
+_NO_ROWS = (TypeError, ValueError, OverflowError, MemoryError)
+"""What is raised where a bit is wrong, by which SQLite has a text or a number in the place of bytes."""
+_HEAD = struct.Struct(">QIQ")
+
+_metadata = sql.MetaData()
+_lists = sql.Table(
+    "pagelog_trail_list",
+    _metadata,
+    sql.Column("id", sql.Integer, primary_key=True),
+    sql.Column("log", sql.String(200), nullable=False),
+    sql.Column("run", sql.Integer, nullable=False),
+    sql.Column("format", sql.Integer, nullable=False),
+    sql.Column("generation", sql.BigInteger, nullable=False),
+    sql.Column("start_primary", sql.BigInteger),
+    sql.Column("kept", sql.BigInteger, nullable=False),
+    sql.Column("seen", sql.BigInteger, nullable=False),
+    sql.Column("pruned", sql.BigInteger, nullable=False),
+    sql.Column("digest", sql.LargeBinary, nullable=False),
+    sql.Column("ended", sql.String(100)),
+    sql.Column("ended_seen", sql.BigInteger),
+    sql.UniqueConstraint("log", "run"),
+)
+_pieces = sql.Table(
+    "pagelog_trail_piece",
+    _metadata,
+    sql.Column("list", sql.Integer, sql.ForeignKey("pagelog_trail_list.id"), primary_key=True, autoincrement=False),
+    sql.Column("first", sql.BigInteger, primary_key=True, autoincrement=False),
+    sql.Column("count", sql.Integer, nullable=False),
+    sql.Column("seen", sql.BigInteger, nullable=False),
+    sql.Column("day", sql.String(10), nullable=False, index=True),
+    sql.Column("before", sql.LargeBinary, nullable=False),
+    sql.Column("digest", sql.LargeBinary, nullable=False),
+    sql.Column("data", sql.LargeBinary, nullable=False),
+)
+_texts = sql.Table(
+    "pagelog_trail_text",
+    _metadata,
+    sql.Column("list", sql.Integer, sql.ForeignKey("pagelog_trail_list.id"), primary_key=True, autoincrement=False),
+    sql.Column("digest", sql.String(64), primary_key=True),
+    sql.Column("line", sql.BigInteger, primary_key=True, autoincrement=False),
+    sql.Column("text", sql.LargeBinary, nullable=False),
+)
+_seals = sql.Table(
+    "pagelog_trail_seal",
+    _metadata,
+    sql.Column("log", sql.String(200), primary_key=True),
+    sql.Column("lsn", sql.BigInteger, primary_key=True, autoincrement=False),
+    sql.Column("digest", sql.LargeBinary, nullable=False),
+)
+_START, _ANY = 0, -1
+
+
+class NoTrail(TrailError):
+    """There is no trail of this name, or none at the URL."""
+
+
+class OtherKeeper(TrailError):
+    """Another keeper has added lines meanwhile. Nothing of the reply was kept."""
+
+
+class BrokenTrail(TrailError):
+    """A piece of the trail is missing, or is not the one that was kept. `line` is the number of its first line."""
+
+    def __init__(self, line: int, what: str) -> None:
+        self.line = line
+        super().__init__(f"the trail is broken at line {line}: {what}")
+
+
+@dataclass(frozen=True)
+class Start:
+    """What a database began from: the text of its first table, and its first primary."""
+
+    table: bytes
+    primary: int
+
+
+@dataclass(frozen=True)
+class TrailList:
+    """One audit list, as far as it was seen: lines 1 to `kept`, of which the first `pruned` were taken away.
+
+    `run` counts the lists of the log from 1. `seen` is when the last line was seen. `ended` says in words why the list got no
+    more lines, and is None where it may.
+    """
+
+    id: int
+    run: int
+    generation: int
+    kept: int
+    seen: int
+    pruned: int
+    digest: bytes
+    ended: str | None
+    ended_seen: int | None
+
+
+@dataclass(frozen=True)
+class Piece:
+    """Lines that were seen at one time: `count` of them, 53 bytes each, from number `first` on."""
+
+    first: int
+    seen: int
+    lines: bytes
+
+    @property
+    def count(self) -> int:
+        return len(self.lines) // LINE_SIZE
+
+
+def digest_of(before: bytes, first: int, seen: int, lines: bytes) -> bytes:
+    """The digest of a piece behind the one with the digest `before`."""
+    return hashlib.sha256(before + _HEAD.pack(first, len(lines) // LINE_SIZE, seen) + lines).digest()
+
+
+def day_of(seen: int) -> str:
+    """The day of a time, in UTC, as 2026-11-28. Times are in microseconds since 1970."""
+    return datetime.fromtimestamp(seen / 1e6, timezone.utc).strftime("%Y-%m-%d")
+
+
+class Trail:
+    """The trail of one log. A database error is an exception of SQLAlchemy, and then nothing of a reply was kept."""
+
+    def __init__(self, url: str, log: str = "0", *, create: bool = False) -> None:
+        """Opens the trail of the log of this name; with `create` makes what is not there. Raises `NoTrail`."""
+        self.url = url
+        self.log = log
+        if not create and file_is_missing(url):
+            raise NoTrail("there is no archive at this URL")
+        self.engine = engine_of(url)
+        try:
+            if create:
+                _make(self.engine)
+            elif not sql.inspect(self.engine).has_table(_lists.name) or not self.lists():
+                raise NoTrail(f"there is no trail of {log!r} at this URL")
+        except BaseException:
+            self.close()
+            raise
+
+    def close(self) -> None:
+        """Closes all connections to the database."""
+        self.engine.dispose()
+
+    def __enter__(self) -> Trail:
+        return self
+
+    def __exit__(self, *_: object) -> None:
+        self.close()
+
+    # Lists.
+
+    def lists(self) -> list[TrailList]:
+        """The lists of this log, in the order in which they began."""
+        try:
+            with self.engine.begin() as connection:
+                rows = connection.execute(sql.select(_lists).where(_lists.c.log == self.log).order_by(_lists.c.run)).fetchall()
+            if rows and rows[-1].format != FORMAT:
+                raise TrailError(f"the trail has format {rows[-1].format}, and this program reads {FORMAT}")
+            return [TrailList(row.id, row.run, row.generation, row.kept, row.seen, row.pruned, bytes(row.digest), row.ended, row.ended_seen)
+                    for row in rows]  # fmt: skip
+        except _NO_ROWS as error:
+            raise TrailError("the trail's tables cannot be read: they are damaged") from error
+
+    def begin(self, *, generation: int = 0, start: Start | None = None) -> TrailList:
+        """Begins a list without lines. The one before it has to have ended."""
+        before = self.lists()
+        if before and before[-1].ended is None:
+            raise TrailError(f"list {before[-1].run} has not ended")
+        values = {"log": self.log, "run": len(before) + 1, "format": FORMAT, "generation": generation, "kept": 0, "pruned": 0,
+                  "seen": before[-1].seen if before else 0, "digest": NO_DIGEST}  # fmt: skip
+        try:
+            with self.engine.begin() as connection:
+                connection.execute(_lists.insert().values(values))
+        except sql.exc.IntegrityError as error:
+            raise OtherKeeper(f"another keeper has begun list {len(before) + 1}") from error
+        begun = self.lists()[-1]
+        if start is not None:
+            self.set_start(begun, start)
+        return begun
+
+    def end(self, one: TrailList, why: str, seen: int) -> None:
+        """The list gets no more lines, for this reason."""
+        with self.engine.begin() as connection:
+            connection.execute(_lists.update().where(_lists.c.id == one.id).values(ended=why, ended_seen=max(seen, one.seen)))
+
+    # Tables.
+
+    def set_start(self, one: TrailList, start: Start) -> None:
+        """Says what the database of this list began from. Tokens are not kept."""
+        with self.engine.begin() as connection:
+            connection.execute(_lists.update().where(_lists.c.id == one.id).values(start_primary=start.primary))
+            connection.execute(_texts.delete().where(_texts.c.list == one.id, _texts.c.line == _START))
+            connection.execute(_texts.insert().values(_text(one, start.table, _START)))
+
+    def start(self, one: TrailList) -> Start | None:
+        """What the database of this list began from, if that was said."""
+        with self.engine.begin() as connection:
+            primary = connection.execute(sql.select(_lists.c.start_primary).where(_lists.c.id == one.id)).scalar_one()
+        texts = self._texts(one, _START)
+        return Start(texts[0], primary) if texts and primary is not None else None
+
+    def give_table(self, one: TrailList, text: bytes, line: int | None = None) -> None:
+        """Keeps the text of a table that was set, but for its tokens: by this line of the list, or by one whose length it has."""
+        values = _text(one, text, _ANY if line is None else line)
+        with self.engine.begin() as connection:
+            same = (_texts.c.list == one.id, _texts.c.line == values["line"], _texts.c.digest == values["digest"])
+            if connection.execute(sql.select(_texts.c.line).where(*same)).first() is None:
+                connection.execute(_texts.insert().values(values))
+
+    def texts_for(self, one: TrailList, line: int, length: int) -> list[bytes]:
+        """The texts that this line may have set: the one that was given for it, or all of its length."""
+        own = self._texts(one, line)
+        return own or [text for text in self._texts(one, _ANY) if len(text) == length]
+
+    def _texts(self, one: TrailList, line: int) -> list[bytes]:
+        wanted = sql.select(_texts.c.digest, _texts.c.text).where(_texts.c.list == one.id, _texts.c.line == line)
+        with self.engine.begin() as connection:
+            rows = connection.execute(wanted.order_by(_texts.c.digest)).fetchall()
+        for row in rows:
+            if hashlib.sha256(bytes(row.text)).hexdigest() != row.digest:
+                raise BrokenTrail(max(line, 0), "the text of a table is not the one that was kept")
+        return [bytes(row.text) for row in rows]
+
+    # Lines.
+
+    def keep(self, one: TrailList, lines: bytes, seen: int) -> TrailList:
+        """Keeps the lines after the last one of the list, in one transaction, as seen at this time or at that of the last one,
+        whichever is later. Returns the list as it is then. Raises `OtherKeeper`.
+        """
+        if not lines:
+            return one
+        first, seen = one.kept + 1, max(seen, one.seen)
+        last = one.kept + len(lines) // LINE_SIZE
+        digest = digest_of(one.digest, first, seen, lines)
+        piece = {"list": one.id, "first": first, "count": last - one.kept, "seen": seen, "day": day_of(seen), "before": one.digest,
+                 "digest": digest, "data": zlib.compress(lines, 1)}  # fmt: skip
+        with self.engine.begin() as connection:
+            moved = connection.execute(
+                _lists.update()
+                .where(_lists.c.id == one.id, _lists.c.kept == one.kept, _lists.c.ended.is_(None))
+                .values(kept=last, seen=seen, digest=digest)
+            )
+            if moved.rowcount != 1:
+                raise OtherKeeper(f"list {one.run} does not end at line {one.kept} any more")
+            connection.execute(_pieces.insert(), [piece])
+        return TrailList(one.id, one.run, one.generation, last, seen, one.pruned, digest, None, None)
+
+    def pieces(
+        self, one: TrailList, first: int = 1, *, since: int | None = None, until: int | None = None
+    ) -> Iterator[Piece]:
+        """The pieces of a list that end at line `first` or behind it, of this time if one is given, each of them checked.
+
+        Raises `BrokenTrail` for the first that is missing or damaged.
+        """
+        wanted = sql.select(_pieces).where(_pieces.c.list == one.id, _pieces.c.first <= one.kept)
+        if since is not None:
+            wanted = wanted.where(_pieces.c.seen >= since)
+        if until is not None:
+            wanted = wanted.where(_pieces.c.seen < until)
+        last: Any = None
+        at = self._first_piece(one, first)
+        while True:
+            page = wanted.where(_pieces.c.first >= at).order_by(_pieces.c.first).limit(_PIECES)
+            try:
+                with self.engine.begin() as connection:
+                    rows = connection.execute(page).fetchall()
+            except _NO_ROWS as error:
+                raise BrokenTrail(max(at, 1), "it cannot be read") from error
+            for row in rows:
+                if last is None and since is None and row.first > max(first, one.pruned + 1):
+                    raise BrokenTrail(max(first, one.pruned + 1), "it is missing")
+                yield _piece(row, last)
+                last = row
+            if len(rows) < _PIECES:
+                break
+            at = rows[-1].first + 1
+        if last is None and since is None and until is None and one.kept > one.pruned and first <= one.kept:
+            raise BrokenTrail(one.pruned + 1, "it is missing")
+        if last is not None and until is None and bytes(last.digest) != one.digest:
+            raise BrokenTrail(last.first + last.count, "what is behind it is missing")
+
+    def _first_piece(self, one: TrailList, line: int) -> int:
+        """The first number of the piece that this line is in."""
+        wanted = sql.select(sql.func.max(_pieces.c.first)).where(_pieces.c.list == one.id, _pieces.c.first <= line)
+        with self.engine.begin() as connection:
+            return int(connection.execute(wanted).scalar_one() or 0)
+
+    def lines(self, one: TrailList, first: int) -> bytes:
+        """The bytes of the lines from number `first` on, without the pruned ones."""
+        found = b""
+        for piece in self.pieces(one, first):
+            found += piece.lines[max(0, first - piece.first) * LINE_SIZE :]
+        return found
+
+    # Seals.
+
+    def seals(self) -> dict[int, bytes]:
+        """The digests of the archived blocks of this log, from LSN 1 to each of these."""
+        wanted = sql.select(_seals.c.lsn, _seals.c.digest).where(_seals.c.log == self.log)
+        with self.engine.begin() as connection:
+            return {row.lsn: bytes(row.digest) for row in connection.execute(wanted)}
+
+    def keep_seal(self, lsn: int, digest: bytes) -> None:
+        """Keeps the digest up to an LSN. Raises `OtherKeeper` where there is one."""
+        try:
+            with self.engine.begin() as connection:
+                connection.execute(_seals.insert().values(log=self.log, lsn=lsn, digest=digest))
+        except sql.exc.IntegrityError as error:
+            raise OtherKeeper(f"another keeper has sealed LSN {lsn}") from error
+
+    # Pruning.
+
+    def prune(self, before: int) -> int:
+        """Takes away the pieces of all days before that of this time, but the last piece of a list. Returns how many lines went.
+
+        A list without its beginning cannot be replayed.
+        """
+        gone = 0
+        for one in self.lists():
+            old = sql.and_(_pieces.c.list == one.id, _pieces.c.day < day_of(before), _pieces.c.first + _pieces.c.count <= one.kept)
+            with self.engine.begin() as connection:
+                last = connection.execute(sql.select(sql.func.max(_pieces.c.first + _pieces.c.count - 1)).where(old)).scalar_one()
+                if last is None:
+                    continue
+                connection.execute(_pieces.delete().where(_pieces.c.list == one.id, _pieces.c.first <= last))
+                connection.execute(_lists.update().where(_lists.c.id == one.id).values(pruned=last))
+            gone += last - one.pruned
+        return gone
+
+
+def _text(one: TrailList, text: bytes, line: int) -> dict[str, Any]:
+    hidden = without_tokens(text)
+    return {"list": one.id, "line": line, "digest": hashlib.sha256(hidden).hexdigest(), "text": hidden}
+
+
+def _piece(row: Any, last: Any) -> Piece:
+    """The piece of a row, which comes behind the row `last`, if that was read."""
+    if last is not None and (row.first != last.first + last.count or row.before != last.digest):
+        raise BrokenTrail(last.first + last.count, "the next piece is not behind it")
+    try:
+        lines = zlib.decompress(bytes(row.data))
+        is_whole = len(lines) == row.count * LINE_SIZE
+        is_kept = is_whole and digest_of(bytes(row.before), row.first, row.seen, lines) == bytes(row.digest)
+    except (zlib.error, struct.error, *_NO_ROWS) as error:
+        raise BrokenTrail(row.first, "its bytes are not those that were kept") from error
+    if not is_kept:
+        raise BrokenTrail(row.first, "its lines are not those that were kept")
+    return Piece(row.first, row.seen, lines)
+
+
+def _make(engine: Engine) -> None:
+    """Makes what is not there. Where another does so at the same time, it is looked for again."""
+    try:
+        _metadata.create_all(engine)
+    except (sql.exc.IntegrityError, sql.exc.ProgrammingError, sql.exc.OperationalError):
+        time.sleep(0.1)
+        _metadata.create_all(engine)

@@ -1,0 +1,319 @@
+"""What the tests of keepers use: a referee of PostgreSQL's, and a line to it that is cut or stands still at a given byte."""
+
+from __future__ import annotations
+
+import itertools
+import json
+import os
+import re
+import select
+import shutil
+import signal
+import socket
+import subprocess
+import sys
+import tempfile
+import threading
+import time
+import unittest
+import urllib.request
+from contextlib import contextmanager
+from pathlib import Path
+from typing import Any, Callable, Iterator
+
+import psycopg
+from click.testing import CliRunner
+from prometheus_client.parser import text_string_to_metric_families
+
+from pagelog import Block, NamedPrimary, NamedReader, Primary, Put, Reader
+from pagelog.desk.words import pagelogctl
+from pagelog.keeper.referee import KeeperError, Referee, digest, plain_url
+from pagelog.keeper.rows import Batch, Kept, Row
+from pagelog.keeper.run import end_orphans
+from pagelog.place import Keepers, Place
+from postgres import postgres
+from service import PATIENCE, PROGRAM, SOURCE, TABLE, WIDE_TABLE, put, token
+
+_numbers = itertools.count(1)
+_shared: list[str] = []
+
+
+def new_url() -> str:
+    """The URL of a new database with the referee's tables."""
+    url = plain_url(postgres().url(f"keepers{next(_numbers)}"))
+    referee = Referee(url)
+    referee.prepare()
+    referee.close()
+    return url
+
+
+def shared_url() -> str:
+    """The URL of the referee that the keepers of this run share, one test after the other."""
+    if not _shared:
+        _shared.append(new_url())
+    return _shared[0]
+
+
+def blocks(first: int, count: int, what: bytes = b"x") -> tuple[bytes, ...]:
+    return tuple(Block.of(lsn, [Put(0, 0, what + b"%d" % lsn)]).data for lsn in range(first, first + count))
+
+
+def batch_of(row: Row, kept: Kept, run: str, count: int = 3, what: bytes = b"x") -> Batch:
+    made = blocks(kept.archived + 1, count, what)
+    return Batch(row.id, run, kept.generation, kept.archived, digest(kept.chain, made), made)
+
+
+def new_database(referee: Referee, name: str) -> Row:
+    assert referee.create(name, TABLE.read_text(), b"s" * 16)
+    row = referee.everything().row(name)
+    assert row is not None
+    return row
+
+
+class Line:
+    """A way to the server's socket on which each connection goes `bytes` bytes to it and `back` bytes back, and then is cut,
+    or with `stalls` stands still."""
+
+    def __init__(self, bytes: int = 1 << 60, back: int = 1 << 60, *, stalls: bool = False) -> None:
+        self.left = {"to": bytes, "back": back}
+        self.stalls = stalls
+        self.folder = Path(tempfile.mkdtemp(prefix="pagelog-line-"))
+        self.listener = socket.socket(socket.AF_UNIX)
+        self.listener.bind(str(self.folder / ".s.PGSQL.5432"))
+        self.listener.listen()
+        self.open: list[socket.socket] = []
+        threading.Thread(target=self._accept, daemon=True).start()
+
+    def url(self, url: str) -> str:
+        return url.partition("?")[0] + f"?host={self.folder}"
+
+    def count_from_now(self, to: int = 1 << 60, back: int = 1 << 60) -> None:
+        self.left.update(to=to, back=back)
+
+    def close(self) -> None:
+        for each in (self.listener, *self.open):
+            each.close()
+        (self.folder / ".s.PGSQL.5432").unlink(missing_ok=True)
+        self.folder.rmdir()
+
+    def _accept(self) -> None:
+        while True:
+            try:
+                client, _ = self.listener.accept()
+            except OSError:
+                return
+            server = socket.socket(socket.AF_UNIX)
+            server.connect(str(postgres().folder / ".s.PGSQL.5432"))
+            self.open += [client, server]
+            threading.Thread(target=self._pass, args=(client, server), daemon=True).start()
+
+    def _pass(self, client: socket.socket, server: socket.socket) -> None:
+        try:
+            while True:
+                for side in select.select([client, server], [], [])[0]:
+                    data = side.recv(65536)
+                    way = "to" if side is client else "back"
+                    part = data[: self.left[way]]
+                    self.left[way] -= len(part)
+                    (server if side is client else client).sendall(part)
+                    if not data or len(part) < len(data):
+                        if data and self.stalls:
+                            return  # both stay open, and nothing passes
+                        client.close()
+                        server.close()
+                        return
+        except (OSError, ValueError):
+            client.close()
+            server.close()
+
+
+class Keeping:
+    """Keepers of one referee, as processes, and the clients of their database. All of it ends with the `with`."""
+
+    def __init__(self, *, ttl: float = 1.5, standby: bool = True, audit: int = 1_000_000, url: str | None = None, more: str = "") -> None:
+        self.url = url or shared_url()
+        self.environment = {**os.environ, "PYTHONPATH": str(SOURCE), "PYTHONPYCACHEPREFIX": tempfile.gettempdir() + f"/pagelog-pycache-{os.getpid()}"}
+        self.referee = Referee(self.url)
+        self.folder = Path(tempfile.mkdtemp(prefix="pagelog-keeping-"))
+        self.ttl = ttl
+        self.file = self.folder / "credentials.toml"
+        self.file.touch(mode=0o600)
+        self.file.write_text(f'[archive]\nurl = "{self.url}"\n[keeper]\nttl = {ttl}\nstandby = {"true" if standby else "false"}\n'
+                             f"audit = {audit}\n{more}")  # fmt: skip
+        self.table = self.folder / "table.toml"
+        self.table.write_text(WIDE_TABLE)
+        self.processes: dict[str, subprocess.Popen[str]] = {}
+        self.ports = dict.fromkeys("abcd", 0)
+
+    def __enter__(self) -> Keeping:
+        return self
+
+    def __exit__(self, *_: object) -> None:
+        for process in self.processes.values():
+            process.kill()
+            process.wait()
+            assert process.stdout is not None
+            process.stdout.close()
+        for name in self.processes:
+            end_orphans(self.folder / name, set())
+        self.referee.close()
+        for row in self.referee.everything().rows:
+            if not row.dropped:
+                self.referee.drop(row.name)
+        self.referee.close()
+        if os.environ.get("PAGELOG_TEST_SAYS"):
+            print(self.said())
+        shutil.rmtree(self.folder, ignore_errors=True)
+
+    def said(self) -> str:
+        return "\n".join(f"--- {file.stem}\n{file.read_text()}" for file in sorted(self.folder.glob("*.log")))
+
+    def word(self, *words: object) -> str:
+        """What a word of pagelogctl prints."""
+        done = CliRunner().invoke(pagelogctl, [*map(str, words), "--credentials", str(self.file)])
+        if done.exit_code != 0:
+            raise AssertionError(f"{words}: {done.exit_code}: {done.output}")
+        return done.output
+
+    def start(self, *names: str, program: str = PROGRAM) -> None:
+        """Starts keepers, and waits until they listen."""
+        self.launch(*names, program=program)
+        for name in names:
+            line = self.processes[name].stdout.readline()  # type: ignore[union-attr]
+            assert line.startswith("listening"), self.said()
+            self.ports[name] = int(line.rpartition(":")[2])  # one that the system gave, which it has again when it is started again
+
+    def launch(self, *names: str, program: str = PROGRAM) -> None:
+        for name in names:
+            words = [sys.executable, "-m", "pagelog", "keep", "--name", name, "--lines", f"127.0.0.1:{self.ports[name]}",
+                     "--serve", "127.0.0.1", "--folder", self.folder / name, "--program", program, "--credentials", self.file]  # fmt: skip
+            with (self.folder / f"{name}.log").open("a") as log:
+                self.processes[name] = subprocess.Popen(list(map(str, words)), stdout=subprocess.PIPE, stderr=log, text=True,
+                                                        env=self.environment)  # fmt: skip
+
+    def kill(self, name: str, number: int = signal.SIGKILL) -> None:
+        process = self.processes[name]
+        process.send_signal(number)
+        if number in (signal.SIGKILL, signal.SIGTERM):
+            process.wait()
+
+    @property
+    def addresses(self) -> list[str]:
+        return [f"127.0.0.1:{self.ports[name]}" for name in self.processes]
+
+    def keepers(self, name: str = "shop") -> Keepers:
+        return Keepers(name, self.addresses, PATIENCE)
+
+    def place(self, name: str = "shop", least: int = 0) -> Place:
+        keepers = self.keepers(name)
+        try:
+            return keepers.place(least)
+        finally:
+            keepers.close()
+
+    def pid(self, name: str = "shop") -> int:
+        """The process of the service that has the database now."""
+        [file] = self.folder.glob(f"*/{name}.{self.place(name).run}.json")
+        return int(json.loads(file.read_text())["pid"])
+
+    @contextmanager
+    def line(self, name: str = "a") -> Iterator[Any]:
+        """A connection to the lines of a keeper, as text."""
+        with socket.create_connection(("127.0.0.1", self.ports[name]), PATIENCE) as line, line.makefile("rw") as text:
+            yield text
+
+    def metrics(self) -> dict[tuple[str, str], float]:
+        """Those of the one keeper, by name and the value of the last label: the database or its state."""
+        [address] = set(re.findall(r"metrics at (\S+)", self.said()))
+        with urllib.request.urlopen(f"http://{address}/metrics", timeout=PATIENCE) as reply:
+            families = text_string_to_metric_families(reply.read().decode())
+            return {(sample.name, ["", *sample.labels.values()][-1]): sample.value for family in families for sample in family.samples}
+
+    def row(self, name: str = "shop") -> Row:
+        """What the referee shows of it."""
+        try:
+            row = self.referee.everything().row(name)
+        except KeeperError:
+            self.referee.close()  # its server may have been killed
+            row = self.referee.everything().row(name)
+        assert row is not None
+        return row
+
+    def standbys(self, name: str = "shop") -> dict[str, int]:
+        """How far each keeper's standby is."""
+        look = self.referee.everything()
+        row = look.row(name)
+        return {} if row is None else {standby.keeper: standby.reached for standby in look.standbys_of(row.id)}
+
+    def primary(self, name: str = "shop", id: int = 2, **options: Any) -> NamedPrimary:
+        return Primary.named(name, keepers=self.addresses, principal=id, token=token(id), operator=(1, token(1)), patience=PATIENCE,
+                             timeout=PATIENCE, **options)  # fmt: skip
+
+    def reader(self, name: str = "shop", **options: Any) -> NamedReader:
+        return Reader.named(name, keepers=self.addresses, principal=3, token=token(3), patience=PATIENCE, timeout=PATIENCE, **options)
+
+    def archive(self, name: str = "shop") -> list[bytes]:
+        """All archived blocks; the digest of them has been compared."""
+        row = self.row(name)
+        found = [block for piece in self.referee.blocks(row.id, 1, row.archived) for block in piece]
+        assert digest(b"", found) == row.chain
+        return found
+
+
+def eventually(condition: Callable[[], bool], what: str = "") -> None:
+    """Waits for what has to come."""
+    deadline = time.monotonic() + PATIENCE
+    while not condition():
+        assert time.monotonic() < deadline, f"it did not come: {what}"
+        time.sleep(0.02)
+
+
+class Kept(unittest.TestCase):
+    keepers = "ab"
+    options: dict[str, object] = {}
+
+    def setUp(self) -> None:
+        self.keeping = self.enterContext(Keeping(**self.options))  # type: ignore[arg-type]
+        self.addCleanup(self.say_if_failed)
+        self.assertTrue(self.keeping.referee.create("shop", self.keeping.table.read_text(), b"s" * 16))
+        self.keeping.start(*self.keepers)
+
+    def say_if_failed(self) -> None:
+        outcome = getattr(self, "_outcome", None)
+        if outcome is not None and not outcome.success:
+            print(self.keeping.said())
+
+    def texts(self) -> list[bytes]:
+        """The text of each archived block, in order."""
+        return [Block.decode(block).records[-1].data.strip(b"<>") for block in self.keeping.archive()]  # type: ignore[union-attr]
+
+    def commit(self, primary: object, text: str, **how: bool) -> int:
+        primary.append(put(0, f"<{text}>".encode()))  # type: ignore[attr-defined]
+        return primary.commit(**how)  # type: ignore[attr-defined,no-any-return]
+
+
+class Gate:
+    """Statements of the referee wait at it, once they have changed a row so; another session's commit is held up thus."""
+
+    def __init__(self, url: str, when: str) -> None:
+        self._session = psycopg.connect(url, autocommit=True)
+        self._session.execute("SELECT pg_advisory_lock(42)")
+        self._session.execute("CREATE OR REPLACE FUNCTION pagelog_gate() RETURNS trigger LANGUAGE plpgsql AS "
+                              "$$ BEGIN PERFORM pg_advisory_xact_lock_shared(42); RETURN NEW; END $$")  # fmt: skip
+        self._session.execute(f"CREATE TRIGGER pagelog_gate BEFORE UPDATE ON pagelog_log FOR EACH ROW WHEN ({when}) "
+                              "EXECUTE FUNCTION pagelog_gate()")  # fmt: skip
+
+    def somebody_waits(self) -> None:
+        waits = "SELECT 1 FROM pg_stat_activity WHERE wait_event_type = 'Lock' AND wait_event = 'advisory'"
+        eventually(lambda: self._session.execute(waits).fetchone() is not None, "a statement at the gate")
+
+    def open(self) -> None:
+        self._session.execute("SELECT pg_advisory_unlock_all()")
+        while True:
+            try:
+                self._session.execute("SET lock_timeout = '50ms'")
+                self._session.execute("DROP TRIGGER IF EXISTS pagelog_gate ON pagelog_log")
+                break
+            except psycopg.errors.LockNotAvailable:
+                continue
+        self._session.close()

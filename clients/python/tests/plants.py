@@ -1,0 +1,100 @@
+"""Takes out each precaution of the keepers, one at a time, on a copy, and sees that its test fails.
+
+Usage: python3 -B clients/python/tests/plants.py [NAME ..]
+"""
+
+from __future__ import annotations
+
+import os
+import shutil
+import subprocess
+import sys
+import tempfile
+from pathlib import Path
+from typing import NamedTuple
+
+PYTHON = Path(__file__).resolve().parent.parent
+
+
+class Plant(NamedTuple):
+    """An edit of a module of the keepers, and the part and the test that have to see it."""
+
+    module: str
+    old: str
+    new: str
+    part: str
+    test: str
+
+
+PLANTS = {
+    "fence": Plant("statements", "l.run = due.run AND l.generation = due.generation AND l.archived = due.old", "l.archived = due.old",
+                   "referee", "keeps_nothing"),
+    "position": Plant("statements", " AND l.archived = due.old", "", "referee", "under_run_generation_and_archived_position"),
+    "take": Plant("statements", "generation = %(generation)s AND archived = %(archived)s AND run IS NOT DISTINCT FROM %(seen_run)s::text\n"
+                  "    AND", "", "referee", "eight_takes"),
+    "select": Plant("statements", "UPDATE pagelog_keeper SET beat = beat + 1, report = COALESCE(%(report)s::jsonb, report)\n"
+                    "  WHERE name = %(me)s AND run = %(run)s RETURNING name",
+                    "SELECT name FROM pagelog_keeper WHERE %(report)s::jsonb IS NULL AND name = %(me)s AND run = %(run)s",
+                    "referee", "a_look_waits"),
+    "warn": Plant("referee", "if self._warnings:", "if False:", "referee", "a_cancelled_commit_is_in_doubt"),
+    "locks": Plant("referee", "self._end_sessions(seen.holder)", "pass", "referee", "stands_still_anywhere"),
+    "tokens": Plant("table", 'f"{name}/{run}".encode()', "name.encode()", "runs", "later_run_is_denied"),
+    "number": Plant("run", "(now.started, now.boot) == (facts.started, facts.boot)", "True", "runs", "another_process"),
+    "early": Plant("archiver", "            kept = await self._committer.keep(batch)",
+                   "            self._waits.tell(served.generation, batch.new)\n            kept = await self._committer.keep(batch)",
+                   "keepers", "before_its_commit"),
+    "published": Plant("database", "            await self._filled(served, row.base, row.chain)\n            await asyncio.to_thread("
+                       "served.check, row.base, row.chain)", "            await self._ask(self._referee.publish, row.id, served.run, "
+                       "served.process.address)\n            await self._filled(served, row.base, row.chain)", "keepers", "a_place_is_published"),
+    "standby": Plant("served", "        if hard != archived:", "        if False:", "standbys", "ahead_of_the_archive"),
+    "digest": Plant("served", "        if chain != wanted:", "        if False:", "standbys", "no_other_archive"),
+    "orphan": Plant("keeping", "end_orphans, self.settings.program.folder, wanted", "lambda *_: (), 0, 0", "standbys", "orphan"),
+    "table first": Plant("served", "        self._operator.set_table(self._table(Form.READING))\n", "", "runs", "cannot_be_opened_again"),
+    "the rest": Plant("database", "        if self._archiver is None or not await self._archiver.reached(end):\n            return False\n",
+                      "", "standbys", "told_to_end"),
+    "one disk": Plant("referee", "        if self._requires_standby:\n", "        if False:\n", "disks", "until_a_standby_has_it"),
+    "one disk, taken": Plant("referee", "        if self._requires_standby:\n", "        if False:\n", "disks", "nobody_takes_over"),
+    "standby is there": Plant("referee", "            if reached is None:\n", "            if reached is None:\n                return\n"
+                              "            if False:\n", "disks", "wait_is_given_up"),
+    "once": Plant("keeping", "        if sentence != self._said:\n", "        if True:\n", "disks", "said_once"),
+    "away": Plant("keeping", "            self.synchronous = Synchronous()\n", "", "disks", "nothing_is_durable_until"),
+    "watchdog": Plant("keeping", '        self._shared.spawn(self._live(), "the watchdog")\n', "", "keepers", "systemd_hears"),
+    "notify waits": Plant("notify", "        line.setblocking(False)\n", "", "keepers", "systemd_hears"),
+    "ready": Plant("keeping", '        notify("READY=1")  # PostgreSQL may be away still\n', "", "keepers", "systemd_hears"),
+    "broken series": Plant("machine", " or now - self._last > self.ttl / 2", "", "machine", "broken"),
+}  # fmt: skip
+
+
+def fails(plant: Plant) -> bool:
+    """Whether the test fails with the edit. It has to pass a run without it, which is the tests' own business."""
+    with tempfile.TemporaryDirectory(prefix="pagelog-plants-") as folder:
+        copy = Path(folder) / "clients" / "python"
+        shutil.copytree(PYTHON, copy, ignore=shutil.ignore_patterns("__pycache__", ".mypy_cache"))
+        tables = Path(folder) / "crates" / "pagelog" / "data"
+        tables.mkdir(parents=True)
+        shutil.copy(PYTHON.parent.parent / "crates" / "pagelog" / "data" / "t0.toml", tables)
+        file = copy / "src" / "pagelog" / "keeper" / f"{plant.module}.py"
+        text = file.read_text()
+        if text.count(plant.old) != 1:
+            raise AssertionError(f"the edit of {plant.module} does not fit: {plant.old!r} is there {text.count(plant.old)} times")
+        file.write_text(text.replace(plant.old, plant.new))
+        words = [str(copy / "test"), plant.part, plant.test]
+        environment = {**os.environ, "PAGELOG_TEST_PATIENCE": "40"}
+        done = subprocess.run(words, stdout=subprocess.PIPE, stderr=subprocess.STDOUT, text=True, env=environment)
+        if "clients/python: 0 passed, 0 failed" in done.stdout:
+            raise AssertionError(f"there is no test {plant.test} in {plant.part}")
+        return done.returncode != 0
+
+
+def main(names: list[str]) -> int:
+    missed = 0
+    for name in names or PLANTS:
+        seen = fails(PLANTS[name])
+        print(f"{name}: {'seen by' if seen else 'NOT SEEN by'} {PLANTS[name].part} {PLANTS[name].test}", flush=True)
+        missed += not seen
+    print(f"plants: {len(names or PLANTS) - missed} seen, {missed} not seen")
+    return 1 if missed else 0
+
+
+if __name__ == "__main__":
+    sys.exit(main(sys.argv[1:]))

@@ -1,0 +1,335 @@
+"""Attacks on the keepers and their clients: doubts, hangs and interrupts at the points where they hurt most."""
+
+from __future__ import annotations
+
+import asyncio
+import fcntl
+import os
+import resource
+import signal
+import socket
+import subprocess
+import sys
+import tempfile
+import threading
+import unittest
+from concurrent.futures import ThreadPoolExecutor
+from pathlib import Path
+from unittest.mock import patch
+
+import psycopg
+
+from keepers import Gate, Kept, Keeping, Line, batch_of, eventually, new_database, new_url
+from pagelog import Connection, ConnectionLost, OlderEpoch, OtherPrimary, Primary, Reader
+from pagelog.keeper import referee as referee_module
+from pagelog.keeper.committer import Committer
+from pagelog.keeper.referee import Doubt, Referee, digest
+from pagelog.keeper.rows import Batch
+from pagelog.keeper.run import Facts, Run
+from pagelog.keeper.session import Session
+from pagelog.keeper.table import KEEPER, keeper_of
+from pagelog.place import Fate, Keepers
+from pagelog.reply import State
+from service import PATIENCE, PROGRAM, SOURCE
+
+
+class Trigger:
+    """Each statement that changes a row so runs this, until it is closed."""
+
+    def __init__(self, url: str, table: str, when: str, body: str) -> None:
+        self._session, self._table = psycopg.connect(url, autocommit=True), table
+        self._session.execute(f"CREATE OR REPLACE FUNCTION pagelog_attack() RETURNS trigger LANGUAGE plpgsql AS $$ BEGIN {body}; RETURN NEW; END $$")
+        self._session.execute(f"CREATE TRIGGER pagelog_attack BEFORE {when} EXECUTE FUNCTION pagelog_attack()")
+
+    def close(self) -> None:
+        if not self._session.closed:
+            self._session.execute(f"DROP TRIGGER pagelog_attack ON {self._table}")
+            self._session.close()
+
+
+class Statements(Kept):
+    """Statements of a keeper that are in doubt, or refused, once."""
+
+    keepers = "a"
+
+    def test_a_place_whose_publication_was_in_doubt_is_archived(self) -> None:
+        with self.keeping.primary() as primary:
+            self.commit(primary, "1", durable=True)
+            # It is committed, and PostgreSQL warns, as where its wait for the standby was cancelled.
+            trigger = Trigger(self.keeping.url, "pagelog_log", "UPDATE ON pagelog_log FOR EACH ROW WHEN (NEW.address IS NOT NULL AND "
+                              "OLD.address IS NULL)", "RAISE WARNING 'cancelled'")  # fmt: skip
+            self.addCleanup(trigger.close)
+            os.kill(self.keeping.pid(), signal.SIGKILL)
+            self.assertEqual(self.commit(primary, "2", durable=True), 2)
+            self.assertIn("cancelled", self.keeping.said())
+            self.keeping.kill("a", signal.SIGTERM)
+            self.assertEqual(self.texts(), [b"1", b"2"])
+
+
+    def test_what_an_earlier_life_archives_late_stops_nothing(self) -> None:
+        with self.keeping.primary() as primary:
+            self.commit(primary, "1", durable=True)
+            place = self.keeping.place()
+            self.keeping.kill("a", signal.SIGSTOP)
+            self.commit(primary, "2")
+            self.commit(primary, "3")
+            # A batch that an earlier life had sent arrives once the position has been read: the next batch does not fit.
+            row = self.keeping.row()
+            with Reader(Connection(place.address), keeper_of(b"s" * 16, "shop", place.run)) as reader:
+                late = (reader.pull(2, max=1).blocks[0].data,)
+            batch = Batch(row.id, place.run, row.generation, 1, digest(row.chain, late), late)
+            self.assertEqual(self.keeping.referee.keep([batch]), {row.id})
+            self.keeping.kill("a", signal.SIGCONT)
+            primary.durable(3)
+            self.assertEqual(self.commit(primary, "4", durable=True), 4)
+            self.assertEqual((self.texts(), self.keeping.place().generation), ([b"1", b"2", b"3", b"4"], place.generation))
+
+
+    def test_a_writer_that_is_fenced_as_it_begins_fences_nobody(self) -> None:
+        with self.keeping.primary() as one, self.keeping.primary(id=5) as other:
+            self.commit(one, "1", durable=True)
+            one._leave()
+            place = self.keeping.place()
+            os.kill(self.keeping.pid(), signal.SIGKILL)
+            self.keeping.place(least=place.generation + 1)
+            begin, cuts = Primary.begin, iter((True,))
+
+            def begin_late(primary: Primary) -> State:
+                if primary.credentials.id == 2 and next(cuts, False):
+                    other._move()
+                return begin(primary)
+
+            with patch.object(Primary, "begin", begin_late), self.assertRaises((OlderEpoch, OtherPrimary)):
+                self.commit(one, "3")
+            self.assertEqual(self.commit(other, "2", durable=True), 2)
+            self.assertEqual(self.texts(), [b"1", b"2"])
+
+
+class Standbys(Kept):
+    def beat(self, name: str) -> int:
+        return next(keeper.beat for keeper in self.keeping.referee.everything().keepers if keeper.name == name)
+
+    def test_a_standby_that_could_not_be_noted_is_noted_later(self) -> None:
+        eventually(lambda: len(self.keeping.standbys()) == 1, "a standby")
+        [name] = self.keeping.standbys()
+        trigger = Trigger(self.keeping.url, "pagelog_standby", "INSERT ON pagelog_standby FOR EACH ROW", "RAISE EXCEPTION 'no room'")
+        self.addCleanup(trigger.close)
+        [note] = self.keeping.folder.glob(f"{name}/shop.*.json")
+        os.kill(int(note.read_text().partition('"pid": ')[2].partition(",")[0]), signal.SIGKILL)
+        eventually(lambda: "no room" in self.keeping.said(), "the refusal")
+        trigger.close()
+        eventually(lambda: len(self.keeping.standbys()) == 1, "the standby")
+
+    def test_a_service_that_hangs_while_it_is_closed_is_ended(self) -> None:
+        with self.keeping.primary() as primary:
+            self.commit(primary, "1", durable=True)
+            eventually(lambda: len(self.keeping.standbys()) == 1, "a standby")
+            gate = Gate(self.keeping.url, "NEW.archived > OLD.archived")
+            pid, before = self.keeping.pid(), self.keeping.place()
+            holder = next(name for name, port in self.keeping.ports.items() if before.lines.endswith(f":{port}"))
+            self.commit(primary, "2")
+            gate.somebody_waits()
+            self.commit(primary, "3")  # it is pulled once the batch at the gate is kept
+            self.keeping.processes[holder].send_signal(signal.SIGTERM)
+            eventually(lambda: "the keeper ends" in self.keeping.said(), "the end of the keeper")
+            with Reader(Connection(before.address), keeper_of(b"s" * 16, "shop", before.run)) as reader:
+                eventually(lambda: reader.status().primary == KEEPER, "the closed table")
+            looks = self.beat(holder)
+            eventually(lambda: self.beat(holder) > looks + 1, "the wait for the rest")
+            os.kill(pid, signal.SIGSTOP)
+            gate.open()
+            self.assertEqual(self.keeping.processes[holder].wait(PATIENCE), 0)
+            self.assertEqual(self.commit(primary, "4", durable=True), 4)
+            self.assertEqual(self.texts(), [b"1", b"2", b"3", b"4"])
+
+
+    def test_a_durable_page_is_of_the_run_that_its_end_is_of(self) -> None:
+        with self.keeping.primary() as primary, self.keeping.primary(id=5) as other:
+            self.commit(primary, "1", durable=True)
+            eventually(lambda: len(self.keeping.standbys()) == 1, "a standby")
+            place = self.keeping.place()
+            holder = next(name for name, port in self.keeping.ports.items() if place.lines.endswith(f":{port}"))
+            self.keeping.kill(holder)
+            self.assertEqual(self.commit(primary, "orphan"), 2)
+            self.keeping.place(least=place.generation + 1)
+            self.assertEqual(self.commit(other, "2", durable=True), 2)
+            with self.keeping.reader(durable_only=True) as reader:
+                eventually(lambda: reader.end() == 2, "the end")
+                opened, stale = reader._opened, Reader(Connection(place.address), reader._account.of(place))
+                self.addCleanup(stale.close)
+                cuts = iter((True,))
+
+                def cut(*_: object) -> None:
+                    raise ConnectionLost("cut")
+
+                def reopened() -> Reader:
+                    if not next(cuts, False):
+                        return opened()
+                    reader._reader, reader.place = stale, place  # a keeper that is cut off names the old place
+                    return stale
+
+                reader._reader.pages, reader._opened = cut, reopened  # type: ignore
+                self.assertEqual(reader.page(0).data[:3], b"<2>")
+
+
+class BadProgram(unittest.TestCase):
+    def test_a_keeper_whose_program_is_broken_takes_once_in_a_ttl_and_leaves_room_for_another(self) -> None:
+        with Keeping(ttl=1.0, standby=False, url=new_url()) as keeping:
+            keeping.referee.create("shop", keeping.table.read_text(), b"s" * 16)
+            keeping.start("a", program="/bin/false")
+
+            def beat() -> int:
+                return next(keeper.beat for keeper in keeping.referee.everything().keepers if keeper.name == "a")
+
+            first = beat()
+            eventually(lambda: beat() > first + 12, "looks of three ttl")
+            self.assertLessEqual(keeping.row().generation, 6)
+            keeping.start("b")
+            eventually(lambda: keeping.row().holder == "b" and keeping.row().address is not None, "the keeper that can")
+
+
+class Interrupted(unittest.TestCase):
+    """A keeper that answers each question when it is told to."""
+
+    def setUp(self) -> None:
+        self.listener = socket.create_server(("127.0.0.1", 0))
+        self.addCleanup(self.listener.close)
+        self.asked: list[str] = []
+        self.late = threading.Event()
+        threading.Thread(target=self.accept, daemon=True).start()
+        self.keepers = Keepers("shop", [f"127.0.0.1:{self.listener.getsockname()[1]}"], PATIENCE)
+        self.addCleanup(self.keepers.close)
+
+    def accept(self) -> None:
+        while True:
+            try:
+                line, _ = self.listener.accept()
+            except OSError:
+                return
+            threading.Thread(target=self.answer, args=(line,), daemon=True).start()
+
+    def answer(self, line: socket.socket) -> None:
+        with line, line.makefile("rw") as text:
+            try:
+                for asked in text:
+                    self.asked.append(asked)
+                    words = asked.split()
+                    if words[2:3] == ["1"]:
+                        self.late.wait(PATIENCE)
+                    answers = {"1": "over shop 1 5", "2": "durable shop 2 7"}
+                    print(answers.get(words[2] if len(words) > 2 else "", "nowhere shop"), file=text, flush=True)
+            except OSError:
+                pass
+
+    def test_an_answer_to_a_question_that_was_interrupted_is_not_taken_for_another(self) -> None:
+        def interrupt(*_: object) -> None:
+            raise KeyboardInterrupt
+
+        before = signal.signal(signal.SIGUSR2, interrupt)
+        self.addCleanup(signal.signal, signal.SIGUSR2, before)
+
+        def when_asked() -> None:
+            eventually(lambda: bool(self.asked), "the question")
+            os.kill(os.getpid(), signal.SIGUSR2)
+
+        threading.Thread(target=when_asked).start()
+        with self.assertRaises(KeyboardInterrupt):
+            self.keepers.fate(1, 6)
+        self.late.set()
+        self.assertEqual(self.keepers.fate(2, 7), Fate(7, False))
+
+    def test_a_child_has_lines_of_its_own(self) -> None:
+        self.keepers.where()
+        [line] = self.keepers._lines.values()
+        child = os.fork()
+        if child == 0:
+            try:
+                self.keepers.where()
+                os._exit(0 if self.keepers._lines and line not in self.keepers._lines.values() else 1)
+            finally:
+                os._exit(2)
+        self.assertEqual(os.waitstatus_to_exitcode(os.waitpid(child, 0)[1]), 0)
+
+
+class ManyFiles(unittest.TestCase):
+    def test_a_process_is_watched_where_a_thousand_files_are_open(self) -> None:
+        soft, hard = resource.getrlimit(resource.RLIMIT_NOFILE)
+        resource.setrlimit(resource.RLIMIT_NOFILE, (max(soft, min(hard, 3000)), hard))
+        self.addCleanup(resource.setrlimit, resource.RLIMIT_NOFILE, (soft, hard))
+        child = subprocess.Popen(["sleep", "1000"])
+        opened = os.pidfd_open(child.pid)
+        high = fcntl.fcntl(opened, fcntl.F_DUPFD_CLOEXEC, 2000)
+        os.close(opened)
+        with tempfile.TemporaryDirectory() as folder:
+            run = Run(Path(folder), Facts("shop", "r", child.pid, 0, ""), high, child)
+            self.assertTrue(run.is_alive)
+            run.end()
+        self.assertEqual(child.poll(), -signal.SIGKILL)
+
+
+class Away(unittest.TestCase):
+    def test_a_read_of_blocks_that_hangs_is_cut(self) -> None:
+        url, longest = new_url(), referee_module.LONGEST
+        line = Line(stalls=True)
+        self.addCleanup(line.close)
+        referee = Referee(line.url(url), "one")
+        self.addCleanup(referee.close)
+        row = new_database(referee, "shop")
+        line.count_from_now(to=0)
+        referee_module.LONGEST = 0.2
+        self.addCleanup(setattr, referee_module, "LONGEST", longest)
+        with self.assertRaises(Doubt):
+            list(referee.blocks(row.id, 1, 3))
+
+    def test_a_row_that_is_locked_holds_up_no_other_database(self) -> None:
+        url = new_url()
+        referee = Referee(url, "one", "life")
+        self.addCleanup(referee.close)
+        rows = [new_database(referee, name) for name in ("shop", "ship")]
+        shop, ship = [batch_of(row, kept, "r") for row in rows if (kept := referee.take(row, "r")) is not None]
+
+        async def keep() -> int:
+            committer = Committer(Session(referee, PATIENCE), PATIENCE)
+            running = asyncio.create_task(committer.run())
+            locked = asyncio.create_task(committer.keep(shop))
+            while (kept := await asyncio.wait_for(committer.keep(ship), PATIENCE)).archived == ship.old:
+                pass  # as an archiver does
+            self.assertFalse(locked.done())
+            session.rollback()
+            await asyncio.wait_for(locked, PATIENCE)
+            running.cancel()
+            return kept.archived
+
+        with psycopg.connect(url) as session:
+            session.execute("SELECT 1 FROM pagelog_log WHERE name = 'shop' FOR UPDATE")
+            self.assertEqual(asyncio.run(keep()), ship.new)
+
+    def test_services_that_hang_hold_up_no_statement(self) -> None:
+        hangs, referee = threading.Event(), Referee("postgresql://127.0.0.1:1/none")
+
+        async def ask() -> int:
+            loop = asyncio.get_running_loop()
+            loop.set_default_executor(ThreadPoolExecutor(1))
+            looking = loop.run_in_executor(None, hangs.wait)
+            try:
+                return await asyncio.wait_for(Session(referee, PATIENCE).ask(lambda: 1), PATIENCE / 2)
+            finally:
+                hangs.set()
+                await looking
+
+        self.assertEqual(asyncio.run(ask()), 1)
+
+    def test_a_keeper_that_never_reached_postgresql_ends_when_it_is_told_to(self) -> None:
+        with tempfile.TemporaryDirectory() as folder:
+            file, log = Path(folder) / "keeper.toml", Path(folder) / "log"
+            file.touch(mode=0o600)
+            file.write_text('[archive]\nurl = "postgresql://127.0.0.1:1/none"\n')
+            words = [sys.executable, "-m", "pagelog", "keep", "--name", "a", "--lines", "127.0.0.1:0", "--serve", "127.0.0.1",
+                     "--folder", folder + "/a", "--program", PROGRAM, "--credentials", str(file)]  # fmt: skip
+            with log.open("w") as errors:
+                process = subprocess.Popen(words, stdout=subprocess.DEVNULL, stderr=errors, env={**os.environ, "PYTHONPATH": str(SOURCE)})
+            self.addCleanup(process.kill)
+            eventually(lambda: "PostgreSQL" in log.read_text(), "a try")
+            process.send_signal(signal.SIGTERM)
+            self.assertEqual(process.wait(PATIENCE), 0)
+

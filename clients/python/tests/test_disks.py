@@ -1,0 +1,231 @@
+"""What durable means where PostgreSQL has a synchronous standby, loses it, and has it again."""
+
+from __future__ import annotations
+
+import json
+import os
+import signal
+import threading
+import unittest
+from typing import Any
+
+import psycopg
+
+from keepers import Kept, batch_of, eventually, new_database
+from pagelog.keeper.referee import Doubt, OneDisk, Referee
+from pagelog.keeper.rows import Synchronous
+from replicated import Pair
+from service import PATIENCE
+
+_pairs: list[Pair] = []
+
+
+def pair() -> Pair:
+    """The one pair of this run, whose standby is synchronous again."""
+    if not _pairs:
+        _pairs.append(Pair())
+        unittest.addModuleCleanup(_pairs[0].stop)
+        referee = Referee(_pairs[0].url)
+        referee.prepare()
+        referee.close()
+    wait_for("*")
+    return _pairs[0]
+
+
+def boss() -> psycopg.Connection[Any]:
+    """A session at the leader that waits for no standby."""
+    session = psycopg.connect(_pairs[0].url + "&target_session_attrs=read-write", autocommit=True)
+    session.execute("SET synchronous_commit = local")
+    return session
+
+
+def wait_for(names: str) -> None:
+    """Sets synchronous_standby_names, as Patroni does, and returns once it is so."""
+    _pairs[0].leader.setting("synchronous_standby_names", names)
+    count = "SELECT count(*) FROM pg_stat_replication WHERE sync_state IN ('sync', 'quorum')"
+    with boss() as session:
+        eventually(lambda: (session.execute(count).fetchone() == (1,)) == bool(names), f"standbys {names!r}")
+
+
+def end_standby(names: str) -> None:
+    """The standby is gone, and what waits for it is told to wait for these."""
+    _pairs[0].standby.crash()
+    with boss() as session:
+        gone = "SELECT count(*) FROM pg_stat_replication"
+        eventually(lambda: session.execute(gone).fetchone() == (0,), "the end of the standby")
+    _pairs[0].leader.setting("synchronous_standby_names", names)
+
+
+def start_standby() -> None:
+    """The standby is there again, unless it is, and synchronous."""
+    standby = _pairs[0].standby
+    if not (standby.data / "postmaster.pid").exists():
+        standby.start()
+    wait_for("*")
+
+
+class Referees(unittest.TestCase):
+    def setUp(self) -> None:
+        self.pair = pair()
+        self.careful, self.plain = self.new("careful", requires_standby=True), self.new("plain")
+        for each in (self.careful, self.plain):
+            each.register(f"{each.me}:1")
+        self.row = new_database(self.plain, f"d{self.id().rpartition('.')[2][:50]}")
+        self.addCleanup(self.plain.drop, self.row.name)
+
+    def new(self, me: str, url: str | None = None, **options: bool) -> Referee:
+        made = Referee(url or self.pair.url, me, f"life of {me}", **options)
+        self.addCleanup(made.close)
+        return made
+
+    def test_a_batch_that_is_on_one_disk_is_in_doubt_until_a_standby_has_it(self) -> None:
+        kept = self.careful.take(self.row, "r1")
+        assert kept is not None
+        batch = batch_of(self.row, kept, "r1")
+        self.assertEqual(self.careful.keep([batch]), {self.row.id})
+        self.assertEqual(self.careful.look().synchronous.count, 1)
+        wait_for("")
+        more = batch_of(self.row, kept.__class__(batch.new, batch.chain, kept.generation), "r1")
+        with self.assertRaises(OneDisk):
+            self.careful.keep([more])
+        for call in (self.careful.look, lambda: self.careful.kept(self.row.id, "r1"), lambda: self.careful.fate(self.row.name, 1)):
+            self.assertRaises(OneDisk, call)
+        self.assertEqual((self.plain.look().synchronous, self.plain.look().synchronous.meaning),
+                         (Synchronous("", 0), "durable means one disk: PostgreSQL has no synchronous standby"))  # fmt: skip
+        wait_for("*")
+        found = self.careful.kept(self.row.id, "r1")
+        self.assertEqual((found and found.archived, found and found.chain), (more.new, more.chain))
+
+    def test_a_commit_whose_wait_is_given_up_is_in_doubt(self) -> None:
+        kept = self.careful.take(self.row, "r1")
+        assert kept is not None
+        self.pair.standby.crash()
+        self.addCleanup(start_standby)
+        raised: list[BaseException] = []
+
+        def keep() -> None:
+            try:
+                self.careful.keep([batch_of(self.row, kept, "r1")])
+            except Doubt as error:
+                raised.append(error)
+
+        thread = threading.Thread(target=keep, daemon=True)
+        thread.start()
+        with boss() as session:
+            waits = "SELECT 1 FROM pg_stat_activity WHERE wait_event = 'SyncRep'"
+            eventually(lambda: session.execute(waits).fetchone() is not None, "a commit that waits")
+            self.pair.leader.setting("synchronous_standby_names", "")
+            thread.join(PATIENCE)
+            self.assertEqual([type(error) for error in raised], [OneDisk])
+            self.assertEqual(session.execute("SELECT count(*) FROM pagelog_block WHERE log = %s", (self.row.id,)).fetchone(), (3,))
+
+    def test_a_line_that_is_cut_while_it_is_confirmed_is_in_doubt(self) -> None:
+        through = self.new("through", requires_standby=True)
+        through.register("through:1")
+        through._connected().execute("SELECT 1")
+        through.cut()
+        with self.assertRaises(Doubt):
+            through._confirm(through._connected())
+        self.assertEqual(through.look().synchronous.count, 1)
+
+    def test_what_a_role_may_not_see_is_no_standby_to_it(self) -> None:
+        with boss() as session:
+            session.execute("CREATE ROLE limited LOGIN")
+            session.execute("GRANT ALL ON ALL TABLES IN SCHEMA public TO limited")
+        url = self.pair.url.replace("pagelog@", "limited@")
+        limited, careful = self.new("limited", url), self.new("both", url, requires_standby=True)
+        limited.register("limited:1")
+        self.assertEqual(limited.look().synchronous, Synchronous("*", None))
+        self.assertIn("grant it pg_read_all_stats", Synchronous("*", None).meaning)
+        with self.assertRaises(OneDisk):
+            careful.register("both:1")
+        with boss() as session:
+            session.execute("GRANT pg_read_all_stats TO limited")
+        self.assertEqual((limited.look().synchronous.count, careful.look().synchronous.count), (1, 1))
+
+    def test_what_durable_means_is_said(self) -> None:
+        self.assertIn("nothing becomes durable", Synchronous("*", 0).meaning)
+        self.assertIn("2 synchronous standbys", Synchronous("*", 2).meaning)
+
+
+class Durable(Kept):
+    keepers = "a"
+    more = ""
+
+    def setUp(self) -> None:
+        self.options = {"url": pair().url, "more": f'metrics = "127.0.0.1:0"\n{self.more}'}
+        super().setUp()
+
+    def standbys(self) -> float:
+        """The metric."""
+        return self.keeping.metrics()["pagelog_keeper_synchronous_standbys", ""]
+
+    def two_looks(self) -> None:
+        """Waits for two more, which are committed at the leader even if no standby has them."""
+        beat = self.beat()
+        eventually(lambda: self.beat() > beat + 1, "two looks of the keeper")
+
+    def beat(self) -> int:
+        with boss() as session:
+            [beat] = session.execute("SELECT beat FROM pagelog_keeper WHERE name = 'a'").fetchone() or [0]
+        return int(beat)
+
+
+class OneDiskIsEnough(Durable):
+    def test_that_durable_means_one_disk_is_said_once_and_shown(self) -> None:
+        with self.keeping.primary() as primary:
+            self.commit(primary, "1", durable=True)
+            eventually(lambda: self.standbys() == 1, "the standby in the metric")
+            end_standby("")
+            self.addCleanup(start_standby)
+            self.assertEqual(self.commit(primary, "2", durable=True), 2)
+            eventually(lambda: self.standbys() == 0, "no standby in the metric")
+            self.assertEqual(json.loads(self.keeping.word("kept", "--json"))["synchronous_standbys"], 0)
+            self.assertIn("durable means one disk", self.keeping.word("kept"))
+            self.two_looks()
+            start_standby()
+            eventually(lambda: self.standbys() == 1, "the standby in the metric")
+            self.assertIn("another disk too: PostgreSQL has 1 synchronous standby", self.keeping.word("kept"))
+        self.assertEqual(self.keeping.said().count("durable means one disk"), 1)
+
+
+class StandbyRequired(Durable):
+    more = "require_standby = true\n"
+
+    def test_nothing_is_durable_until_a_standby_has_it(self) -> None:
+        with self.keeping.primary() as primary:
+            self.commit(primary, "1", durable=True)
+            generation = self.keeping.place().generation
+            end_standby("")
+            self.addCleanup(start_standby)
+            position = self.commit(primary, "2")
+            with self.keeping.line() as text:
+                print(f"durable shop {generation} {position}", file=text, flush=True)
+                eventually(lambda: self.keeping.row().archived == 2, "the batch on one disk")
+                eventually(lambda: self.standbys() == 0, "no standby in the metric")
+                self.two_looks()
+                print("where shop", file=text, flush=True)
+                self.assertEqual(text.readline().split()[:6:5], ["at", "1"])
+                self.assertEqual(primary.durable_end, 1)
+                self.assertEqual(json.loads(self.keeping.word("kept", "--json"))["synchronous_standbys"], 0)
+                start_standby()
+                self.assertEqual(text.readline().split(), ["durable", "shop", str(generation), "2"])
+            primary.durable(2)
+            eventually(lambda: self.standbys() == 1, "the standby in the metric")
+            self.assertEqual((self.keeping.place().generation, self.texts()), (generation, [b"1", b"2"]))
+        self.assertEqual(self.keeping.said().count("a synchronous standby is required, and this role sees none"), 1)
+
+    def test_nobody_takes_over_what_a_lost_disk_would_take_away(self) -> None:
+        with self.keeping.primary() as primary:
+            self.commit(primary, "1", durable=True)
+            place = self.keeping.place()
+            end_standby("")
+            self.addCleanup(start_standby)
+            eventually(lambda: self.standbys() == 0, "no standby in the metric")
+            os.kill(self.keeping.pid(), signal.SIGKILL)
+            self.two_looks()
+            self.assertEqual(self.keeping.row().base, 0)
+            start_standby()
+            self.assertEqual(self.commit(primary, "2", durable=True), 2)
+            self.assertGreater(self.keeping.place().generation, place.generation)
+            self.assertEqual(self.texts(), [b"1", b"2"])

@@ -1,0 +1,264 @@
+"""Named databases under keepers: what was durable stays, wherever the database goes."""
+
+from __future__ import annotations
+
+import json
+import os
+import signal
+import socket
+
+from keepers import Gate, Kept, Line, eventually
+from pagelog import Connection, Lost, OlderEpoch, Reader
+from pagelog.keeper.table import keeper_of
+from pagelog.place import UnknownName
+from service import PATIENCE
+
+
+class OneKeeper(Kept):
+    keepers = "a"
+
+    def test_durable_commits(self) -> None:
+        with self.keeping.primary() as primary, self.keeping.reader(durable_only=True) as reader:
+            self.assertEqual([self.commit(primary, f"{number}", durable=True) for number in range(1, 6)], [1, 2, 3, 4, 5])
+            self.assertEqual((self.texts(), reader.end()), ([b"1", b"2", b"3", b"4", b"5"], 5))
+            position = self.commit(primary, "6")
+            self.assertEqual((position, primary.durable_end), (6, 5))
+            primary.durable(position)
+            self.assertEqual((primary.durable_end, len(self.texts())), (6, 6))
+            self.assertEqual([block.lsn for block in reader.blocks(2, follow=False)], [2, 3, 4, 5, 6])
+            self.assertEqual(reader.page(0, 3).data[:3], b"<3>")
+
+    def test_a_killed_service(self) -> None:
+        with self.keeping.primary() as primary:
+            self.commit(primary, "1", durable=True)
+            for number in range(2, 5):
+                os.kill(self.keeping.pid(), signal.SIGKILL)
+                self.assertEqual(self.commit(primary, f"{number}", durable=True), number)
+            self.assertEqual(self.texts(), [b"1", b"2", b"3", b"4"])
+            self.assertGreaterEqual(self.keeping.place().generation, 4)
+
+    def test_a_service_that_hangs_is_ended_and_one_that_goes_on_is_not(self) -> None:
+        with self.keeping.primary() as primary:
+            self.commit(primary, "1", durable=True)
+            before = self.keeping.place()
+            pid = self.keeping.pid()
+            os.kill(pid, signal.SIGSTOP)
+            os.kill(pid, signal.SIGCONT)
+            self.assertEqual(self.commit(primary, "2", durable=True), 2)
+            self.assertEqual(self.keeping.place().generation, before.generation)
+            os.kill(pid, signal.SIGSTOP)
+            self.keeping.place(least=before.generation + 1)
+            primary._timeout = primary._primary.connection.timeout = 1.0  # type: ignore[union-attr]
+            self.assertEqual(self.commit(primary, "3", durable=True), 3)
+            self.assertEqual(self.texts(), [b"1", b"2", b"3"])
+
+    def test_a_keeper_that_was_killed_adopts_its_service(self) -> None:
+        with self.keeping.primary() as primary:
+            self.commit(primary, "1", durable=True)
+            pid, place = self.keeping.pid(), self.keeping.place()
+            self.keeping.kill("a")
+            self.assertEqual(self.commit(primary, "2"), 2)
+            self.keeping.start("a")
+            primary.durable(2)
+            self.assertEqual((self.keeping.pid(), self.keeping.place().generation), (pid, place.generation))
+            self.assertEqual(self.texts(), [b"1", b"2"])
+
+    def test_a_keeper_that_was_killed_and_finds_its_service_dead_takes_the_next_generation(self) -> None:
+        with self.keeping.primary() as primary:
+            self.commit(primary, "1", durable=True)
+            pid, place = self.keeping.pid(), self.keeping.place()
+            self.keeping.kill("a")
+            self.commit(primary, "2")
+            os.kill(pid, signal.SIGKILL)
+            self.keeping.start("a")
+            # The writer lives, so that not even what was not durable is lost.
+            self.assertEqual(self.commit(primary, "3", durable=True), 3)
+            self.assertGreater(self.keeping.place().generation, place.generation)
+            self.assertEqual(self.texts(), [b"1", b"2", b"3"])
+
+    def test_a_twin_of_its_name_ends_a_keeper_and_adopts_its_services(self) -> None:
+        with self.keeping.primary() as primary:
+            self.commit(primary, "1", durable=True)
+            first, place = self.keeping.processes["a"], self.keeping.place()
+            self.keeping.ports["a"] = 0
+            self.keeping.start("a")
+            self.assertEqual(first.wait(), 3)
+            first.stdout.close()  # type: ignore[union-attr]
+            primary.keepers._addresses = self.keeping.addresses
+            self.assertEqual(self.commit(primary, "2", durable=True), 2)
+            self.assertEqual(self.keeping.place().generation, place.generation)
+
+    def test_what_a_writer_did_not_have_durable_is_lost_where_another_went_on(self) -> None:
+        with self.keeping.primary() as one, self.keeping.primary(id=5) as other:
+            self.commit(one, "1", durable=True)
+            pid = self.keeping.pid()
+            self.keeping.kill("a")
+            self.assertEqual((self.commit(one, "2"), self.commit(one, "3")), (2, 3))
+            os.kill(pid, signal.SIGKILL)
+            self.keeping.start("a")
+            self.assertEqual(self.commit(other, "other", durable=True), 2)
+            with self.assertRaises(Lost) as lost:
+                one.durable(3)
+            self.assertEqual(lost.exception.position, 2)
+            self.assertEqual(self.texts(), [b"1", b"other"])
+            self.assertEqual(self.commit(one, "4", durable=True), 3)
+            with self.assertRaises(OlderEpoch):
+                self.commit(other, "5")
+
+    def test_a_writer_that_was_fenced_while_it_was_away_fences_nobody(self) -> None:
+        with self.keeping.primary() as one, self.keeping.primary(id=5) as other:
+            self.commit(one, "1", durable=True)
+            self.assertEqual(self.commit(other, "2"), 2)
+            one._leave()  # as after a lost connection
+            with self.assertRaises(OlderEpoch):
+                self.commit(one, "3")
+            with self.assertRaises(OlderEpoch):
+                self.commit(one, "4")
+            one.durable(1)
+            with self.assertRaises(Lost):
+                one.durable(2)
+            self.assertEqual(self.commit(other, "5", durable=True), 3)
+            self.assertEqual(self.texts(), [b"1", b"2", b"5"])
+
+    def test_pause_drop_and_words(self) -> None:
+        with self.keeping.primary() as primary:
+            self.commit(primary, "1", durable=True)
+        place = self.keeping.place()
+        kept = json.loads(self.keeping.word("kept", "--json"))
+        self.assertEqual((kept["holder"], kept["place"], kept["archived"], kept["generation"]), ("a", place.address, 1, place.generation))
+        self.assertEqual(self.keeping.word("where", "shop").strip(), place.address)
+        self.assertIn("paused 1", self.keeping.word("pause"))
+        pid = self.keeping.pid()
+        os.kill(pid, signal.SIGKILL)
+        eventually(lambda: self.keeping.row().holder is None, "the release")
+        self.assertTrue(self.keeping.row().paused)
+        self.keeping.word("resume", "shop")
+        self.assertGreater(self.keeping.place(least=place.generation + 1).generation, place.generation)
+        with self.assertRaisesRegex(AssertionError, "there is a database shop"):
+            self.keeping.word("create", "shop", "--table", self.keeping.table)
+        self.keeping.word("drop", "shop", "--force")
+        eventually(lambda: not list(self.keeping.folder.glob("a/*.json")), "the end of its service")
+        with self.assertRaises(UnknownName):
+            self.keeping.place()
+
+    def test_nothing_is_said_to_be_durable_before_its_commit(self) -> None:
+        with self.keeping.primary() as primary:
+            self.commit(primary, "1", durable=True)
+            gate = Gate(self.keeping.url, "NEW.archived > OLD.archived")
+            position, place = self.commit(primary, "2"), self.keeping.place()
+            with self.keeping.line() as text:
+                print(f"durable shop {place.generation} {position}", file=text, flush=True)
+                gate.somebody_waits()
+                print("where shop", file=text, flush=True)
+                self.assertEqual(text.readline().split()[:6:5], ["at", "1"])
+                gate.open()
+                self.assertEqual(text.readline().split(), ["durable", "shop", str(place.generation), "2"])
+                print(f"durable shop {place.generation} 9", file=text, flush=True)
+                self.assertEqual(text.readline().split(), ["above", "shop", str(place.generation), "2"])
+                for asked, answer in (("where none", "unknown none"), ("standby shop", "standby shop - - -"), ("x y", "what x"),
+                                      (f"durable shop {place.generation + 1} 1", f"elsewhere shop {place.generation + 1}")):  # fmt: skip
+                    print(asked, file=text, flush=True)
+                    self.assertEqual(text.readline().strip(), answer)
+                print("x" * 2000, file=text, flush=True)
+                self.assertEqual(text.readline(), "")
+
+    def test_a_place_is_published_once_its_service_has_all_that_is_archived(self) -> None:
+        with self.keeping.primary() as primary:
+            for number in range(1, 41):
+                self.commit(primary, f"{number}", durable=number == 40)
+            gate = Gate(self.keeping.url, "NEW.address IS NOT NULL AND OLD.address IS NULL")
+            os.kill(self.keeping.pid(), signal.SIGKILL)
+            gate.somebody_waits()
+            row = self.keeping.row()
+            [note] = self.keeping.folder.glob(f"a/shop.{row.run}.json")
+            self.assertEqual((self.keeping.keepers().where(), row.address, row.base), (None, None, 40))
+            address = json.loads(note.read_text())["address"]
+            with Reader(Connection(address), keeper_of(b"s" * 16, "shop", str(row.run))) as reader:
+                self.assertEqual(reader.status().hard, 40)
+            gate.open()
+            self.assertEqual(self.commit(primary, "41", durable=True), 41)
+
+
+class Watched(Kept):
+    """By Prometheus and by systemd."""
+
+    keepers = ""
+    options = {"more": 'metrics = "127.0.0.1:0"\n'}
+
+    def setUp(self) -> None:
+        super().setUp()
+        self.systemd = self.enterContext(socket.socket(socket.AF_UNIX, socket.SOCK_DGRAM))
+        self.systemd.bind(str(self.keeping.folder / "notify"))  # what is not read fills its queue, and has to hold up nothing
+        self.systemd.settimeout(PATIENCE)
+        self.keeping.environment["NOTIFY_SOCKET"] = str(self.keeping.folder / "notify")
+
+    def test_metrics(self) -> None:
+        self.keeping.start("a")
+        with self.keeping.primary() as primary:
+            self.commit(primary, "1", durable=True)
+            gate = Gate(self.keeping.url, "NEW.archived > OLD.archived")
+            position, place = self.commit(primary, "2"), self.keeping.place()
+            with self.keeping.line() as text:
+                print(f"durable shop {place.generation} {position}", file=text, flush=True)
+                gate.somebody_waits()
+                eventually(lambda: self.of_shop() == (1, place.generation, 1, 1, 1), "a look beside it")
+                gate.open()
+                self.assertEqual(text.readline().split()[0], "durable")
+                eventually(lambda: self.of_shop() == (1, place.generation, 2, 0, 0), "a look after it")
+        self.keeping.word("drop", "shop", "--force")
+        eventually(lambda: not any(label == "shop" for _, label in self.keeping.metrics()), "the end of its metrics")
+
+    def of_shop(self) -> tuple[float | None, ...]:
+        found = self.keeping.metrics()
+        words = (("state", "serving"), ("generation", "shop"), ("archived", "shop"), ("behind", "shop"), ("waits", "shop"))
+        return tuple(found.get((f"pagelog_keeper_{name}", label)) for name, label in words)
+
+    def test_an_address_of_metrics_that_another_has_ends_a_keeper(self) -> None:
+        with socket.create_server(("127.0.0.1", 0)) as other:
+            address = f"127.0.0.1:{other.getsockname()[1]}"
+            self.keeping.file.write_text(self.keeping.file.read_text().replace("127.0.0.1:0", address))
+            self.keeping.launch("a")
+            self.assertEqual(self.keeping.processes["a"].wait(PATIENCE), 1)
+        self.assertIn(f"[keeper] metrics: {address}: ", self.keeping.said())
+
+    def test_systemd_hears_of_a_keeper_that_lives_while_postgresql_does_not_answer(self) -> None:
+        line = Line(0, stalls=True)
+        self.addCleanup(line.close)
+        self.keeping.file.write_text(self.keeping.file.read_text().replace(self.keeping.url, line.url(self.keeping.url)))
+        self.keeping.launch("a")
+        self.assertEqual([self.systemd.recv(100) for _ in range(4)], [b"READY=1", b"WATCHDOG=1", b"WATCHDOG=1", b"WATCHDOG=1"])
+        self.assertEqual(self.keeping.row().holder, None)
+        line.count_from_now()
+        eventually(lambda: self.keeping.row().holder == "a", "the keeper's first look")
+        self.keeping.kill("a", signal.SIGSTOP)
+        self.systemd.setblocking(False)
+        with self.assertRaises(BlockingIOError):
+            while True:  # what it has said until it stood still
+                self.systemd.recv(100)
+        self.keeping.kill("a", signal.SIGCONT)
+        self.systemd.settimeout(PATIENCE)
+        self.assertEqual(self.systemd.recv(100), b"WATCHDOG=1")
+
+
+class SmallList(Kept):
+    """An audit list that fills in no time."""
+
+    keepers = "a"
+    options = {"audit": 4000}
+
+    def beat(self) -> int:
+        return next(keeper.beat for keeper in self.keeping.referee.everything().keepers if keeper.name == "a")
+
+    def test_a_list_that_fills_is_rolled_and_nothing_is_lost(self) -> None:
+        with self.keeping.primary() as primary:
+            self.commit(primary, "1", durable=True)
+            first, number = self.keeping.row().generation, 1
+            while self.keeping.row().generation == first:
+                number += 1
+                self.assertEqual(self.commit(primary, f"{number}", durable=number % 8 == 0), number)
+                if number % 100 == 0:  # the keeper has to look before the list is full
+                    beat = self.beat()
+                    eventually(lambda: self.beat() > beat + 1, "two looks of the keeper")
+            self.assertEqual(self.commit(primary, "end", durable=True), number + 1)
+            self.assertEqual(self.texts(), [b"%d" % at for at in range(1, number + 1)] + [b"end"])
+            self.assertIn("its list or its memory is", self.keeping.said())

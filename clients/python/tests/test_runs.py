@@ -1,0 +1,196 @@
+"""A run of a service: its tokens serve it alone, its process is known again, and another process is not taken for it."""
+
+from __future__ import annotations
+
+import json
+import os
+import signal
+import subprocess
+import tempfile
+import tomllib
+import unittest
+from dataclasses import replace
+from pathlib import Path
+
+from keepers import blocks
+from pagelog import (
+    Connection, Credentials, HardenedAlready, OlderEpoch, Operator, OtherPrimary, Primary, Put, Reader, TableRow, UnknownPrincipal,
+)  # fmt: skip
+from pagelog.keeper.loading import Loader
+from pagelog.keeper.run import NotStarted, Program, Run, end_orphans, new_run
+from pagelog.keeper.served import Served
+from pagelog.keeper.table import KEEPER, Form, TableError, keeper_of, quorum_of, read_table, table_of_run, token_of
+from service import PATIENCE, PROGRAM, TABLE, WIDE_TABLE, token
+
+SECRET = b"s" * 16
+
+
+class Tables(unittest.TestCase):
+    def test_a_run_has_tokens_of_its_own(self) -> None:
+        found = tomllib.loads(table_of_run(TABLE.read_text(), SECRET, "shop", "r1", Form.OPEN))
+        tokens = {each["id"]: each["token"] for each in found["principal"]}
+        self.assertEqual(tokens[2], token_of(bytes.fromhex(token(2)), "shop", "r1").hex())
+        self.assertEqual(tokens[KEEPER], keeper_of(SECRET, "shop", "r1").token.hex())
+        others = [table_of_run(TABLE.read_text(), SECRET, *of, Form.OPEN) for of in (("shop", "r2"), ("ship", "r1"))]
+        for each in tokens.values():
+            self.assertNotIn(each, token(2) + "".join(others))
+
+    def test_rows_and_counts_are_kept_behind_those_of_the_keeper(self) -> None:
+        text = "copies = 6\nquorum = 4\n" + TABLE.read_text()
+        found, given = tomllib.loads(table_of_run(text, SECRET, "shop", "r", Form.READING)), tomllib.loads(text)
+        self.assertEqual((found["copies"], found["quorum"], quorum_of(text)), (6, 4, 4))
+        self.assertEqual(found["row"][0], {"verdict": "allow", "who": KEEPER})
+        self.assertEqual([row["role"] for row in found["row"][1:4]], ["primary", "page_server", "operator"])
+        self.assertEqual(found["row"][4:], given["row"])
+
+    def test_what_is_no_table_is_refused(self) -> None:
+        principal = f'[[principal]]\nid = 7\ntoken = "{token(7)}"\n'
+        for text in ("", "x", "a = 1", principal + "[x]\n", "[[principal]]\nid = 1\n", principal.replace("7\n", f"{KEEPER}\n", 1),
+                     principal * 64, principal + '[[row]]\nverdict = "allow"\n' * 253, "quorum = 3\n" + principal):  # fmt: skip
+            with self.assertRaises(TableError):
+                quorum_of(text)
+        read_table(principal + '[[row]]\nverdict = "allow"\n' * 252)
+
+
+class Runs(unittest.TestCase):
+    def setUp(self) -> None:
+        self.folder = Path(self.enterContext(tempfile.TemporaryDirectory()))
+        self.program = Program(PROGRAM, "127.0.0.1", self.folder, 1_000_000)
+
+    def start(self, form: Form = Form.OPEN, listen: str | None = None, run: str | None = None) -> Run:
+        run = run or new_run()
+        started = Run.start(self.program, "shop", run, table_of_run(WIDE_TABLE, SECRET, "shop", run, form), listen=listen)
+        self.addCleanup(self.kill, started)
+        return started
+
+    def kill(self, run: Run) -> None:
+        """Ends its process, whatever the test has made of what is noted of it."""
+        assert run._child is not None
+        run._child.kill()
+        run._child.wait()
+
+    def client(self, kind: type, run: Run, id: int) -> object:
+        return kind(Connection(run.address), Credentials(id, token_of(bytes.fromhex(token(id)), "shop", run.name)))
+
+    def keeper(self, kind: type, run: Run) -> object:
+        return kind(Connection(run.address), keeper_of(SECRET, "shop", run.name))
+
+    def test_a_client_at_the_port_of_a_later_run_is_denied(self) -> None:
+        first = self.start()
+        old = Primary.take_over(Connection(first.address), Credentials(2, token_of(bytes.fromhex(token(2)), "shop", first.name)),
+                                self.client(Operator, first, 1))  # fmt: skip
+        old.append(Put(0, 0, b"x"))
+        self.assertEqual((old.commit(), old.epoch), (1, 2))
+        first.end()
+        second = self.start(listen=first.address)
+        with Loader(second.address, keeper_of(SECRET, "shop", second.name)) as loader:
+            loader.load(1, [blocks(1, 1)])
+        self.client(Operator, second, 1).failover(2)  # the same epoch and primary as before, at the same address
+        old.append(Put(0, 0, b"y"))
+        with self.assertRaises(UnknownPrincipal):
+            old.commit()
+        self.assertEqual(self.client(Reader, second, 3).status().hard, 1)
+
+    def test_with_the_tokens_of_the_table_the_old_client_would_write_on(self) -> None:
+        # The precaution taken out, so that the test above is known to see it.
+        first = self.start(run="same")
+        old = Primary.take_over(Connection(first.address), Credentials(2, token_of(bytes.fromhex(token(2)), "shop", "same")),
+                                self.client(Operator, first, 1))  # fmt: skip
+        old.append(Put(0, 0, b"x"))
+        old.commit()
+        first.end()
+        second = self.start(listen=first.address, run="same")
+        with Loader(second.address, keeper_of(SECRET, "shop", "same")) as loader:
+            loader.load(1, [blocks(1, 1)])
+        self.client(Operator, second, 1).failover(2)
+        old.append(Put(0, 0, b"y"))
+        self.assertEqual(old.commit(), 2)
+
+    def test_the_forms_of_a_table(self) -> None:
+        run = self.start(Form.READING)
+        operator = self.keeper(Operator, run)
+        for kind, id in ((Primary, 2), (Operator, 1)):
+            with self.assertRaises((TableRow, OtherPrimary)):
+                self.client(kind, run, id).status()
+        self.assertEqual(self.client(Reader, run, 3).status().hard, 0)
+        operator.set_table(table_of_run(WIDE_TABLE, SECRET, "shop", run.name, Form.OPEN))
+        self.client(Operator, run, 1).failover(2)
+        self.assertEqual(self.client(Primary, run, 2).begin().hard, 0)
+        with self.assertRaises(TableRow):
+            self.client(Operator, run, 1).set_table(TABLE.read_text())
+
+    def test_a_service_that_is_closed_cannot_be_opened_again_by_a_client(self) -> None:
+        served = Served("shop", "r", WIDE_TABLE, SECRET, timeout=PATIENCE)
+        served.start(self.program)
+        self.addCleanup(served.end)
+        served.open()
+        run = served.process
+        assert run is not None
+        operator = self.client(Operator, run, 1)
+        writer = Primary.take_over(Connection(run.address), self.client(Primary, run, 2).credentials, operator)
+        writer.append(Put(0, 0, b"x"))
+        self.assertEqual((writer.commit(), served.close()), (1, 1))
+        with self.assertRaises(TableRow):
+            operator.failover(2)
+        writer.append(Put(0, 0, b"y"))
+        with self.assertRaises((OlderEpoch, TableRow)):
+            writer.commit()
+        served.look()
+        self.assertEqual((served.hard, served.answers), (1, 1))
+        self.assertEqual([len(served.pulled(0)), served.pulled(1)], [1, []])
+
+    def test_a_service_is_adopted_by_a_later_keeper(self) -> None:
+        run = self.start()
+        facts = json.loads((self.folder / f"shop.{run.name}.json").read_text())
+        self.assertEqual((facts["pid"], facts["address"]), (run.facts.pid, run.address))
+        self.assertEqual(sorted(file.suffix for file in self.folder.iterdir()), [".json", ".said"])
+        adopted = Run.adopt(self.folder, "shop", run.name)
+        assert adopted is not None
+        self.assertEqual((adopted.facts, adopted.is_alive), (run.facts, True))
+        self.assertGreater(adopted.memory, 1 << 20)
+        self.assertIsNone(Run.adopt(self.folder, "shop", "another"))
+        self.assertIsNone(Run.adopt(self.folder, "ship", run.name))
+        os.kill(run.facts.pid, signal.SIGKILL)
+        adopted.end()
+        run.leave()
+        self.assertIsNone(Run.adopt(self.folder, "shop", run.name))
+        self.assertEqual(list(self.folder.iterdir()), [])
+
+    def test_another_process_with_its_number_is_not_adopted_and_not_ended(self) -> None:
+        run = self.start()
+        other = subprocess.Popen(["sleep", "600"])
+        self.addCleanup(other.wait)
+        self.addCleanup(other.kill)
+        file = self.folder / run.facts.file_name
+        for facts in (replace(run.facts, pid=other.pid), replace(run.facts, started=1), replace(run.facts, boot="x")):
+            file.write_text(json.dumps(vars(facts)))
+            self.assertIsNone(Run.adopt(self.folder, "shop", run.name))
+            file.write_text(json.dumps(vars(facts)))
+            self.assertEqual(end_orphans(self.folder, set()), [])
+        self.assertEqual((other.poll(), run.is_alive), (None, True))
+        run.end()
+
+    def test_orphans_are_ended_and_wanted_runs_are_not(self) -> None:
+        runs = [self.start() for _ in range(3)]
+        self.assertEqual(end_orphans(self.folder, {runs[1].name}), ["shop", "shop"])
+        self.assertEqual([run.is_alive for run in runs], [False, True, False])
+        for run in runs:
+            run.end()
+
+    def test_a_service_that_does_not_start_leaves_nothing(self) -> None:
+        with self.assertRaisesRegex(NotStarted, "fault: table"):
+            Run.start(self.program, "shop", "r", "nonsense")
+        with self.assertRaises(NotStarted):
+            Run.start(replace(self.program, path="/nowhere"), "shop", "r", "")
+        self.assertEqual(list(self.folder.iterdir()), [])
+
+    def test_a_service_is_filled_with_the_bytes_of_the_archive(self) -> None:
+        run = self.start(Form.READING)
+        wanted = blocks(1, 200)
+        with Loader(run.address, keeper_of(SECRET, "shop", run.name)) as loader:
+            self.assertEqual(loader.load(1, [wanted[:130], wanted[130:131]]), 131)
+            self.assertEqual(loader.load(132, [wanted[131:]]), 200)
+            found = [block.data for block in self.keeper(Reader, run).blocks(1, follow=False)]
+            self.assertEqual(found, list(wanted))
+            with self.assertRaises(HardenedAlready):
+                loader.load(5, [wanted[4:6]])

@@ -1,0 +1,195 @@
+"""Two keepers of one database: standbys, switchovers, and keepers that are dead or stood still."""
+
+from __future__ import annotations
+
+import os
+import signal
+import time
+import zlib
+
+import psycopg
+
+from keepers import Gate, Kept, blocks, eventually
+from pagelog import Lost
+from pagelog.keeper.loading import Loader
+from pagelog.keeper.run import end_orphans
+from pagelog.keeper.table import keeper_of
+from pagelog.place import Fate, Keepers
+from postgres import postgres
+from service import PATIENCE
+
+
+class TwoKeepers(Kept):
+    def standby(self, at: int = 0) -> None:
+        """Waits until a standby has as much."""
+        eventually(lambda: any(reached >= at for reached in self.keeping.standbys().values()), f"a standby at {at}")
+
+    def holder(self) -> str:
+        place = self.keeping.place()
+        return next(name for name, port in self.keeping.ports.items() if place.lines.endswith(f":{port}"))
+
+    def other(self) -> str:
+        return "b" if self.holder() == "a" else "a"
+
+    def test_a_standby_has_what_is_durable_and_takes_over_without_a_restore(self) -> None:
+        with self.keeping.primary() as primary, self.keeping.reader(durable_only=True) as reader:
+            for number in range(1, 21):
+                self.commit(primary, f"{number}")
+            primary.durable(20)
+            self.standby(20)
+            eventually(lambda: self.keeping.keepers().standby() is not None, "a standby")
+            standby = reader.keepers.standby()
+            eventually(lambda: reader.end() == 20, "the word that the standby has it all")
+            self.assertEqual(reader.place.run, standby.run)  # type: ignore[union-attr]
+            os.kill(self.keeping.pid(), signal.SIGKILL)
+            self.assertEqual(self.commit(primary, "21", durable=True), 21)
+            place = self.keeping.place()
+            self.assertEqual((place.run, place.address), (standby.run, standby.address))  # type: ignore[union-attr]
+            eventually(lambda: reader.end() >= 21, "the word of the next generation")
+            self.assertEqual(reader.page(0, 21).data[:4], b"<21>")
+            # It reads on at the run that was a standby, and is the holder's now: no further than the archive.
+            self.commit(primary, "22")
+            self.assertEqual([block.lsn for block in reader.blocks(20, follow=False)][:2], [20, 21])
+
+    def test_a_switchover_loses_nothing(self) -> None:
+        with self.keeping.primary() as primary:
+            self.commit(primary, "1", durable=True)
+            self.standby(1)
+            for number in range(2, 32):
+                self.commit(primary, f"{number}")  # nobody asks that these be durable
+            target, before = self.other(), self.keeping.place()
+            self.keeping.word("switchover", "shop", "--to", target)
+            after = self.keeping.place(least=before.generation + 1)
+            self.assertEqual((self.holder(), after.base), (target, 31))
+            self.assertEqual(self.commit(primary, "32", durable=True), 32)
+            self.assertEqual(self.texts(), [b"%d" % number for number in range(1, 33)])
+
+    def test_a_keeper_that_is_told_to_end_hands_over(self) -> None:
+        with self.keeping.primary() as primary:
+            self.commit(primary, "1", durable=True)
+            self.standby(1)
+            gate = Gate(self.keeping.url, "NEW.archived > OLD.archived")
+            self.commit(primary, "2")
+            gate.somebody_waits()
+            for number in range(3, 32):
+                self.commit(primary, f"{number}")  # none of these has been asked for, nor pulled, when the keeper is told to end
+            first, before = self.holder(), self.keeping.place()
+            self.keeping.processes[first].send_signal(signal.SIGTERM)
+            eventually(lambda: "the keeper ends" in self.keeping.said(), "the end of the keeper")
+            gate.open()
+            self.assertEqual(self.keeping.processes[first].wait(), 0)
+            self.assertEqual(self.keeping.place(least=before.generation + 1).base, 31)
+            self.assertEqual(list((self.keeping.folder / first).iterdir()), [])
+            self.assertEqual(self.commit(primary, "32", durable=True), 32)
+            self.assertEqual(self.texts(), [b"%d" % number for number in range(1, 33)])
+
+    def test_a_dead_keeper_s_database_is_taken_and_its_orphan_makes_nothing_durable(self) -> None:
+        with self.keeping.primary() as primary, self.keeping.primary(id=5) as other:
+            self.commit(primary, "1", durable=True)
+            self.standby(1)
+            first, pid, place = self.holder(), self.keeping.pid(), self.keeping.place()
+            self.keeping.kill(first)
+            self.assertEqual(self.commit(primary, "orphan"), 2)  # the orphan answers those who are connected
+            self.keeping.place(least=place.generation + 1)
+            self.assertEqual(self.commit(other, "2", durable=True), 2)
+            self.assertEqual(self.commit(primary, "orphan too"), 3)
+            with self.assertRaises(Lost):
+                primary.durable(3)
+            self.assertEqual(self.texts(), [b"1", b"2"])
+            self.keeping.start(first)
+            eventually(lambda: not os.path.exists(f"/proc/{pid}"), "the end of the orphan")
+
+    def test_a_keeper_that_stood_still_finds_itself_fenced(self) -> None:
+        with self.keeping.primary() as primary, self.keeping.primary(id=5) as other:
+            self.commit(primary, "1", durable=True)
+            self.standby(1)
+            first, pid, place = self.holder(), self.keeping.pid(), self.keeping.place()
+            zombie = Keepers("shop", [place.lines], PATIENCE)
+            self.addCleanup(zombie.close)
+            self.keeping.kill(first, signal.SIGSTOP)
+            self.assertEqual(self.commit(primary, "zombie"), 2)
+            self.keeping.place(least=place.generation + 1)
+            self.assertEqual(self.commit(other, "2", durable=True), 2)
+            self.keeping.kill(first, signal.SIGCONT)
+            self.assertEqual(zombie.fate(place.generation, 2), Fate(1, True))
+            eventually(lambda: not os.path.exists(f"/proc/{pid}"), "the end of the zombie's service")
+            self.assertEqual(self.texts(), [b"1", b"2"])
+
+    def test_a_durable_reader_goes_to_the_holder_where_a_standby_is_gone(self) -> None:
+        with self.keeping.primary() as primary, self.keeping.reader(durable_only=True) as reader:
+            self.commit(primary, "1", durable=True)
+            self.standby(1)
+            eventually(lambda: self.keeping.keepers().standby() is not None, "a standby")
+            eventually(lambda: reader.end() == 1, "the word of the standby")
+            self.assertEqual(reader.page(0, 1).data[:3], b"<1>")
+            other = self.other()
+            self.keeping.kill(other)
+            end_orphans(self.keeping.folder / other, set())
+            self.assertEqual(self.commit(primary, "2", durable=True), 2)
+            eventually(lambda: reader.end() == 2, "the word of the holder")
+            self.assertEqual(reader.page(0, 2).data[:3], b"<2>")
+
+    def test_while_postgresql_is_away_nobody_takes_over_and_nothing_is_durable(self) -> None:
+        with self.keeping.primary() as primary:
+            self.commit(primary, "1", durable=True)
+            self.standby(1)
+            before = self.keeping.place()
+            server = postgres()
+            server.run("pg_ctl", "-D", server.data, "-m", "fast", "-w", "-t", PATIENCE, "stop")
+            self.assertEqual(self.commit(primary, "2"), 2)
+            time.sleep(2.5 * self.keeping.ttl)  # longer than a beat may stand still
+            self.assertEqual(primary.durable_end, 1)
+            server.start()
+            primary.durable(2)
+            self.assertEqual((self.keeping.place().generation, self.texts()), (before.generation, [b"1", b"2"]))
+
+    def test_a_standby_that_is_ahead_of_the_archive_is_thrown_away(self) -> None:
+        with self.keeping.primary() as primary:
+            self.commit(primary, "1", durable=True)
+            self.standby(1)
+            eventually(lambda: self.keeping.keepers().standby() is not None, "a standby")
+            standby = self.keeping.keepers().standby()
+            assert standby is not None
+            with Loader(standby.address, keeper_of(b"s" * 16, "shop", standby.run)) as loader:
+                loader.load(2, [blocks(2, 1, b"<never archived>")])
+            os.kill(self.keeping.pid(), signal.SIGKILL)
+            self.assertEqual(self.commit(primary, "2", durable=True), 2)
+            self.assertEqual(self.texts(), [b"1", b"2"])
+            self.assertIn("the service has 2 blocks where 1 are archived", self.keeping.said())
+            self.assertNotEqual(self.keeping.place().run, standby.run)
+
+    def test_a_standby_with_another_block_is_thrown_away(self) -> None:
+        with self.keeping.primary() as primary:
+            eventually(lambda: self.keeping.keepers().standby() is not None, "a standby")
+            standby = self.keeping.keepers().standby()
+            assert standby is not None
+            with Loader(standby.address, keeper_of(b"s" * 16, "shop", standby.run)) as loader:
+                loader.load(1, [blocks(1, 1, b"<another>")])
+            self.commit(primary, "1", durable=True)
+            self.commit(primary, "2", durable=True)
+            # What it is to follow with is denied by what it has; a fresh one takes its place.
+            eventually(lambda: (found := self.keeping.keepers().standby()) is not None and found.run != standby.run, "a fresh standby")
+            self.standby(2)
+            os.kill(self.keeping.pid(), signal.SIGKILL)
+            self.assertEqual(self.commit(primary, "3", durable=True), 3)
+            self.assertEqual(self.texts(), [b"1", b"2", b"3"])
+
+    def test_a_standby_follows_no_other_archive_than_the_one_that_is_confirmed(self) -> None:
+        with self.keeping.primary() as primary, self.keeping.reader(durable_only=True) as reader:
+            self.commit(primary, "1", durable=True)
+            self.standby(1)
+            # The blocks that a plain SELECT finds are others, as on a server that was cut off; the confirmed digest is not theirs.
+            other = blocks(2, 1, b"<other>")[0]
+            with psycopg.connect(self.keeping.url) as connection:
+                connection.execute("CREATE FUNCTION other() RETURNS trigger LANGUAGE plpgsql AS $$ BEGIN NEW.data := "
+                                   f"decode('{other.hex()}', 'hex'); NEW.crc := {zlib.crc32(other)}; RETURN NEW; END $$")  # fmt: skip
+                connection.execute("CREATE TRIGGER other BEFORE INSERT ON pagelog_block FOR EACH ROW EXECUTE FUNCTION other()")
+            try:
+                self.commit(primary, "2", durable=True)
+                eventually(lambda: "the standby was given up" in self.keeping.said(), "the end of the standby")
+                self.assertTrue(all(reached < 2 for reached in self.keeping.standbys().values()))
+                self.assertEqual([block.lsn for block in reader.blocks(2, follow=False)][:1], [2])
+                self.assertEqual(reader.page(0, 2).data[:3], b"<2>")
+            finally:
+                with psycopg.connect(self.keeping.url) as connection:
+                    connection.execute("DROP FUNCTION other CASCADE")

@@ -1,0 +1,303 @@
+"""The torture of keepers, see clients/python/torture; called with `write` or `read` it is a client of its own process."""
+
+from __future__ import annotations
+
+import faulthandler
+import json
+import os
+import random
+import signal
+import subprocess
+import sys
+import time
+from collections import Counter
+from pathlib import Path
+from typing import Callable
+
+HERE = Path(__file__).resolve().parent
+sys.path[:0] = [str(HERE), str(HERE.parent / "src")]
+
+import psycopg  # noqa: E402
+
+from keepers import Keeping, eventually  # noqa: E402
+from pagelog import Block, Lost, PagelogError, Primary, Put, Reader  # noqa: E402
+from pagelog.keeper.rows import Row  # noqa: E402
+from replicated import Pair  # noqa: E402
+from service import token  # noqa: E402
+
+TTL = 2.0
+NAME = "shop"
+STOP = "stop"
+
+
+# Clients, each a process with books of its own: a line of JSON for each thing that it was told.
+
+
+def write(folder: Path, id: int, addresses: list[str], seed: int) -> None:
+    """Commits until there is a file `stop`; some commits are durable at once, some later. In the end all are."""
+    chance, number, open_commits = random.Random(seed), 0, {}
+    books = (folder / f"writer{id}").open("a", buffering=1)
+
+    def note(what: str, **facts: object) -> None:
+        books.write(json.dumps({"what": what, **facts}) + "\n")
+
+    def new() -> object:
+        return Primary.named(NAME, keepers=addresses, principal=id, token=token(id), operator=(1, token(1)), patience=20.0, timeout=TTL)
+
+    primary = new()
+    while not (stops := (folder / STOP).exists()) or open_commits:
+        try:
+            if stops or chance.random() < 0.3:
+                position = max(open_commits, default=0)
+                if position:
+                    primary.durable(position)
+            else:
+                number += 1
+                text = f"{id} {number}"
+                note("try", text=text)
+                primary.append(Put(0, 0, text.encode() + b"." * chance.randrange(60)))
+                open_commits[primary.commit()] = text
+            for position in [position for position in open_commits if position <= primary.durable_end]:
+                note("durable", text=open_commits.pop(position), position=position, generation=primary.place.generation)
+        except Lost as lost:
+            for position in [position for position in open_commits if position >= lost.position]:
+                note("lost", text=open_commits.pop(position), position=position)
+        except PagelogError as error:
+            # Fenced by the other writer, or in doubt: what is not known to be durable is open for ever.
+            note("ended", why=f"{type(error).__name__}: {error}", open=list(open_commits.values()))
+            open_commits.clear()
+            primary.close()
+            time.sleep(chance.uniform(0, 3 * TTL) if not stops else 0)
+            primary = new()
+    note("end")
+
+
+def read(folder: Path, id: int, addresses: list[str], _: int) -> None:
+    """Follows what is durable, and notes each block."""
+    books = (folder / f"reader{id}").open("a", buffering=1)
+    reader = Reader.named(NAME, keepers=addresses, principal=id, token=token(id), durable_only=True, patience=60.0, timeout=TTL)
+    position = 1
+    while not (folder / STOP).exists():
+        try:
+            for block in reader.blocks(position, idle=0.1, stop=(folder / STOP).exists):
+                books.write(json.dumps({"what": "read", "position": block.lsn, "text": text_of(block)}) + "\n")
+                position = block.lsn + 1
+        except PagelogError as error:
+            books.write(json.dumps({"what": "ended", "why": f"{type(error).__name__}: {error}"}) + "\n")
+            reader.close()
+            time.sleep(0.1)
+
+
+def text_of(block: Block) -> str:
+    return block.records[-1].data.decode().rstrip(".")  # type: ignore[union-attr]
+
+
+# Faults.
+
+
+class Torture:
+    def __init__(self, seconds: float, seed: int) -> None:
+        self.seconds, self.chance = seconds, random.Random(seed)
+        self.pair = Pair()
+        self.keeping = Keeping(ttl=TTL, url=self.pair.url)
+        self.done: Counter[str] = Counter()
+        self.stopped: list[int] = []
+        self.faults: list[tuple[int, Callable[[], None]]] = [
+            (4, self.kill_service), (2, self.stop_service), (3, self.kill_keeper), (1, self.kill_keeper_for_long),
+            (2, self.stop_keeper), (1, self.stop_machine), (2, self.switch_over), (1, self.end_keeper), (2, self.cut_lines),
+            (1, self.fail_over_postgresql),
+        ]  # fmt: skip
+
+    def names(self) -> list[str]:
+        return [name for name, process in self.keeping.processes.items() if process.poll() is None]
+
+    def service(self) -> int | None:
+        row = self.row()
+        found = list(self.keeping.folder.glob(f"*/{NAME}.{row.run}.json"))
+        try:
+            return int(json.loads(found[0].read_text())["pid"]) if found else None
+        except (OSError, ValueError):
+            return None
+
+    def row(self) -> Row:
+        return self.keeping.row(NAME)
+
+    def kill_service(self) -> None:
+        pid = self.service()
+        if pid is not None:
+            self.send(pid, signal.SIGKILL)
+
+    def send(self, pid: int, number: int) -> None:
+        try:
+            os.kill(pid, number)
+        except ProcessLookupError:
+            pass
+
+    def hold(self, *pids: int | None) -> None:
+        """These stand still for longer than a ttl, or for less."""
+        for pid in pids:
+            if pid is not None:
+                self.send(pid, signal.SIGSTOP)
+        time.sleep(TTL * self.chance.choice([0.3, 2.5]))
+        for pid in pids:
+            if pid is not None:
+                self.send(pid, signal.SIGCONT)
+
+    def stop_service(self) -> None:
+        self.hold(self.service())
+
+    def some_keeper(self) -> str:
+        holder = self.row().holder
+        return holder if holder in self.names() and self.chance.random() < 0.8 else self.chance.choice(self.names())
+
+    def kill_keeper(self) -> None:
+        name = self.some_keeper()
+        self.keeping.kill(name)
+        self.keeping.start(name)
+
+    def kill_keeper_for_long(self) -> None:
+        name = self.some_keeper()
+        self.keeping.kill(name)
+        time.sleep(2.5 * TTL)
+        self.keeping.start(name)
+
+    def stop_keeper(self) -> None:
+        self.hold(self.keeping.processes[self.some_keeper()].pid)
+
+    def stop_machine(self) -> None:
+        name = self.row().holder
+        if name in self.keeping.processes:
+            self.hold(self.keeping.processes[name].pid, self.service())
+
+    def switch_over(self) -> None:
+        try:
+            self.keeping.referee.wish(NAME, "*")
+        except PagelogError:
+            pass
+
+    def end_keeper(self) -> None:
+        name = self.some_keeper()
+        self.keeping.processes[name].send_signal(signal.SIGTERM)
+        try:
+            self.keeping.processes[name].wait(4 * TTL)
+        except subprocess.TimeoutExpired:
+            self.keeping.kill(name)
+        self.keeping.start(name)
+
+    def cut_lines(self) -> None:
+        """All lines to PostgreSQL are cut."""
+        try:
+            with psycopg.connect(self.pair.url + "&target_session_attrs=read-write", autocommit=True) as boss:
+                boss.execute("SELECT pg_terminate_backend(pid) FROM pg_stat_activity WHERE application_name LIKE 'pagelog keeper%'")
+        except psycopg.Error:
+            pass
+
+    def fail_over_postgresql(self) -> None:
+        self.pair.fail_over()
+
+    # The run.
+
+    def run(self) -> int:
+        keeping = self.keeping
+        keeping.word("create", NAME, "--table", keeping.table)
+        keeping.start("a", "b")
+        keeping.place()
+        clients = [self.client("write", 2), self.client("write", 5), self.client("read", 3)]
+        ends = time.monotonic() + self.seconds
+        while time.monotonic() < ends:
+            [(_, fault)] = self.chance.choices(self.faults, [weight for weight, _ in self.faults])
+            self.done[fault.__name__] += 1
+            print(f"{self.seconds - (ends - time.monotonic()):6.1f} s: {fault.__name__}", flush=True)
+            fault()
+            time.sleep(self.chance.uniform(0.2, 2 * TTL))
+        eventually(lambda: keeping.place() is not None)
+        (keeping.folder / STOP).touch()
+        ended = [self.ended(client) for client in clients]
+        violations = Check(keeping).violations()
+        violations += [f"a client ended with status {status}" for status in ended if status != 0]
+        violations += [line for line in keeping.said().splitlines() if "fault of the keeper" in line]
+        return self.report(violations)
+
+    def ended(self, client: subprocess.Popen[bytes]) -> int:
+        """The status of a client that has to end now. One that does not says what it is at, and so do the keepers."""
+        try:
+            return client.wait(60)
+        except subprocess.TimeoutExpired:
+            for process in (client, *self.keeping.processes.values()):
+                process.send_signal(signal.SIGUSR1)
+            time.sleep(1)
+            client.kill()
+            return client.wait()
+
+    def client(self, what: str, id: int) -> subprocess.Popen[bytes]:
+        words = [sys.executable, "-B", __file__, what, self.keeping.folder, id, ",".join(self.keeping.addresses), self.chance.random()]
+        return subprocess.Popen(list(map(str, words)))
+
+    def report(self, violations: list[str]) -> int:
+        for violation in violations[:20]:
+            print(f"violation: {violation}")
+        books = Check(self.keeping).books
+        counts = Counter(line["what"] for line in books if line["what"] != "end")
+        print("faults: " + ", ".join(f"{name} {count}" for name, count in self.done.most_common()))
+        print("told: " + ", ".join(f"{what} {count}" for what, count in counts.most_common()))
+        print(f"torture: {counts['durable']} durable commits over {self.keeping.row(NAME).generation} generations, "
+              f"{sum(self.done.values())} faults, {len(violations)} violations")  # fmt: skip
+        return 1 if violations or not counts["durable"] else 0
+
+    def stop(self) -> None:
+        (self.keeping.folder / STOP).touch()
+        self.keeping.__exit__()
+        self.pair.stop()
+
+
+class Check:
+    """Knows nothing but the books of the clients, and the archive."""
+
+    def __init__(self, keeping: Keeping) -> None:
+        self.keeping = keeping
+        self.books: list[dict[str, object]] = []
+        for file in (*keeping.folder.glob("writer*"), *keeping.folder.glob("reader*")):
+            self.books += [json.loads(line) | {"who": file.name} for line in file.read_text().splitlines()]
+
+    def violations(self) -> list[str]:
+        texts = dict(enumerate((text_of(Block.decode(block)) for block in self.keeping.archive(NAME)), 1))
+        found = [f"{text!r} is there {count} times" for text, count in Counter(texts.values()).items() if count > 1]
+        tried = {line["text"] for line in self.books if line["what"] == "try"}
+        found += [f"{text!r} was not tried" for text in texts.values() if text not in tried]
+        there, ends = set(texts.values()), self.ends()
+        for line in self.books:
+            if line["what"] in ("durable", "read") and texts.get(line["position"]) != line["text"]:  # type: ignore[call-overload]
+                found.append(f"{line} and the archive has {texts.get(line['position'])!r}")  # type: ignore[call-overload]
+            if line["what"] == "durable" and line["position"] > ends.get(line["generation"], 1 << 60):  # type: ignore[operator,call-overload]
+                found.append(f"{line} after the end of its generation, {ends[line['generation']]}")  # type: ignore[index]
+            if line["what"] == "lost" and line["text"] in there:
+                found.append(f"{line} and it is there")
+        for who in {line["who"] for line in self.books}:
+            positions = [line["position"] for line in self.books if (line["who"], line["what"]) in ((who, "durable"), (who, "read"))]
+            if positions != sorted(set(positions)):  # type: ignore[type-var]
+                found.append(f"{who} was told positions out of order")
+        return found
+
+    def ends(self) -> dict[int, int]:
+        """Where each generation that is over ended."""
+        with psycopg.connect(self.keeping.url + "&target_session_attrs=read-write") as connection:
+            rows = connection.execute("SELECT generation, base FROM pagelog_generation ORDER BY generation").fetchall()
+        return {generation: base for (generation, _), (_, base) in zip(rows, rows[1:])}
+
+
+def main(words: list[str]) -> int:
+    if words and words[0] in ("write", "read"):
+        faulthandler.register(signal.SIGUSR1)
+        {"write": write, "read": read}[words[0]](Path(words[1]), int(words[2]), words[3].split(","), int(float(words[4]) * 1e9))
+        return 0
+    torture = Torture(float(words[0]) if words else 60.0, int(words[1]) if len(words) > 1 else 1)
+    try:
+        return torture.run()
+    finally:
+        if os.environ.get("PAGELOG_TEST_SAYS"):
+            print(torture.keeping.said())
+        torture.stop()
+
+
+if __name__ == "__main__":
+    sys.exit(main(sys.argv[1:]))
