@@ -1,6 +1,7 @@
 """Times the calls of a log whose hardened blocks lie in two stores, beside a plain list of the same blocks.
 
 Usage: python3 bench/log.py [BLOCKS..]                  (1000 100000 1000000 where none are given)
+       python3 bench/log.py --sparse [BLOCKS..]         (1000 10000 100000 1000000 where none are given)
        python3 bench/log.py --zones [FOLDER]
 
 Builds bench/log, a program that calls pl_log, and drives it. For each number of hardened blocks of 100 bytes, and for 10,000 of
@@ -13,6 +14,9 @@ Builds bench/log, a program that calls pl_log, and drives it. For each number of
 beside the same pulls from a list, and the peak of memory for each hardened block, beside the bytes of its spelling.
 
 Writes and reports are in nanoseconds of the processor, all else in those of a clock.
+
+With --sparse it prints the time of a pull of 16 blocks from the first LSN on, of partitions that all, few and no blocks touch, for
+logs of three mixes of partitions, beside one of the newest 16 blocks of the same log.
 
 With --zones it prints the time of a write of a block of 100 bytes to the first copy, of one to another copy, which compares
 it with what is there, and of a report of 64, in a zone of three copies and of six, the median of 15 rounds; and what a place
@@ -107,6 +111,31 @@ def measure(path, blocks, length):
     print(f"  {'memory of the list for each block':<50} {(plain.end() - empty(path)) / blocks:10.0f} bytes")
 
 
+# Of each mix: its number in the program, and the ranges of partitions that are pulled, by name.
+MIXES = {
+    "one block in 1,000 touches partition 1, all others 0": (0, {
+        "common": (0, 0), "one in 1,000": (1, 1), "none": (9, 9), "none, wide": (2, 65535)}),
+    "each block touches another partition": (1, {
+        "one in 65,536": (7, 7), "one in 1,024": (64, 127), "one in 16": (0, 4095), "all": (0, 65535)}),
+    "each block touches two far apart": (2, {
+        "one in 50": (7, 7), "none": (30000, 30000), "none, wide": (50, 65485), "all": (0, 65535)}),
+}
+
+
+def sparse(path, blocks):
+    """The times of pulls of a log of each mix."""
+    for name, (mix, ranges) in MIXES.items():
+        program = Program(path)
+        program.ask("mix", mix)
+        program.ask("fill", blocks, 100)
+        newest, _ = pulls(program, "pull", blocks - 15, 0, 0, 65535, 20000)
+        print(f"{blocks} blocks, {name}: the newest 16 in {newest:.0f} ns")
+        for what, (lo, hi) in ranges.items():
+            nanos, served = pulls(program, "pull", 1, 0, lo, hi, 200)
+            print(f"  {what:<20} {nanos:10.0f} ns   {nanos / newest:6.1f} times   {served:.0f} blocks", flush=True)
+        program.end()
+
+
 ZONES = {"three copies, quorum two": (3, 2), "six copies, quorum four": (6, 4)}
 TIMES = ("a write to the first copy", "to another", "a report of 64")
 # Windows of a round, and rounds; logs whose windows are held at once.
@@ -158,6 +187,10 @@ def compare_zones(paths):
 
 def main():
     path = programs.program("log", "pl_block pl_log bytes")
+    if sys.argv[1:2] == ["--sparse"]:
+        for blocks in [int(word) for word in sys.argv[2:]] or [1000, 10_000, 100_000, 1_000_000]:
+            sparse(path, blocks)
+        return None
     if sys.argv[1:2] == ["--zones"]:
         paths = {"now": path}
         if sys.argv[2:]:

@@ -20,6 +20,8 @@ PROGRAM = programs.pagelog()
 TABLE = ROOT / "crates" / "pagelog" / "data" / "t0.toml"
 # How many blocks are hardened with one report.
 WINDOW = 64
+# The first bytes of replies.
+PAGE, BLOCKS = 2, 1
 
 
 def words():
@@ -48,6 +50,11 @@ def reader(op, rest):
 
 def get(page, lsn, exact):
     return reader(wire.GET, wire.get(page, lsn, exact))
+
+
+def pull(partition, lsn):
+    """A pull of 16 blocks that touch the partition."""
+    return reader(wire.PULL, wire.pull(partition, partition, lsn, 16))
 
 
 def small_block(lsn):
@@ -100,19 +107,19 @@ class Service:
         self.socket.sendall(b"".join(frames))
         return [self.file.read(int.from_bytes(self.file.read(4), "big")) for _ in frames]
 
-    def harden(self, count, block):
-        """Hardens `count` blocks, a window with each report."""
-        for first in range(1, count + 1, WINDOW):
+    def harden(self, count, block, start=1):
+        """Hardens the blocks from an LSN to `count`, a window with each report."""
+        for first in range(start, count + 1, WINDOW):
             last = min(first + WINDOW - 1, count)
             frames = [frame for lsn in range(first, last + 1) for frame in in_copies(block, lsn)]
             assert set(self.replies([*frames, primary(wire.REPORT, wire.report(last))])) == {b"\0"}
 
-    def delay(self, frame):
-        """Microseconds until the reply has come, which has to be a page."""
+    def delay(self, frame, kind=PAGE):
+        """Microseconds until the reply has come, which has to be of this kind."""
         began = time.perf_counter()
         [reply] = self.replies([frame])
         took = (time.perf_counter() - began) * 1e6
-        assert reply[0] == 2, reply[:20]
+        assert reply[0] == kind, reply[:20]
         return took
 
 

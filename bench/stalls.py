@@ -2,11 +2,13 @@
 
 Usage: python3 bench/stalls.py [SHARE] [--idle-polls N]     (1; a tenth of the blocks and requests with 0.1)
 
-Three cases, each on a service of its own with one database:
+Four cases, each on a service of its own with one database:
 
 - first get: 1,000,000 blocks are hardened, 64 with a report, and then a page is got for the first time, and once more;
 - old pages: 64,000 blocks change one page, which is got at LSNs drawn from a seed, exactly; once where each block changes a
   few bytes, and once where each 256th block makes the whole page (an image);
+- sparse pulls: of 1,000 to 1,000,000 blocks, of which one in 1,000 changes partition 1 and all others partition 0, pulls of 16 from
+  the first LSN on: of partition 0, of 1, and of 2, which none touches; beside a pull of the newest 16, the median of 200 each;
 - mixed load: that of bench/mixed.py, 64 connections of six kinds of requests, on services of 64, 4 and 2 workers.
 
 The service is crates/pagelog/out/pagelog, which scripts/pagelog proves and builds, or the program that PAGELOG names.
@@ -17,10 +19,11 @@ them on one connection; bench/mixed.py says what those of the mixed load are.
 
 import os
 import random
+import statistics
 import tempfile
 
 import mixed
-from serving import SHARE, Service, about, build_frames, get, small_block, wire
+from serving import BLOCKS, SHARE, Service, about, build_frames, get, pull, small_block, wire
 
 WORKERS = 64, 4, 2
 
@@ -53,10 +56,28 @@ def old_pages():
         print(f"old pages of {count:,} blocks, {name:25}{percentiles(delays)}", flush=True)
 
 
+def sparse_pulls():
+    """Each length goes on from the one before."""
+
+    def block(lsn):
+        return wire.block(lsn, [((lsn % 1000 == 0) * 65536, lsn * 8 % 8184, bytes([lsn % 256] * 8))])
+
+    with Service() as service:
+        hardened = 0
+        for count in [int(length * SHARE) for length in (1_000, 10_000, 100_000, 1_000_000)]:
+            service.harden(count, block, hardened + 1)
+            hardened = count
+            asked = {"newest": (0, count - 15), "common": (0, 1), "rare": (1, 1), "none": (2, 1)}
+            medians = {name: statistics.median(service.delay(pull(*what), BLOCKS) for _ in range(200)) for name, what in asked.items()}
+            cells = "".join(f"   {name} {delay:,.0f} ({delay / medians['newest']:.1f} times)" for name, delay in medians.items())
+            print(f"pulls of 16 out of {count:>9,} blocks{cells}", flush=True)
+
+
 with tempfile.TemporaryDirectory() as work:
     frames = build_frames(work)
     print(about(), flush=True)
     mixed.measure(frames, work, WORKERS)
     old_pages()
     first_get()
+    sparse_pulls()
     print(f"load at the end {os.getloadavg()[0]:.1f}")

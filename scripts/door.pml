@@ -27,10 +27,26 @@
 #define TICKETS 4 /* more than THREADS, and a multiple of BELLS */
 #endif
 
-#define VACANT 0
-#define TAKEN 1
-#define QUIET 0
-#define BEHIND 1
+// door.rt: VACANT
+#define VACANT 0 // const VACANT: u64 = 0;
+// door.rt: TAKEN
+#define TAKEN 1  // const TAKEN: u32 = 1;
+// bells.rt: QUIET
+#define QUIET 0  // const QUIET: u64 = 0;
+// door.rt: BEHIND
+#define BEHIND 1 // const BEHIND: u32 = 1;
+
+/* The bells are fewer here, and all looks but the last have no step. The first in line may come back at any time. */
+// bells.rt: BELLS
+                 // const BELLS: u64 = 64;
+// door.rt: LOOKS
+                 // const LOOKS: u32 = 230;
+// door.rt: PATIENT_LOOKS
+                 // const PATIENT_LOOKS: u32 = 30;
+// door.rt: PAUSES
+                 // const PAUSES: u32 = 4;
+// door.rt: PATIENCE
+                 // const PATIENCE: u64 = 50;
 
 /* Where a thread sleeps: nowhere, in line, as the first in line, or at a bell of tickets. */
 #define AWAKE 0

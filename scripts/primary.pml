@@ -310,32 +310,31 @@ inline look(are_there) {
     fi
 }
 
-// pagelog_append.c: were_sent
-                    // ..
-                    // (marks->done | marks->unsure) == 0) return false;
-                    // ..
 #define WERE_SENT (ALL_COUNTED(done | unsure))
 #define IS_COUNTED(place) (first <= (place) && LSN_AT(place) <= hard)
 #define ALL_COUNTED(writes) ((!IS_COUNTED(0) || ((writes) & BITS(0, 1)) != 0) && (!IS_COUNTED(1) || ((writes) & BITS(1, 2)) != 0))
-#define ARE_DONE ALL_COUNTED(done)
+#define ARE_THERE ((!IS_COUNTED(0) || IS_AT(0)) && (!IS_COUNTED(1) || IS_AT(1)))
 
-/* What became of the blocks, for who may not pull. The cause of the look is a lost connection, or a write at an LSN in the log. */
-// pagelog_append.c: judge_unseen
-                    // if (are_done(append, count, 1)) return PAGELOG_DONE;
-                    // enum pagelog_outcome cause = were_sent(append, count) ? append->refusal : PAGELOG_CONFLICT;
-                    // return pagelog_restore(append->log, cause, &append->refused);
+/* The same for who may not pull, by the pages. The bytes of each block are its own, so that they say which blocks are there. */
+// pagelog_append.c: look_at_pages
+                    // ..
+                    // if (outcome != PAGELOG_DONE) return outcome;
+                    // if (!has_records(block, record.page, bytes)) return PAGELOG_CONFLICT; }
+                    // return PAGELOG_DONE;
 #if defined OWNS_ITS_EPOCH
-#define IS_JUDGED_DONE (ARE_DONE || WERE_SENT && !joins)
+#define ARE_FOUND_THERE (ARE_THERE || WERE_SENT && !joins)
 #elif defined OWNS_WHAT_IT_NEVER_SENT
-#define IS_JUDGED_DONE (ARE_DONE || !joins)
+#define ARE_FOUND_THERE (ARE_THERE || !joins)
 #else
-#define IS_JUDGED_DONE ARE_DONE
+#define ARE_FOUND_THERE ARE_THERE
 #endif
-inline judge_unseen() {
+inline look_as_primary() {
     assert(refused == NONE || refused == C2 || refused == C4);
     if
-    :: IS_JUDGED_DONE -> outcome = DONE
-    :: !IS_JUDGED_DONE -> outcome = (WERE_SENT && IS_CUT -> LOST : CONFLICT)
+#ifndef NO_LOSS
+    :: outcome = LOST
+#endif
+    :: outcome = (ARE_FOUND_THERE -> DONE : CONFLICT)
     fi
 }
 
@@ -347,7 +346,7 @@ inline judge_unseen() {
                     // if (status.hard < next) return PAGELOG_DONE;
                     // ..
                     // outcome = look(append, append->first, count);
-                    // if (outcome == PAGELOG_DENIED) outcome = judge_unseen(append, count);
+                    // if (outcome == PAGELOG_DENIED) outcome = look_as_primary(append, append->first, count);
                     // if (outcome == PAGELOG_DONE) advance(append, count);
                     // ..
 inline catch_up() {
@@ -362,11 +361,14 @@ inline catch_up() {
     :: reply == ALLOWED && hard < LSN_AT(first) -> outcome = GOES_ON /* the rest may be asked again */
     :: reply == ALLOWED && hard >= LSN_AT(first) ->
        end = hard;
-       look((!IS_COUNTED(0) || IS_AT(0)) && (!IS_COUNTED(1) || IS_AT(1)));
-       if
+       look(ARE_THERE);
 #ifdef NO_PULL
-       :: outcome == DENIED -> judge_unseen()
+       if
+       :: outcome == DENIED -> look_as_primary()
+       :: outcome != DENIED
+       fi;
 #endif
+       if
        :: outcome == LOST -> refused = NONE
        :: outcome == DONE || outcome == CONFLICT
        fi;
@@ -452,6 +454,7 @@ inline conclude() {
                     // ..
                     // if (is_in_log(append, count)) { advance(append, count);
                     // ..
+                    // if (append->log->socket < 0 && !is_epoch_over(&append->refused)) forget_answers(append);
                     // if (outcome == PAGELOG_LOST && pagelog_may_try_again(&patience)) {
                     // ..
                     // most = count > 1 ? count / 2 : 1;
@@ -462,6 +465,10 @@ inline conclude() {
                     // if (outcome != PAGELOG_DONE) return conclude(append, outcome);
                     // ..
 inline weigh() {
+    if
+    :: !IS_IN_LOG && IS_CUT -> unsure = unsure | done; done = 0
+    :: else
+    fi;
     if
     :: IS_IN_LOG -> first = last + 1; last = 1; outcome = GOES_ON
     :: !IS_IN_LOG && IS_CUT -> outcome = LOST
@@ -570,7 +577,7 @@ inline begin_after_failover() {
                     // enum pagelog_outcome outcome = fail_over(log, operator_principal, operator_token, epoch);
                     // if (outcome == PAGELOG_DONE) break;
                     // if (outcome == PAGELOG_LOST && pagelog_may_try_again(&patience)) continue;
-                    // if (outcome != PAGELOG_FENCED || !is_epoch_told(log) || ++epochs > MOST_EPOCHS) return outcome;
+                    // if (outcome != PAGELOG_FENCED || !is_epoch_told(log) || !pagelog_may_change_epoch(&patience)) return outcome;
                     // if (expected) { if (!may_be_ours(log, expected)) return outcome;
                     // outcome = ask_as_primary(log);
                     // if (outcome == PAGELOG_LOST && pagelog_may_try_again(&patience)) continue;
@@ -657,10 +664,12 @@ inline take_over_any() {
 #endif
 
 // pagelog_repair.c: pagelog_take_whole
+                    // ..
                     // enum pagelog_outcome outcome = pagelog_take_mark(file, pagelog_end(file->log));
                     // if (outcome == PAGELOG_DONE && file->doubted > 0) outcome = look_for_doubted(file);
                     // while (outcome == PAGELOG_DONE && file->torn > 0 && file->mark.lsn >= file->torn &&
                     // file->mark.session == file->session)
+                    // ..
                     // outcome = pagelog_take_mark(file, file->mark.lsn - 1);
                     // ..
 #ifdef FORGETS_WHAT_IS_TORN
@@ -700,7 +709,7 @@ inline recover() {
     reply = ALLOWED
 }
 
-// pagelog_file.c: open_writer
+// pagelog_file.c: begin_to_write
                     // ..
                     // options->has_operator
                     // ? pagelog_take_over(file->log, options->operator_principal, options->operator_token, 0)

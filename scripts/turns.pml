@@ -42,6 +42,23 @@
 #define OUTS 2    /* how many replies a socket holds */
 #endif
 
+/* These numbers are smaller here. A room holds no more frames than MOST_FRAMES. */
+// resuming.rt: WRITES_A_TURN
+                             // const WRITES_A_TURN: u32 = 4;
+// resuming.rt: MOST_WRITES
+                             // const MOST_WRITES: u32 = 16_385;
+// resuming.rt: MOST_FRAMES
+                             // const MOST_FRAMES: u64 = 16_385;
+// inbox.rt: LONGEST_FRAME
+                             // const LONGEST_FRAME: usize = 65_540;
+// outbox.rt: MANY_BYTES
+                             // const MANY_BYTES: usize = 262_144;
+// outbox.rt: MANY_REPLIES
+                             // const MANY_REPLIES: usize = 4_096;
+/* Of memory alone. */
+// resuming.rt: MOST_KEPT
+                             // const MOST_KEPT: usize = 4_096;
+
 #define PARTS 2              /* the parts of a frame */
 #define ENOUGH (OUTS / 2)    /* with this many replies or fewer in it, a socket is reported to have room */
 
@@ -185,20 +202,37 @@ inline tell() {
                                                            // self.waiting = Vec::new(alloc); self.sent = 0; } end
 }
 
+// inbox.rt: Inbox::is_full
+#define IS_FULL (held == ROOM)                             // self.len == self.room.len()
+
+// inbox.rt: Inbox::fill
+#define FILLS (in[at] < ROOM - held -> in[at] : ROOM - held) // let more = read_after(from, self.room.as_mut_slice(), self.len)?;
+                                                           // self.len += more; Ok(more)
+
+// inbox.rt: read_after
+                                                           // from.read(&mut room[count..])
+
+// inbox.rt: Inbox::load
+#define LOAD(count) held = count                           // put_front(self.room.as_mut_slice(), bytes);
+                                                           // self.len = bytes.len();
+
+// outbox.rt: Outbox::may_gather
+#define MAY_GATHER (replies < GATHERS)                     // self.text.len() < MANY_BYTES && self.lens.len() < MANY_REPLIES
+
 // resuming.rt: hear
 inline hear() {
     if
     :: held >= PARTS -> heard = SOME                       // if !is_cut(inbox.as_slice()) { return Ok(Heard::Some); }
     :: held < PARTS ->
        d_step {                                            // match inbox.fill(reader) {
-           taken = (in[at] < ROOM - held -> in[at] : ROOM - held);
+           taken = FILLS;
            in[at] = in[at] - taken; held = held + taken;
            if
            :: taken == 0 && gone[at] -> failed = true; moved = true
            :: taken == 0 && !gone[at] && shut[at] -> heard = END; moved = true // Ok(0) => Ok(Heard::End),
 #ifndef FULL_IS_ALL
-           :: taken > 0 && held == ROOM -> heard = SOME; moved = true // Ok(_) if inbox.is_full() => Ok(Heard::Some),
-           :: taken > 0 && held < ROOM -> heard = ALL; moved = true // Ok(_) => Ok(Heard::All),
+           :: taken > 0 && IS_FULL -> heard = SOME; moved = true // Ok(_) if inbox.is_full() => Ok(Heard::Some),
+           :: taken > 0 && !IS_FULL -> heard = ALL; moved = true // Ok(_) => Ok(Heard::All),
 #else
            :: taken > 0 -> heard = ALL; moved = true
 #endif
@@ -227,10 +261,10 @@ inline answer_whole() {
     d_step {
                                                            // let mut taken = 0;
         do                                                 // for _ in 0..most {
-        :: replies == GATHERS -> break                     // if !outbox.may_gather() { break; }
-        :: replies < GATHERS && held < PARTS -> break      // let Some(count) = answer_first(alloc,
+        :: !MAY_GATHER -> break                            // if !outbox.may_gather() { break; }
+        :: MAY_GATHER && held < PARTS -> break             // let Some(count) = answer_first(alloc,
                                                            // &bytes[taken..], gate, pass, outbox) else { break; };
-        :: replies < GATHERS && held >= PARTS -> answer_first()
+        :: MAY_GATHER && held >= PARTS -> answer_first()
                                                            // taken += count; }
         od                                                 // taken
     }
@@ -239,26 +273,32 @@ inline answer_whole() {
 // resuming.rt: speak
 inline speak() {
                                                            // let mut taken = 0;
-    do                                                     // for _ in 0..WRITES_A_TURN {
+    do                                                     // for _ in 0..writes {
     :: writes < WRITES ->
                                                            // outbox.restart();
-       answer_whole();                                     // taken += answer_whole(alloc, &bytes[taken..],
+       if
+       :: held < PARTS -> break                            // let Some(first) = answer_first(alloc, &bytes[taken..],
+                                                           // gate, pass, outbox) else { return (taken, 0, Ok(())); };
+       :: held >= PARTS -> d_step { answer_first() }
+       fi;
+       answer_whole();                                     // let more = answer_whole(alloc, &bytes[taken + first..],
                                                            // MOST_FRAMES, gate, pass, outbox);
 #ifndef ANSWERS_ARE_KEPT
        write_ready(replies);                               // let (sent, end) = write_ready(writer, outbox.text());
 #endif
+       writes++;                                           // taken += first + more;
        if
        :: failed || replies > 0 -> break                   // if end.is_err() || sent < outbox.text().len() {
                                                            // return (taken, sent, end); }
-       :: !failed && replies == 0 ->
-          if
-          :: held < PARTS -> break                         // if body_in(&bytes[taken..]).is_none() {
-          :: held >= PARTS -> writes++                     // return (taken, sent, end); }
-          fi
+       :: !failed && replies == 0
        fi
     :: writes == WRITES -> break                           // }
     od                                                     // (taken, outbox.text().len(), Ok(()))
 }
+
+/* Where memory is refused, all frames are answered. */
+// resuming.rt: end_of
+// ..
 
 // resuming.rt: Conversation::keep_unread
 inline keep_unread() {
@@ -281,13 +321,12 @@ inline keep() {
 #ifdef READS_WHILE_REPLIES_WAIT
         waiting[at] = waiting[at] + replies;
 #else
-        waiting[at] = replies;                             // self.sent = 0; if put_all(&mut self.waiting, text).is_err()
-                                                           // { self.waiting.clear(); return Err(Cause::Write); }
+        waiting[at] = replies;                             // self.sent = 0;
+                                                           // let end = put_all(&mut self.waiting, text);
+                                                           // if end.is_err() { self.waiting.clear(); return end; }
 #endif
-        unread[at] = held;                                 // if self.keep_unread(alloc, unread, spare).is_err() {
-                                                           // if text.is_empty() { return Err(Cause::NoMemory); }
-                                                           // return Err(Cause::Write); }
-        assert(waiting[at] <= GATHERS)                     // Ok(())
+        unread[at] = held;                                 // self.keep_unread(alloc, unread, spare)
+        assert(waiting[at] <= GATHERS)
     }
 }
 
@@ -295,23 +334,24 @@ inline keep() {
 inline rest_after() {
     if
     :: waiting[at] > 0 -> rest = OUTPUT                    // if waiting > 0 { return Ok(Rest::Output); }
-    :: waiting[at] == 0 ->                                 // match heard {
+    :: waiting[at] == 0 ->
        if
-       :: heard == END && unread[at] == 0 -> rest = OVER   // Heard::End if unread.is_empty() => Ok(Rest::Over),
-       :: heard == END && unread[at] > 0 -> rest = FAILED  // Heard::End => Err(Cause::Short),
-       :: heard == ALL && unread[at] < PARTS -> rest = INPUT // Heard::All if is_cut(unread) => Ok(Rest::Input),
 #ifdef FULL_TURN_WAITS
        :: heard == ALL && unread[at] >= PARTS -> rest = INPUT
        :: heard == SOME -> rest = AGAIN
 #elif defined UNREAD_INPUT_WAITS
        :: heard == SOME && unread[at] < PARTS -> rest = INPUT
-       :: (heard == SOME || heard == ALL) && unread[at] >= PARTS -> rest = AGAIN
+       :: unread[at] >= PARTS -> rest = AGAIN
 #else
-       :: heard == ALL && unread[at] >= PARTS || heard == SOME -> rest = AGAIN
+       :: unread[at] >= PARTS || heard == SOME -> rest = AGAIN // if let Some(_frame) = body_in(unread) {
+                                                           // return Ok(Rest::Again); }
 #endif
-       fi                                                  // _ if has_moved && (is_cut(unread) ||
-                                                           // body_in(unread).is_some()) => Ok(Rest::Again),
-                                                           // _ => Err(Cause::TooLong), }
+                                                           // if !is_cut(unread) { return Err(Cause::TooLong); }
+                                                           // match heard { Heard::Some => Ok(Rest::Again),
+       :: heard == ALL && unread[at] < PARTS -> rest = INPUT // Heard::All => Ok(Rest::Input),
+       :: heard == END && unread[at] == 0 -> rest = OVER   // Heard::End if unread.is_empty() => Ok(Rest::Over),
+       :: heard == END && unread[at] > 0 -> rest = FAILED  // Heard::End => Err(Cause::Short), }
+       fi
     fi
 }
 
@@ -327,26 +367,29 @@ inline resume() {
     :: !failed ->
 #endif
                                                            // let Room { inbox, outbox, spare } = room;
-       held = unread[at];                                  // inbox.load(self.unread());
+       LOAD(unread[at]);                                   // inbox.load(self.unread());
        hear();                                             // let Ok(heard) = hear(reader, inbox) else {
        if                                                  // return Err(Cause::Read); };
        :: failed -> rest = FAILED
        :: !failed ->
                                                            // let bytes = inbox.as_slice();
-          speak();                                         // let (taken, sent, end) = speak(alloc, bytes, writer,
-                                                           // gate, pass, outbox);
+          speak();                                         // let (taken, sent, end) = speak(alloc, bytes,
+                                                           // WRITES_A_TURN, writer, gate, pass, outbox);
           if                                               // if end.is_err() {
           :: failed -> rest = FAILED                       // return Err(Cause::Write); }
           :: !failed ->
-                                                           // let has_moved = bytes.len() + taken > self.unread().len();
-             keep();                                       // match self.keep(alloc, &outbox.text()[sent..],
-                                                           // &bytes[taken..], spare) {
-             rest_after()                                  // Ok(()) => rest_after(heard, has_moved, self.unread(),
-                                                           // self.left()),
-          fi                                               // Err(cause) => Err(cause), }
+                                                           // let (unread, left) =
+                                                           // (&bytes[taken..], &outbox.text()[sent..]);
+             keep();                                       // if self.keep(alloc, left, unread, spare).is_ok() {
+             rest_after()                                  // return rest_after(heard, self.unread(), self.left()); }
+          fi                                               // ..
        fi
     fi
 }
+
+/* A law does nothing. */
+// resuming.rt: turns_are_a_conversation
+// ..
 
 /* A process of its own, so that the steps of a turn are here once. The worker waits until it has ended. */
 active proctype Turn() {

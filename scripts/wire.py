@@ -1,16 +1,13 @@
 """Blocks, requests and frames as bytes, written from docs/FORMATS.md; shared by the scripts and bench/play.py."""
 
-PRIMARY, SECONDARY, PAGE_SERVER, OPERATOR = 1, 2, 3, 4
-WRITE, OFFER, REPORT, GET, PULL, ADVANCE, STATUS, FAILOVER, SET_TABLE, AUDIT, TIDY = range(1, 12)
+import pathlib
+import sys
 
-PAGE_BYTES = 8192
-PAGES_OF_A_PARTITION = 65536
-LONGEST_BLOCK = 32768
-
-
-def number(value, size):
-    """The value in `size` bytes."""
-    return value.to_bytes(size, "big")
+# The numbers are those of the plain model, which is installed with pagelogctl and needs nothing else of its package.
+sys.path.insert(0, str(pathlib.Path(__file__).resolve().parent.parent / "clients" / "python" / "src"))
+from pagelog_model.wire import (  # noqa: E402, F401
+    ADVANCE, AUDIT, FAILOVER, GET, LONGEST_BLOCK, OFFER, OPERATOR, PAGE_BYTES, PAGE_SERVER, PAGES_OF_A_PARTITION, PRIMARY, PULL,
+    REPORT, SECONDARY, SET_TABLE, STATUS, TIDY, WRITE, number)
 
 
 def token(principal):

@@ -9,12 +9,13 @@
  * Before a worker sleeps it polls with no time, up to IDLE_POLLS times, until one reports something, unless another worker does
  * so: that one has the lookout's place. No two workers ever do so at the same time. Once nobody can go on, nobody is there, no
  * socket lies in a channel, and no connection has an event, not even a reported one, or a turn due; a worker whose channel is
- * closed, and that has no connection, has ended.
+ * closed, and that has no connection, has ended; and what a worker counts are its connections.
  *
- * After each step comes the line of the code that it is for, under the name of its function; two dots stand for lines that
- * the model leaves out. scripts/waiting compares these lines with the source.
+ * After each step comes the line of the code that it is for, under the name of its function. scripts/waiting compares these
+ * lines with the source.
  *
- * Left out: which worker has the fewest connections, since any of them may; memory that is refused; an error of a poll.
+ * Left out: which worker has the fewest connections, since any of them is taken; memory that is refused; an error of a poll,
+ * or of an accept. Of what has no step here the lines are compared all the same.
  */
 
 #ifndef WORKERS
@@ -33,6 +34,7 @@
 #define IDLE_POLLS 1 /* how often a worker polls with no time before it sleeps, idle_polls */
 #endif
 
+byte counted[WORKERS]; /* the connections that it was given and has not closed, as it counts them */
 byte lying[WORKERS];   /* the sockets in the channel of a worker */
 bit dropped[WORKERS];  /* whether its sender is dropped */
 bit rung[WORKERS];     /* whether its bell has rung since a poll reported it */
@@ -45,6 +47,47 @@ bit taken;             /* whether a worker has the lookout's place */
 byte awake;            /* how many workers poll awake */
 
 #define IS_EMPTY (resting[me] == 0 && ready[me] == 0 && due[me] == 0)
+
+/* Constants without a step: how long a listener rests does not matter, nor how much room there is from the start. */
+// worker.rt: BELL
+                                                           // const BELL: Token = Token(usize::MAX);
+// worker.rt: LINES
+                                                           // const LINES: usize = 1_024;
+// worker.rt: AT_ONCE
+                                                           // const AT_ONCE: Duration = Duration::ZERO;
+// accepting.rt: PASSING
+                                                           // const PASSING: [i32; 14] = [1, 4, 12, 23, 24, 64, 71, 92,
+                                                           // 100, 101, 103, 105, 112, 113];
+// accepting.rt: REST
+                                                           // const REST: u64 = 20;
+/* EVENTS and ROOM are smaller here. */
+// worker.rt: EVENTS
+                                                           // const EVENTS: usize = 256;
+// serving.rt: WAITING
+                                                           // const WAITING: usize = 64;
+
+/* The count of a worker's connections. */
+
+// worker.rt: Post::open
+#define OPEN(post) counted[post]                           // self.open.load(SeqCst)
+
+// worker.rt: Post::opens
+inline opens(post) {
+    counted[post]++                                        // self.open.fetch_add(1, SeqCst);
+}
+
+// worker.rt: Post::closes
+inline closes(post) {
+#ifdef NEVER_CLOSES
+    skip
+#else
+    counted[post]--                                        // self.open.fetch_sub(1, SeqCst);
+#endif
+}
+
+/* An error of a poll. */
+// worker.rt: Post::leaves
+                                                           // self.open.store(1 << 62, SeqCst);
 
 /* The accepting thread. */
 
@@ -59,20 +102,31 @@ inline offer(post) {
 #ifdef RINGS_FIRST
     ring(post);
 #endif
-                                                           // post.opens();
+    opens(post);                                           // post.opens();
     if
     :: atomic { lying[post] < ROOM -> lying[post]++ };     // match channel.try_send(rt, socket) { Ok(()) => {
 #ifndef RINGS_FIRST
        ring(post);                                         // post.ring();
 #endif
        is_left = false                                     // None }
-    :: skip
+    ::
+#ifdef FULL_STAYS_COUNTED
+       skip
+#else
                                                            // Err(TrySendError::Full(socket))
                                                            // | Err(TrySendError::Disconnected(socket))
                                                            // | Err(TrySendError::OutOfMemory(socket)) => {
-                                                           // post.closes(); Some(socket) } }
+       closes(post)                                        // post.closes(); Some(socket) } }
+#endif
     fi
 }
+
+/* Any worker may be the one. */
+// accepting.rt: fewest
+                                                           // let mut place = 0; let mut least = u64::MAX;
+                                                           // for (at, post) in posts.iter().enumerate() {
+                                                           // let open = post.open();
+                                                           // if open < least { least = open; place = at; } } place
 
 // accepting.rt: hand_over
 inline hand_over() {
@@ -92,7 +146,7 @@ inline hand_over() {
     other = 0;
     if
     :: is_left ->                                          // if let Some(socket) = left {
-                                                           // post.opens();
+       opens(place);                                       // post.opens();
        atomic { lying[place] < ROOM -> lying[place]++ }    // if channel.send(rt, socket).is_err() { post.closes(); }
 #ifndef SENDS_SILENTLY
        ring(place)                                         // post.ring();
@@ -100,6 +154,19 @@ inline hand_over() {
     :: !is_left                                            // }
     fi
 }
+
+/* A listener that rests, or an error, is a rest of the accepting thread. */
+// accepting.rt: passes
+                                                           // match error.raw_os_error() {
+                                                           // Some(code) => PASSING.contains(&code), None => false, }
+// accepting.rt: accept
+                                                           // let bell = AtomicU64::new(0); for _ in rt.forever() {
+                                                           // match listener.accept() {
+                                                           // Ok((socket, _)) => return Ok(socket),
+                                                           // Err(error) if passes(&error) => { if !*is_reported {
+                                                           // watch.accept_rests(&error); *is_reported = true; }
+                                                           // bell.park_timeout(rt, 0, Duration::from_millis(REST)); }
+                                                           // Err(error) => return Err(error), } } unreachable!()
 
 // accepting.rt: accept_all
 inline accept_all() {
@@ -113,9 +180,24 @@ inline accept_all() {
     od                                                     // (connections, Stop::Limit)
 }
 
+/* Each worker has a thread here. */
+// serving.rt: started_of
+                                                           // &posts[..workers.min(posts.len())]
+
 // serving.rt: serve_in
 inline serve_in() {
-                                                           // ..
+                                                           // let (Ok(workers), Ok(ended)) = (
+                                                           // Vec::with_capacity(alloc, passes.len()),
+                                                           // Vec::with_capacity(alloc, passes.len()),) else {
+                                                           // return stopped(alloc, Stop::NoMemory); };
+                                                           // let asked = passes.len();
+                                                           // let workers = start_all(scope, rt, alloc, hired, posts, gate,
+                                                           // passes, workers);
+                                                           // if workers.is_empty() {
+                                                           // return stopped(alloc, Stop::Start); }
+                                                           // if workers.len() < asked {
+                                                           // watch.few_workers(workers.len(), asked); }
+                                                           // let posts = started_of(posts, workers.len());
     accept_all();                                          // let (accepted, stop) = accept_all(rt, listener, posts,
                                                            // &channels, connections, watch);
 #ifdef RINGS_BEFORE_IT_DROPS
@@ -133,7 +215,7 @@ inline serve_in() {
 #endif
 end_joins:
     (ended[0] && ended[WORKERS - 1])                       // let (passes, faults) = join_all(rt, gate, workers, ended);
-                                                           // ..
+                                                           // Served { accepted, faults, stop, passes, }
 }
 
 active proctype Accepting() {
@@ -160,7 +242,12 @@ inline turn() {
     if
     :: resting[me]++
     :: due[me]++
-    :: skip /* it is closed */
+    :: /* it is closed */
+#ifdef CLOSES_SILENTLY
+       skip
+#else
+       closes(me)
+#endif
     fi
 }
 
@@ -259,10 +346,25 @@ inline turn_due() {
 /* A poll reports at once what is registered. */
 // worker.rt: Lines::open
 inline open() {
-                                                           // ..
+                                                           // let _is_set = socket.set_nodelay(true).is_ok();
+                                                           // if socket.set_nonblocking(true).is_err() {
+                                                           // return false; }
+                                                           // let line = Line {
+                                                           // socket: mio::net::TcpStream::from_std(socket),
+                                                           // talk: Conversation::new(alloc),
+                                                           // is_due: false, is_closing: false, };
+                                                           // let Ok(place) = self.items.insert(line) else {
+                                                           // return false; };
+                                                           // let Some(line) = self.items.get_mut(place) else {
+                                                           // return false; };
+                                                           // let interest = Interest::READABLE | Interest::WRITABLE;
     if                                                     // let is_heard = poll.registry()
-    :: ready[me]++                                         // .register(&mut line.socket, Token(place), interest).is_ok();
-    :: skip                                                // if !is_heard { self.items.try_remove(place); }
+    :: ready[me]++;                                        // .register(&mut line.socket, Token(place), interest).is_ok();
+#ifdef TAKES_UNCOUNTED
+       closes(me)
+#endif
+    :: skip;                                               // if !is_heard { self.items.try_remove(place); }
+       closes(me)
     fi                                                     // is_heard
 }
 
@@ -343,7 +445,7 @@ active [WORKERS] proctype Worker() {
     ended[me] = true
 }
 
-#define SLEEPS_WELL(me) (lying[me] == 0 && ready[me] == 0 && events[me] == 0 && due[me] == 0 && \
+#define SLEEPS_WELL(me) (OPEN(me) == resting[me] && lying[me] == 0 && ready[me] == 0 && events[me] == 0 && due[me] == 0 && \
     (ended[me] || !dropped[me] || resting[me] > 0))
 
 /* Nobody can go on. */

@@ -1,0 +1,282 @@
+"""Named databases under keepers, beside PostgreSQL's own commits and plain archiving: needs Debian's packages of clients/python/test.
+
+Usage: python3 -B bench/kept.py [--share SHARE] [PART ..]      (parts: commits, archiving, kills, switchover, idle; by default all)
+"""
+
+import argparse
+import contextlib
+import os
+import pathlib
+import signal
+import statistics
+import subprocess
+import sys
+import threading
+import time
+
+import programs
+
+CLIENT = programs.ROOT / "clients" / "python"
+os.environ["PAGELOG"] = str(programs.pagelog().resolve())
+sys.path[:0] = [str(CLIENT / "tests"), str(CLIENT / "src")]
+
+import psycopg  # noqa: E402
+
+import service  # noqa: E402
+from keepers import Keeping, eventually  # noqa: E402
+from pagelog import Block, Put  # noqa: E402
+from pagelog.place import Keepers  # noqa: E402
+from replicated import Pair  # noqa: E402
+
+NAME = "shop"
+TTL = 2.0
+WRITERS = 64
+RECORD = Put(0, 0, b"x" * 80)
+TICKS = os.sysconf("SC_CLK_TCK")
+
+
+def processor_seconds(pid):
+    """What a process has taken of processors."""
+    fields = pathlib.Path(f"/proc/{pid}/stat").read_text().rpartition(")")[2].split()
+    return (int(fields[11]) + int(fields[12])) / TICKS
+
+
+def at(share, times):
+    """The percentile of some times, in milliseconds."""
+    return 1000 * statistics.quantiles(times, n=1000, method="inclusive")[round(10 * share) - 1]
+
+
+def timed(work, count):
+    """How long each of so many calls took."""
+    times = []
+    for _ in range(count):
+        began = time.perf_counter()
+        work()
+        times.append(time.perf_counter() - began)
+    return times
+
+
+@contextlib.contextmanager
+def keeping(pair, names="a", **options):
+    """Keepers of a new database, which somebody serves."""
+    with Keeping(ttl=TTL, url=pair.url, audit=1 << 24, **options) as made:
+        made.referee.prepare()
+        made.referee.create(NAME, made.table.read_text(), b"s" * 16)
+        made.start(*names)
+        made.place()
+        yield made
+
+
+def fill(primary, count):
+    """Commits so many blocks, a thousand with each request: a commit by itself would make a few large ones of their records."""
+    while count > 0:
+        first, some = primary.end + 1, min(1000, count)
+        primary._tail += [Block.of(lsn, (RECORD,)) for lsn in range(first, first + some)]
+        primary.commit()
+        count -= some
+
+
+# A commit.
+
+
+class PlainCommits:
+    """One-row INSERTs of a block's bytes in the same PostgreSQL, with a keeper's settings of a connection."""
+
+    def __init__(self, url):
+        self.session = psycopg.connect(url + "&target_session_attrs=read-write", autocommit=True)
+        self.session.execute("CREATE TABLE IF NOT EXISTS plain (id serial PRIMARY KEY, data bytea NOT NULL)")
+        self.data = Block.of(1, (RECORD,)).data
+
+    def commit(self):
+        self.session.execute("INSERT INTO plain (data) VALUES (%b)", (self.data,))
+
+
+def commits(pair, share):
+    """One writer and PostgreSQL in turn, and 64 writers."""
+    rounds, count = 5, max(20, round(100 * share))
+    plain = PlainCommits(pair.url)
+    with keeping(pair, standby=False) as kept, kept.primary() as primary:
+
+        def commit(durable):
+            primary.append(RECORD)
+            return primary.commit(durable=durable)
+
+        timed(lambda: commit(True), 10), timed(plain.commit, 10)
+        times = {"PostgreSQL": [], "durable": [], "trip": []}
+        pid, keeper, client = kept.processes["a"].pid, 0.0, 0.0
+        for _ in range(rounds):
+            times["PostgreSQL"] += timed(plain.commit, count)
+            keeper, client = keeper - processor_seconds(pid), client - time.process_time()
+            times["durable"] += timed(lambda: commit(True), count)
+            keeper, client = keeper + processor_seconds(pid), client + time.process_time()
+            times["trip"] += timed(lambda: commit(False), count)
+            primary.durable(primary.end)
+        ours, theirs, trip = (at(50, times[what]) for what in ("durable", "PostgreSQL", "trip"))
+        for what in ("PostgreSQL", "durable"):
+            print(f"commit of one block, {what}: p50 {at(50, times[what]):.2f} ms, p99 {at(99, times[what]):.2f} ms")
+        print(f"durable of PostgreSQL's p50: {ours / theirs:.2f}; without a round trip of {trip:.2f} ms {(ours - trip) / theirs:.2f}; "
+              f"of its p99 {at(99, times['durable']) / at(99, times['PostgreSQL']):.2f}")  # fmt: skip
+        print(f"of a processor a durable commit takes {1e3 * keeper / rounds / count:.2f} ms of the keeper's and "
+              f"{1e3 * client / rounds / count:.2f} of the client's")  # fmt: skip
+        many_writers(kept, primary, 1 / statistics.mean(times["durable"]), max(3, round(20 * share)))
+
+
+def many_writers(kept, primary, one, count):
+    """Threads of one process share a writer's commits, and each waits for its own position over a line of its own."""
+    turn, place, times = threading.Lock(), primary.place, []
+
+    def write():
+        line = Keepers(NAME, kept.addresses, service.PATIENCE)
+        for _ in range(count):
+            began = time.perf_counter()
+            with turn:
+                primary.append(RECORD)
+                position = primary.commit()
+            assert line.fate(place.generation, position, place.lines).end >= position
+            times.append(time.perf_counter() - began)
+        line.close()
+
+    threads = [threading.Thread(target=write) for _ in range(WRITERS)]
+    began = time.perf_counter()
+    for thread in threads:
+        thread.start()
+    for thread in threads:
+        thread.join()
+    rate = len(times) / (time.perf_counter() - began)
+    assert len(times) == WRITERS * count, "a writer broke off"
+    print(f"{WRITERS} writers: {rate:,.0f} durable commits a second, {rate / one:.1f} times one writer's {one:,.0f}; "
+          f"p50 {at(50, times):.2f} ms, p99 {at(99, times):.2f} ms")  # fmt: skip
+
+
+# Archiving.
+
+
+def archiving(pair, share):
+    """What is behind is archived by a keeper, and by `pagelogctl archive`."""
+    count = round(60_000 * share)
+    with keeping(pair, standby=False) as kept, kept.primary() as primary:
+        primary.append(RECORD)
+        primary.commit(durable=True)
+        pid = kept.processes["a"].pid
+        kept.kill("a", signal.SIGSTOP)
+        fill(primary, count)
+        spent, began = processor_seconds(pid), time.perf_counter()
+        kept.kill("a", signal.SIGCONT)
+        primary.durable(primary.end)
+        took, spent = time.perf_counter() - began, processor_seconds(pid) - spent
+    rate, each = count / took, 1e6 * spent / count
+    print(f"archiving {count:,} blocks behind, keeper: {rate:,.0f} blocks a second, {each:.1f} us of a processor a block, "
+          f"{spent / took:.2f} of a processor")  # fmt: skip
+    plain_rate, plain_each = plainly_archived(pair, count)
+    print(f"the same by `pagelogctl archive`: {plain_rate:,.0f} blocks a second, {plain_each:.1f} us of a processor a block; "
+          f"the keeper has {rate / plain_rate:.1f} times its rate, with {each / plain_each:.2f} of its processor time")  # fmt: skip
+
+
+def plainly_archived(pair, count):
+    """Blocks a second, and microseconds of a processor a block; what the word takes with nothing to archive is not counted."""
+    url = pair.url.replace("postgresql:", "postgresql+psycopg2:").replace("/kept", "/plainly")
+    pair.leader.run("createdb", "-h", pair.leader.folder, "-U", "pagelog", "plainly")
+    with service.Service() as served, served.primary() as primary:
+        words = [sys.executable, "-m", "pagelog", "archive", "--credentials", served.credentials_file(), "--url", url]
+
+        def run():
+            began = time.perf_counter()
+            process = subprocess.Popen(list(map(str, words)), env={**os.environ, "PYTHONPATH": str(CLIENT / "src"),
+                                       "PGTARGETSESSIONATTRS": "read-write"}, stdout=subprocess.DEVNULL)  # fmt: skip
+            _, status, usage = os.wait4(process.pid, 0)
+            assert status == 0, "pagelogctl archive failed"
+            return time.perf_counter() - began, usage.ru_utime + usage.ru_stime
+
+        primary.begin()
+        nothing = run()
+        for first in range(1, count + 1, 1000):
+            list(primary.harden([Block.of(lsn, (RECORD,)) for lsn in range(first, min(count, first + 999) + 1)]))
+        took, spent = (whole - start for whole, start in zip(run(), nothing))
+    return count / took, 1e6 * spent / count
+
+
+# What goes on where something ends.
+
+
+def kills(pair, share):
+    """From the SIGKILL of a service to the next durable commit of a writer that lives."""
+    for count in (round(10_000 * share), round(100_000 * share)):
+        for standby in (True, False):
+            with keeping(pair, "ab" if standby else "a", standby=standby) as kept, kept.primary() as primary:
+                fill(primary, count)
+                primary.durable(primary.end)
+                if standby:
+                    eventually(lambda: count in kept.standbys().values(), "a standby with all of it")
+                took = []
+                for number in range(1, 4):
+                    if standby:
+                        eventually(lambda: primary.end in kept.standbys().values(), "a standby with all of it")
+                    os.kill(kept.pid(), signal.SIGKILL)
+                    primary.append(RECORD)
+                    took += timed(lambda: primary.commit(durable=True), 1)
+            print(f"SIGKILL of a service of {count:,} blocks, {'a' if standby else 'no'} standby: durable again after "
+                  f"{', '.join(f'{each:.2f}' for each in took)} s, where the ttl is {TTL} s")  # fmt: skip
+
+
+def switchover(pair, share):
+    """The longest time between two commits of a writer while its database goes to the other keeper."""
+    with keeping(pair, "ab", standby=True) as kept, kept.primary() as primary:
+        fill(primary, round(10_000 * share))
+        primary.durable(primary.end)
+        longest, usual = [], []
+        for _ in range(max(3, round(5 * share))):
+            eventually(lambda: primary.end in kept.standbys().values(), "a standby with all of it")
+            before, times = primary.place.generation, []
+            kept.referee.wish(NAME, "*")
+            while primary.place.generation == before:
+                primary.append(RECORD)
+                times += timed(primary.commit, 1)
+            primary.durable(primary.end)
+            longest.append(1000 * max(times))
+            usual += times
+    print(f"switchover: the longest commit took {', '.join(f'{each:.0f}' for each in longest)} ms, where p50 of all is "
+          f"{at(50, usual):.2f} ms")  # fmt: skip
+
+
+def idle(pair, share):
+    """What a keeper of many idle databases takes, with a ttl of 5 s."""
+    count, period = round(100 * share), 15.0
+    with Keeping(ttl=5.0, url=pair.url, standby=False) as kept:
+        kept.referee.prepare()
+        for number in range(count):
+            kept.referee.create(f"idle{number}", kept.table.read_text(), b"s" * 16)
+        kept.start("a")
+        eventually(lambda: all(row.address for row in kept.referee.everything().rows if not row.dropped), "all of them")
+        pid = kept.processes["a"].pid
+        time.sleep(2 * kept.ttl)  # the connection that archives is closed by then
+        spent = processor_seconds(pid)
+        time.sleep(period)
+        spent = processor_seconds(pid) - spent
+        with psycopg.connect(pair.url + "&target_session_attrs=read-write") as session:
+            [sessions] = session.execute("SELECT count(*) FROM pg_stat_activity WHERE application_name = 'pagelog keeper a'").fetchone()
+    print(f"{count} idle databases: {100 * spent / period:.1f} % of a processor, {sessions} connections to PostgreSQL")
+
+
+PARTS = {"commits": commits, "archiving": archiving, "kills": kills, "switchover": switchover, "idle": idle}
+
+
+def main():
+    parser = argparse.ArgumentParser()
+    parser.add_argument("parts", nargs="*", metavar="PART", help=", ".join(PARTS))
+    parser.add_argument("--share", type=float, default=1.0, help="of the work of a whole run")
+    words = parser.parse_args()
+    unknown = set(words.parts) - set(PARTS)
+    if unknown:
+        parser.error(f"there is no part {', '.join(unknown)}")
+    pair = Pair()
+    try:
+        print(f"PostgreSQL with a synchronous standby on this machine; load {os.getloadavg()[0]:.1f} of {os.cpu_count()} processors")
+        for name in words.parts or PARTS:
+            PARTS[name](pair, words.share)
+        print(f"load {os.getloadavg()[0]:.1f}")
+    finally:
+        pair.stop()
+
+
+if __name__ == "__main__":
+    main()

@@ -1,0 +1,109 @@
+"""Parts of scripts/hostile: what a service takes of processors, memory and descriptors. Each bound is some five times what was
+measured."""
+
+from clients import asked, read_reply, same
+from hostile_limits import with_descriptors
+from hostile_service import EMPTY, NO_REQUEST, SPINNING, STATUS, Serve, at_most, grows, is_asleep, until, used
+from wire import frame
+
+# How many KiB more a service may hold with the parts of a second hundred connections than with those of a first, which are silent
+# by then. It keeps no buffer of these, and most often it holds some 10 or 70 KiB more. Where a part is read in two pieces its
+# buffer grows, and leaves a hole in the heap: up to 440 KiB in 200 runs. A hundred buffers that are kept have 3,000 or 6,000.
+KEPT = 1024
+# A worker that polled awake this often has run for four milliseconds and more; one that answered a request, for a tenth of that.
+# In nanoseconds.
+IDLE_POLLS, AWAKE = 10000, 2500000
+
+
+def with_parts(service, honest, count, data, part):
+    """This many connections that send so much of a long frame; what the service holds then. After it they send the rest, are
+    replied, and stay silent."""
+    clients = [service.connect() for _ in range(count)]
+    for client in clients:
+        same("before a part", NO_REQUEST, asked(client, b""))
+    before = service.memory()
+    for client in clients:
+        client.sendall(data[:part])
+    # One worker reads what came before it replies to what comes after it.
+    for _ in range(2):
+        same("the honest client's", EMPTY, asked(honest, STATUS))
+    held = service.memory()
+    for client in clients:
+        client.sendall(data[part:])
+        same("a long frame in two parts", b"\x0a\x02", read_reply(client))
+    return clients, before, held
+
+
+def gives_back(count, length, part):
+    """Connections that each sent a frame of this length in two parts keep nothing of it: as many others find what these gave
+    back."""
+    data = frame(bytes(length))
+    service = Serve(2 * count + 1, 1)
+    honest = service.connect()
+    first, before, held = with_parts(service, honest, count, data, part)
+    if held - before < count * part // 2048:
+        raise SystemExit(f"{count} parts of a frame: the service holds {held - before} KiB of them")
+    second, _, again = with_parts(service, honest, count, data, part)
+    grown = grows(f"{count} more connections", held, again, KEPT)
+    for client in (*first, *second, honest):
+        client.close()
+    service.ends(2 * count + 1, 0)
+    return f"{held - before} KiB of parts; {grown}"
+
+
+def one_after_the_other(count):
+    """This many connections, each with a request; the memory of the first half is all that is taken, and no descriptor is kept."""
+    service = Serve(count + 1, 2)
+    honest = service.connect()
+    same("the honest client's", EMPTY, asked(honest, STATUS))
+    descriptors, held = service.descriptors(), 0
+    for turn in range(count):
+        client = service.connect()
+        same(f"connection {turn}", NO_REQUEST, asked(client, b""))
+        client.close()
+        if turn == count // 2:
+            held = service.memory()
+    told = grows(f"{count} connections", held, service.memory(), 512)
+    until("the end of the last connection", lambda: service.descriptors() <= descriptors)
+    honest.close()
+    service.ends(count + 1, 0)
+    return told
+
+
+def silent(count):
+    """Connections that asked once and are silent use no processor."""
+    with_descriptors(count + 100)
+    service = Serve(count, 4)
+    clients = [service.connect() for _ in range(count)]
+    for client in clients:
+        same("a connection that is silent from now on", EMPTY, asked(client, STATUS))
+    spent = service.spends()
+    at_most(f"processor seconds of {count} silent connections", SPINNING / 5, spent)
+    for client in clients:
+        client.close()
+    service.ends(count, 0)
+    return f"{spent:.2f} processor seconds while another process used {SPINNING}"
+
+
+def idle(workers, rounds):
+    """Of the workers that have nothing to do any more one polls awake, and the others sleep. Where one ends late, it may do so too."""
+    service = Serve(workers, workers, "--idle-polls", IDLE_POLLS)
+    clients = [service.connect() for _ in range(workers)]
+    for client in clients:
+        same("a connection of each worker", EMPTY, asked(client, STATUS))
+    awake = []
+    for _ in range(rounds):
+        until("workers that sleep", lambda: all(map(is_asleep, service.threads())))
+        before = {thread: used(thread) for thread in service.threads()}
+        for client in clients:
+            client.sendall(frame(STATUS))
+        for client in clients:
+            same("one of each worker", EMPTY, read_reply(client))
+        until("workers that sleep", lambda: all(map(is_asleep, service.threads())))
+        awake.append(sum(used(thread) - ran > AWAKE for thread, ran in before.items()))
+    if not rounds // 2 <= sum(awake) <= rounds * workers // 3:
+        raise SystemExit(f"of {workers} idle workers polled awake: {awake}")
+    for client in clients:
+        client.close()
+    service.ends(workers, 0)
+    return f"{sum(awake)} of {workers * rounds} polled awake"

@@ -1,0 +1,47 @@
+"""How long pages may be, for scripts/pages."""
+
+# How many words a page may have, one of a crate that is not named, and all pages together. These limits only fall.
+WORDS = {
+    "CHANGELOG.md": 1450, "README.md": 1300, "bench/RESULTS.md": 2150, "clients/c/README.md": 1750,
+    "clients/python/README.md": 2300, "crates/pl_conn/README.md": 2100, "crates/pl_core/README.md": 1750,
+    "crates/pl_decide/README.md": 1700, "crates/pl_desk/README.md": 1450, "crates/pl_log/README.md": 2200,
+    "crates/pl_wire/README.md": 1600, "docs/ARCHITECTURE.md": 1800, "docs/CLIENT.md": 3400, "docs/CONTRACTS.md": 1350,
+    "docs/CONTRIBUTING.md": 3300, "docs/DECISIONS.md": 5100, "docs/DEFINITIONS.md": 750, "docs/FORMATS.md": 2350,
+    "docs/GUARANTEES.md": 2350, "docs/KEEPERS.md": 1300, "docs/OPERATIONS.md": 2900, "docs/PAGELOG.md": 2600, "docs/RULES.md": 2150,
+    "docs/RUNBOOK.md": 2350, "docs/SQLITE.md": 1250, "docs/TABLES.md": 1050, "docs/WORKED_ROWS.md": 1250,
+}
+CRATE_WORDS, ALL_WORDS = 1300, 64000
+# How many rows of a page's tables may have more characters than WIDTH. Tables that are printed are not counted. They only fall too.
+WIDTH = 200
+WIDE_ROWS = {
+    "bench/RESULTS.md": 1, "clients/c/README.md": 5, "crates/pl_arena/README.md": 1, "crates/pl_conn/README.md": 11,
+    "crates/pl_core/README.md": 4, "crates/pl_decide/README.md": 4, "crates/pl_log/README.md": 8,
+    "crates/pl_table/README.md": 1, "crates/pl_wire/README.md": 5, "crates/rows_connections/README.md": 3,
+    "crates/rows_database/README.md": 3, "crates/rows_log/README.md": 5, "crates/rows_service/README.md": 5,
+    "crates/rows_table/README.md": 3, "docs/CLIENT.md": 4, "docs/GUARANTEES.md": 8, "docs/PAGELOG.md": 4, "docs/SQLITE.md": 2,
+}
+# The tables that scripts/pages prints from the source.
+PRINTED_TABLES = "Calls", "Laws"
+
+
+def rows_by_hand(page):
+    """The rows of a page's tables, but for those that are printed."""
+    heading = ""
+    for line in page.splitlines():
+        heading = line[3:] if line.startswith("## ") else heading
+        if line.startswith("|") and heading not in PRINTED_TABLES:
+            yield line
+
+
+def beyond_limits(pages):
+    """Which of the pages, texts by their names, have more words or more wide rows than they may have, and whether all together have."""
+    for name, page in pages.items():
+        words, wide = len(page.split()), sum(len(row) > WIDTH for row in rows_by_hand(page))
+        most, most_wide = WORDS.get(name, CRATE_WORDS), WIDE_ROWS.get(name, 0)
+        if words > most:
+            yield name, f"{words} words in place of at most {most}"
+        if wide > most_wide:
+            yield name, f"{wide} rows with more than {WIDTH} characters in place of at most {most_wide}"
+    total = sum(len(page.split()) for page in pages.values())
+    if total > ALL_WORDS:
+        yield "all pages", f"{total} words in place of at most {ALL_WORDS}"
