@@ -105,7 +105,7 @@ class Cases(unittest.TestCase):
     def test_of_an_earlier_life(self) -> None:
         self.check(Action.ADOPT, OURS)
         self.check(Action.ADOPT, OURS, still=9 * TTL)
-        self.check(Action.NOTHING, OURS, ending=True)
+        self.check(Action.ADOPT, OURS, ending=True)  # what it has is archived before the keeper ends
 
     def test_a_standby_whose_take_was_in_doubt_finds_itself_the_holder(self) -> None:
         self.check(Action.FILL, replace(OURS, run="s", address=None), STANDBY)

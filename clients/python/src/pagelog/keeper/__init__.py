@@ -8,7 +8,7 @@ named database is and how far it is durable, and takes over what another keeper 
     rows        what the referee knows
     session     the event loop's way to a referee
     table       the table and the tokens of one run of a service
-    run         one process of a service, its files, its adoption
+    run         one process of a service, its files, its adoption; their folder is locked by `folder`
     loading     fills a service from the archive, as frames
     machine     what a keeper decides, without any IO
     served      a service that this keeper has, and what is asked of it

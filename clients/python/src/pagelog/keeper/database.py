@@ -106,8 +106,9 @@ class Database:
 
     @property
     def is_at_rest(self) -> bool:
-        """Whether this keeper has no service of it, and does nothing about it."""
-        return self.served is None and (self._acting is None or self._acting.done())
+        """Whether this keeper has no service of it, none of an earlier life either, and does nothing about it."""
+        is_mine = self.row.run is not None and self.row.holder == self.shared.settings.name
+        return self.served is None and not is_mine and (self._acting is None or self._acting.done())
 
     async def _look(self, served: Served) -> None:
         try:

@@ -12,12 +12,13 @@ from typing import Any
 
 from pagelog.keeper.committer import Committer
 from pagelog.keeper.database import Database, Shared
+from pagelog.keeper.folder import Folder
 from pagelog.keeper.lines import Line, Server
 from pagelog.keeper.machine import Stillness
 from pagelog.keeper.notify import notify
 from pagelog.keeper.referee import KeeperError, Referee, Superseded
 from pagelog.keeper.rows import Look, StandbyRow, Synchronous
-from pagelog.keeper.run import end_orphans
+from pagelog.keeper.run import end_orphans, has_services
 from pagelog.keeper.served import seconds
 from pagelog.keeper.session import Session
 from pagelog.keeper.settings import Settings
@@ -32,6 +33,7 @@ class Keeper:
 
     def __init__(self, settings: Settings) -> None:
         self.settings = settings
+        self._folder = Folder(settings.program.folder, settings.name)
         self.life = secrets.token_hex(8)
         self.databases: dict[int, Database] = {}
         self.look = Look()
@@ -45,6 +47,8 @@ class Keeper:
         self.synchronous = Synchronous()
         self._said = ""
         self._stops = False
+        self._may_have = False
+        """Whether there are services of an earlier life, and no look has shown yet what they have."""
 
     def _referee(self, *, listens: bool = False) -> Referee:
         return Referee(self.settings.url, self.settings.name, self.life, listens=listens,
@@ -62,12 +66,17 @@ class Keeper:
     # Its life.
 
     async def run(self) -> int:
-        """Keeps until it is told to end, or another has its name, or nothing can be archived any more. Returns the exit status."""
+        """Keeps until it is told to end, or another has its name, or nothing can be archived any more. Returns the exit status.
+
+        Raises `KeeperError` where another keeper has its folder.
+        """
         loop = asyncio.get_running_loop()
         loop.set_default_executor(ThreadPoolExecutor(64))
         for number in (signal.SIGTERM, signal.SIGINT):
             loop.add_signal_handler(number, self.end)
-        self.settings.program.folder.mkdir(parents=True, exist_ok=True, mode=0o700)
+        if not self._folder.take() and self._folder.owner != self.settings.name:
+            raise KeeperError(f"keeper {self._folder.owner or 'another'} has the folder {self._folder.path}")
+        self._may_have = has_services(self._folder.path)
         self.lines = await self._server.start(self.settings.lines)
         notify("READY=1")  # PostgreSQL may be away still
         self._shared.spawn(self._live(), "the watchdog")
@@ -97,10 +106,12 @@ class Keeper:
     def end(self) -> None:
         """Hands over what it holds, and ends; told again, it ends at once, and leaves the services to its next life."""
         self._stops, self._shared.ending = self._shared.ending, True
+        self._say("the keeper", "told to end at once" if self._stops else "told to end")
         self._session.woken.set()
 
     def _is_over(self) -> bool:
-        return self._stops or (self._shared.ending and all(each.is_at_rest for each in self.databases.values()))
+        has_handed_over = not self._may_have and all(each.is_at_rest for each in self.databases.values())
+        return self._stops or (self._shared.ending and has_handed_over)
 
     async def _begin(self) -> None:
         """Takes its name, and ends the services of an earlier life that hold nothing."""
@@ -108,6 +119,9 @@ class Keeper:
             try:
                 await self._session.ask(self._session.referee.prepare)
                 await self._session.ask(self._session.referee.register, self.lines)
+                if not self._folder.take():
+                    await self._wait_for_folder()
+                    continue
                 look = await self._session.ask(self._session.referee.look)
             except Superseded:
                 raise
@@ -116,9 +130,15 @@ class Keeper:
                 await asyncio.sleep(self.settings.ttl / LOOKS)
                 continue
             wanted = {row.run for row in look.rows if row.run is not None and row.holder == self.settings.name}
-            for name in await asyncio.to_thread(end_orphans, self.settings.program.folder, wanted):
+            for name in await asyncio.to_thread(end_orphans, self._folder.path, wanted):
                 self._say(name, "a service of an earlier life that held nothing was ended")
             return
+
+    async def _wait_for_folder(self) -> None:
+        """Waits for the end of an earlier keeper of this name. Its beat stands still meanwhile, so that others may take over."""
+        self._say("the folder", "an earlier keeper of this name has it still")
+        while not self._folder.take() and not self._is_over():
+            await asyncio.sleep(self.settings.ttl / LOOKS / 4)
 
     async def _stop(self) -> None:
         await self._server.stop()
@@ -132,6 +152,7 @@ class Keeper:
                 asyncio.get_running_loop().remove_reader(database.served.process.descriptor)
         await self._session.close()
         await self._writer.close()
+        self._folder.leave()
 
     # Looking.
 
@@ -159,6 +180,7 @@ class Keeper:
                 database = self.databases[row.id] = Database(self._shared, row)
             holder = self.look.keeper(row.holder)
             database.see(row, None if holder is None else holder.beat, self._others(row.id))
+        self._may_have = False
 
     def _see_lives(self) -> None:
         now = seconds()

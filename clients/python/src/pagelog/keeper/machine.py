@@ -107,10 +107,10 @@ def decide(facts: Facts) -> Decision:
         return _of_a_run_that_is_over(row, own)
     if own is not None and (not own.alive or own.silent >= facts.ttl):
         return Decision(Action.END, "the standby's service ended or hangs")
+    if row.run is not None and row.holder == facts.me:  # also where the keeper ends: what it has is to be archived
+        return Decision(Action.ADOPT, f"generation {row.generation} is of an earlier life of this keeper")
     if facts.ending:
         return Decision(Action.END if own else Action.NOTHING, "the keeper ends")
-    if row.run is not None and row.holder == facts.me:
-        return Decision(Action.ADOPT, f"generation {row.generation} is of an earlier life of this keeper")
     return _of_a_released(facts, row) if row.run is None else _of_another_holder(facts, row)
 
 

@@ -151,6 +151,14 @@ class Run:
         os.close(self.descriptor)
 
 
+def has_services(folder: Path) -> bool:
+    """Whether a service that is noted in this folder still runs."""
+    found = [descriptor for _, descriptor in _noted(folder)]
+    for descriptor in found:
+        os.close(descriptor)
+    return bool(found)
+
+
 def end_orphans(folder: Path, wanted: set[str]) -> list[str]:
     """Ends the services of this folder whose runs are not among those. Returns the names of their databases."""
     ended = []
