@@ -3,47 +3,19 @@
 from __future__ import annotations
 
 import asyncio
-from dataclasses import dataclass, field, replace
-from typing import Any, Callable, Coroutine
+from dataclasses import replace
+from typing import Any, Callable
 
 from pagelog.errors import AuditListFull, PagelogError, TurnsSpent
 from pagelog.keeper.archiver import Archiver
-from pagelog.keeper.committer import Committer
 from pagelog.keeper.lines import Line
 from pagelog.keeper.machine import Action, Facts, Kind, Own, State, Stillness, decide, state_of
 from pagelog.keeper.referee import Away, Doubt, Referee, Refused
 from pagelog.keeper.rows import Row, StandbyRow
 from pagelog.keeper.run import Run, new_run
 from pagelog.keeper.served import Served, seconds
-from pagelog.keeper.session import Session
-from pagelog.keeper.settings import Settings
+from pagelog.keeper.shared import Shared
 from pagelog.keeper.waits import Waits
-
-
-@dataclass
-class Shared:
-    """What the databases of a keeper share. `say` logs a sentence of a database."""
-
-    settings: Settings
-    life: str
-    session: Session
-    committer: Committer
-    say: Callable[[str, str], None]
-    ending: bool = False
-    tasks: set[asyncio.Task[None]] = field(default_factory=set)
-
-    def spawn(self, work: Coroutine[Any, Any, None], what: str) -> asyncio.Task[None]:
-        """A task whose end by an error is said: a database that nobody keeps would be the result."""
-        task = asyncio.create_task(work)
-        self.tasks.add(task)
-
-        def ended(_: asyncio.Task[None]) -> None:
-            self.tasks.discard(task)
-            if not task.cancelled() and (error := task.exception()) is not None:
-                self.say(what, f"fault of the keeper: {type(error).__name__}: {error}")
-
-        task.add_done_callback(ended)
-        return task
 
 
 class Database:
@@ -52,12 +24,15 @@ class Database:
     def __init__(self, shared: Shared, row: Row) -> None:
         self.shared = shared
         self.row = row
+        self.is_known = True
+        """Whether the referee has it, as far as a look has shown."""
         self.served: Served | None = None
         self.doing = Action.NOTHING
         self.why = ""
         self.waits = Waits(row.name)
         self._beat: int | None = None
         self._others: tuple[StandbyRow, ...] = ()
+        self._is_noted = False
         self._let_go = self._failed = -1
         self._still, self._silent = Stillness(shared.settings.ttl), Stillness(shared.settings.ttl)
         self._still_for = 0.0
@@ -69,21 +44,34 @@ class Database:
 
     # Facts.
 
-    def see(self, row: Row, beat: int | None, others: tuple[StandbyRow, ...]) -> None:
-        """What a look has shown. `beat` is the holder's."""
-        now = seconds()
-        self.row, self._beat, self._others = row, beat, others
-        self._still_for = self._still.see((row.generation, row.run, row.archived, row.wanted, beat), now)
-        served = self.served
-        if served is not None and served.process is not None:
-            served.silent = self._silent.see((served.run, served.answers), now)
-            if self._archiver is not None and served.hangs:
-                self._archiver.stir()
-            if self._looking is None or self._looking.done():
-                self._looking = self.shared.spawn(self._look(served), self.row.name)
-            if self._archiver is not None and self._archiver.may_begin_again and self.holds and served.is_alive:
-                self._begin_archiving(served)  # it was told that it is fenced, and is not
+    def see(self, row: Row, beat: int | None, others: tuple[StandbyRow, ...], *, is_noted: bool) -> None:
+        """What a look has shown. `beat` is the holder's, and `is_noted` is of a standby of this keeper."""
+        self.row, self._beat, self._others, self._is_noted, self.is_known = row, beat, others, is_noted, True
+        self._still_for = self._still.see((row.generation, row.run, row.archived, row.wanted, beat), seconds())
+        served = self._seen_service()
+        if served is not None and self._archiver is not None and self._archiver.may_begin_again and self.holds and served.is_alive:
+            self._begin_archiving(served)  # it was told that it is fenced, and is not
         self.kick()
+
+    def lose(self) -> None:
+        """A look has not shown it any more: PostgreSQL went back. Who waits is told to ask where it is."""
+        self.is_known = False
+        for line in self.waits.taken():
+            line.say("elsewhere", self.row.name, self.row.generation)
+        self._seen_service()
+        self.kick()
+
+    def _seen_service(self) -> Served | None:
+        """The service, if it was started: whether it still answers is asked with each look."""
+        served = self.served
+        if served is None or served.process is None:
+            return None
+        served.silent = self._silent.see((served.run, served.answers), seconds())
+        if self._archiver is not None and served.hangs:
+            self._archiver.stir()
+        if self._looking is None or self._looking.done():
+            self._looking = self.shared.spawn(self._look(served), self.row.name)
+        return served
 
     def facts(self) -> Facts:
         """All that is known, for a decision."""
@@ -91,8 +79,8 @@ class Database:
         if served is not None:
             own = Own(served.run, served.kind, served.generation, served.reached, served.is_alive, served.silent,
                       served.share(settings.program.audit, settings.memory))  # fmt: skip
-        return Facts(settings.name, settings.ttl, self.row, own, self._still_for, self._others, settings.standby,
-                     self.shared.ending, self._let_go, self._failed)  # fmt: skip
+        return Facts(settings.name, settings.ttl, self.row if self.is_known else None, own, self._still_for, self._others,
+                     self._is_noted, settings.standby, self.shared.ending, self._let_go, self._failed)  # fmt: skip
 
     @property
     def state(self) -> State:
@@ -107,7 +95,7 @@ class Database:
     @property
     def is_at_rest(self) -> bool:
         """Whether this keeper has no service of it, none of an earlier life either, and does nothing about it."""
-        is_mine = self.row.run is not None and self.row.holder == self.shared.settings.name
+        is_mine = self.is_known and self.row.run is not None and self.row.holder == self.shared.settings.name
         return self.served is None and not is_mine and (self._acting is None or self._acting.done())
 
     async def _look(self, served: Served) -> None:
@@ -167,6 +155,8 @@ class Database:
                 return await self._end()
             case Action.STAND_BY:
                 return await self._stand_by()
+            case Action.STAND_DOWN:
+                return await self._stand_down()
             case Action.UNWISH:
                 await self._ask(self._referee.wish, self.row.name, None)
                 return False
@@ -237,6 +227,7 @@ class Database:
             process = await asyncio.to_thread(Run.adopt, settings.program.folder, row.name, row.run)
         kept = None if process is None else await self._ask(self._referee.kept, row.id, row.run)
         if process is None or kept is None:
+            self._let_go = row.generation
             await self._ask(self._referee.release, row.id, row.run)
             self.row = replace(row, run=None, holder=None, address=None)
             return True
@@ -269,11 +260,16 @@ class Database:
     async def _note_standby(self, served: Served) -> None:
         assert served.process is not None
         await self._ask(self._referee.stand_by, self.row.id, served.process.address, served.run, served.reached)
-        served.is_noted = True
+        served.is_noted = self._is_noted = True
+
+    async def _stand_down(self) -> bool:
+        await self._ask(self._referee.stand_down, self.row.id)
+        self._is_noted = False
+        return True
 
     async def _follow(self) -> bool:
         """A standby follows the archive, as far as a look has shown it, and never more."""
-        served = self.served
+        served = self.served if self.is_known else None
         if served is not None and served.kind is Kind.STANDBY and served.reached < self.row.archived:
             try:
                 await self._filled(served, self.row.archived, self.row.chain)
@@ -304,10 +300,11 @@ class Database:
         served, row = self._own, self.row
         if not served.is_alive or self.doing is Action.RELEASE:
             await self._ended(served)
+        self._let_go = row.generation  # first: whether it is released may be in doubt
         archived = await self._ask(self._referee.release, row.id, served.run)
         if archived is None:
             return False
-        self.served, self._let_go = None, row.generation
+        self.served = None
         self.row = replace(row, run=None, holder=None, address=None, archived=archived)
         for line in self.waits.taken():
             line.say("over", row.name, row.generation, archived + row.shift)
@@ -320,11 +317,9 @@ class Database:
             return False
         self.served = None
         await self._ended(served)
-        if served.kind is Kind.STANDBY:
-            await self._ask(self._referee.stand_down, self.row.id)
         for line, positions in self.waits.taken().items():
             self.shared.spawn(self._tell_fate(line, served.generation, max(positions)), self.row.name)
-        return True
+        return await self._stand_down() if served.kind is Kind.STANDBY else True
 
     @property
     def _own(self) -> Served:

@@ -11,7 +11,7 @@ from concurrent.futures import ThreadPoolExecutor
 from typing import Any
 
 from pagelog.keeper.committer import Committer
-from pagelog.keeper.database import Database, Shared
+from pagelog.keeper.database import Database
 from pagelog.keeper.folder import Folder
 from pagelog.keeper.lines import Line, Server
 from pagelog.keeper.machine import Stillness
@@ -22,6 +22,7 @@ from pagelog.keeper.run import end_orphans, has_services
 from pagelog.keeper.served import seconds
 from pagelog.keeper.session import Session
 from pagelog.keeper.settings import Settings
+from pagelog.keeper.shared import Shared
 
 LOOKS = 4
 """How many looks there are in a ttl."""
@@ -179,7 +180,10 @@ class Keeper:
             if database is None:
                 database = self.databases[row.id] = Database(self._shared, row)
             holder = self.look.keeper(row.holder)
-            database.see(row, None if holder is None else holder.beat, self._others(row.id))
+            is_noted = any(standby.keeper == self.settings.name for standby in self.look.standbys_of(row.id))
+            database.see(row, None if holder is None else holder.beat, self._others(row.id), is_noted=is_noted)
+        for id in self.databases.keys() - {row.id for row in self.look.rows}:
+            self.databases[id].lose()
         self._may_have = False
 
     def _see_lives(self) -> None:
@@ -204,7 +208,7 @@ class Keeper:
     # Answering.
 
     def _named(self, name: str) -> Database | None:
-        return next((each for each in self.databases.values() if each.row.name == name and not each.row.dropped), None)
+        return next((each for each in self.databases.values() if each.row.name == name and each.is_known and not each.row.dropped), None)
 
     def where(self, name: str) -> tuple[object, ...]:
         """Where a database is, as the last look has shown it, or as it is here."""
