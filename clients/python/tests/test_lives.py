@@ -28,7 +28,12 @@ class Ends(Kept):
         eventually(lambda: "PostgreSQL: " in self.keeping.said(), "a try to reach PostgreSQL")
         self.keeping.processes["a"].send_signal(signal.SIGTERM)
         eventually(lambda: self.keeping.said().count("told to end") == 1, "the word that it ends")
+        trigger = Trigger(self.keeping.url, "pagelog_log", "UPDATE ON pagelog_log FOR EACH ROW WHEN (NEW IS NOT DISTINCT FROM OLD)",
+                          "RAISE WARNING 'cancelled'")  # fmt: skip
+        self.addCleanup(trigger.close)
         line.count_from_now()
+        eventually(lambda: "adopt: PostgreSQL: cancelled" in self.keeping.said(), "an adoption in doubt")
+        trigger.close()
         self.assertEqual(self.keeping.processes["a"].wait(PATIENCE), 0)
         self.assertEqual((self.texts(), self.keeping.row().run), ([b"1", b"2"], None))
 

@@ -16,7 +16,7 @@ from pagelog.archive import Archive, NoArchive
 from pagelog.credentials import FILE_VARIABLE, Accounts, load
 from pagelog.desk.audit_words import entry_fields, entry_line
 from pagelog.desk.options import (
-    URL_VARIABLE, _url, bar, client, credentials_option, db_option, fail, faults, first_line_of, is_lost_archive,
+    NOT_YET, URL_VARIABLE, _url, bar, client, credentials_option, db_option, fail, faults, first_line_of, is_lost_archive,
     is_of_the_archive, json_option, stopping, url_of,
 )  # fmt: skip
 from pagelog.errors import ConnectionLost, OutOfMemory, Unreachable
@@ -24,6 +24,7 @@ from pagelog.keeping import all_blocks, compare
 from pagelog.operator import Operator
 from pagelog.reader import Reader
 from pagelog.request import Operation
+from pagelog.rules import UnknownPrincipal
 from pagelog.trail.keeper import TrailKeeper
 from pagelog.trail.pages import compare_pages
 from pagelog.trail.question import Question, Seen, Summary, answer, micros, moment
@@ -104,39 +105,47 @@ def record_word(
                 if not follow:
                     keeper.run(follow=False, keep=keep, told=tell, stop=stop)
                 while follow and not stop():
-                    _follow(keeper, lambda: keeper.run(follow=True, idle=idle, keep=keep, told=tell, stop=stop))
+                    _follow(keeper, tell, lambda: keeper.run(follow=True, idle=idle, keep=keep, told=tell, stop=stop))
             _seal(trail)
         finally:
             for one in trail.lists()[-1:]:
                 _say_recorded(one)
 
 
-def _follow(keeper: TrailKeeper, run: Callable[[], int]) -> None:
-    """Follows until it is stopped, or until the service or the archive is lost for a moment."""
+def _follow(keeper: TrailKeeper, tell: _Told, run: Callable[[], int]) -> None:
+    """Follows until it is stopped, or until the service or the archive is lost for a moment, or the service waits for its restore."""
     try:
         keeper.resume()
         run()
     except (ConnectionLost, Unreachable, OutOfMemory) as error:
-        _wait(f"service: {error}")
+        tell.wait(f"service: {error}; trying again")
+    except UnknownPrincipal:
+        if not keeper.operator.was_let_in:
+            raise
+        tell.wait(NOT_YET)
     except Exception as error:
         if not is_of_the_archive(error) or not is_lost_archive(error):
             raise
-        _wait(f"archive: {first_line_of(error)}")
-
-
-def _wait(text: str) -> None:
-    click.echo(f"pagelogctl: {text}; trying again", err=True)
-    time.sleep(1)
+        tell.wait(f"archive: {first_line_of(error)}; trying again")
 
 
 class _Told:
-    """Says how far the trail is and seals what was archived, once a minute, and when a new list begins."""
+    """Says how far the trail is and seals what was archived, once a minute, and when a new list begins; and why it waits, once."""
 
     def __init__(self, trail: Trail) -> None:
         self._trail = trail
         self._run, self._last = 0, 0.0
+        self._wait = ""
+
+    def wait(self, text: str) -> None:
+        """Waits a second before the next try."""
+        if text != self._wait:
+            click.echo(f"pagelogctl: {text}", err=True)
+        self._wait = text
+        time.sleep(1)
 
     def __call__(self, one: TrailList) -> None:
+        self._wait = ""
         if one.run != self._run or time.monotonic() - self._last >= 60:
             _seal(self._trail)
             _say_recorded(one)
