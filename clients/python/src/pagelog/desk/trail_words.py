@@ -23,7 +23,7 @@ from pagelog.errors import ConnectionLost, OutOfMemory, Unreachable
 from pagelog.keeping import all_blocks, compare
 from pagelog.operator import Operator
 from pagelog.reader import Reader
-from pagelog.request import Operation
+from pagelog.request import Operation, Role
 from pagelog.rules import UnknownPrincipal
 from pagelog.trail.keeper import TrailKeeper
 from pagelog.trail.pages import compare_pages
@@ -168,8 +168,13 @@ def _say_recorded(one: TrailList) -> None:
 # Asking.
 
 
+def _accounts(_: click.Context, __: click.Parameter, value: str | None) -> Accounts | None:
+    return load(value) if value else None
+
+
 @click.command("trail")
 @click.argument("name")
+@click.option("--credentials", "accounts", metavar="FILE", callback=_accounts, help="Where [archive] has the url, as a keeper's file.")
 @url_option
 @list_option
 @click.option("--since", metavar="TIME", help="From when on, as 14:00, 14:00:30 or 2026-11-28T14:00. A time of day is the last that has passed.")
@@ -183,27 +188,28 @@ def _say_recorded(one: TrailList) -> None:
 @click.option("--follow", is_flag=True, help="Go on with what is recorded.")
 @faults
 def trail_word(
-    name: str, url: str | None, run: int | None, since: str | None, until: str | None, principal: int | None, op: str | None,
+    name: str, accounts: Accounts | None, url: str | None, run: int | None, since: str | None, until: str | None, principal: int | None, op: str | None,
     denied: bool, summary: bool, plot: str | None, as_json: bool, follow: bool,
 ) -> None:  # fmt: skip
-    """Show what was decided in some time, from a trail that `record` keeps. It asks no service.
+    """Show what was decided in some time, from a trail that `record` or a keeper keeps. It asks no service.
 
     The time of a line is when it was seen: it was decided by then, and after the line before it was.
 
     \b
     Examples:
       pagelogctl trail shop --since 14:00 --until 14:10 --denied
+      pagelogctl trail shop --credentials keeper.toml --since 14:00 --summary
       pagelogctl trail shop --op failover --json
       pagelogctl trail shop --since 14:00 --plot shop.svg
     """
     question = Question(*_times(since, until), principal, _operation(op), denied)
     if plot is not None:
         _need_pygal()
-    with Trail(url_of(url, Accounts({})), name) as trail, stopping() as stop:
+    with Trail(url_of(url, accounts or Accounts({})), name) as trail, stopping() as stop:
         if summary or plot is not None:
             counted = Summary()
             for one in chosen(trail, run):
-                counted.take(answer(trail, one, question))
+                counted.take(answer(trail, one, question), one.generation)
             if plot is not None:
                 from pagelog.desk.trail_plot import draw
 
@@ -263,7 +269,8 @@ def _time(seen: int) -> datetime:
 
 def _words(found: Seen | TrailList) -> str:
     if isinstance(found, TrailList):
-        return (f"{_clock(found.ended_seen or found.seen)} list {found.run} ends behind line {found.kept}, seen at {_clock(found.seen)}: "
+        of = f" of generation {found.generation}" if found.generation else ""
+        return (f"{_clock(found.ended_seen or found.seen)} list {found.run}{of} ends behind line {found.kept}, seen at {_clock(found.seen)}: "
                 f"{found.ended}")  # fmt: skip
     return f"{_clock(found.seen)} list {found.run}: {entry_line(found.entry)}"
 
@@ -274,7 +281,7 @@ def _clock(seen: int) -> str:
 
 def _json(found: Seen | TrailList) -> str:
     if isinstance(found, TrailList):
-        fields: dict[str, Any] = {"seen": _time(found.ended_seen or found.seen).isoformat(), "list": found.run, "ended": found.ended,
+        fields: dict[str, Any] = {"seen": _time(found.ended_seen or found.seen).isoformat(), "list": found.run, "generation": found.generation, "ended": found.ended,
                                   "last": found.kept, "last_seen": _time(found.seen).isoformat()}  # fmt: skip
         return json.dumps(fields)
     return json.dumps({"seen": _time(found.seen).isoformat(), "list": found.run, **entry_fields(found.entry)})
@@ -298,10 +305,6 @@ def _show_summary(counted: Summary, as_json: bool) -> None:
 # Replaying.
 
 
-def _accounts(_: click.Context, __: click.Parameter, value: str | None) -> Accounts | None:
-    return load(value) if value else None
-
-
 @click.command("replay")
 @click.argument("name")
 @url_option
@@ -309,8 +312,8 @@ def _accounts(_: click.Context, __: click.Parameter, value: str | None) -> Accou
 @start_table_option
 @start_primary_option
 @texts_option
-@click.option("--credentials", "accounts", metavar="FILE", callback=_accounts, help="With it, the blocks of the service are compared too, and "
-              f"pages at random, as [secondary]. {FILE_VARIABLE} is not taken here.")  # fmt: skip
+@click.option("--credentials", "accounts", metavar="FILE", callback=_accounts, help="With its [secondary], the blocks of the service are compared "
+              f"too, and pages at random; [archive] may have the url. {FILE_VARIABLE} is not taken here.")  # fmt: skip
 @db_option
 @faults
 def replay_word(
@@ -324,11 +327,12 @@ def replay_word(
     block of a denied or annulled write, and the text of a denied table.
 
     \b
-    Example:
+    Examples:
       pagelogctl replay shop --url sqlite:///db0.db --table t0.toml --primary 2
+      pagelogctl replay shop --credentials keeper.toml
     """
     start, more = start_of(table, primary), [text.read_bytes() for text in texts]
-    where = url_of(url, Accounts({}))
+    where = url_of(url, accounts or Accounts({}))
     with ExitStack() as stack:
         trail = stack.enter_context(Trail(where, name))
         archive = _archive(where, name, stack)
@@ -336,15 +340,15 @@ def replay_word(
         for one in chosen(trail, run):
             with bar(f"list {one.run}") as told:
                 done = replay(trail, one, archive, start=start, texts=more, told=told)
-            _say_replayed(one, done)
+            _say_replayed(one, done, is_last=one == trail.lists()[-1])
             hard = done.blocks
-        if accounts is not None and archive is not None:
+        if accounts is not None and Role.SECONDARY in accounts.of_role and archive is not None:
             _compare(archive, stack.enter_context(client(Reader, accounts, db)), hard)
 
 
 def _archive(url: str, name: str, stack: ExitStack) -> Archive | None:
     try:
-        return stack.enter_context(Archive(url, name))
+        return stack.enter_context(Archive(url, name, is_read=True))
     except NoArchive as error:
         click.echo(f"pagelogctl: {error}: no block is compared", err=True)
         return None
@@ -358,12 +362,12 @@ def _compare(archive: Archive, reader: Reader, hard: int) -> None:
                "by the table")  # fmt: skip
 
 
-def _say_replayed(one: TrailList, done: Replayed) -> None:
+def _say_replayed(one: TrailList, done: Replayed, *, is_last: bool) -> None:
     click.echo(f"list {one.run}: {done.lines} lines are decided likewise; epoch {done.epoch}, {done.hard} blocks hardened, "
                f"{done.blocks} of them archived, which fit; digest {one.digest.hex()[:16]}")  # fmt: skip
     for what, count in sorted(done.unchecked.items()):
         click.echo(f"  not checked: {count} lines, which depend on {what}")
-    if done.archived > done.hard:
+    if done.archived > done.hard and is_last:
         click.echo(f"  not checked: blocks {done.hard + 1} to {done.archived} are archived, and the trail ends before they were hardened")
     if done.hard > done.blocks:
         click.echo(f"  not checked: blocks {done.blocks + 1} to {done.hard} are hardened by the trail, and not archived")

@@ -14,6 +14,7 @@ named database is and how far it is durable, and takes over what another keeper 
     machine     what a keeper decides, without any IO
     served      a service that this keeper has, and what is asked of it
     archiver    pulls what is hardened, in batches; committer keeps those of all databases in one statement
+    recorder    keeps the audit lists beside the blocks
     lines       the line protocol; waits has who waits
     shared      what the databases of a keeper share
     database    one database of a keeper: does what is decided

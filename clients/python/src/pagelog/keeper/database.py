@@ -4,7 +4,7 @@ from __future__ import annotations
 
 import asyncio
 from dataclasses import replace
-from typing import Any, Callable
+from typing import TYPE_CHECKING, Any, Callable
 
 from pagelog.errors import AuditListFull, PagelogError, TurnsSpent
 from pagelog.keeper.archiver import Archiver
@@ -16,6 +16,9 @@ from pagelog.keeper.run import Run, new_run
 from pagelog.keeper.served import Served, seconds
 from pagelog.keeper.shared import Shared
 from pagelog.keeper.waits import Waits
+
+if TYPE_CHECKING:
+    from pagelog.keeper.recorder import Recorder
 
 
 class Database:
@@ -40,6 +43,8 @@ class Database:
         self._archiving: asyncio.Task[None] | None = None
         self._looking: asyncio.Task[None] | None = None
         self._archiver: Archiver | None = None
+        self._recorder: Recorder | None = None
+        self._recording: asyncio.Task[None] | None = None
         self._news = False
 
     # Facts.
@@ -106,6 +111,8 @@ class Database:
             self.kick()
         except PagelogError as error:
             self.shared.say(self.row.name, f"the service does not answer its keeper: {error}")
+        if self._recorder is not None:
+            self._recorder.look(served.entries)
         if served.hard > served.reached and served is self.served:
             self._ring()
 
@@ -292,12 +299,18 @@ class Database:
         except PagelogError as error:
             self.shared.say(self.row.name, f"its table could not be closed: {error}")
             return False
-        if self._archiver is None or not await self._archiver.reached(end):
+        if self._archiver is None:
             return False
-        return await self._release()
+        is_archived, _ = await asyncio.gather(self._archiver.reached(end), self._recorded())
+        return is_archived and await self._release()
+
+    async def _recorded(self) -> None:
+        """What its audit list has is kept too, if that can be had soon."""
+        if self._recorder is not None:
+            await asyncio.wait({asyncio.create_task(self._recorder.catch_up())}, timeout=self.shared.settings.ttl)
 
     async def _release(self) -> bool:
-        served, row = self._own, self.row
+        served, row, recorder = self._own, self.row, self._recorder
         if not served.is_alive or self.doing is Action.RELEASE:
             await self._ended(served)
         self._let_go = row.generation  # first: whether it is released may be in doubt
@@ -309,6 +322,8 @@ class Database:
         for line in self.waits.taken():
             line.say("over", row.name, row.generation, archived + row.shift)
         await self._ended(served)
+        if recorder is not None:
+            await recorder.end(f"generation {row.generation} was released: {self.why}")
         return not self.shared.ending
 
     async def _end(self) -> bool:
@@ -317,8 +332,8 @@ class Database:
             return False
         self.served = None
         await self._ended(served)
-        for line, positions in self.waits.taken().items():
-            self.shared.spawn(self._tell_fate(line, served.generation, max(positions)), self.row.name)
+        for line in self.waits.taken():
+            self.shared.spawn(self.shared.tell_fate(line, self.row.name, served.generation), self.row.name)
         return await self._stand_down() if served.kind is Kind.STANDBY else True
 
     @property
@@ -340,10 +355,10 @@ class Database:
 
     async def _ended(self, served: Served) -> None:
         """Its process is killed, once."""
-        for task in (self._archiving, self._looking):
+        for task in (self._archiving, self._looking, self._recording):
             if task is not None:
                 task.cancel()
-        self._archiver = self._archiving = self._looking = None
+        self._archiver = self._archiving = self._looking = self._recorder = self._recording = None
         process, served.process = served.process, None
         served.is_broken = True
         if process is not None:
@@ -353,6 +368,9 @@ class Database:
     def _begin_archiving(self, served: Served) -> None:
         archiver = Archiver(self.row, served, self.waits, self.shared.committer, self.shared.say, self._news_of_archiver)
         self._archiver, self._archiving = archiver, self.shared.spawn(archiver.run(), self.row.name)
+        if self.shared.trails is not None and self._recorder is None:
+            self._recorder = self.shared.trails.recorder(served, self.shared.say)
+            self._recording = self.shared.spawn(self._recorder.run(), self.row.name)
 
     def _news_of_archiver(self) -> None:
         self.shared.session.woken.set()
@@ -364,24 +382,9 @@ class Database:
         """Answers `durable`, at once or later."""
         served = self.served
         if served is None or not self.holds or generation != served.generation:
-            self.shared.spawn(self._tell_fate(line, generation, position), self.row.name)
+            self.shared.spawn(self.shared.tell_fate(line, self.row.name, generation), self.row.name)
         elif position <= served.reached + self.row.shift:
             line.say("durable", self.row.name, generation, served.reached + self.row.shift)
         else:
             self.waits.add(line, position)
             self._ring()
-
-    async def _tell_fate(self, line: Line, generation: int, position: int) -> None:
-        """What became of a generation that is not this keeper's: by a statement that writes, as its end is final."""
-        end = await self._fate(generation)
-        if end is None:
-            line.say("elsewhere", self.row.name, generation)
-        else:
-            line.say("over", self.row.name, generation, end)
-
-    async def _fate(self, generation: int) -> int | None:
-        try:
-            found = await self._ask(self._referee.fate, self.row.name, generation)
-        except (Away, Doubt, Refused):
-            return None
-        return None if found is None else int(found)

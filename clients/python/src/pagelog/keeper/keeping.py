@@ -8,7 +8,7 @@ import logging
 import secrets
 import signal
 from concurrent.futures import ThreadPoolExecutor
-from typing import Any
+from typing import TYPE_CHECKING, Any
 
 from pagelog.keeper.committer import Committer
 from pagelog.keeper.database import Database
@@ -23,6 +23,9 @@ from pagelog.keeper.served import seconds
 from pagelog.keeper.session import Session
 from pagelog.keeper.settings import Settings
 from pagelog.keeper.shared import Shared
+
+if TYPE_CHECKING:
+    from pagelog.keeper.recorder import Trails
 
 LOOKS = 4
 """How many looks there are in a ttl."""
@@ -41,7 +44,7 @@ class Keeper:
         self.lines = settings.lines
         self._session = Session(self._referee(listens=True), settings.ttl)
         self._writer = Session(self._referee(), 2 * settings.ttl)
-        self._shared = Shared(settings, self.life, self._session, Committer(self._writer, settings.ttl), self._say)
+        self._shared = Shared(settings, self.life, self._session, Committer(self._writer, settings.ttl), self._say, self._trails())
         self._server = Server(self)
         self._lives: dict[str, Stillness] = {}
         self._living: set[str] = set()
@@ -54,6 +57,13 @@ class Keeper:
     def _referee(self, *, listens: bool = False) -> Referee:
         return Referee(self.settings.url, self.settings.name, self.life, listens=listens,
                        requires_standby=self.settings.require_standby)  # fmt: skip
+
+    def _trails(self) -> Trails | None:
+        if not self.settings.trail:
+            return None
+        from pagelog.keeper.recorder import Trails
+
+        return Trails(self.settings.url, self.settings.trail, self.settings.ttl)
 
     def _say(self, name: str, sentence: str) -> None:
         _log.info("%s: %s", name, sentence)
@@ -153,6 +163,8 @@ class Keeper:
                 asyncio.get_running_loop().remove_reader(database.served.process.descriptor)
         await self._session.close()
         await self._writer.close()
+        if self._shared.trails is not None:
+            self._shared.trails.close()
         self._folder.leave()
 
     # Looking.

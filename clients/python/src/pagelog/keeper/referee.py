@@ -356,12 +356,14 @@ class Referee:
     def drop(self, name: str) -> bool:
         """Ends a named database for good: its keeper ends its service, and its blocks are deleted.
 
-        Its row stays, under a name that no database can have, so that a keeper which held it knows.
+        Its row stays, under a name that no database can have, so that a keeper which held it knows; under that name its trail is kept.
         """
         found = self._ask(
             "WITH gone AS (UPDATE pagelog_log SET dropped = true, name = name || '!' || id, run = NULL, holder = NULL, "
             "address = NULL WHERE name = %s AND format = %s AND NOT dropped RETURNING id) "
             f"SELECT id, pg_notify('{CHANNEL}', '') FROM gone", (name, FORMAT))  # fmt: skip
+        if found and self._ask("SELECT to_regclass('pagelog_trail_list') IS NOT NULL") == [(True,)]:
+            self._ask("UPDATE pagelog_trail_list SET log = %s WHERE log = %s RETURNING id", (f"{name}!{found[0][0]}", name))
         while found and self._ask("DELETE FROM pagelog_block WHERE (log, lsn) IN (SELECT log, lsn FROM pagelog_block "
                                   "WHERE log = %s ORDER BY lsn LIMIT 10000) RETURNING lsn", (found[0][0],)):  # fmt: skip
             pass
