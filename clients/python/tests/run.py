@@ -45,6 +45,8 @@ PARTS = {
     "test_keepers": "named databases under a keeper",
     "test_standbys": "standbys, switchovers, and keepers that are gone",
     "test_attacks": "doubts, hangs and interrupts of keepers and of their clients",
+    "test_kept_trails": "trails of named databases",
+    "test_lives": "keepers that end, begin, and take a folder",
     "test_runs": "a run of a service, its tokens and its process",
     "test_machine": "what a keeper decides",
     "test_disks": "what durable means without a standby of PostgreSQL",

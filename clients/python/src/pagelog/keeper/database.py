@@ -3,47 +3,22 @@
 from __future__ import annotations
 
 import asyncio
-from dataclasses import dataclass, field, replace
-from typing import Any, Callable, Coroutine
+from dataclasses import replace
+from typing import TYPE_CHECKING, Any, Callable
 
 from pagelog.errors import AuditListFull, PagelogError, TurnsSpent
 from pagelog.keeper.archiver import Archiver
-from pagelog.keeper.committer import Committer
 from pagelog.keeper.lines import Line
 from pagelog.keeper.machine import Action, Facts, Kind, Own, State, Stillness, decide, state_of
 from pagelog.keeper.referee import Away, Doubt, Referee, Refused
 from pagelog.keeper.rows import Row, StandbyRow
 from pagelog.keeper.run import Run, new_run
 from pagelog.keeper.served import Served, seconds
-from pagelog.keeper.session import Session
-from pagelog.keeper.settings import Settings
+from pagelog.keeper.shared import Shared
 from pagelog.keeper.waits import Waits
 
-
-@dataclass
-class Shared:
-    """What the databases of a keeper share. `say` logs a sentence of a database."""
-
-    settings: Settings
-    life: str
-    session: Session
-    committer: Committer
-    say: Callable[[str, str], None]
-    ending: bool = False
-    tasks: set[asyncio.Task[None]] = field(default_factory=set)
-
-    def spawn(self, work: Coroutine[Any, Any, None], what: str) -> asyncio.Task[None]:
-        """A task whose end by an error is said: a database that nobody keeps would be the result."""
-        task = asyncio.create_task(work)
-        self.tasks.add(task)
-
-        def ended(_: asyncio.Task[None]) -> None:
-            self.tasks.discard(task)
-            if not task.cancelled() and (error := task.exception()) is not None:
-                self.say(what, f"fault of the keeper: {type(error).__name__}: {error}")
-
-        task.add_done_callback(ended)
-        return task
+if TYPE_CHECKING:
+    from pagelog.keeper.recorder import Recorder
 
 
 class Database:
@@ -52,12 +27,15 @@ class Database:
     def __init__(self, shared: Shared, row: Row) -> None:
         self.shared = shared
         self.row = row
+        self.is_known = True
+        """Whether the referee has it, as far as a look has shown."""
         self.served: Served | None = None
         self.doing = Action.NOTHING
         self.why = ""
         self.waits = Waits(row.name)
         self._beat: int | None = None
         self._others: tuple[StandbyRow, ...] = ()
+        self._is_noted = False
         self._let_go = self._failed = -1
         self._still, self._silent = Stillness(shared.settings.ttl), Stillness(shared.settings.ttl)
         self._still_for = 0.0
@@ -65,25 +43,40 @@ class Database:
         self._archiving: asyncio.Task[None] | None = None
         self._looking: asyncio.Task[None] | None = None
         self._archiver: Archiver | None = None
+        self._recorder: Recorder | None = None
+        self._recording: asyncio.Task[None] | None = None
         self._news = False
 
     # Facts.
 
-    def see(self, row: Row, beat: int | None, others: tuple[StandbyRow, ...]) -> None:
-        """What a look has shown. `beat` is the holder's."""
-        now = seconds()
-        self.row, self._beat, self._others = row, beat, others
-        self._still_for = self._still.see((row.generation, row.run, row.archived, row.wanted, beat), now)
-        served = self.served
-        if served is not None and served.process is not None:
-            served.silent = self._silent.see((served.run, served.answers), now)
-            if self._archiver is not None and served.hangs:
-                self._archiver.stir()
-            if self._looking is None or self._looking.done():
-                self._looking = self.shared.spawn(self._look(served), self.row.name)
-            if self._archiver is not None and self._archiver.may_begin_again and self.holds and served.is_alive:
-                self._begin_archiving(served)  # it was told that it is fenced, and is not
+    def see(self, row: Row, beat: int | None, others: tuple[StandbyRow, ...], *, is_noted: bool) -> None:
+        """What a look has shown. `beat` is the holder's, and `is_noted` is of a standby of this keeper."""
+        self.row, self._beat, self._others, self._is_noted, self.is_known = row, beat, others, is_noted, True
+        self._still_for = self._still.see((row.generation, row.run, row.archived, row.wanted, beat), seconds())
+        served = self._seen_service()
+        if served is not None and self._archiver is not None and self._archiver.may_begin_again and self.holds and served.is_alive:
+            self._begin_archiving(served)  # it was told that it is fenced, and is not
         self.kick()
+
+    def lose(self) -> None:
+        """A look has not shown it any more: PostgreSQL went back. Who waits is told to ask where it is."""
+        self.is_known = False
+        for line in self.waits.taken():
+            line.say("elsewhere", self.row.name, self.row.generation)
+        self._seen_service()
+        self.kick()
+
+    def _seen_service(self) -> Served | None:
+        """The service, if it was started: whether it still answers is asked with each look."""
+        served = self.served
+        if served is None or served.process is None:
+            return None
+        served.silent = self._silent.see((served.run, served.answers), seconds())
+        if self._archiver is not None and served.hangs:
+            self._archiver.stir()
+        if self._looking is None or self._looking.done():
+            self._looking = self.shared.spawn(self._look(served), self.row.name)
+        return served
 
     def facts(self) -> Facts:
         """All that is known, for a decision."""
@@ -91,8 +84,8 @@ class Database:
         if served is not None:
             own = Own(served.run, served.kind, served.generation, served.reached, served.is_alive, served.silent,
                       served.share(settings.program.audit, settings.memory))  # fmt: skip
-        return Facts(settings.name, settings.ttl, self.row, own, self._still_for, self._others, settings.standby,
-                     self.shared.ending, self._let_go, self._failed)  # fmt: skip
+        return Facts(settings.name, settings.ttl, self.row if self.is_known else None, own, self._still_for, self._others,
+                     self._is_noted, settings.standby, self.shared.ending, self._let_go, self._failed)  # fmt: skip
 
     @property
     def state(self) -> State:
@@ -106,8 +99,9 @@ class Database:
 
     @property
     def is_at_rest(self) -> bool:
-        """Whether this keeper has no service of it, and does nothing about it."""
-        return self.served is None and (self._acting is None or self._acting.done())
+        """Whether this keeper has no service of it, none of an earlier life either, and does nothing about it."""
+        is_mine = self.is_known and self.row.run is not None and self.row.holder == self.shared.settings.name
+        return self.served is None and not is_mine and (self._acting is None or self._acting.done())
 
     async def _look(self, served: Served) -> None:
         try:
@@ -117,6 +111,8 @@ class Database:
             self.kick()
         except PagelogError as error:
             self.shared.say(self.row.name, f"the service does not answer its keeper: {error}")
+        if self._recorder is not None:
+            self._recorder.look(served.entries)
         if served.hard > served.reached and served is self.served:
             self._ring()
 
@@ -166,6 +162,8 @@ class Database:
                 return await self._end()
             case Action.STAND_BY:
                 return await self._stand_by()
+            case Action.STAND_DOWN:
+                return await self._stand_down()
             case Action.UNWISH:
                 await self._ask(self._referee.wish, self.row.name, None)
                 return False
@@ -236,6 +234,7 @@ class Database:
             process = await asyncio.to_thread(Run.adopt, settings.program.folder, row.name, row.run)
         kept = None if process is None else await self._ask(self._referee.kept, row.id, row.run)
         if process is None or kept is None:
+            self._let_go = row.generation
             await self._ask(self._referee.release, row.id, row.run)
             self.row = replace(row, run=None, holder=None, address=None)
             return True
@@ -268,11 +267,16 @@ class Database:
     async def _note_standby(self, served: Served) -> None:
         assert served.process is not None
         await self._ask(self._referee.stand_by, self.row.id, served.process.address, served.run, served.reached)
-        served.is_noted = True
+        served.is_noted = self._is_noted = True
+
+    async def _stand_down(self) -> bool:
+        await self._ask(self._referee.stand_down, self.row.id)
+        self._is_noted = False
+        return True
 
     async def _follow(self) -> bool:
         """A standby follows the archive, as far as a look has shown it, and never more."""
-        served = self.served
+        served = self.served if self.is_known else None
         if served is not None and served.kind is Kind.STANDBY and served.reached < self.row.archived:
             try:
                 await self._filled(served, self.row.archived, self.row.chain)
@@ -295,22 +299,31 @@ class Database:
         except PagelogError as error:
             self.shared.say(self.row.name, f"its table could not be closed: {error}")
             return False
-        if self._archiver is None or not await self._archiver.reached(end):
+        if self._archiver is None:
             return False
-        return await self._release()
+        is_archived, _ = await asyncio.gather(self._archiver.reached(end), self._recorded())
+        return is_archived and await self._release()
+
+    async def _recorded(self) -> None:
+        """What its audit list has is kept too, if that can be had soon."""
+        if self._recorder is not None:
+            await asyncio.wait({asyncio.create_task(self._recorder.catch_up())}, timeout=self.shared.settings.ttl)
 
     async def _release(self) -> bool:
-        served, row = self._own, self.row
+        served, row, recorder = self._own, self.row, self._recorder
         if not served.is_alive or self.doing is Action.RELEASE:
             await self._ended(served)
+        self._let_go = row.generation  # first: whether it is released may be in doubt
         archived = await self._ask(self._referee.release, row.id, served.run)
         if archived is None:
             return False
-        self.served, self._let_go = None, row.generation
+        self.served = None
         self.row = replace(row, run=None, holder=None, address=None, archived=archived)
         for line in self.waits.taken():
             line.say("over", row.name, row.generation, archived + row.shift)
         await self._ended(served)
+        if recorder is not None:
+            await recorder.end(f"generation {row.generation} was released: {self.why}")
         return not self.shared.ending
 
     async def _end(self) -> bool:
@@ -319,11 +332,9 @@ class Database:
             return False
         self.served = None
         await self._ended(served)
-        if served.kind is Kind.STANDBY:
-            await self._ask(self._referee.stand_down, self.row.id)
-        for line, positions in self.waits.taken().items():
-            self.shared.spawn(self._tell_fate(line, served.generation, max(positions)), self.row.name)
-        return True
+        for line in self.waits.taken():
+            self.shared.spawn(self.shared.tell_fate(line, self.row.name, served.generation), self.row.name)
+        return await self._stand_down() if served.kind is Kind.STANDBY else True
 
     @property
     def _own(self) -> Served:
@@ -344,10 +355,10 @@ class Database:
 
     async def _ended(self, served: Served) -> None:
         """Its process is killed, once."""
-        for task in (self._archiving, self._looking):
+        for task in (self._archiving, self._looking, self._recording):
             if task is not None:
                 task.cancel()
-        self._archiver = self._archiving = self._looking = None
+        self._archiver = self._archiving = self._looking = self._recorder = self._recording = None
         process, served.process = served.process, None
         served.is_broken = True
         if process is not None:
@@ -357,6 +368,9 @@ class Database:
     def _begin_archiving(self, served: Served) -> None:
         archiver = Archiver(self.row, served, self.waits, self.shared.committer, self.shared.say, self._news_of_archiver)
         self._archiver, self._archiving = archiver, self.shared.spawn(archiver.run(), self.row.name)
+        if self.shared.trails is not None and self._recorder is None:
+            self._recorder = self.shared.trails.recorder(served, self.shared.say)
+            self._recording = self.shared.spawn(self._recorder.run(), self.row.name)
 
     def _news_of_archiver(self) -> None:
         self.shared.session.woken.set()
@@ -368,24 +382,9 @@ class Database:
         """Answers `durable`, at once or later."""
         served = self.served
         if served is None or not self.holds or generation != served.generation:
-            self.shared.spawn(self._tell_fate(line, generation, position), self.row.name)
+            self.shared.spawn(self.shared.tell_fate(line, self.row.name, generation), self.row.name)
         elif position <= served.reached + self.row.shift:
             line.say("durable", self.row.name, generation, served.reached + self.row.shift)
         else:
             self.waits.add(line, position)
             self._ring()
-
-    async def _tell_fate(self, line: Line, generation: int, position: int) -> None:
-        """What became of a generation that is not this keeper's: by a statement that writes, as its end is final."""
-        end = await self._fate(generation)
-        if end is None:
-            line.say("elsewhere", self.row.name, generation)
-        else:
-            line.say("over", self.row.name, generation, end)
-
-    async def _fate(self, generation: int) -> int | None:
-        try:
-            found = await self._ask(self._referee.fate, self.row.name, generation)
-        except (Away, Doubt, Refused):
-            return None
-        return None if found is None else int(found)
