@@ -43,6 +43,7 @@ PARTS = {
     "test_looking": "status, top, audit and metrics",
     "test_explaining": "explain, and help",
     "test_keepers": "named databases under a keeper",
+    "test_top": "a live page of named databases",
     "test_standbys": "standbys, switchovers, and keepers that are gone",
     "test_attacks": "doubts, hangs and interrupts of keepers and of their clients",
     "test_kept_trails": "trails of named databases",

@@ -210,11 +210,13 @@ class Keeper:
 
     def _report(self) -> str:
         """What `kept` shows of the services of this keeper."""
-        audit, report = self.settings.program.audit, {}
+        audit, limit, report = self.settings.program.audit, self.settings.memory, {}
         for each in self.databases.values():
             if each.served is not None and each.served.process is not None:
+                memory = each.served.process.memory
                 report[each.row.name] = {"state": each.state.value, "entries_left": audit - each.served.entries,
-                                         "memory": each.served.process.memory >> 20, "hard": each.served.hard}  # fmt: skip
+                                         "memory": memory >> 20, "memory_left": max(0, limit - memory) >> 20 if limit else None,
+                                         "hard": each.served.hard}  # fmt: skip
         return json.dumps(report)
 
     # Answering.

@@ -126,23 +126,26 @@ class Referee:
         return None if connection is None or connection.closed else connection.fileno()
 
     def _connected(self) -> psycopg.Connection[Any]:
-        if self._connection is not None and not self._connection.closed:
-            return self._connection
+        left = 1 + str(self._options.get("host") or "").count(",")
+        while self._connection is None or self._connection.closed:
+            try:
+                self._connection = self._connect()
+            except psycopg.Error as error:
+                self.turn_hosts()  # psycopg gives up at a host that is silent, as of a machine that is off
+                if (left := left - 1) == 0:
+                    raise Away(f"PostgreSQL: {line_of(error)}") from error
+        return self._connection
+
+    def _connect(self) -> psycopg.Connection[Any]:
         words: dict[str, Any] = {"connect_timeout": self._patience, "target_session_attrs": "read-write",
                                  "keepalives_idle": 5, "keepalives_interval": 2, "keepalives_count": 3, "options": "-c lock_timeout=3s",
                                  "application_name": _session_name(self.me), **self._options}  # fmt: skip
-        try:
-            made = psycopg.connect(make_conninfo(**words), autocommit=True)
-            made.add_notice_handler(self._take_notice)
-            made.add_notify_handler(lambda notify: self.notified.append(notify.payload))
-            made.execute("SELECT set_config('synchronous_commit', 'on', false) "
-                         "WHERE current_setting('synchronous_commit') NOT IN ('on', 'remote_apply')")  # fmt: skip
-            if self._listens:
-                made.execute(f"LISTEN {CHANNEL}")
-        except psycopg.Error as error:
-            self.turn_hosts()
-            raise Away(f"PostgreSQL: {line_of(error)}") from error
-        self._connection = made
+        made = psycopg.connect(make_conninfo(**words), autocommit=True)
+        made.add_notice_handler(self._take_notice)
+        made.add_notify_handler(lambda notify: self.notified.append(notify.payload))
+        made.execute(statements.WAITS_FOR_STANDBY)
+        if self._listens:
+            made.execute(f"LISTEN {CHANNEL}")
         return made
 
     def _take_notice(self, notice: psycopg.errors.Diagnostic) -> None:
