@@ -39,6 +39,8 @@ PARTS = {
     "test_zones": "six copies, and rows that end at an LSN",
     "test_trail": "trails of audit lists, kept and asked",
     "test_replay": "trails decided again by the plain model",
+    "test_console": "the console: its JSON, its events, and who may look",
+    "test_console_page": "the console's page in a browser",
     "test_alerts": "alert rules, and scrapes where something hangs",
     "test_looking": "status, top, audit and metrics",
     "test_explaining": "explain, and help",
