@@ -13,7 +13,6 @@ from pagelog.keeper import statements
 from pagelog.keeper.referee import Away, BrokenArchive, Doubt, Referee, Refused, Superseded, digest
 from pagelog.keeper.rows import Kept, Row
 from postgres import SilentProxy, postgres
-from service import PATIENCE
 
 
 class Referees(unittest.TestCase):
