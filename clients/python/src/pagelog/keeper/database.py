@@ -3,47 +3,22 @@
 from __future__ import annotations
 
 import asyncio
-from dataclasses import dataclass, field, replace
-from typing import Any, Callable, Coroutine
+from dataclasses import replace
+from typing import Any, Callable
 
 from pagelog.errors import AuditListFull, PagelogError, TurnsSpent
 from pagelog.keeper.archiver import Archiver
-from pagelog.keeper.committer import Committer
+from pagelog.keeper.fates import Moves, tell_fate
 from pagelog.keeper.lines import Line
 from pagelog.keeper.machine import Action, Facts, Kind, Own, State, Stillness, decide, state_of
 from pagelog.keeper.referee import Away, Doubt, Referee, Refused
 from pagelog.keeper.rows import Row, StandbyRow
 from pagelog.keeper.run import Run, new_run
 from pagelog.keeper.served import Served, seconds
-from pagelog.keeper.session import Session
-from pagelog.keeper.settings import Settings
+from pagelog.keeper.shared import Shared
+from pagelog.keeper.succession import Succession
+from pagelog.keeper.switch import Switch
 from pagelog.keeper.waits import Waits
-
-
-@dataclass
-class Shared:
-    """What the databases of a keeper share. `say` logs a sentence of a database."""
-
-    settings: Settings
-    life: str
-    session: Session
-    committer: Committer
-    say: Callable[[str, str], None]
-    ending: bool = False
-    tasks: set[asyncio.Task[None]] = field(default_factory=set)
-
-    def spawn(self, work: Coroutine[Any, Any, None], what: str) -> asyncio.Task[None]:
-        """A task whose end by an error is said: a database that nobody keeps would be the result."""
-        task = asyncio.create_task(work)
-        self.tasks.add(task)
-
-        def ended(_: asyncio.Task[None]) -> None:
-            self.tasks.discard(task)
-            if not task.cancelled() and (error := task.exception()) is not None:
-                self.say(what, f"fault of the keeper: {type(error).__name__}: {error}")
-
-        task.add_done_callback(ended)
-        return task
 
 
 class Database:
@@ -66,6 +41,8 @@ class Database:
         self._looking: asyncio.Task[None] | None = None
         self._archiver: Archiver | None = None
         self._news = False
+        self.moves = Moves()
+        self.succession = Succession(self)
 
     # Facts.
 
@@ -83,6 +60,8 @@ class Database:
                 self._looking = self.shared.spawn(self._look(served), self.row.name)
             if self._archiver is not None and self._archiver.may_begin_again and self.holds and served.is_alive:
                 self._begin_archiving(served)  # it was told that it is fenced, and is not
+            if self.holds and row.address is not None:
+                self.succession.tend()
         self.kick()
 
     def facts(self) -> Facts:
@@ -92,7 +71,7 @@ class Database:
             own = Own(served.run, served.kind, served.generation, served.reached, served.is_alive, served.silent,
                       served.share(settings.program.audit, settings.memory))  # fmt: skip
         return Facts(settings.name, settings.ttl, self.row, own, self._still_for, self._others, settings.standby,
-                     self.shared.ending, self._let_go, self._failed)  # fmt: skip
+                     self.shared.ending, self._let_go, self._failed, settings.succeed or 1.0, self.succession.stage)  # fmt: skip
 
     @property
     def state(self) -> State:
@@ -103,6 +82,13 @@ class Database:
     def holds(self) -> bool:
         """Whether this keeper is the holder, as far as it knows."""
         return self.served is not None and self.served.run == self.row.run
+
+    @property
+    def is_moving(self) -> bool:
+        """Whether this keeper is about to publish a generation of it."""
+        served = self.served
+        is_dead = served is not None and served.kind is Kind.HOLDER and not served.is_alive
+        return is_dead or self.doing in (Action.TAKE, Action.FILL, Action.RELEASE, Action.SUCCEED)
 
     @property
     def is_at_rest(self) -> bool:
@@ -116,7 +102,8 @@ class Database:
             served.is_broken = True
             self.kick()
         except PagelogError as error:
-            self.shared.say(self.row.name, f"the service does not answer its keeper: {error}")
+            if served is self.served:
+                self.shared.say(self.row.name, f"the service does not answer its keeper: {error}")
         if served.hard > served.reached and served is self.served:
             self._ring()
 
@@ -148,6 +135,7 @@ class Database:
                 goes_on = False  # the next look shows what became of it
             finally:
                 self.doing = Action.NOTHING
+                self.moves.tell()
 
     async def _do(self, action: Action) -> bool:
         """Does it. Returns whether there are new facts to decide from."""
@@ -166,6 +154,11 @@ class Database:
                 return await self._end()
             case Action.STAND_BY:
                 return await self._stand_by()
+            case Action.PREPARE:
+                self.succession.prepare()
+                return False
+            case Action.SUCCEED:
+                return self._archiver is not None and await self.succession.switch(self._archiver)
             case Action.UNWISH:
                 await self._ask(self._referee.wish, self.row.name, None)
                 return False
@@ -179,12 +172,13 @@ class Database:
     async def _ask(self, call: Callable[..., Any], *arguments: Any) -> Any:
         return await self.shared.session.ask(call, *arguments)
 
-    async def _new_served(self, run: str) -> Served:
+    async def new_served(self, run: str) -> Served:
+        """What is to be the service of this run."""
         text, secret = await self._ask(self._referee.table, self.row.id)
-        return Served(self.row.name, run, text, secret, timeout=self.shared.settings.ttl)
+        return Served(self.row.name, run, text, secret, timeout=self.shared.settings.ttl, is_read_only=self.row.read_only)
 
     async def _take(self) -> bool:
-        served = self.served or await self._new_served(new_run())
+        served = self.served or await self.new_served(new_run())
         kept = await self._ask(self._referee.take, self.row, served.run, self._beat)
         if kept is None:
             return False
@@ -194,7 +188,7 @@ class Database:
         return True
 
     async def _fill(self) -> bool:
-        served, row = self._own, self.row
+        served, row = self.own, self.row
         served.kind, served.generation = Kind.HOLDER, row.generation
         is_fresh = served.process is None
         try:
@@ -213,9 +207,9 @@ class Database:
         assert served.process is not None
         if self._archiver is None:
             self._begin_archiving(served)  # first: whether the address is published may be in doubt
-        if not await self._ask(self._referee.publish, row.id, served.run, served.process.address):
+        if not await self._ask(self._referee.publish, row.id, served.run, served.process.address, served.shift, served.images):
             return False
-        self.row = replace(row, address=served.process.address)
+        self.row = replace(row, address=served.process.address, shift=served.shift, images=served.images)
         return True
 
     async def _filled(self, served: Served, archived: int, chain: bytes) -> None:
@@ -239,9 +233,10 @@ class Database:
             await self._ask(self._referee.release, row.id, row.run)
             self.row = replace(row, run=None, holder=None, address=None)
             return True
-        served = await self._new_served(row.run)
+        served = await self.new_served(row.run)
         served.serve(process)
         served.generation, served.reached, served.chain = row.generation, kept.archived, kept.chain
+        served.shift, served.images = row.shift, row.images
         self.served = served
         self._watch(served)
         try:
@@ -254,7 +249,7 @@ class Database:
         return True
 
     async def _stand_by(self) -> bool:
-        served = await self._new_served(new_run())
+        served = await self.new_served(new_run())
         served.kind, self.served = Kind.STANDBY, served
         try:
             await asyncio.to_thread(served.start, self.shared.settings.program)
@@ -267,7 +262,8 @@ class Database:
 
     async def _note_standby(self, served: Served) -> None:
         assert served.process is not None
-        await self._ask(self._referee.stand_by, self.row.id, served.process.address, served.run, served.reached)
+        place = (served.process.address, served.run, served.reached, served.shift, served.images)
+        await self._ask(self._referee.stand_by, self.row.id, *place)
         served.is_noted = True
 
     async def _follow(self) -> bool:
@@ -289,8 +285,9 @@ class Database:
 
     async def _close(self) -> bool:
         """Fence, the rest into the archive, release: nothing is lost, not even what nobody has asked durable."""
-        served = self._own
+        served = self.own
         try:
+            await self.succession.give_up()
             end = await asyncio.to_thread(served.close)
         except PagelogError as error:
             self.shared.say(self.row.name, f"its table could not be closed: {error}")
@@ -300,7 +297,8 @@ class Database:
         return await self._release()
 
     async def _release(self) -> bool:
-        served, row = self._own, self.row
+        served, row = self.own, self.row
+        await self.succession.give_up()
         if not served.is_alive or self.doing is Action.RELEASE:
             await self._ended(served)
         archived = await self._ask(self._referee.release, row.id, served.run)
@@ -309,7 +307,7 @@ class Database:
         self.served, self._let_go = None, row.generation
         self.row = replace(row, run=None, holder=None, address=None, archived=archived)
         for line in self.waits.taken():
-            line.say("over", row.name, row.generation, archived + row.shift)
+            line.say("over", row.name, row.generation, archived)
         await self._ended(served)
         return not self.shared.ending
 
@@ -318,15 +316,31 @@ class Database:
         if served is None:
             return False
         self.served = None
+        await self.succession.give_up()
         await self._ended(served)
         if served.kind is Kind.STANDBY:
             await self._ask(self._referee.stand_down, self.row.id)
-        for line, positions in self.waits.taken().items():
-            self.shared.spawn(self._tell_fate(line, served.generation, max(positions)), self.row.name)
+        for line in self.waits.taken():
+            self._tell_fate(line, served.generation)
         return True
 
+    async def goes_on(self, successor: Served, generation: int, switch: Switch) -> None:
+        """The next generation has begun: what is asked of the one before is over, and its service is ended."""
+        before, name = self.own, self.row.name
+        self._stop_work()
+        successor.kind, successor.generation, self.served = Kind.HOLDER, generation, successor
+        self.row = replace(self.row, generation=generation, run=successor.run, address=switch.address, base=switch.end,
+                           archived=switch.end, shift=switch.shift, images=switch.images, chain=switch.chain, succeed=False)  # fmt: skip
+        self._watch(successor)
+        self._begin_archiving(successor)
+        self.moves.tell()
+        for line in self.waits.taken():
+            line.say("over", name, before.generation, switch.end)
+        await self._end_process(before)
+
     @property
-    def _own(self) -> Served:
+    def own(self) -> Served:
+        """The service that this keeper has."""
         assert self.served is not None
         return self.served
 
@@ -343,11 +357,17 @@ class Database:
         self.kick()
 
     async def _ended(self, served: Served) -> None:
-        """Its process is killed, once."""
+        """Its process is killed, once, and there is no work on it any more."""
+        self._stop_work()
+        await self._end_process(served)
+
+    def _stop_work(self) -> None:
         for task in (self._archiving, self._looking):
             if task is not None:
                 task.cancel()
         self._archiver = self._archiving = self._looking = None
+
+    async def _end_process(self, served: Served) -> None:
         process, served.process = served.process, None
         served.is_broken = True
         if process is not None:
@@ -368,24 +388,12 @@ class Database:
         """Answers `durable`, at once or later."""
         served = self.served
         if served is None or not self.holds or generation != served.generation:
-            self.shared.spawn(self._tell_fate(line, generation, position), self.row.name)
-        elif position <= served.reached + self.row.shift:
-            line.say("durable", self.row.name, generation, served.reached + self.row.shift)
+            self._tell_fate(line, generation)
+        elif position <= served.reached:
+            line.say("durable", self.row.name, generation, served.reached)
         else:
             self.waits.add(line, position)
             self._ring()
 
-    async def _tell_fate(self, line: Line, generation: int, position: int) -> None:
-        """What became of a generation that is not this keeper's: by a statement that writes, as its end is final."""
-        end = await self._fate(generation)
-        if end is None:
-            line.say("elsewhere", self.row.name, generation)
-        else:
-            line.say("over", self.row.name, generation, end)
-
-    async def _fate(self, generation: int) -> int | None:
-        try:
-            found = await self._ask(self._referee.fate, self.row.name, generation)
-        except (Away, Doubt, Refused):
-            return None
-        return None if found is None else int(found)
+    def _tell_fate(self, line: Line, generation: int) -> None:
+        self.shared.spawn(tell_fate(self.shared.session, line, self.row.name, generation), self.row.name)
