@@ -29,7 +29,8 @@ if TYPE_CHECKING:
     from pagelog.keeper.keeping import Keeper
 
 
-def _url_of(accounts: Accounts) -> str:
+def url_of_referee(accounts: Accounts) -> str:
+    """The URL of the referee's PostgreSQL. Ends where there is none."""
     url = os.environ.get(URL_VARIABLE) or accounts.archive_url
     if not url or not url.startswith("postgresql"):
         fail("named databases need PostgreSQL: put its url into the section [archive] of the credentials")
@@ -59,7 +60,7 @@ def referee_word(word: Callable[..., Any]) -> Callable[..., Any]:
 @contextmanager
 def referee_of(accounts: Accounts) -> Iterator[Referee]:
     """The referee. A fault of it is a line, and the exit status that the archive's database has for the like."""
-    referee = Referee(_url_of(accounts))
+    referee = Referee(url_of_referee(accounts))
     try:
         yield referee
     except (Away, Doubt) as error:
@@ -95,7 +96,7 @@ def keep_word(accounts: Accounts, name: str, lines: str, serve: str, folder: Pat
     faulthandler.register(signal.SIGUSR1)  # says what each thread is at
     logging.basicConfig(level=logging.INFO, stream=sys.stderr, format="%(asctime)s %(message)s")
     section = {**accounts.keeper, "require_standby": True} if require_standby else accounts.keeper
-    settings = Settings.of(named(name), lines, serve, folder, program, _url_of(accounts), section, accounts.archive_keep)
+    settings = Settings.of(named(name), lines, serve, folder, program, url_of_referee(accounts), section, accounts.archive_keep)
     keeper = Keeper(settings)
     if settings.metrics is not None:
         _serve_metrics(keeper, settings.metrics)
@@ -172,14 +173,17 @@ def resume_word(referee: Referee, name: str | None) -> None:
     _paused(referee, name, False)
 
 
-def _facts_of(look: Look, row: Row, kept: dict[str, int]) -> dict[str, Any]:
+def facts_of(look: Look, row: Row) -> dict[str, Any]:
+    """What a look has of a database. What its service says of itself is as old as the holder's last look."""
     keeper = look.keeper(row.holder)
     report = {} if keeper is None else keeper.report.get(row.name, {})
     standbys = {standby.keeper: standby.reached for standby in look.standbys_of(row.id)}
+    hard = report.get("hard")
     return {
         "name": row.name, "generation": row.generation, "holder": row.holder, "place": row.address,
-        "archived": row.archived, "images": row.images, **kept, "standbys": standbys, "entries_left": report.get("entries_left"),
-        "memory": report.get("memory"), "wanted": row.wanted, "succeed": row.succeed, "read_only": row.read_only, "paused": row.paused,
+        "archived": row.archived, "lag": None if hard is None else max(0, hard - row.archived), "images": row.images, "standbys": standbys,
+        "entries_left": report.get("entries_left"), "memory": report.get("memory"), "memory_left": report.get("memory_left"),
+        "state": report.get("state"), "wanted": row.wanted, "succeed": row.succeed, "read_only": row.read_only, "paused": row.paused,
         "synchronous_standbys": look.synchronous.count,
     }  # fmt: skip
 
@@ -198,7 +202,7 @@ def kept_word(referee: Referee, as_json: bool) -> None:
     from pagelog.desk.history_words import columns_of
 
     look, columns = referee.everything(), columns_of(referee)
-    found = [_facts_of(look, row, columns[row.id]) for row in look.rows if not row.dropped]
+    found: list[dict[str, Any]] = [{**facts_of(look, row), **columns[row.id]} for row in look.rows if not row.dropped]
     if as_json:
         for facts in found:
             click.echo(json.dumps(facts))

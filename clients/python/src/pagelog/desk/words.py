@@ -26,6 +26,7 @@ WORDS = {
     "pause": "keeper_words",
     "resume": "keeper_words",
     "kept": "keeper_words",
+    "console": "console_words",
     "where": "keeper_words",
     "switchover": "keeper_words",
     "succeed": "history_words",

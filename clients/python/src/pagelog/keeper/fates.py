@@ -1,4 +1,4 @@
-"""What became of a generation, and where the next one is: those who ask for what is about to be decided wait for it."""
+"""What is told of a database: which block the archive has, and that the next generation is there."""
 
 from __future__ import annotations
 
@@ -27,18 +27,6 @@ class Moves:
             await asyncio.wait_for(self._done.wait(), longest)
         except asyncio.TimeoutError:
             pass
-
-
-async def tell_fate(session: Session, line: Line, name: str, generation: int) -> None:
-    """Says it over the line: by a statement that writes, as the end of a generation is final."""
-    try:
-        end = await session.ask(session.referee.fate, name, generation)
-    except (Away, Doubt, Refused):
-        end = None
-    if end is None:
-        line.say("elsewhere", name, generation)
-    else:
-        line.say("over", name, generation, end)
 
 
 async def tell_block(session: Session, line: Line, name: str, position: int) -> None:

@@ -8,21 +8,25 @@ import logging
 import secrets
 import signal
 from concurrent.futures import ThreadPoolExecutor
-from typing import Any
+from typing import TYPE_CHECKING, Any
 
 from pagelog.keeper.committer import Committer
 from pagelog.keeper.database import Database
 from pagelog.keeper.fates import tell_block
+from pagelog.keeper.folder import Folder
 from pagelog.keeper.lines import Line, Server
 from pagelog.keeper.machine import Stillness
 from pagelog.keeper.notify import notify
 from pagelog.keeper.referee import KeeperError, Referee, Superseded
 from pagelog.keeper.rows import Look, StandbyRow, Synchronous
-from pagelog.keeper.run import end_orphans
+from pagelog.keeper.run import end_orphans, has_services
 from pagelog.keeper.served import seconds
 from pagelog.keeper.session import Session
 from pagelog.keeper.settings import Settings
 from pagelog.keeper.shared import Shared
+
+if TYPE_CHECKING:
+    from pagelog.keeper.recorder import Trails
 
 HELD_BACK = 1.0
 """Seconds for which the answer to a `where` may wait for the next generation."""
@@ -36,23 +40,33 @@ class Keeper:
 
     def __init__(self, settings: Settings) -> None:
         self.settings = settings
+        self._folder = Folder(settings.program.folder, settings.name)
         self.life = secrets.token_hex(8)
         self.databases: dict[int, Database] = {}
         self.look = Look()
         self.lines = settings.lines
         self._session = Session(self._referee(listens=True), settings.ttl)
         self._writer = Session(self._referee(), 2 * settings.ttl)
-        self._shared = Shared(settings, self.life, self._session, Committer(self._writer, settings.ttl), self._say)
+        self._shared = Shared(settings, self.life, self._session, Committer(self._writer, settings.ttl), self._say, self._trails())
         self._server = Server(self)
         self._lives: dict[str, Stillness] = {}
         self._living: set[str] = set()
         self.synchronous = Synchronous()
         self._said = ""
         self._stops = False
+        self._may_have = False
+        """Whether there are services of an earlier life, and no look has shown yet what they have."""
 
     def _referee(self, *, listens: bool = False) -> Referee:
         return Referee(self.settings.url, self.settings.name, self.life, listens=listens,
                        requires_standby=self.settings.require_standby)  # fmt: skip
+
+    def _trails(self) -> Trails | None:
+        if not self.settings.trail:
+            return None
+        from pagelog.keeper.recorder import Trails
+
+        return Trails(self.settings.url, self.settings.trail, self.settings.ttl)
 
     def _say(self, name: str, sentence: str) -> None:
         _log.info("%s: %s", name, sentence)
@@ -66,12 +80,17 @@ class Keeper:
     # Its life.
 
     async def run(self) -> int:
-        """Keeps until it is told to end, or another has its name, or nothing can be archived any more. Returns the exit status."""
+        """Keeps until it is told to end, or another has its name, or nothing can be archived any more. Returns the exit status.
+
+        Raises `KeeperError` where another keeper has its folder.
+        """
         loop = asyncio.get_running_loop()
         loop.set_default_executor(ThreadPoolExecutor(64))
         for number in (signal.SIGTERM, signal.SIGINT):
             loop.add_signal_handler(number, self.end)
-        self.settings.program.folder.mkdir(parents=True, exist_ok=True, mode=0o700)
+        if not self._folder.take() and self._folder.owner != self.settings.name:
+            raise KeeperError(f"keeper {self._folder.owner or 'another'} has the folder {self._folder.path}")
+        self._may_have = has_services(self._folder.path)
         self.lines = await self._server.start(self.settings.lines)
         notify("READY=1")  # PostgreSQL may be away still
         self._shared.spawn(self._live(), "the watchdog")
@@ -101,10 +120,12 @@ class Keeper:
     def end(self) -> None:
         """Hands over what it holds, and ends; told again, it ends at once, and leaves the services to its next life."""
         self._stops, self._shared.ending = self._shared.ending, True
+        self._say("the keeper", "told to end at once" if self._stops else "told to end")
         self._session.woken.set()
 
     def _is_over(self) -> bool:
-        return self._stops or (self._shared.ending and all(each.is_at_rest for each in self.databases.values()))
+        has_handed_over = not self._may_have and all(each.is_at_rest for each in self.databases.values())
+        return self._stops or (self._shared.ending and has_handed_over)
 
     async def _begin(self) -> None:
         """Takes its name, and ends the services of an earlier life that hold nothing."""
@@ -112,6 +133,9 @@ class Keeper:
             try:
                 await self._session.ask(self._session.referee.prepare)
                 await self._session.ask(self._session.referee.register, self.lines)
+                if not self._folder.take():
+                    await self._wait_for_folder()
+                    continue
                 look = await self._session.ask(self._session.referee.look)
             except Superseded:
                 raise
@@ -120,9 +144,15 @@ class Keeper:
                 await asyncio.sleep(self.settings.ttl / LOOKS)
                 continue
             wanted = {row.run for row in look.rows if row.run is not None and row.holder == self.settings.name}
-            for name in await asyncio.to_thread(end_orphans, self.settings.program.folder, wanted):
+            for name in await asyncio.to_thread(end_orphans, self._folder.path, wanted):
                 self._say(name, "a service of an earlier life that held nothing was ended")
             return
+
+    async def _wait_for_folder(self) -> None:
+        """Waits for the end of an earlier keeper of this name. Its beat stands still meanwhile, so that others may take over."""
+        self._say("the folder", "an earlier keeper of this name has it still")
+        while not self._folder.take() and not self._is_over():
+            await asyncio.sleep(self.settings.ttl / LOOKS / 4)
 
     async def _stop(self) -> None:
         await self._server.stop()
@@ -136,6 +166,9 @@ class Keeper:
                 asyncio.get_running_loop().remove_reader(database.served.process.descriptor)
         await self._session.close()
         await self._writer.close()
+        if self._shared.trails is not None:
+            self._shared.trails.close()
+        self._folder.leave()
 
     # Looking.
 
@@ -162,7 +195,11 @@ class Keeper:
             if database is None:
                 database = self.databases[row.id] = Database(self._shared, row)
             holder = self.look.keeper(row.holder)
-            database.see(row, None if holder is None else holder.beat, self._others(row.id))
+            is_noted = any(standby.keeper == self.settings.name for standby in self.look.standbys_of(row.id))
+            database.see(row, None if holder is None else holder.beat, self._others(row.id), is_noted=is_noted)
+        for id in self.databases.keys() - {row.id for row in self.look.rows}:
+            self.databases[id].lose()
+        self._may_have = False
 
     def _see_lives(self) -> None:
         now = seconds()
@@ -176,17 +213,19 @@ class Keeper:
 
     def _report(self) -> str:
         """What `kept` shows of the services of this keeper."""
-        audit, report = self.settings.program.audit, {}
+        audit, limit, report = self.settings.program.audit, self.settings.memory, {}
         for each in self.databases.values():
             if each.served is not None and each.served.process is not None:
+                memory = each.served.process.memory
                 report[each.row.name] = {"state": each.state.value, "entries_left": audit - each.served.entries,
-                                         "memory": each.served.process.memory >> 20, "hard": each.served.hard}  # fmt: skip
+                                         "memory": memory >> 20, "memory_left": max(0, limit - memory) >> 20 if limit else None,
+                                         "hard": each.served.hard}  # fmt: skip
         return json.dumps(report)
 
     # Answering.
 
     def _named(self, name: str) -> Database | None:
-        return next((each for each in self.databases.values() if each.row.name == name and not each.row.dropped), None)
+        return next((each for each in self.databases.values() if each.row.name == name and each.is_known and not each.row.dropped), None)
 
     def where(self, name: str) -> tuple[object, ...]:
         """Where a database is, as the last look has shown it, or as it is here."""

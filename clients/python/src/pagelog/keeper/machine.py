@@ -39,6 +39,7 @@ class Action(Enum):
     RELEASE = "release"
     END = "end"
     STAND_BY = "stand by"
+    STAND_DOWN = "stand down"
     UNWISH = "unwish"
     PREPARE = "prepare"
     SUCCEED = "succeed"
@@ -82,8 +83,9 @@ class Facts:
     """All that a decision rests on. `row` is None where the referee has no such database.
 
     `still` is for how many seconds the row and the holder's beat have not changed, in an unbroken series of looks.
-    `others` are standbys of keepers that live. `let_go` is the generation that this keeper ended last, and `failed` one for which
-    it could fill no fresh service. At the share `succeed_at` the next generation is made beside the present one.
+    `others` are standbys of keepers that live, and `is_noted` is whether one of this keeper is noted. `let_go` is the generation
+    that this keeper ended last, and `failed` one for which it could fill no fresh service. At the share `succeed_at` the next
+    generation is made beside the present one.
     """
 
     me: str
@@ -92,6 +94,7 @@ class Facts:
     own: Own | None = None
     still: float = 0.0
     others: tuple[StandbyRow, ...] = ()
+    is_noted: bool = False
     stands_by: bool = False
     ending: bool = False
     let_go: int = -1
@@ -115,6 +118,8 @@ def decide(facts: Facts) -> Decision:
         if own is None:
             return Decision(Action.NOTHING, "the referee has no such database")
         return Decision(Action.NOTHING, "the referee knows nothing of the database: PostgreSQL went back, and the service is kept")
+    if own is None and facts.is_noted:
+        return Decision(Action.STAND_DOWN, "a standby is noted that is not there any more")
     if row.dropped:
         return Decision(Action.END if own else Action.NOTHING, "the database was dropped")
     if own is not None and own.run == row.run:
@@ -123,10 +128,10 @@ def decide(facts: Facts) -> Decision:
         return _of_a_run_that_is_over(row, own)
     if own is not None and (not own.alive or own.silent >= facts.ttl):
         return Decision(Action.END, "the standby's service ended or hangs")
+    if row.run is not None and row.holder == facts.me:  # also where the keeper ends: what it has is to be archived
+        return Decision(Action.ADOPT, f"generation {row.generation} is of an earlier life of this keeper")
     if facts.ending:
         return Decision(Action.END if own else Action.NOTHING, "the keeper ends")
-    if row.run is not None and row.holder == facts.me:
-        return Decision(Action.ADOPT, f"generation {row.generation} is of an earlier life of this keeper")
     return _of_a_released(facts, row) if row.run is None else _of_another_holder(facts, row)
 
 

@@ -21,6 +21,7 @@ from psycopg.conninfo import conninfo_to_dict, make_conninfo
 
 from pagelog.errors import PagelogError
 from pagelog.keeper import statements
+from pagelog.keeper.refusal import is_refusal, line_of
 from pagelog.keeper.rows import Batch, KeeperRow, Kept, Look, Row, StandbyRow, Synchronous
 from pagelog.keeper.schema import CHANNEL, FORMAT, script
 
@@ -125,23 +126,26 @@ class Referee:
         return None if connection is None or connection.closed else connection.fileno()
 
     def _connected(self) -> psycopg.Connection[Any]:
-        if self._connection is not None and not self._connection.closed:
-            return self._connection
+        left = 1 + str(self._options.get("host") or "").count(",")
+        while self._connection is None or self._connection.closed:
+            try:
+                self._connection = self._connect()
+            except psycopg.Error as error:
+                self.turn_hosts()  # psycopg gives up at a host that is silent, as of a machine that is off
+                if (left := left - 1) == 0:
+                    raise Away(f"PostgreSQL: {line_of(error)}") from error
+        return self._connection
+
+    def _connect(self) -> psycopg.Connection[Any]:
         words: dict[str, Any] = {"connect_timeout": self._patience, "target_session_attrs": "read-write",
                                  "keepalives_idle": 5, "keepalives_interval": 2, "keepalives_count": 3, "options": "-c lock_timeout=3s",
                                  "application_name": _session_name(self.me), **self._options}  # fmt: skip
-        try:
-            made = psycopg.connect(make_conninfo(**words), autocommit=True)
-            made.add_notice_handler(self._take_notice)
-            made.add_notify_handler(lambda notify: self.notified.append(notify.payload))
-            made.execute("SELECT set_config('synchronous_commit', 'on', false) "
-                         "WHERE current_setting('synchronous_commit') NOT IN ('on', 'remote_apply')")  # fmt: skip
-            if self._listens:
-                made.execute(f"LISTEN {CHANNEL}")
-        except psycopg.Error as error:
-            self.turn_hosts()
-            raise Away(f"PostgreSQL: {_line(error)}") from error
-        self._connection = made
+        made = psycopg.connect(make_conninfo(**words), autocommit=True)
+        made.add_notice_handler(self._take_notice)
+        made.add_notify_handler(lambda notify: self.notified.append(notify.payload))
+        made.execute(statements.WAITS_FOR_STANDBY)
+        if self._listens:
+            made.execute(f"LISTEN {CHANNEL}")
         return made
 
     def _take_notice(self, notice: psycopg.errors.Diagnostic) -> None:
@@ -156,11 +160,11 @@ class Referee:
         try:
             rows = connection.execute(statement, values or None, binary=binary).fetchall()
         except psycopg.Error as error:
-            if error.sqlstate is not None and not error.sqlstate.startswith("57P") and not connection.closed:
-                raise Refused(f"PostgreSQL: {_line(error)}") from error
+            if is_refusal(error) and not connection.closed:
+                raise Refused(f"PostgreSQL: {line_of(error)}") from error
             self.close()
             self.turn_hosts()
-            raise Doubt(f"PostgreSQL: {_line(error)}") from error
+            raise Doubt(f"PostgreSQL: {line_of(error)}") from error
         if self._warnings:
             raise Doubt(f"PostgreSQL: {self._warnings[0]}")
         if self._requires_standby:
@@ -177,7 +181,7 @@ class Referee:
             except psycopg.Error as error:
                 self.close()
                 self.turn_hosts()
-                raise Doubt(f"PostgreSQL: {_line(error)}") from error
+                raise Doubt(f"PostgreSQL: {line_of(error)}") from error
             if reached is None:
                 raise OneDisk("nothing becomes durable: a synchronous standby is required, and this role sees none in PostgreSQL")
             wanted = flushed if wanted is None else wanted
@@ -195,7 +199,7 @@ class Referee:
             self._connected().execute(script())
         except psycopg.Error as error:
             self.close()
-            raise Refused(f"PostgreSQL: {_line(error)}") from error
+            raise Refused(f"PostgreSQL: {line_of(error)}") from error
 
     def register(self, lines: str) -> None:
         """Takes the keeper's name for this life of it. An earlier one that still runs finds itself superseded."""
@@ -357,12 +361,14 @@ class Referee:
     def drop(self, name: str) -> bool:
         """Ends a named database for good: its keeper ends its service, and its blocks are deleted.
 
-        Its row stays, under a name that no database can have, so that a keeper which held it knows.
+        Its row stays, under a name that no database can have, so that a keeper which held it knows; under that name its trail is kept.
         """
         found = self._ask(
             "WITH gone AS (UPDATE pagelog_log SET dropped = true, name = name || '!' || id, run = NULL, holder = NULL, "
             "address = NULL WHERE name = %s AND format = %s AND NOT dropped RETURNING id) "
             f"SELECT id, pg_notify('{CHANNEL}', '') FROM gone", (name, FORMAT))  # fmt: skip
+        if found and self._ask("SELECT to_regclass('pagelog_trail_list') IS NOT NULL") == [(True,)]:
+            self._ask("UPDATE pagelog_trail_list SET log = %s WHERE log = %s RETURNING id", (f"{name}!{found[0][0]}", name))
         while found and self._ask("DELETE FROM pagelog_block WHERE (log, lsn) IN (SELECT log, lsn FROM pagelog_block "
                                   "WHERE log = %s ORDER BY lsn LIMIT 10000) RETURNING lsn", (found[0][0],)):  # fmt: skip
             pass
@@ -389,10 +395,6 @@ def _array(numbers: Iterable[int]) -> str:
 
 def _session_name(keeper: str) -> str:
     return f"pagelog keeper {keeper}"[:63]
-
-
-def _line(error: Exception) -> str:
-    return (str(error).strip() or type(error).__name__).splitlines()[0]
 
 
 def _look_of(keepers: list[Any], rows: list[Any], standbys: list[Any], names: str, count: int | None) -> Look:

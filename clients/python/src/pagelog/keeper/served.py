@@ -84,6 +84,14 @@ class Served:
         if self.process is not None:
             self.process.end()
 
+    def operator(self) -> Operator:
+        """A keeper's operator over a connection of its own, for another thread."""
+        return Operator(self._connection(), keeper_of(self._secret, self.database, self.run))
+
+    def texts(self) -> tuple[bytes, bytes]:
+        """The tables of this run: closed, as it begins, and open."""
+        return self._table(Form.READING).encode(), self._table(Form.OPEN).encode()
+
     def _connection(self) -> Connection:
         assert self.process is not None
         return Connection(self.process.address, timeout=self._timeout, attempts=2)

@@ -33,6 +33,8 @@ class Settings:
     memory: int = MEMORY
     metrics: str | None = None
     require_standby: bool = False
+    trail: int = 0
+    """For how many days audit lists are kept; 0 for none."""
     succeed: float = SUCCEED_AT
     keep: str | int | None = None
 
@@ -43,7 +45,7 @@ class Settings:
         """From the options and the section. Raises `CredentialsError` for what the section may not have."""
         kinds: dict[str, type | tuple[type, ...]] = {
             "ttl": (int, float), "standby": bool, "memory": int, "audit": int, "metrics": str, "require_standby": bool,
-            "succeed": (int, float),
+            "trail": int, "succeed": (int, float),
         }  # fmt: skip
         for key, value in section.items():
             if key not in kinds:
@@ -51,8 +53,8 @@ class Settings:
             if not isinstance(value, kinds[key]) or (isinstance(value, bool) and kinds[key] is not bool):
                 raise CredentialsError(f"[keeper]: {key} is {value!r}")
         ttl, audit, share = float(section.get("ttl", TTL)), section.get("audit", 1 << 24), float(section.get("succeed", SUCCEED_AT))
-        if ttl <= 0 or not 1 <= audit <= 1 << 24 or section.get("memory", 0) < 0 or not 0 <= share < ROLL_AT:
-            raise CredentialsError(f"[keeper]: ttl is above 0, audit 1 to 16777216, memory not below 0, and succeed 0 to below {ROLL_AT}")
+        if ttl <= 0 or not 1 <= audit <= 1 << 24 or section.get("memory", 0) < 0 or section.get("trail", 0) < 0 or not 0 <= share < ROLL_AT:
+            raise CredentialsError(f"[keeper]: ttl is above 0, audit 1 to 16777216, memory and trail not below 0, succeed 0 to below {ROLL_AT}")
         return cls(name, lines, Program(program, serve, folder, audit), url, ttl, section.get("standby", True),
-                   section.get("memory", MEMORY), section.get("metrics"), section.get("require_standby", False), share,
-                   keep)  # fmt: skip
+                   section.get("memory", MEMORY), section.get("metrics"), section.get("require_standby", False), section.get("trail", 0),
+                   share, keep)  # fmt: skip

@@ -1,28 +1,45 @@
-"""What the databases of a keeper share: its settings, its ways to the referee, and its tasks."""
+"""What the databases of a keeper share."""
 
 from __future__ import annotations
 
 import asyncio
 from dataclasses import dataclass, field
-from typing import Any, Callable, Coroutine
+from typing import TYPE_CHECKING, Any, Callable, Coroutine
 
 from pagelog.keeper.committer import Committer
+from pagelog.keeper.lines import Line
+from pagelog.keeper.referee import Away, Doubt, Refused
 from pagelog.keeper.session import Session
 from pagelog.keeper.settings import Settings
+
+if TYPE_CHECKING:
+    from pagelog.keeper.recorder import Trails
 
 
 @dataclass
 class Shared:
-    """What the databases of a keeper share. `say` logs a sentence of a database."""
+    """A keeper's settings, its life, its ways to the referee, and its tasks. `say` logs a sentence of a database."""
 
     settings: Settings
     life: str
     session: Session
     committer: Committer
     say: Callable[[str, str], None]
+    trails: Trails | None = None
     ending: bool = False
     tasks: set[asyncio.Task[None]] = field(default_factory=set)
     successions: asyncio.Semaphore = field(default_factory=lambda: asyncio.Semaphore(1))
+
+    async def tell_fate(self, line: Line, name: str, generation: int) -> None:
+        """What became of a generation that is not this keeper's: by a statement that writes, as its end is final."""
+        try:
+            end = await self.session.ask(self.session.referee.fate, name, generation)
+        except (Away, Doubt, Refused):
+            end = None
+        if end is None:
+            line.say("elsewhere", name, generation)
+        else:
+            line.say("over", name, generation, end)
 
     def spawn(self, work: Coroutine[Any, Any, None], what: str) -> asyncio.Task[None]:
         """A task whose end by an error is said: a database that nobody keeps would be the result."""

@@ -26,6 +26,10 @@ SELECT (pg_current_wal_flush_lsn() - '0/0')::bigint, (SELECT (max(flush_lsn) - '
   WHERE sync_state IN ('sync', 'quorum'))
 """
 
+WAITS_FOR_STANDBY = """
+SELECT set_config('synchronous_commit', 'on', false) WHERE current_setting('synchronous_commit') NOT IN ('on', 'remote_apply')
+"""
+
 TAKE = """
 WITH taken AS (
   UPDATE pagelog_log SET generation = next_generation, next_generation = next_generation + 1, run = %(run)s, holder = %(me)s,
