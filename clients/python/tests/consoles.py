@@ -9,6 +9,7 @@ import signal
 import subprocess
 import sys
 import tempfile
+import time
 from contextlib import contextmanager
 from http.client import HTTPConnection, HTTPResponse
 from pathlib import Path
@@ -153,8 +154,10 @@ class Follower:
 
     def until(self, condition: Callable[[], object]) -> Any:
         """Follows until something is so."""
+        deadline = time.monotonic() + PATIENCE
         look = self.look()
         while not condition():
+            assert time.monotonic() < deadline, f"it did not come: {self.head}, {self.databases}, {self.said()}"
             look = self.look()
         return look
 

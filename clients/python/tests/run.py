@@ -40,6 +40,7 @@ PARTS = {
     "test_trail": "trails of audit lists, kept and asked",
     "test_replay": "trails decided again by the plain model",
     "test_console": "the console: its JSON, its events, and who may look",
+    "test_console_board": "what the console makes of its looks, and browsers that take nothing",
     "test_console_page": "the console's page in a browser",
     "test_alerts": "alert rules, and scrapes where something hangs",
     "test_looking": "status, top, audit and metrics",

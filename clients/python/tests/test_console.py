@@ -6,21 +6,23 @@ import json
 import os
 import re
 import signal
+import tempfile
 import time
 import unittest
+from pathlib import Path
 
 import psycopg
+from click.testing import CliRunner
 
 from consoles import HOSTILE, Console, Follower, Rows
 from keepers import Kept, new_url, plain_url
 from pagelog.console.source import Source
+from pagelog.desk.words import pagelogctl
 from pagelog.keeper.referee import Referee
 from pagelog.trail import Trail, TrailKeeper
 from postgres import SilentProxy, postgres
 from pagelog.request import Get, Pull
 from service import Service, fill
-from test_archive import words
-from test_looking import ends
 
 DATABASE = {
     "name": str, "state": str, "paused": bool, "wanted": (str, type(None)), "holder": (str, type(None)), "address": (str, type(None)),
@@ -315,8 +317,10 @@ class Doors(unittest.TestCase):
                 self.assertEqual(console.ask("/api/state", Host=host)[0].status, 421, host)
 
     def test_what_it_does_not_start_with(self) -> None:
-        folder = self.enterContext(Console(new_url())).folder
+        folder = Path(self.enterContext(tempfile.TemporaryDirectory()))
         credentials, open_file, short = folder / "credentials.toml", folder / "open", folder / "short"
+        credentials.touch(mode=0o600)
+        credentials.write_text('[archive]\nurl = "postgresql://nobody@/nowhere"\n')
         open_file.write_text(TOKEN)
         short.touch(mode=0o600)
         short.write_text("short\n")
@@ -325,8 +329,9 @@ class Doors(unittest.TestCase):
             ("0.0.0.0:0", ("--token-file", open_file), 1, "others may read"), ("0.0.0.0:0", ("--token-file", short), 1, "16 characters"),
             ("127.0.0.1:0", ("--token-file", folder / "none"), 1, "No such file"),
         ):  # fmt: skip
-            output = ends(words("console", "--listen", address, "--credentials", credentials, *more), status)
-            self.assertIn(said, output)
+            words = ["console", "--listen", address, "--credentials", credentials, *more]
+            done = CliRunner().invoke(pagelogctl, list(map(str, words)))
+            self.assertEqual((done.exit_code, said in done.output), (status, True), done.output)
 
 
 class Headers(unittest.TestCase):

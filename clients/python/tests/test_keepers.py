@@ -12,6 +12,7 @@ from pagelog import Connection, Lost, OlderEpoch, Reader
 from pagelog.keeper.table import keeper_of
 from pagelog.place import UnknownName
 from service import PATIENCE
+from test_looking import check_alerts
 
 
 class OneKeeper(Kept):
@@ -205,6 +206,7 @@ class Watched(Kept):
                 gate.open()
                 self.assertEqual(text.readline().split()[0], "durable")
                 eventually(lambda: self.of_shop() == (1, place.generation, 2, 0, 0), "a look after it")
+        check_alerts(self, {name for name, _ in self.keeping.metrics()}, of_keeper=True)
         self.keeping.word("drop", "shop", "--force")
         eventually(lambda: not any(label == "shop" for _, label in self.keeping.metrics()), "the end of its metrics")
 

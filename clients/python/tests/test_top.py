@@ -58,7 +58,8 @@ class NamedTop(Kept):
         process.send_signal(signal.SIGTERM)
         process.communicate(timeout=PATIENCE)
         self.assertEqual(process.returncode, 0)
-        self.assertEqual((whole["holder"], whole["generation"], whole["place"]), (self.holder, 1, self.keeping.place().address))
+        place = self.keeping.place()
+        self.assertEqual((whole["holder"], whole["generation"], whole["place"]), (self.holder, place.generation, place.address))
         self.assertTrue(900_000 < whole["entries_left"] < 1_000_000)
         self.assertIn(whole["memory"] + whole["memory_left"], (LIMIT >> 20, (LIMIT >> 20) - 1))
 

@@ -4,6 +4,7 @@ from __future__ import annotations
 
 from collections import deque
 from dataclasses import dataclass
+from typing import Callable
 
 RECENT = 10.0
 """Seconds over which a rate is taken."""
@@ -79,24 +80,20 @@ class History:
 
     def fall(self) -> float | None:
         """Entries of the audit list a second, over the looks at the present run; None where they are too few."""
-        first = self._first_of_this_run()
-        last = self._recent[-1]
-        if first is None or first.entries_left is None or last.entries_left is None:
-            return None
-        return (first.entries_left - last.entries_left) / (last.at - first.at)
+        return self._fall_of(lambda sample: sample.entries_left)
 
     def growth(self) -> float | None:
         """MiB a second, likewise."""
-        first = self._first_of_this_run()
-        last = self._recent[-1]
-        if first is None or first.memory is None or last.memory is None:
-            return None
-        return (last.memory - first.memory) / (last.at - first.at)
+        fall = self._fall_of(lambda sample: sample.memory)
+        return None if fall is None else -fall
 
-    def _first_of_this_run(self) -> Sample | None:
+    def _fall_of(self, value_of: Callable[[Sample], int | None]) -> float | None:
         last = self._recent[-1]
-        found = next((sample for sample in self._sparse if sample.run == last.run and sample.entries_left is not None), None)
-        return found if found is not None and last.at - found.at >= LEAST else None
+        first = next((sample for sample in self._sparse if sample.run == last.run and value_of(sample) is not None), None)
+        before, now = None if first is None else value_of(first), value_of(last)
+        if first is None or before is None or now is None or last.at - first.at < LEAST:
+            return None
+        return (before - now) / (last.at - first.at)
 
     def points(self) -> list[Point]:
         """The points of the last quarter of an hour."""

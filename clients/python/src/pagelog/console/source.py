@@ -2,8 +2,6 @@
 
 from __future__ import annotations
 
-import os
-import socket
 import threading
 import time
 import zlib
@@ -18,7 +16,7 @@ from psycopg.rows import dict_row
 from pagelog.archive_engine import without_password
 from pagelog.console import statements
 from pagelog.errors import PagelogError
-from pagelog.keeper.referee import plain_url
+from pagelog.keeper.referee import plain_url, shut_down
 from pagelog.keeper.rows import KeeperRow, Look, Row, StandbyRow, Synchronous
 from pagelog.reply import LINE_SIZE
 from pagelog.trail.store import FORMAT, Piece
@@ -92,7 +90,7 @@ class Source:
 
     def look(self) -> Seen:
         """A look. Raises `NoLook`."""
-        hangs = threading.Timer(LONGEST, self._cut)
+        hangs = threading.Timer(LONGEST, lambda: shut_down(self._connection))
         hangs.daemon = True
         hangs.start()
         try:
@@ -106,16 +104,6 @@ class Source:
             raise NoLook(f"PostgreSQL: {self._line(error)}") from error
         finally:
             hangs.cancel()
-
-    def _cut(self) -> None:
-        """Ends a look that hangs in another thread: its connection is shut down."""
-        connection = self._connection
-        try:
-            if connection is not None and not connection.closed:
-                with socket.socket(fileno=os.dup(connection.fileno())) as line:
-                    line.shutdown(socket.SHUT_RDWR)
-        except (OSError, psycopg.Error):
-            pass  # it is gone already
 
     def _line(self, error: Exception) -> str:
         text = (str(error).strip() or type(error).__name__).splitlines()[0]
@@ -163,7 +151,8 @@ class Source:
             self._next[row["list"]] = row["first"] + row["count"]
             yield Recorded(names[row["list"]], _piece_of(row))
         if len(rows) < PIECES:
-            self._next.update({row["id"]: max(row["kept"] + 1, self._next.get(row["id"], 1)) for row in lists})  # the rest is older
+            for row in lists:  # the rest is older
+                self._next[row["id"]] = max(row["kept"] + 1, self._next.get(row["id"], 1))
 
 
 def _piece_of(row: Mapping[str, Any]) -> Piece | None:

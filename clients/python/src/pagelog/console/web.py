@@ -91,7 +91,7 @@ class Pages:
     async def login(self, request: web.Request) -> web.StreamResponse:
         """Gives a cookie for the token."""
         if not self.door.is_token(str((await request.post()).get("token", "")).strip()):
-            return web.Response(status=403, body=self._files["login.html"].replace(b" hidden", b""), content_type="text/html", charset="utf-8")
+            return web.Response(status=403, body=self._files["login.html"].replace(b'class="wrong" hidden', b'class="wrong"'), content_type="text/html", charset="utf-8")
         response = web.HTTPSeeOther("/")
         response.set_cookie(COOKIE, self.door.cookie(), max_age=LASTS, httponly=True, samesite="Strict")
         return response

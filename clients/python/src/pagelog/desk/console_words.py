@@ -10,7 +10,7 @@ from typing import TYPE_CHECKING
 import click
 
 from pagelog.credentials import Accounts
-from pagelog.desk.keeper_words import _url_of
+from pagelog.desk.keeper_words import url_of_referee
 from pagelog.desk.options import credentials_option, fail, faults
 
 if TYPE_CHECKING:
@@ -48,7 +48,7 @@ def console_word(accounts: Accounts, listen: str, token_file: Path | None) -> No
         raise click.UsageError(f"--listen: others reach {host}: say --token-file too")
     keeper = accounts.keeper
     limits = Limits(float(keeper.get("ttl", Limits.ttl)), keeper.get("audit", Limits.audit), keeper.get("memory", 0) >> 20)
-    source = Source(_url_of(accounts))
+    source = Source(url_of_referee(accounts))
     token = read_token(token_file) if token_file else None
 
     async def serve() -> None:

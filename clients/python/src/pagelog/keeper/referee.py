@@ -104,13 +104,7 @@ class Referee:
 
     def cut(self) -> None:
         """Ends a statement that hangs in another thread: its connection is shut down. A cancel would let a commit pass."""
-        connection = self._connection
-        try:
-            if connection is not None and not connection.closed:
-                with socket.socket(fileno=os.dup(connection.fileno())) as line:
-                    line.shutdown(socket.SHUT_RDWR)
-        except (OSError, psycopg.Error):
-            pass  # it is gone already
+        shut_down(self._connection)
 
     def turn_hosts(self) -> None:
         """The next connection tries the second host first. An old primary that still runs would be taken again and again."""
@@ -386,6 +380,16 @@ class Referee:
         return bool(self._ask(
             "WITH told AS (UPDATE pagelog_log SET wanted = %s WHERE name = %s AND format = %s AND NOT dropped RETURNING id) "
             f"SELECT id, pg_notify('{CHANNEL}', '') FROM told", (keeper, name, FORMAT)))  # fmt: skip
+
+
+def shut_down(connection: psycopg.Connection[Any] | None) -> None:
+    """Ends what another thread waits for over this connection, if it has not ended."""
+    try:
+        if connection is not None and not connection.closed:
+            with socket.socket(fileno=os.dup(connection.fileno())) as line:
+                line.shutdown(socket.SHUT_RDWR)
+    except (OSError, psycopg.Error):
+        pass  # it is gone already
 
 
 def _array(numbers: Iterable[int]) -> str:

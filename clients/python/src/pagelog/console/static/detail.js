@@ -1,7 +1,7 @@
 // One database: what it is, what will happen next, its plots, generations, denials and events.
 
-import { bar, gauge, marked, shape, spark, strip } from "./drawing.js";
-import { PAUSED, STATES, ago, compact, duration, element, number, rate, time } from "./words.js";
+import { bar, gauge, marks, shape, spark, strip } from "./drawing.js";
+import { ago, compact, duration, element, number, rate, time } from "./words.js";
 
 const SHOWN = 10;
 
@@ -35,7 +35,7 @@ export class Detail {
   show(database, now) {
     if (this.name === undefined) return;
     if (!database) { this.parts.next.replaceChildren("There is no database of this name."); return; }
-    this.parts.marks.replaceChildren(marked(database.state, STATES[database.state]), ...(database.paused ? [marked("paused", PAUSED)] : []));
+    this.parts.marks.replaceChildren(...marks(database));
     this.parts.next.replaceChildren(database.next);
     this.parts.facts.replaceChildren(...facts(database, now).flatMap(([word, ...what]) => [element("dt", {}, word), element("dd", {}, ...what)]));
     const mark = `${database.generation} ${database.state}`;
@@ -67,7 +67,7 @@ function facts(database, now) {
     ["Standbys", spare.join("; ") || "none: a takeover fills a fresh service first"],
     ["Commits", `${rate(database.commits)} a second`],
     ["Reads", database.denials === null ? "not known: no trail is kept" : `${rate(database.reads)} a second`],
-    ["List left", ...(left === null ? ["–"] : [gauge(left, entries, ""), ` ${number(left)} of ${number(entries)} entries`])],
+    ["List left", ...(left === null ? ["–"] : [gauge(left, entries), ` ${number(left)} of ${number(entries)} entries`])],
     ["Memory", memory === null ? "–" : `${number(memory)} MiB${database.memory_limit ? ` of ${number(database.memory_limit)}` : ""}`],
   ];
 }

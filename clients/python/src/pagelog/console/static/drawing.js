@@ -1,6 +1,6 @@
 // Plots and shapes as plain SVG.
 
-import { element, number } from "./words.js";
+import { PAUSED, STATES, element, number } from "./words.js";
 
 const SPACE = "http://www.w3.org/2000/svg";
 
@@ -48,10 +48,11 @@ export function spark(points, words, { width = 240, height = 44, least = 0 } = {
   return made;
 }
 
-/** How much of a list is left, with the mark at which its keeper goes over to a fresh service. */
+/** How much of a list is left, with words unless they stand beside it, and the mark at which its keeper goes over to a fresh service. */
 export function gauge(left, all, words) {
   const share = Math.max(0, Math.min(1, left / all));
-  return svg("svg", { class: `gauge${share < 0.3 ? " is-low" : ""}`, viewBox: "0 0 60 8", width: 60, height: 8, role: "img", "aria-label": words },
+  const told = words ? { role: "img", "aria-label": words } : { "aria-hidden": "true" };
+  return svg("svg", { class: `gauge${share < 0.3 ? " is-low" : ""}`, viewBox: "0 0 60 8", width: 60, height: 8, ...told },
     svg("rect", { class: "track", width: 60, height: 8, rx: 2 }), svg("rect", { class: "left", width: 60 * share, height: 8, rx: 2 }),
     svg("path", { class: "mark", d: "M12 0v8" }));
 }
@@ -91,3 +92,9 @@ export function strip(generations, now, width = 460) {
 
 /** A word with its shape. */
 export const marked = (kind, word, attributes = {}) => element("span", { class: `mark is-${kind}`, ...attributes }, shape(kind), word);
+
+/** The state of a database, and whether it is paused. */
+export function marks(database) {
+  const state = marked(database.state, STATES[database.state]);
+  return database.paused ? [state, " ", marked("paused", PAUSED)] : [state];
+}

@@ -1,14 +1,13 @@
 // The one table: a row for each database, changed where it stands.
 
-import { day, gauge, marked } from "./drawing.js";
-import { PAUSED, STATES, ago, compact, duration, element, number, rate, urgency } from "./words.js";
+import { day, gauge, marks } from "./drawing.js";
+import { ago, compact, duration, element, number, rate, urgency } from "./words.js";
 
 const text = (value) => ({ key: String(value), draw: () => [String(value)] });
 const missing = (value) => (value === null ? -1 : value);
 
 function stateCell(database) {
-  const marks = () => [marked(database.state, STATES[database.state]), ...(database.paused ? [marked("paused", PAUSED)] : [])];
-  return { key: `${database.state} ${database.paused}`, draw: marks };
+  return { key: `${database.state} ${database.paused}`, draw: () => marks(database) };
 }
 
 function nameCell(database) {
