@@ -9,6 +9,7 @@ A position is what an LSN is to one service, and stands for the same block in al
 
 from __future__ import annotations
 
+import hashlib
 import time
 from typing import Sequence
 
@@ -144,9 +145,11 @@ class NamedPrimary(Following):
                 return self._end_for(self._ended)  # it was fenced as it began
             self._move()
             return
+        assert self.place is not None
+        shift = self.place.shift
         try:
-            for lsn in self._primary.harden([block for block in self._tail if block.lsn > self.end]):
-                self.end = max(self.end, lsn)
+            for lsn in self._primary.harden([block.at(block.lsn - shift) for block in self._tail if block.lsn > self.end]):
+                self.end = max(self.end, lsn + shift)
         except OutOfMemory:
             raise
         except (*GONE, *_DENIED) as error:
@@ -162,7 +165,7 @@ class NamedPrimary(Following):
         before = -1 if self.place is None else self.place.generation
         deadline, wait = time.monotonic() + self.keepers.patience, QUICKEST
         while True:
-            place = self.keepers.place(before)
+            place = self.keepers.place() if self.place is None else self.keepers.after(self.place)
             is_next = place.generation > before
             if not is_next and isinstance(error, _DENIED) and self._is_anothers(place):
                 self._leave()
@@ -179,7 +182,7 @@ class NamedPrimary(Following):
         try:
             with Reader(self._connection(place), self._account.of(place)) as witness:
                 for block in [block for block in self._tail if block.lsn > self.end]:
-                    if block.lsn > witness.status().hard + place.shift or not self._is_there(witness, block):
+                    if block.lsn > witness.status().hard + place.shift or not self._is_there(place, witness, block):
                         break
                     self.end = block.lsn
         except PagelogError as doubt:
@@ -265,7 +268,9 @@ class NamedPrimary(Following):
         """
         if self.place is None:
             self.durable_end = min(hard, place.archived)
-        lost = next((block.lsn for block in self._tail if block.lsn <= hard and not self._is_there(witness, block)), None)
+        lost = self._lost_below(place)
+        if lost is None:
+            lost = next((block.lsn for block in self._tail if block.lsn <= hard and not self._is_there(place, witness, block)), None)
         if lost is None and self._tail and hard < self._tail[0].lsn - 1:
             lost = hard + 1  # what was durable is missing: the archive went back
         if lost is not None:
@@ -274,14 +279,28 @@ class NamedPrimary(Following):
             self._leave()
             raise Lost(lost)
 
-    def _is_there(self, witness: Reader, block: Block) -> bool:
+    def _lost_below(self, place: Place) -> int | None:
+        """Drops what of the tail is in the images that the service began with: no block of them can be pulled there, and the archive
+        is asked. Returns the first position of this writer's that is lost."""
+        for block in [block for block in self._tail if block.lsn <= place.base]:
+            digest = self.keepers.block(block.lsn)
+            if digest is None:
+                raise _NotToBeKnown(f"whether position {block.lsn} is this writer's is not known: the archive has its block no more")
+            if digest != hashlib.sha256(block.data).hexdigest():
+                return block.lsn
+            self.end = max(self.end, block.lsn)
+            self._is_durable(block.lsn)
+        return None
+
+    def _is_there(self, place: Place, witness: Reader, block: Block) -> bool:
         """Whether the log has this very block at its position."""
+        lsn = block.lsn - place.shift
         try:
-            span = witness.span(block.lsn, pulls=1)
+            span = witness.span(lsn, pulls=1)
         except (TableRow, NoRowMatches) as error:
             raise _NotToBeKnown(f"whether position {block.lsn} is this writer's is not known: its table lets it pull nothing") from error
         found = {served.lsn: served for served in span.blocks}
-        return found.get(block.lsn, Block.of(block.lsn)) == block
+        return found.get(lsn, Block.of(lsn)) == block.at(lsn)
 
     def _is_durable(self, end: int) -> None:
         self.durable_end = max(self.durable_end, min(end, self.end))

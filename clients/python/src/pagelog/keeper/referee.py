@@ -187,7 +187,7 @@ class Referee:
 
     def prepare(self) -> None:
         """Makes the tables that are not there. Where all are, no lock is taken, nor is a right to make any needed."""
-        if self._ask("SELECT to_regclass('pagelog_standby') IS NOT NULL") == [(True,)]:
+        if self._ask("SELECT 1 FROM pg_attribute WHERE attrelid = to_regclass('pagelog_standby') AND attname = 'images'"):
             return
         try:
             self._connected().execute(script())
@@ -248,9 +248,10 @@ class Referee:
             self._ask("SELECT pg_terminate_backend(pid) FROM pg_stat_activity WHERE application_name = %s AND usename = current_user",
                       (_session_name(keeper),))  # fmt: skip
 
-    def publish(self, log: int, run: str, address: str) -> bool:
-        """Tells everyone the address. False where the run holds the database no more."""
-        return bool(self._ask("UPDATE pagelog_log SET address = %s WHERE id = %s AND run = %s RETURNING id", (address, log, run)))
+    def publish(self, log: int, run: str, address: str, shift: int = 0, images: int = 0) -> bool:
+        """Tells everyone the address, and where positions are there. False where the run holds the database no more."""
+        values = {"id": log, "run": run, "address": address, "shift": shift, "images": images}
+        return bool(self._ask(statements.PUBLISH, values))
 
     def release(self, log: int, run: str) -> int | None:
         """Ends the generation of this run: nothing more is archived of it. Returns the archived position, or None."""
@@ -329,11 +330,12 @@ class Referee:
 
     # Standbys.
 
-    def stand_by(self, log: int, address: str, run: str, reached: int) -> None:
-        """Says where this keeper has a standby."""
-        self._ask("INSERT INTO pagelog_standby (log, keeper, address, run, reached) VALUES (%s, %s, %s, %s, %s) "
-                  "ON CONFLICT (log, keeper) DO UPDATE SET address = excluded.address, run = excluded.run, "
-                  "reached = excluded.reached RETURNING log", (log, self.me, address, run, reached))  # fmt: skip
+    def stand_by(self, log: int, address: str, run: str, reached: int, shift: int = 0, images: int = 0) -> None:
+        """Says where this keeper has a standby, and where positions are there."""
+        self._ask("INSERT INTO pagelog_standby (log, keeper, address, run, reached, shift, images) VALUES (%s, %s, %s, %s, %s, %s, %s) "
+                  "ON CONFLICT (log, keeper) DO UPDATE SET address = excluded.address, run = excluded.run, reached = excluded.reached, "
+                  "shift = excluded.shift, images = excluded.images RETURNING log",
+                  (log, self.me, address, run, reached, shift, images))  # fmt: skip
 
     def stand_down(self, log: int) -> None:
         """Says that this keeper has no standby any more."""

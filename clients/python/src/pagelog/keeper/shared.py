@@ -28,6 +28,7 @@ class Shared:
     trails: Trails | None = None
     ending: bool = False
     tasks: set[asyncio.Task[None]] = field(default_factory=set)
+    successions: asyncio.Semaphore = field(default_factory=lambda: asyncio.Semaphore(1))
 
     async def tell_fate(self, line: Line, name: str, generation: int) -> None:
         """What became of a generation that is not this keeper's: by a statement that writes, as its end is final."""
