@@ -22,7 +22,7 @@ from pagelog.keeper.rows import Look, Row
 
 VERSION = 1
 """Of the form of what is sent."""
-EVENTS = 200
+EVENTS = 500
 """How many events are kept."""
 DAY = 86400.0
 

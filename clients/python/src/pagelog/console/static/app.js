@@ -18,7 +18,7 @@ follow((look, isFirst) => {
   if (isFirst) [page.databases, page.events] = [new Map(), []];
   for (const name of look.gone) page.databases.delete(name);
   for (const database of look.databases) page.databases.set(database.name, database);
-  page.events = [...page.events, ...look.events].slice(-200);
+  page.events = [...page.events, ...look.events].slice(-500);
   [page.head, page.isLost] = [look, false];
   if (!isFirst) say(look.events);
   draw(look.events.length > 0 || isFirst);
