@@ -35,6 +35,7 @@ def mount(folder: Path) -> None:
     run("mount", "-t", "tmpfs", "-o", "mode=755", "tmpfs", RUN)
     run("ip", "link", "set", "lo", "up")
     subprocess.run(["useradd", "--system", "--no-create-home", "pagelog"], stderr=subprocess.DEVNULL)  # it is there at the second start
+    shutil.chown(ETC / "pagelog" / "keeper.toml", "pagelog")
     for name, owner in OWNERS.items():
         own_folder(STATE / name, owner)
     own_folder(RUN / "postgresql", "postgres")
@@ -67,7 +68,7 @@ class Unit:
 
     def specified(self, text: str) -> str:
         """The text with its specifiers in place."""
-        known = {"%E": ETC, "%S": STATE, "%d": RUN / "credentials" / self.name, "%H": os.uname().nodename, "%p": self.name}
+        known = {"%E": ETC, "%S": STATE, "%H": os.uname().nodename, "%p": self.name}
         return re.sub(r"%\w", lambda found: str(known[found[0]]), text)
 
     def environment(self) -> dict[str, str]:
@@ -78,27 +79,16 @@ class Unit:
             lines = lines + (place.read_text().splitlines() if place.exists() or not file.startswith("-") else [])
         return {key: self.specified(value) for key, value in re.findall(r"^(\w+)=(.*)$", "\n".join(lines), flags=re.M)}
 
-    def prepare(self, user: str) -> None:
-        """Its state folder and its copies of credentials."""
-        if self.last("StateDirectory"):
-            own_folder(STATE / self.last("StateDirectory"), user)
-        for word in self.directives.get("LoadCredential", []):
-            name, _, source = self.specified(word).partition(":")
-            place = RUN / "credentials" / self.name / name
-            place.parent.mkdir(parents=True, exist_ok=True)
-            place.touch(mode=0o400)
-            place.write_text(Path(source).read_text())
-            shutil.chown(place, user)
-
     def start(self, log: Path) -> int:
         """The process that runs it now."""
-        user = self.last("User", "root")
-        self.prepare(user)
-        own = self.environment()
+        user, own = self.last("User", "root"), self.environment()
+        if self.last("StateDirectory"):
+            own_folder(STATE / self.last("StateDirectory"), user)
+        folder = self.specified(self.last("WorkingDirectory", "/"))
         line = re.sub(r"\$(?:\{(\w+)\}|(\w+))", lambda found: own[found[1] or found[2]], self.specified(self.last("ExecStart")))
-        words = ["setpriv", "--reuid", user, "--regid", user, "--init-groups", *line.split()]
+        words = ["env", "--chdir", folder, "setpriv", "--reuid", user, "--regid", user, "--init-groups", *line.split()]
         # No Popen, which may take its exit status before `main` does.
-        return os.posix_spawnp("setpriv", words, PROGRAMS | own, file_actions=[
+        return os.posix_spawnp("env", words, PROGRAMS | own, file_actions=[
             (os.POSIX_SPAWN_OPEN, 0, os.devnull, os.O_RDONLY, 0),
             (os.POSIX_SPAWN_OPEN, 1, log, os.O_WRONLY | os.O_CREAT | os.O_APPEND, 0o644), (os.POSIX_SPAWN_DUP2, 1, 2),
         ])  # fmt: skip

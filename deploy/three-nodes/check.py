@@ -14,7 +14,8 @@ import tomllib
 from pathlib import Path
 
 HERE = Path(__file__).resolve().parent
-sys.path.insert(0, str(HERE.parent.parent / "clients" / "python" / "src"))
+TOP = HERE.parent.parent
+sys.path.insert(0, str(TOP / "clients" / "python" / "src"))
 
 import yaml  # noqa: E402
 
@@ -27,6 +28,7 @@ MACHINES = ("a=10.77.0.1", "b=10.77.0.2", "c=10.77.0.3")
 def faults_of_units(units: Path, folder: Path) -> list[str]:
     """What systemd has to say of them. Where a program is not installed, another one of its name stands for it."""
     shutil.copytree(units, folder)
+    shutil.copy(TOP / "packaging" / "units" / "pagelog-keeper.service", folder)
     for name in ("patroni", "etcd"):
         debian = Path("/lib/systemd/system") / f"{name}.service"
         (folder / f"{name}.service").write_text(debian.read_text() if debian.exists() else "[Service]\nExecStart=/bin/true\n")

@@ -26,6 +26,7 @@ from cluster import KEEPERS, PATIENCE, Cluster, eventually  # noqa: E402
 from nodes import ADDRESSES, Node, make_bridge  # noqa: E402
 
 SOURCE = TOP / "clients" / "python" / "src" / "pagelog"
+UNIT = TOP / "packaging" / "units" / "pagelog-keeper.service"
 TABLE = TOP / "clients" / "c" / "table.toml"
 DEFAULT = ("kill:holder", "kill:leader", "kill:both", "cut:both", "stop:both", "alone:both")
 GO_ON = 50
@@ -83,6 +84,8 @@ class Trial:
         machines = [f"{name}={address}" for name, address in ADDRESSES.items()]
         subprocess.run([sys.executable, "-B", HERE / "configure", folder / "machines", *machines], check=True, stdout=subprocess.DEVNULL)
         (folder / "machines").chmod(0o711)
+        for name in ADDRESSES:
+            shutil.copy(UNIT, folder / "machines" / name / "etc" / "systemd" / "system")
         self.nodes = {name: Node(name, folder / "machines" / name) for name in ADDRESSES}
         self.keeper_file = folder / "machines" / "a" / "etc" / "pagelog" / "keeper.toml"
         self.cluster = Cluster(self.keeper_file)
