@@ -72,7 +72,15 @@ class Browsed(unittest.TestCase):
     def resize(self, width: int, height: int, scheme: str = "light") -> None:
         self.browser.execute_cdp_cmd("Emulation.setDeviceMetricsOverride", {"width": width, "height": height, "deviceScaleFactor": 1,
                                                                             "mobile": width < 600})  # fmt: skip
-        self.browser.execute_cdp_cmd("Emulation.setEmulatedMedia", {"features": [{"name": "prefers-color-scheme", "value": scheme}]})
+        self.browser.execute_cdp_cmd(
+            "Emulation.setEmulatedMedia",
+            {
+                "features": [
+                    {"name": "prefers-color-scheme", "value": scheme},
+                    {"name": "prefers-reduced-motion", "value": "reduce"},
+                ]
+            },
+        )
 
     def js(self, script: str, *arguments: object) -> Any:
         return self.browser.execute_script(script, *arguments)
@@ -85,7 +93,9 @@ class Browsed(unittest.TestCase):
         return str(self.js("return document.querySelector(arguments[0])?.innerText ?? ''", selector))
 
     def texts(self, selector: str) -> list[str]:
-        return list(self.js("return [...document.querySelectorAll(arguments[0])].map((each) => each.textContent.trim())", selector))
+        return list(
+            self.js("return [...document.querySelectorAll(arguments[0])].map((each) => each.textContent.trim())", selector)
+        )
 
     def rows(self) -> list[list[str]]:
         """The texts of the visible cells of the visible rows."""
@@ -120,18 +130,25 @@ class OnePage(Browsed):
     def test_three_hundred_are_filtered_sorted_and_read_on_a_phone(self) -> None:
         with Rows(300) as rows:
             console = self.console(rows.url)
-            rows.session.execute("UPDATE pagelog_log SET run = NULL, holder = NULL, address = NULL WHERE name IN ('db150', 'db151')")
+            rows.session.execute(
+                "UPDATE pagelog_log SET run = NULL, holder = NULL, address = NULL WHERE name IN ('db150', 'db151')"
+            )
             rows.session.execute("UPDATE pagelog_log SET paused = true WHERE name IN ('db151', 'db299')")
             self.open(console)
             names = self.names()
             self.assertEqual((len(names), names[:3]), (300, ["db150", "db151", "db299"]))  # the most urgent first
-            self.assertEqual(self.texts("#states button"), ["all 300", "nobody has it 2", "no beat 0", "taking 0", "closing 0", "serving 298", "paused 2"])
+            self.assertEqual(
+                self.texts("#states button"),
+                ["all 300", "nobody has it 2", "no beat 0", "taking 0", "closing 0", "serving 298", "paused 2"],
+            )
             self.browser.find_element(By.CSS_SELECTOR, "#states button:nth-of-type(2)").click()
             self.assertEqual([row[:2] for row in self.rows()], [["nobody has it", "db150"], ["nobody has it paused", "db151"]])
             self.browser.find_element(By.CSS_SELECTOR, "#states button:first-of-type").click()
             self.browser.find_element(By.CSS_SELECTOR, ".c-name button").click()
             self.browser.find_element(By.CSS_SELECTOR, ".c-name button").click()
-            self.assertEqual((self.names()[0], self.js("return document.querySelector('th.c-name').ariaSort")), ("db300", "descending"))
+            self.assertEqual(
+                (self.names()[0], self.js("return document.querySelector('th.c-name').ariaSort")), ("db300", "descending")
+            )
             self.check_page()
             for width, scheme in ((360, "light"), (360, "dark"), (768, "dark"), (1440, "dark")):
                 self.resize(width, 740, scheme)
@@ -178,7 +195,10 @@ class OnePage(Browsed):
             self.press(Keys.ESCAPE)
             self.assertEqual(len(self.names()), 30)
             reached = [self.tab() for _ in range(18)]
-            self.assertEqual(reached[:8], ["all 30", "nobody has it 0", "no beat 0", "taking 0", "closing 0", "serving 30", "paused 0", "State"])
+            self.assertEqual(
+                reached[:8],
+                ["all 30", "nobody has it 0", "no beat 0", "taking 0", "closing 0", "serving 30", "paused 0", "State"],
+            )
             self.assertEqual(reached[-1], "db010")  # one stop for all rows
             self.assertFalse([each for each in reached[:-1] if each.startswith("db")])
 
@@ -190,7 +210,9 @@ class OnePage(Browsed):
             self.open(console)
             self.assertEqual(self.names(), [HOSTILE, "db001"])
             self.js("document.querySelector('#rows a').click()")
-            eventually(lambda: self.text("#detail-title") == HOSTILE and HOSTILE in self.text(".part-generations") + HOSTILE, "its page")
+            eventually(
+                lambda: self.text("#detail-title") == HOSTILE and HOSTILE in self.text(".part-generations") + HOSTILE, "its page"
+            )
             self.assertIn(HOSTILE, self.text("#facts"))
             self.assertEqual(self.js("return document.querySelectorAll('img').length"), 1)
             self.check_page()
@@ -226,12 +248,18 @@ class Takeover(Browsed, Kept):
         with self.keeping.primary() as primary:
             self.open(console, "#/shop")
             self.commit(primary, "1", durable=True)
-            eventually(lambda: self.text(".part-marks") == "serving" and "blocks behind" in self.text(".part-facts"), "that it serves")
+            eventually(
+                lambda: self.text(".part-marks") == "serving" and "blocks behind" in self.text(".part-facts"), "that it serves"
+            )
             row = self.keeping.row()
             os.kill(self.keeping.pid(), signal.SIGKILL)
-            eventually(lambda: self.keeping.row().generation > row.generation and self.keeping.row().address is not None, "a takeover")
+            eventually(
+                lambda: self.keeping.row().generation > row.generation and self.keeping.row().address is not None, "a takeover"
+            )
             holder = self.keeping.row().holder
-            eventually(lambda: f"{holder} took it" in self.text(".part-events") and self.text(".part-marks") == "serving", "the takeover")
+            eventually(
+                lambda: f"{holder} took it" in self.text(".part-events") and self.text(".part-marks") == "serving", "the takeover"
+            )
             eventually(lambda: int(self.js("return document.querySelectorAll('.strip rect').length")) >= 2, "the strip")
             self.assertIn(f"shop: {holder}", self.js("return document.getElementById('said').textContent"))
             self.check_page()
