@@ -34,9 +34,14 @@ def connect(address, principal=2, operator=1, **more):
 
 
 def named(keeper, principal=2, **more):
+    """A connection to the database of a stub."""
+    return sqlite_of(keeper.address, keeper.name, principal, **more)
+
+
+def sqlite_of(keepers, name, principal, **more):
     """A connection to a database that keepers know by name."""
-    parts = {"vfs": "pagelog", "where": keeper.address, "name": keeper.name, "id": principal, "token": TOKENS[principal],
-             "timeout": 300000, "move": 300000}
+    parts = {"vfs": "pagelog", "where": keepers, "name": name, "id": principal, "token": TOKENS[principal], "timeout": 300000,
+             "move": 300000}
     if "mode" not in more and "at" not in more:
         parts.update(op=1, optoken=TOKENS[1])
     timeout = more.pop("busy", 300.0)
