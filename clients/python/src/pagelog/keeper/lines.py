@@ -2,6 +2,7 @@
 they answer.
 
     where NAME                      at NAME GENERATION RUN ADDRESS ARCHIVED LINES BASE SHIFT | nowhere NAME | unknown NAME
+    where NAME LEAST                the same, and held back for up to a second until there is a place of generation LEAST or a later one
     standby NAME                    standby NAME ADDRESS RUN REACHED | standby NAME - - -
     durable NAME GENERATION N       durable NAME GENERATION M, M at or above N: all up to M is archived
                                     over NAME GENERATION END: all up to END is archived, and nothing above it will ever be
@@ -38,6 +39,9 @@ class Answers(Protocol):
 
     def where(self, name: str) -> tuple[object, ...]:
         """The words of the answer to `where`."""
+
+    def place(self, line: Line, name: str, least: int) -> None:
+        """Writes the answer to `where` once there is a place of this generation or a later one, or after a while."""
 
     def standby(self, name: str) -> tuple[object, ...]:
         """The words of the answer to `standby`."""
@@ -88,6 +92,8 @@ class Server:
         match words:
             case ["where", name]:
                 line.say(*self._answers.where(name))
+            case ["where", name, least]:
+                self._answers.place(line, name, int(least))
             case ["standby", name]:
                 line.say(*self._answers.standby(name))
             case ["durable", name, generation, position]:

@@ -3,12 +3,13 @@
 from __future__ import annotations
 
 import time
-from typing import Iterator, Sequence
+from typing import Iterable, Iterator, Sequence
 
 from pagelog.block import Block
 from pagelog.connection import Connection
 from pagelog.keeper.loading import Loader
 from pagelog.keeper.machine import Kind
+from pagelog.keeper.puller import Puller
 from pagelog.keeper.referee import BrokenArchive, Referee, digest
 from pagelog.keeper.run import Program, Run
 from pagelog.keeper.table import KEEPER, Form, keeper_of, quorum_of, table_of_run
@@ -23,7 +24,8 @@ PULLS = 64
 
 class Served:
     """The service of one run of a database. `reached` and `chain` are of the blocks that it was filled with, or that are
-    archived of it. One thread at a time calls each of its methods; `look`, `pulled` and the others may run side by side."""
+    archived of it. One thread at a time calls each of its methods; `look`, `pulled` and the others may run side by side, and
+    `pulled_at_once` is the event loop's."""
 
     def __init__(self, name: str, run: str, text: str, secret: bytes, *, timeout: float) -> None:
         self.database = name
@@ -67,6 +69,7 @@ class Served:
         self._operator = Operator(self._connection(), credentials)
         self._looker = Operator(self._connection(), credentials)
         self._reader = Reader(self._connection(), credentials)
+        self._puller = Puller(process.address, credentials, self._timeout)
 
     def end(self) -> None:
         """Kills it, and removes what is noted of it."""
@@ -91,19 +94,22 @@ class Served:
     # Filling.
 
     def follow(self, referee: Referee, log: int, archived: int, wanted: bytes) -> None:
-        """Fills it with what it lacks of the archive, up to a position that a statement which wrote has returned.
+        """Fills it with what it lacks of the archive, as `fill`."""
+        if archived > self.reached:
+            self.fill(referee.blocks(log, self.reached + 1, archived), archived, wanted)
+
+    def fill(self, blocks: Iterable[Sequence[bytes]], archived: int, wanted: bytes) -> None:
+        """Fills it with these blocks, behind those that it has, up to a position that a statement which wrote has returned.
 
         `wanted` is the digest that it has returned. Raises `BrokenArchive` where the blocks have another: they are read without a
         write, and a server that was cut off may have others. Nobody reads what is above `reached` meanwhile.
         """
-        if archived <= self.reached:
-            return
         assert self.process is not None
         credentials, chain = keeper_of(self._secret, self.database, self.run), self.chain
 
         def pieces() -> Iterator[Sequence[bytes]]:
             nonlocal chain
-            for piece in referee.blocks(log, self.reached + 1, archived):
+            for piece in blocks:
                 chain = digest(chain, piece)
                 yield piece
 
@@ -158,6 +164,13 @@ class Served:
         return self._entries
 
     # Pulling.
+
+    async def pulled_at_once(self, position: int) -> list[bytes] | None:
+        """As `pulled`, of few blocks, and without a thread; None where `pulled` has to see to it."""
+        found = await self._puller.pull(position, self._reader.epoch)
+        if found is not None:
+            self.hard = max(self.hard, position + len(found))
+        return found
 
     def pulled(self, position: int) -> list[bytes]:
         """The next blocks behind this position, at most 1,024. A block without records is served by no pull."""
