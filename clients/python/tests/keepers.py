@@ -154,6 +154,8 @@ class Keeping:
                              f"audit = {audit}\n{more}")  # fmt: skip
         self.table = self.folder / "table.toml"
         self.table.write_text(WIDE_TABLE)
+        self.keeper: tuple[object, ...] = ("-m", "pagelog")
+        """How a keeper is called, as arguments of Python."""
         self.processes: dict[str, subprocess.Popen[str]] = {}
         self.ports = dict.fromkeys("abcd", 0)
 
@@ -197,7 +199,7 @@ class Keeping:
 
     def launch(self, *names: str, program: str = PROGRAM) -> None:
         for name in names:
-            words = [sys.executable, "-m", "pagelog", "keep", "--name", name, "--lines", f"127.0.0.1:{self.ports[name]}",
+            words = [sys.executable, *self.keeper, "keep", "--name", name, "--lines", f"127.0.0.1:{self.ports[name]}",
                      "--serve", "127.0.0.1", "--folder", self.folder / name, "--program", program, "--credentials", self.file]  # fmt: skip
             with (self.folder / f"{name}.log").open("a") as log:
                 self.processes[name] = subprocess.Popen(list(map(str, words)), stdout=subprocess.PIPE, stderr=log, text=True,

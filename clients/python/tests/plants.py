@@ -50,8 +50,7 @@ PLANTS = {
     "digest": Plant("served", "        if chain != wanted:", "        if False:", "standbys", "no_other_archive"),
     "orphan": Plant("keeping", "end_orphans, self.settings.program.folder, wanted", "lambda *_: (), 0, 0", "standbys", "orphan"),
     "table first": Plant("served", "        self._operator.set_table(self._table(Form.READING))\n", "", "runs", "cannot_be_opened_again"),
-    "the rest": Plant("database", "        if self._archiver is None or not await self._archiver.reached(end):\n            return False\n",
-                      "", "standbys", "told_to_end"),
+    "the rest": Plant("database", "self.work.archiver.reached(end)", "asyncio.sleep(0, True)", "standbys", "told_to_end"),
     "one disk": Plant("referee", "        if self._requires_standby:\n", "        if False:\n", "disks", "until_a_standby_has_it"),
     "one disk, taken": Plant("referee", "        if self._requires_standby:\n", "        if False:\n", "disks", "nobody_takes_over"),
     "standby is there": Plant("referee", "            if reached is None:\n", "            if reached is None:\n                return\n"

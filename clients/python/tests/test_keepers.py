@@ -156,7 +156,7 @@ class OneKeeper(Kept):
                 self.assertEqual(text.readline().split(), ["durable", "shop", str(place.generation), "2"])
                 print(f"durable shop {place.generation} 9", file=text, flush=True)
                 self.assertEqual(text.readline().split(), ["above", "shop", str(place.generation), "2"])
-                for asked, answer in (("where none", "unknown none"), ("standby shop", "standby shop - - -"), ("x y", "what x"),
+                for asked, answer in (("where none", "unknown none"), ("standby shop", "standby shop - - - - -"), ("x y", "what x"),
                                       (f"durable shop {place.generation + 1} 1", f"elsewhere shop {place.generation + 1}")):  # fmt: skip
                     print(asked, file=text, flush=True)
                     self.assertEqual(text.readline().strip(), answer)

@@ -12,7 +12,7 @@ from keepers import Line, Replying, batch_of, blocks, new_database, new_url
 from pagelog.keeper import statements
 from pagelog.keeper.referee import Away, BrokenArchive, Doubt, Referee, Refused, Superseded, digest
 from pagelog.keeper.rows import Kept, Row
-from service import PATIENCE
+from postgres import SilentProxy, postgres
 
 
 class Referees(unittest.TestCase):
@@ -276,6 +276,13 @@ class Lines(Referees):
         referee = Referee("postgresql://pagelog@/x?host=/a,/b,/c&port=1,2,3")
         referee.turn_hosts()
         self.assertEqual((referee._options["host"], referee._options["port"]), ("/b,/c,/a", "2,3,1"))
+
+    def test_a_silent_host_hides_none_behind_it(self) -> None:
+        with SilentProxy(postgres()) as silent:
+            silent.is_silent.set()
+            found = Referee(self.url.replace("host=", f"connect_timeout=1&host={silent.folder},"))
+            self.addCleanup(found.close)
+            self.assertIsNotNone(found.everything().row("shop"))
 
 
 class Replication(Referees):

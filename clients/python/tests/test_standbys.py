@@ -62,7 +62,7 @@ class TwoKeepers(Kept):
             target, before = self.other(), self.keeping.place()
             self.keeping.word("switchover", "shop", "--to", target)
             after = self.keeping.place(least=before.generation + 1)
-            self.assertEqual((self.holder(), after.base), (target, 31))
+            self.assertEqual((self.holder(), after.generation, self.keeping.row().base), (target, self.keeping.row().generation, 31))
             with patch.object(Reader, "span", autospec=True, side_effect=Reader.span) as span:
                 self.assertEqual(self.commit(primary, "32", durable=True), 32)
             self.assertLessEqual(span.call_count, 2)  # all that was not durable is compared at once
@@ -93,7 +93,8 @@ class TwoKeepers(Kept):
             eventually(lambda: "the keeper ends" in self.keeping.said(), "the end of the keeper")
             gate.open()
             self.assertEqual(self.keeping.processes[first].wait(), 0)
-            self.assertEqual(self.keeping.place(least=before.generation + 1).base, 31)
+            self.keeping.place(least=before.generation + 1)
+            self.assertEqual(self.keeping.row().base, 31)
             self.assertEqual(list((self.keeping.folder / first).iterdir()), [])
             self.assertEqual(self.commit(primary, "32", durable=True), 32)
             self.assertEqual(self.texts(), [b"%d" % number for number in range(1, 33)])

@@ -9,6 +9,7 @@ A position is what an LSN is to one service, and stands for the same block in al
 
 from __future__ import annotations
 
+import hashlib
 import time
 from typing import Sequence
 
@@ -146,9 +147,11 @@ class NamedPrimary(Following):
                 return self._end_for(self._ended)  # it was fenced as it began
             self._move()
             return
+        assert self.place is not None
+        shift = self.place.shift
         try:
-            for lsn in self._primary.harden([block for block in self._tail if block.lsn > self.end]):
-                self.end = max(self.end, lsn)
+            for lsn in self._primary.harden([block.at(block.lsn - shift) for block in self._tail if block.lsn > self.end]):
+                self.end = max(self.end, lsn + shift)
         except OutOfMemory:
             raise
         except (*GONE, *_DENIED) as error:
@@ -164,7 +167,7 @@ class NamedPrimary(Following):
         before = -1 if self.place is None else self.place.generation
         deadline, wait, may_stay = time.monotonic() + self.keepers.patience, QUICKEST, not isinstance(error, _DENIED)
         while True:
-            place = self.keepers.place(before)
+            place = self.keepers.place() if self.place is None else self.keepers.after(self.place)
             is_next = place.generation > before
             if not is_next and isinstance(error, _DENIED) and self._is_anothers(place):
                 self._leave()
@@ -183,7 +186,7 @@ class NamedPrimary(Following):
         try:
             with Reader(self._connection(place), self._account.of(place)) as witness:
                 for block in [block for block in self._tail if block.lsn > self.end]:
-                    if block.lsn > witness.status().hard + place.shift or not self._is_there(witness, block):
+                    if block.lsn > witness.status().hard + place.shift or not self._is_there(place, witness, block):
                         break
                     self.end = block.lsn
         except PagelogError as doubt:
@@ -271,7 +274,9 @@ class NamedPrimary(Following):
         """
         if self.place is None:
             self.durable_end = min(hard, place.archived)
-        lost = self._first_other(witness, [block for block in self._tail if known < block.lsn <= hard])
+        lost = self._lost_below(place)
+        if lost is None:
+            lost = self._first_other(place, witness, [block for block in self._tail if known < block.lsn <= hard])
         if lost is None and self._tail and hard < self._tail[0].lsn - 1:
             lost = hard + 1  # what was durable is missing: the archive went back
         if lost is not None:
@@ -280,21 +285,35 @@ class NamedPrimary(Following):
             self._leave()
             raise Lost(lost)
 
-    def _is_there(self, witness: Reader, block: Block) -> bool:
-        """Whether the log has this very block at its position."""
-        return self._first_other(witness, [block]) is None
+    def _lost_below(self, place: Place) -> int | None:
+        """Drops what of the tail is in the images that the service began with: no block of them can be pulled there, and the archive
+        is asked. Returns the first position of this writer's that is lost."""
+        for block in [block for block in self._tail if block.lsn <= place.base]:
+            digest = self.keepers.block(block.lsn)
+            if digest is None:
+                raise _NotToBeKnown(f"whether position {block.lsn} is this writer's is not known: the archive has its block no more")
+            if digest != hashlib.sha256(block.data).hexdigest():
+                return block.lsn
+            self.end = max(self.end, block.lsn)
+            self._is_durable(block.lsn)
+        return None
 
-    def _first_other(self, witness: Reader, blocks: Sequence[Block]) -> int | None:
+    def _is_there(self, place: Place, witness: Reader, block: Block) -> bool:
+        """Whether the log has this very block at its position."""
+        return self._first_other(place, witness, [block]) is None
+
+    def _first_other(self, place: Place, witness: Reader, blocks: Sequence[Block]) -> int | None:
         """The first position of these blocks, which have no gap, at which the log has another one. Many are pulled at once."""
         at = 0
         while at < len(blocks):
             try:
-                span = witness.span(blocks[at].lsn, pulls=min(PULLS, -(-(len(blocks) - at) // PULL_MAX)))
+                span = witness.span(blocks[at].lsn - place.shift, pulls=min(PULLS, -(-(len(blocks) - at) // PULL_MAX)))
             except (TableRow, NoRowMatches) as error:
                 raise _NotToBeKnown(f"whether position {blocks[at].lsn} is this writer's is not known: its table lets it pull nothing") from error
             found = {served.lsn: served for served in span.blocks}
             for block in blocks[at : at + max(1, span.last + 1 - span.first)]:
-                if found.get(block.lsn, Block.of(block.lsn)) != block:
+                lsn = block.lsn - place.shift
+                if found.get(lsn, Block.of(lsn)) != block.at(lsn):
                     return block.lsn
                 at += 1
         return None

@@ -36,9 +36,18 @@ class Lost(PagelogError):
         super().__init__(f"position {position} is lost")
 
 
+class BelowBase(PagelogError):
+    """The service began with images of the pages at position `base`: nothing below it can be read there any more."""
+
+    def __init__(self, position: int, base: int) -> None:
+        self.position, self.base = position, base
+        super().__init__(f"position {position} is below {base}, with which the service began")
+
+
 @dataclass(frozen=True)
 class Place:
-    """Where a generation is served. A position is an LSN of its service plus `shift`; it began with all up to `base`."""
+    """Where a generation is served; a standby has none, 0. A position is an LSN of its service plus `shift`; the service began with
+    the images of the pages at position `base`, or where that is 0 with the first block."""
 
     generation: int
     run: str
@@ -168,7 +177,7 @@ class Keepers:
         All are asked, and hold their answers back until then. Where none does it waits for so many seconds.
         """
         self._forget_parent()
-        waiting = {line.fileno(): address for address in self._addresses if (line := self._asked(address, ("where", self.name, least)))}
+        waiting = {line.fileno(): address for address in self._addresses if (line := self._asked(address, ("next", self.name, least)))}
         deadline, poll = time.monotonic() + _HELD, select.poll()
         for descriptor in waiting:
             poll.register(descriptor, select.POLLIN)
@@ -218,13 +227,31 @@ class Keepers:
             self.close()
             self._process = os.getpid()
 
+    def after(self, place: Place) -> Place:
+        """The place of a later generation, if its keeper is about to publish one; else as `place`."""
+        found = _place(self._ask(place.lines, ("where", self.name, place.generation + 1), _SILENCE))
+        return found if found is not None and found.generation > place.generation else self.place(place.generation)
+
     def standby(self) -> Place | None:
         """A standby of it, which has durable blocks alone; None where no keeper knows of one."""
         for address in self._addresses:
             words = self._ask(address, ("standby", self.name))
-            if len(words) == 5 and words[0] == "standby" and words[4].isdecimal():
-                return Place(0, words[3], words[2], int(words[4]), address, 0, 0)
+            if len(words) == 7 and words[0] == "standby" and words[4].isdecimal():
+                return Place(0, words[3], words[2], int(words[4]), address, int(words[5]), int(words[6]))
         return None
+
+    def block(self, position: int) -> str | None:
+        """The SHA-256 of the block that the archive has at a position, of the keeper that answers first; None where it has none."""
+        deadline, wait = time.monotonic() + self.patience, QUICKEST
+        while True:
+            for address in self._addresses:
+                match self._ask(address, ("block", self.name, position), _SILENCE):
+                    case ["block", _, _, digest]:
+                        return None if digest == "-" else digest
+            if time.monotonic() > deadline:
+                raise TimedOut(f"no keeper has said in {self.patience} s which block of {self.name} is at position {position}")
+            time.sleep(wait)
+            wait = min(SLOWEST, 2 * wait)
 
     def fate(self, generation: int, position: int, lines: str | None = None) -> Fate:
         """How far this generation is durable, once it is so up to the position, or is over. Raises `TimedOut`.

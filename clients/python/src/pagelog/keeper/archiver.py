@@ -28,6 +28,9 @@ class Archiver:
         self._row, self._served, self._waits, self._committer = row, served, waits, committer
         self._say, self._changed = say, changed
         self._doorbell, self._advanced = asyncio.Event(), asyncio.Event()
+        self.turn = asyncio.Lock()
+        """Held for each batch, from its pull until its fate is known."""
+        self._wait = 0.05
         self.is_over = False
         self._is_stuck = False
 
@@ -64,28 +67,33 @@ class Archiver:
         self._changed()
 
     async def _run(self) -> None:
-        served, wait = self._served, 0.05
         self.ring()
         while True:
             await self._doorbell.wait()
-            self._doorbell.clear()
-            waited = self._waits.now()
-            try:
-                batch = await self._next_batch()
-            except (AuditListFull, TurnsSpent):
-                served.is_broken = True
-                return
-            except PagelogError as error:
-                self._say(self._row.name, f"a pull failed: {error}")
-                await asyncio.sleep(wait)
-                wait = min(1.0, 2 * wait)
-                self.ring()
-                continue
-            wait = 0.05
-            if not batch.blocks:
-                self._waits.tell_above(waited, served.generation, served.reached + self._row.shift)
-            elif not await self._kept(batch):
-                return
+            async with self.turn:
+                self._doorbell.clear()
+                if not await self._archived():
+                    return
+
+    async def _archived(self) -> bool:
+        """Archives what is hardened by now. False where nothing more can be."""
+        served, waited = self._served, self._waits.now()
+        try:
+            batch = await self._next_batch()
+        except (AuditListFull, TurnsSpent):
+            served.is_broken = True
+            return False
+        except PagelogError as error:
+            self._say(self._row.name, f"a pull failed: {error}")
+            await asyncio.sleep(self._wait)
+            self._wait = min(1.0, 2 * self._wait)
+            self.ring()
+            return True
+        self._wait = 0.05
+        if not batch.blocks:
+            self._waits.tell_above(waited, served.generation, served.reached)
+            return True
+        return await self._kept(batch)
 
     async def _next_batch(self) -> Batch:
         served = self._served
@@ -117,7 +125,7 @@ class Archiver:
             return False
         served.reached, served.chain = kept.archived, kept.chain
         self._advanced.set()
-        self._waits.tell(served.generation, served.reached + self._row.shift)
+        self._waits.tell(served.generation, served.reached)
         if served.hard > served.reached or len(self._waits):
             self.ring()
         return True

@@ -12,6 +12,7 @@ from typing import TYPE_CHECKING, Any
 
 from pagelog.keeper.committer import Committer
 from pagelog.keeper.database import Database
+from pagelog.keeper.fates import tell_block
 from pagelog.keeper.folder import Folder
 from pagelog.keeper.lines import Line, Server
 from pagelog.keeper.machine import Stillness
@@ -29,6 +30,8 @@ from pagelog.keeper.shared import Shared
 if TYPE_CHECKING:
     from pagelog.keeper.recorder import Trails
 
+HELD_BACK = 1.0
+"""Seconds for which the answer to a `where` may wait for the next generation."""
 LOOKS = 4
 """How many looks there are in a ttl."""
 _log = logging.getLogger("pagelog.keeper")
@@ -222,11 +225,13 @@ class Keeper:
 
     def _report(self) -> str:
         """What `kept` shows of the services of this keeper."""
-        audit, report = self.settings.program.audit, {}
+        audit, limit, report = self.settings.program.audit, self.settings.memory, {}
         for each in self.databases.values():
             if each.served is not None and each.served.process is not None:
+                memory = each.served.process.memory
                 report[each.row.name] = {"state": each.state.value, "entries_left": audit - each.served.entries,
-                                         "memory": each.served.process.memory >> 20, "hard": each.served.hard}  # fmt: skip
+                                         "memory": memory >> 20, "memory_left": max(0, limit - memory) >> 20 if limit else None,
+                                         "hard": each.served.hard}  # fmt: skip
         return json.dumps(report)
 
     # Answering.
@@ -238,16 +243,32 @@ class Keeper:
         """Where a database is, as the last look has shown it, or as it is here."""
         database = self._named(name)
         if database is None:
-            return ("unknown", name)
+            return ("unknown" if self.look.keepers else "nowhere", name)  # before its first look it knows of none
         row, served = database.row, database.served
         holder = self.look.keeper(row.holder)
         if row.address is None or (holder is None and not database.holds):
             return ("nowhere", name)
         archived = served.reached if served is not None and database.holds else row.archived
         lines = self.lines if database.holds or holder is None else holder.lines
-        return ("at", name, row.generation, row.run, row.address, archived + row.shift, lines, row.base + row.shift, row.shift)
+        return ("at", name, row.generation, row.run, row.address, archived, lines, row.images, row.shift)
 
-    def place(self, line: Line, name: str, least: int) -> None:
+    def where_next(self, line: Line, name: str, least: int) -> None:
+        """Says where it is, and waits for a generation that is about to be published here."""
+        database = self._named(name)
+        if database is None or not database.is_moving:
+            line.say(*self.where(name))
+        else:
+            self._shared.spawn(self._say_next(database, line, least), name)
+
+    async def _say_next(self, database: Database, line: Line, least: int) -> None:
+        ends = asyncio.get_running_loop().time() + HELD_BACK
+        while database.is_moving and (left := ends - asyncio.get_running_loop().time()) > 0:
+            if database.row.address is not None and database.row.generation >= least:
+                break
+            await database.moves.wait(left)
+        line.say(*self.where(database.row.name))
+
+    def next_place(self, line: Line, name: str, least: int) -> None:
         """Answers now or later."""
         self._places.ask(line, name, least)
 
@@ -260,10 +281,10 @@ class Keeper:
         known = () if database is None else self.look.standbys_of(database.row.id)
         found = next((each for each in known if each.keeper in self._living), None)
         if database is None or found is None:
-            return ("standby", name, "-", "-", "-")
+            return ("standby", name, "-", "-", "-", "-", "-")
         own = database.served
         reached = own.reached if own is not None and own.run == found.run and not database.holds else found.reached
-        return ("standby", name, found.address, found.run, reached + database.row.shift)
+        return ("standby", name, found.address, found.run, reached, found.images, found.shift)
 
     def durable(self, line: Line, name: str, generation: int, position: int) -> None:
         """Answers now or later."""
@@ -272,6 +293,10 @@ class Keeper:
             line.say("unknown", name)
         else:
             database.wait(line, generation, position)
+
+    def block(self, line: Line, name: str, position: int) -> None:
+        """Answers from the archive, once PostgreSQL has."""
+        self._shared.spawn(tell_block(self._session, line, name, position), name)
 
     def gone(self, line: Line) -> None:
         """Nobody waits over it any more."""

@@ -105,13 +105,7 @@ class Referee:
 
     def cut(self) -> None:
         """Ends a statement that hangs in another thread: its connection is shut down. A cancel would let a commit pass."""
-        connection = self._connection
-        try:
-            if connection is not None and not connection.closed:
-                with socket.socket(fileno=os.dup(connection.fileno())) as line:
-                    line.shutdown(socket.SHUT_RDWR)
-        except (OSError, psycopg.Error):
-            pass  # it is gone already
+        shut_down(self._connection)
 
     def turn_hosts(self) -> None:
         """The next connection tries the second host first. An old primary that still runs would be taken again and again."""
@@ -127,23 +121,26 @@ class Referee:
         return None if connection is None or connection.closed else connection.fileno()
 
     def _connected(self) -> psycopg.Connection[Any]:
-        if self._connection is not None and not self._connection.closed:
-            return self._connection
+        left = 1 + str(self._options.get("host") or "").count(",")
+        while self._connection is None or self._connection.closed:
+            try:
+                self._connection = self._connect()
+            except psycopg.Error as error:
+                self.turn_hosts()  # psycopg gives up at a host that is silent, as of a machine that is off
+                if (left := left - 1) == 0:
+                    raise Away(f"PostgreSQL: {line_of(error)}") from error
+        return self._connection
+
+    def _connect(self) -> psycopg.Connection[Any]:
         words: dict[str, Any] = {"connect_timeout": self._patience, "target_session_attrs": "read-write",
                                  "keepalives_idle": 5, "keepalives_interval": 2, "keepalives_count": 3, "options": "-c lock_timeout=3s",
                                  "application_name": _session_name(self.me), **self._options}  # fmt: skip
-        try:
-            made = psycopg.connect(make_conninfo(**words), autocommit=True)
-            made.add_notice_handler(self._take_notice)
-            made.add_notify_handler(lambda notify: self.notified.append(notify.payload))
-            made.execute("SELECT set_config('synchronous_commit', 'on', false) "
-                         "WHERE current_setting('synchronous_commit') NOT IN ('on', 'remote_apply')")  # fmt: skip
-            if self._listens:
-                made.execute(f"LISTEN {CHANNEL}")
-        except psycopg.Error as error:
-            self.turn_hosts()
-            raise Away(f"PostgreSQL: {line_of(error)}") from error
-        self._connection = made
+        made = psycopg.connect(make_conninfo(**words), autocommit=True)
+        made.add_notice_handler(self._take_notice)
+        made.add_notify_handler(lambda notify: self.notified.append(notify.payload))
+        made.execute(statements.WAITS_FOR_STANDBY)
+        if self._listens:
+            made.execute(f"LISTEN {CHANNEL}")
         return made
 
     def take_notified(self) -> None:
@@ -208,7 +205,7 @@ class Referee:
 
     def prepare(self) -> None:
         """Makes the tables that are not there. Where all are, no lock is taken, nor is a right to make any needed."""
-        if self._ask("SELECT to_regclass('pagelog_standby') IS NOT NULL") == [(True,)]:
+        if self._ask("SELECT 1 FROM pg_attribute WHERE attrelid = to_regclass('pagelog_standby') AND attname = 'images'"):
             return
         try:
             self._connected().execute(script())
@@ -269,9 +266,10 @@ class Referee:
             self._ask("SELECT pg_terminate_backend(pid) FROM pg_stat_activity WHERE application_name = %s AND usename = current_user",
                       (_session_name(keeper),))  # fmt: skip
 
-    def publish(self, log: int, run: str, address: str) -> bool:
-        """Tells everyone the address. False where the run holds the database no more."""
-        return bool(self._ask("UPDATE pagelog_log SET address = %s WHERE id = %s AND run = %s RETURNING id", (address, log, run)))
+    def publish(self, log: int, run: str, address: str, shift: int = 0, images: int = 0) -> bool:
+        """Tells everyone the address, and where positions are there. False where the run holds the database no more."""
+        values = {"id": log, "run": run, "address": address, "shift": shift, "images": images}
+        return bool(self._ask(statements.PUBLISH, values))
 
     def release(self, log: int, run: str) -> int | None:
         """Ends the generation of this run: nothing more is archived of it. Returns the archived position, or None."""
@@ -336,11 +334,12 @@ class Referee:
 
     # Standbys.
 
-    def stand_by(self, log: int, address: str, run: str, reached: int) -> None:
-        """Says where this keeper has a standby."""
-        self._ask("INSERT INTO pagelog_standby (log, keeper, address, run, reached) VALUES (%s, %s, %s, %s, %s) "
-                  "ON CONFLICT (log, keeper) DO UPDATE SET address = excluded.address, run = excluded.run, "
-                  "reached = excluded.reached RETURNING log", (log, self.me, address, run, reached))  # fmt: skip
+    def stand_by(self, log: int, address: str, run: str, reached: int, shift: int = 0, images: int = 0) -> None:
+        """Says where this keeper has a standby, and where positions are there."""
+        self._ask("INSERT INTO pagelog_standby (log, keeper, address, run, reached, shift, images) VALUES (%s, %s, %s, %s, %s, %s, %s) "
+                  "ON CONFLICT (log, keeper) DO UPDATE SET address = excluded.address, run = excluded.run, reached = excluded.reached, "
+                  "shift = excluded.shift, images = excluded.images RETURNING log",
+                  (log, self.me, address, run, reached, shift, images))  # fmt: skip
 
     def stand_down(self, log: int) -> None:
         """Says that this keeper has no standby any more."""
@@ -385,6 +384,16 @@ class Referee:
         return bool(self._ask(
             "WITH told AS (UPDATE pagelog_log SET wanted = %s WHERE name = %s AND format = %s AND NOT dropped RETURNING id) "
             f"SELECT id, pg_notify('{CHANNEL}', '') FROM told", (keeper, name, FORMAT)))  # fmt: skip
+
+
+def shut_down(connection: psycopg.Connection[Any] | None) -> None:
+    """Ends what another thread waits for over this connection, if it has not ended."""
+    try:
+        if connection is not None and not connection.closed:
+            with socket.socket(fileno=os.dup(connection.fileno())) as line:
+                line.shutdown(socket.SHUT_RDWR)
+    except (OSError, psycopg.Error):
+        pass  # it is gone already
 
 
 def _session_name(keeper: str) -> str:

@@ -10,7 +10,8 @@ from typing import Any, Mapping
 class Row:
     """A named database. `run` is None where it was released, `address` where its service may not be used yet.
 
-    Positions are LSNs plus the `shift` of the generation. `base` was the archived position when the generation began.
+    `base` was the archived position when the generation began. The service of the address has positions at LSNs less its
+    `shift`, and began with the images at position `images`; 0: with the first block.
     """
 
     id: int
@@ -22,8 +23,11 @@ class Row:
     archived: int = 0
     base: int = 0
     shift: int = 0
+    images: int = 0
     chain: bytes = field(default=b"", repr=False)
     wanted: str | None = None
+    succeed: bool = False
+    read_only: bool = False
     paused: bool = False
     dropped: bool = False
 
@@ -54,6 +58,8 @@ class StandbyRow:
     address: str
     run: str
     reached: int
+    shift: int = 0
+    images: int = 0
 
 
 @dataclass(frozen=True)

@@ -3,6 +3,7 @@
 from __future__ import annotations
 
 import asyncio
+import os
 from concurrent.futures import ThreadPoolExecutor
 from typing import Any, Callable, Sequence, TypeVar
 
@@ -67,7 +68,7 @@ class Session:
 
     async def rest(self, seconds: float) -> None:
         """Waits so long, or until a notification comes."""
-        loop, descriptor = asyncio.get_running_loop(), self.referee.descriptor
+        loop, descriptor = asyncio.get_running_loop(), _copy_of(self.referee.descriptor)
         if descriptor is not None:
             loop.add_reader(descriptor, self._readable)
         try:
@@ -77,6 +78,7 @@ class Session:
         finally:
             if descriptor is not None:
                 loop.remove_reader(descriptor)
+                os.close(descriptor)
         self.woken.clear()
 
     def _readable(self) -> None:
@@ -89,3 +91,11 @@ class Session:
         """Closes the connection, if no statement is being asked."""
         async with self._turn:
             self.referee.close()
+
+
+def _copy_of(descriptor: int | None) -> int | None:
+    """One that stays while it is watched: a statement may close its connection, and another socket get the number."""
+    try:
+        return None if descriptor is None else os.dup(descriptor)
+    except OSError:
+        return None

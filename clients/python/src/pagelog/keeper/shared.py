@@ -31,12 +31,13 @@ class Shared:
     trails: Trails | None = None
     ending: bool = False
     tasks: set[asyncio.Task[None]] = field(default_factory=set)
+    successions: asyncio.Semaphore = field(default_factory=lambda: asyncio.Semaphore(1))
 
     async def fill(self, served: Served, log: int, archived: int, chain: bytes) -> None:
         """Fills it up to this position. Where much is missing, over a connection to the archive of its own."""
         if archived <= served.reached:
             return
-        if archived <= served.reached + PIECE:
+        if 0 < served.reached and archived <= served.reached + PIECE:
             pieces = await self.session.ask(lambda *of: list(self.session.referee.blocks(*of)), log, served.reached + 1, archived)
             return await asyncio.to_thread(served.fill, pieces, archived, chain)
         referee = Referee(self.settings.url, self.settings.name, self.life)
