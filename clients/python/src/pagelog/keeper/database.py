@@ -341,6 +341,7 @@ class Database:
         self._watch(successor)
         self.work.begin(self.row, successor)
         self.moves.tell()
+        self.shared.changed(name)
         for line in self.waits.taken():
             line.say("over", name, before.generation, switch.end)
         await self.work.recorded(recorder)
