@@ -46,11 +46,18 @@ PARTS = {
     "test_looking": "status, top, audit and metrics",
     "test_explaining": "explain, and help",
     "test_keepers": "named databases under a keeper",
+    "test_successions": "successions, from images at the same positions",
+    "test_top": "a live page of named databases",
     "test_standbys": "standbys, switchovers, and keepers that are gone",
     "test_attacks": "doubts, hangs and interrupts of keepers and of their clients",
+    "test_kept_trails": "trails of named databases",
+    "test_lives": "keepers that end, begin, and take a folder",
+    "test_quick": "few blocks, pulled and kept without a thread",
     "test_runs": "a run of a service, its tokens and its process",
     "test_machine": "what a keeper decides",
     "test_disks": "what durable means without a standby of PostgreSQL",
+    "test_images": "images of pages, and blocks of them",
+    "test_bases": "bases in PostgreSQL, pruned, and begun again",
     "test_referee": "one writer of an archive, by statements of PostgreSQL",
 }
 

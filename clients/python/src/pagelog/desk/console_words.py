@@ -8,7 +8,7 @@ from pathlib import Path
 import click
 
 from pagelog.credentials import Accounts
-from pagelog.desk.keeper_words import _url_of
+from pagelog.desk.keeper_words import url_of_referee
 from pagelog.desk.options import credentials_option, fail, faults
 
 
@@ -41,7 +41,7 @@ def console_word(accounts: Accounts, listen: str, token_file: Path | None) -> No
     door = Door(read_token(token_file) if token_file else None, host)
     keeper = accounts.keeper
     limits = Limits(float(keeper.get("ttl", Limits.ttl)), keeper.get("audit", Limits.audit), keeper.get("memory", 0) >> 20)
-    source = Source(_url_of(accounts))
+    source = Source(url_of_referee(accounts))
     try:
         asyncio.run(run(source, limits, door, host.strip("[]"), int(port), lambda bound: click.echo(f"listening {host}:{bound}")))
     except OSError as error:

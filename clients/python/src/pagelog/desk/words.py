@@ -29,6 +29,8 @@ WORDS = {
     "console": "console_words",
     "where": "keeper_words",
     "switchover": "keeper_words",
+    "succeed": "history_words",
+    "prune": "history_words",
     "drop": "keeper_words",
     "record": "trail_words",
     "trail": "trail_words",

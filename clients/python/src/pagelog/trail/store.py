@@ -151,13 +151,17 @@ def day_of(seen: int) -> str:
 class Trail:
     """The trail of one log. A database error is an exception of SQLAlchemy, and then nothing of a reply was kept."""
 
-    def __init__(self, url: str, log: str = "0", *, create: bool = False) -> None:
-        """Opens the trail of the log of this name; with `create` makes what is not there. Raises `NoTrail`."""
+    def __init__(self, url: str, log: str = "0", *, create: bool = False, engine: Engine | None = None) -> None:
+        """Opens the trail of the log of this name; with `create` makes what is not there. Raises `NoTrail`.
+
+        `engine` is one of this URL that trails share. None of them closes it.
+        """
         self.url = url
         self.log = log
+        self._is_shared = engine is not None
         if not create and file_is_missing(url):
             raise NoTrail("there is no archive at this URL")
-        self.engine = engine_of(url)
+        self.engine = engine or engine_of(url)
         try:
             if create:
                 _make(self.engine)
@@ -168,8 +172,9 @@ class Trail:
             raise
 
     def close(self) -> None:
-        """Closes all connections to the database."""
-        self.engine.dispose()
+        """Closes all connections to the database, if they are its own."""
+        if not self._is_shared:
+            self.engine.dispose()
 
     def __enter__(self) -> Trail:
         return self
