@@ -23,14 +23,28 @@ except ModuleNotFoundError:
 DRIVER = shutil.which("chromedriver")
 LACKING = "no browser here: apt-get install --no-install-recommends chromium chromium-driver python3-selenium"
 CONTRAST = """
-const light = (text) => { const [r, g, b] = text.match(/[\\d.]+/g).map(Number).map((v) => v / 255)
-  .map((v) => v <= 0.04045 ? v / 12.92 : ((v + 0.055) / 1.055) ** 2.4); return 0.2126 * r + 0.7152 * g + 0.0722 * b; };
-const ground = (node) => { for (; node; node = node.parentElement) { const c = getComputedStyle(node).backgroundColor;
-  if (!/, 0\\)|transparent/.test(c)) return c; } return getComputedStyle(document.documentElement).backgroundColor; };
-return [...document.querySelectorAll("td, th, h1, h2, p, button, dt, dd, a, .quiet, time")].filter((each) => each.offsetParent && each.textContent.trim())
-  .map((each) => { const [a, b] = [light(getComputedStyle(each).color), light(ground(each))]; return [(Math.max(a, b) + 0.05) / (Math.min(a, b) + 0.05), each.outerHTML]; })
-  .filter(([contrast]) => contrast < 4.5).map(([contrast, text]) => `${contrast.toFixed(2)} ${text.slice(0, 80)}`);
+const channel = (value) => (value <= 0.04045 ? value / 12.92 : ((value + 0.055) / 1.055) ** 2.4);
+const light = (text) => {
+  const [r, g, b] = text.match(/[\\d.]+/g).map((value) => channel(value / 255));
+  return 0.2126 * r + 0.7152 * g + 0.0722 * b;
+};
+const ground = (node) => {
+  for (; node; node = node.parentElement) {
+    const found = getComputedStyle(node).backgroundColor;
+    if (!/, 0\\)|transparent/.test(found)) return found;
+  }
+  return getComputedStyle(document.documentElement).backgroundColor;
+};
+const contrast = (node) => {
+  const both = [light(getComputedStyle(node).color), light(ground(node))];
+  return (Math.max(...both) + 0.05) / (Math.min(...both) + 0.05);
+};
+const words = "h1, h2, h3, p, button, dt, dd, a, .quiet, time, td, th";
+const nodes = [...document.querySelectorAll(words)].filter((each) => !each.closest("#rows tr:nth-child(n + 9)"));
+return nodes.filter((each) => each.textContent.trim() && each.offsetParent && contrast(each) < 4.5)
+  .map((each) => `${contrast(each).toFixed(2)} ${each.outerHTML.slice(0, 90)}`);
 """
+"""What is read with too little contrast: all words, and of the table the first rows."""
 NAMELESS = """
 return [...document.querySelectorAll("button, a, input, [role=img], th")].filter((each) => each.checkVisibility?.() !== false)
   .filter((each) => !(each.textContent.trim() || each.getAttribute("aria-label") || each.labels?.length)).map((each) => each.outerHTML);
