@@ -15,7 +15,7 @@ from pagelog.keeper.quick import QuickReferee, QuickSession
 from pagelog.keeper.referee import Doubt, Refused
 from pagelog.keeper.rows import Batch, Kept
 from pagelog.request import PULL_MAX
-from service import PATIENCE, Service, fill
+from service import PATIENCE, Service, fill, stand_still
 from test_referee import Referees
 
 
@@ -151,7 +151,7 @@ class Pulls(unittest.TestCase):
 
     def test_a_service_that_hangs_or_is_gone(self) -> None:
         self.assertIsNotNone(self.pull(19))
-        self.service.process.send_signal(signal.SIGSTOP)
+        stand_still(self.service.process.pid)
         self.assertIsNone(self.pull(19))
         self.service.process.send_signal(signal.SIGCONT)
         self.assertIsNotNone(self.pull(19))  # over another connection: the late answer is of nobody
