@@ -27,7 +27,7 @@ DEFAULT_URL = "sqlite:///pagelog-archive.db"
 """Where an archive is kept if nothing else is said: one file of SQLite in the folder that one is in."""
 FORMAT = 1
 """The number of the tables' form, which each log of an archive carries."""
-KEPT_FORMAT = 2
+KEPT_FORMAT = 3
 """That of a named database, which its keepers write, and which may only be read here."""
 _READ_SIZE = 512
 _TRIES = 5
@@ -78,6 +78,13 @@ class Archive:
         except BaseException:
             self.close()
             raise
+
+    def images_of(self, generation: int) -> int:
+        """The position whose images a generation of a named database began with; 0: with the first block."""
+        statement = sql.text("SELECT images FROM pagelog_generation WHERE log = :log AND generation = :generation")
+        with self.engine.connect() as connection:
+            found = connection.execute(statement, {"log": self.id, "generation": generation}).first()
+        return 0 if found is None else int(found[0])
 
     def close(self) -> None:
         """Closes all connections to the database."""

@@ -146,7 +146,7 @@ class Board:
         history.add(Sample(at, row.run, row.archived, hard, left, held))
         audit = max(self.limits.audit, left or 0)
         forecast = forecast_of(left, audit, history.fall(), held, self.limits.memory, history.growth())
-        spares = tuple(Spare(standby.keeper, standby.reached + row.shift, standby.keeper in living) for standby in look.standbys_of(row.id))
+        spares = tuple(Spare(standby.keeper, standby.reached, standby.keeper in living) for standby in look.standbys_of(row.id))
         trail, generations = self._trails.get(row.name), self._generations.get(row.id, ())
         lag = None if hard is None else max(0, hard - row.archived)
         reads = trail.reads(at) if trail else None
@@ -154,7 +154,7 @@ class Board:
             "name": row.name, "state": known.state.value, "paused": row.paused, "wanted": row.wanted, "holder": row.holder,
             "address": row.address, "generation": row.generation, "began": iso(generations[-1].began.timestamp()) if generations else None,
             "begins": [iso(each.began.timestamp()) for each in generations if each.began.timestamp() > at - DAY][-24:],
-            "position": row.archived + row.shift, "lag": lag, "lag_seconds": _short(history.lag_seconds),
+            "position": row.archived, "lag": lag, "lag_seconds": _short(history.lag_seconds),
             "commits": _short(history.commits), "reads": _short(reads), "entries_left": left, "entries": audit, "memory": held,
             "memory_limit": self.limits.memory or None, "standbys": [asdict(spare) for spare in spares],
             "denials": sum(trail.denials(at).values()) if trail else None, "next": sentence(Scene(row, known.state, spares, living, forecast)),

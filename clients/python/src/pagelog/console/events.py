@@ -46,9 +46,9 @@ def _changes(before: Known, now: Known) -> Iterator[tuple[str, str]]:
     old, row = before.row, now.row
     if row.generation != old.generation:
         whose = f" from {old.holder}" if old.holder not in (None, row.holder) else ""
-        yield f"{row.holder or 'a keeper'} took it{whose}: generation {row.generation} from position {row.base + row.shift:,}", "warning"
+        yield f"{row.holder or 'a keeper'} took it{whose}: generation {row.generation} from position {row.base:,}", "warning"
     elif row.run is None and old.run is not None:
-        yield f"{old.holder} released it at position {row.archived + row.shift:,}", "bad"
+        yield f"{old.holder} released it at position {row.archived:,}", "bad"
     if row.address is not None and row.address != old.address:
         yield f"{row.holder} serves it at {row.address}", "good"
     if now.state is not before.state and now.state in (State.CLOSING, State.SILENT):

@@ -338,6 +338,10 @@ def replay_word(
         archive = _archive(where, name, stack)
         hard = 0
         for one in chosen(trail, run):
+            images = archive.images_of(one.generation) if archive is not None and one.generation else 0
+            if images:
+                click.echo(f"list {one.run}: not replayed: its generation began with images at position {images}, and no line has their blocks")
+                continue
             with bar(f"list {one.run}") as told:
                 done = replay(trail, one, archive, start=start, texts=more, told=told)
             _say_replayed(one, done, is_last=one == trail.lists()[-1])
