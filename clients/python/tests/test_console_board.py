@@ -6,6 +6,7 @@ import asyncio
 import json
 import socket
 import unittest
+from dataclasses import replace
 from unittest import mock
 
 from aiohttp import web
@@ -13,6 +14,7 @@ from aiohttp import web
 from consoles import Rows
 from pagelog.console.board import Board, Limits
 from pagelog.console.door import Door
+from pagelog.console.events import Known, of_databases
 from pagelog.console.history import History, Sample
 from pagelog.console.outlook import Forecast, Scene, Spare, State, forecast_of, sentence, state_of
 from pagelog.console.source import Source
@@ -25,7 +27,14 @@ FREE = Row(1, "shop", 3, archived=900, shift=100)
 
 
 class Sentences(unittest.TestCase):
-    def said(self, row: Row, state: State = State.SERVING, spares: tuple[Spare, ...] = (), living: str = "ab", forecast: Forecast = Forecast()) -> str:
+    def said(
+        self,
+        row: Row,
+        state: State = State.SERVING,
+        spares: tuple[Spare, ...] = (),
+        living: str = "ab",
+        forecast: Forecast = Forecast(),
+    ) -> str:
         return sentence(Scene(row, state, spares, frozenset(living), forecast))
 
     def test_the_state(self) -> None:
@@ -67,7 +76,9 @@ class Sentences(unittest.TestCase):
         self.assertEqual(self.said(ROW, State.CLOSING), "a archives what is left, and releases it.")
 
     def test_a_forecast(self) -> None:
-        self.assertEqual(forecast_of(500, 1024, 2.0, None, 0, None), Forecast((500 - (1 - 0.8) * 1024) / 2, "list", 250.0))  # a fifth stays
+        self.assertEqual(
+            forecast_of(500, 1024, 2.0, None, 0, None), Forecast((500 - (1 - 0.8) * 1024) / 2, "list", 250.0)
+        )  # a fifth stays
         self.assertEqual(forecast_of(500, 1024, 2.0, 60, 100, 1.0), Forecast(20.0, "memory", 250.0))
         self.assertEqual(forecast_of(150, 1024, 2.0, None, 0, None), Forecast(0.0, "list", 75.0))
         self.assertEqual(forecast_of(500, 1024, 0.0, 60, 100, -1.0), Forecast())
@@ -75,11 +86,47 @@ class Sentences(unittest.TestCase):
         self.assertEqual(forecast_of(500, 1024, None, 60, 0, 1.0).seconds, None)
 
 
+class Events(unittest.TestCase):
+    def told(self, before: list[Row], now: list[Row], standbys: str = "") -> list[str]:
+        looks = [
+            {row.id: Known(row, State.SERVING, frozenset(names)) for row in rows}
+            for rows, names in ((before, ""), (now, standbys))
+        ]
+        return [f"{event.name or ''}: {event.text} ({event.level})" for event in of_databases(looks[0], looks[1], 1.0)]
+
+    def test_of_one(self) -> None:
+        taken = Row(1, "shop", 4, "other", "b", "127.0.0.1:2", archived=900, base=900, shift=100)
+        for before, now, told in (
+            (ROW, taken, "b took it from a, and serves it: generation 4 from position 1,000 (warning)"),
+            (FREE, replace(taken, address=None), "b took it: generation 4 from position 1,000 (warning)"),
+            (replace(taken, address=None), taken, "b serves it at 127.0.0.1:2 (good)"),
+            (ROW, FREE, "a released it at position 1,000 (bad)"), (ROW, replace(ROW, paused=True), "was paused (warning)"),
+            (replace(ROW, paused=True), ROW, "was resumed (plain)"),
+            (ROW, replace(ROW, wanted="*"), "a switchover to another keeper was asked for (plain)"), (replace(ROW, wanted="b"), ROW, None),
+        ):  # fmt: skip
+            self.assertEqual(self.told([before], [now]), [f"shop: {told}"] if told else [])
+        self.assertEqual(self.told([ROW], [ROW], "bc"), ["shop: b stands by (plain)", "shop: c stands by (plain)"])
+        self.assertEqual(
+            (self.told([], [ROW]), self.told([ROW], [])), (["shop: was created (plain)"], ["shop: was dropped (warning)"])
+        )
+
+    def test_what_is_so_of_many_is_told_once(self) -> None:
+        before = [replace(ROW, id=number, name=f"db{number}") for number in range(300)]
+        now = [replace(row, holder="b", generation=4 + row.id, address=None) for row in before[:297]] + before[297:]
+        self.assertEqual(self.told(before, now), [": b took 297 databases from a (warning)"])
+        self.assertEqual(self.told(before, before, "c"), [": c stands by for 300 databases (plain)"])
+        self.assertEqual(len(self.told(before[:5], now[:5])), 5)
+
+
 class Histories(unittest.TestCase):
     def test_rates_lag_and_falls(self) -> None:
         history = History()
         for second in range(41):
-            history.add(Sample(1000.0 + second, "run", 10 * second, 10 * second + (30 if second > 37 else 0), 5000 - 7 * second, 100 + second))
+            history.add(
+                Sample(
+                    1000.0 + second, "run", 10 * second, 10 * second + (30 if second > 37 else 0), 5000 - 7 * second, 100 + second
+                )
+            )
         self.assertEqual((history.commits, history.lag_seconds, history.fall(), history.growth()), (13.0, 2.0, 7.0, 1.0))
         points = history.points()
         self.assertEqual(([point.at for point in points], points[-1].commits), ([1005.0 + 5 * at for at in range(8)], 16.0))

@@ -63,9 +63,10 @@ class OneKeeper(Trailed):
             self.assertEqual(self.commit(primary, "21", durable=True), 21)
             eventually(lambda: len(self.lists()) == 2 and self.lists()[0][1] is not None, "both lists")
         self.assertEqual(self.lists()[0], (before, f"generation {after} has begun: the service of the next generation is ready"))
-        first, second = self.replayed()
+        first, second, third = self.replayed()
         self.assertIn("20 blocks hardened, 20 of them archived, which fit", first)
-        self.assertIn("list 2: not replayed: its generation began with images at position 20", second)
+        self.assertIn(f"list 2: generation {after} began with images", second)
+        self.assertIn("lines are decided likewise", third)
 
     def test_a_service_that_is_killed_and_a_keeper_that_adopts(self) -> None:
         with self.keeping.primary() as primary:
@@ -81,8 +82,13 @@ class OneKeeper(Trailed):
         (first, why), (second, _) = self.lists()
         self.assertEqual((first, why, second), (before, f"generation {before} was released: the service ended", after))
         self.assertEqual([line.split(":")[0] for line in self.replayed()], ["list 1", "list 2"])
+        # A service that begins with images has blocks of its own below them.
+        self.keeping.word("succeed", "shop")
+        eventually(lambda: len(self.lists()) == 3, "the list of the succession")
+        self.assertIn("began with images", self.keeping.word("replay", "shop"))
+        self.assertEqual(len(self.replayed()), 4)
         id = self.keeping.row().id
         self.keeping.word("drop", "shop", "--force")
         self.assertEqual(self.lists(), [])  # so that a new database of this name has a trail of its own
         with Trail(self.keeping.url, f"shop!{id}") as trail:
-            self.assertEqual([one.generation for one in trail.lists()], [first, second])
+            self.assertEqual([one.generation for one in trail.lists()][:2], [first, second])
