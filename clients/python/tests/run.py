@@ -56,6 +56,7 @@ PARTS = {
     "test_runs": "a run of a service, its tokens and its process",
     "test_machine": "what a keeper decides",
     "test_disks": "what durable means without a standby of PostgreSQL",
+    "test_soak": "named databases that live on for a while",
     "test_images": "images of pages, and blocks of them",
     "test_bases": "bases in PostgreSQL, pruned, and begun again",
     "test_referee": "one writer of an archive, by statements of PostgreSQL",

@@ -147,7 +147,7 @@ class Board:
         history.add(Sample(at, row.run, row.archived, hard, left, held))
         audit = max(self.limits.audit, left or 0)
         forecast = forecast_of(left, audit, history.fall(), held, self.limits.memory, history.growth())
-        spares = tuple(Spare(each.keeper, each.reached + row.shift, each.keeper in living) for each in look.standbys_of(row.id))
+        spares = tuple(Spare(each.keeper, each.reached, each.keeper in living) for each in look.standbys_of(row.id))
         trail, generations = self._trails.get(row.name), self._generations.get(row.id, ())
         lag = None if hard is None else max(0, hard - row.archived)
         begins = [each.began.timestamp() for each in generations]
@@ -155,7 +155,7 @@ class Board:
             "name": row.name, "state": known.state.value, "paused": row.paused, "wanted": row.wanted, "holder": row.holder,
             "address": row.address, "generation": row.generation, "began": iso(begins[-1]) if begins else None,
             "begins": [iso(each) for each in begins if each > at - DAY][-24:],
-            "position": row.archived + row.shift, "lag": lag, "lag_seconds": _short(history.lag_seconds),
+            "position": row.archived, "lag": lag, "lag_seconds": _short(history.lag_seconds),
             "commits": _short(history.commits), "reads": _short(trail.reads(at)) if trail else None, "entries_left": left, "entries": audit, "memory": held,
             "memory_limit": self.limits.memory or None, "standbys": [asdict(spare) for spare in spares],
             "denials": sum(trail.denials(at).values()) if trail else None,

@@ -71,7 +71,7 @@ def _changes(before: Known, now: Known) -> Iterator[Change]:
     if row.generation != old.generation:
         yield _taken(old, row)
     elif row.run is None and old.run is not None:
-        text = f"{old.holder} released it at position {row.archived + row.shift:,}"
+        text = f"{old.holder} released it at position {row.archived:,}"
         yield Change(text, f"{old.holder} released # databases", "bad")
     elif row.address is not None and row.address != old.address:
         yield Change(f"{row.holder} serves it at {row.address}", f"{row.holder} serves # databases", "good")
@@ -91,7 +91,7 @@ def _taken(old: Row, row: Row) -> Change:
     holder = row.holder or "a keeper"
     whose = f" from {old.holder}" if old.holder not in (None, row.holder) else ""
     serves = ", and serves it" if row.address is not None else ""
-    text = taken(holder, row.generation, row.base + row.shift, f"{whose}{serves}")
+    text = taken(holder, row.generation, row.base, f"{whose}{serves}")
     return Change(text, f"{holder} took # databases{whose}{serves.replace(' it', ' them')}", "warning")
 
 

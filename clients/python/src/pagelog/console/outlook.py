@@ -84,7 +84,7 @@ def sentence(scene: Scene) -> str:
         case State.SILENT:
             return _of_a_silent_holder(scene)
         case State.TAKING:
-            return f"It serves once the service of {scene.row.holder} has all blocks up to {scene.row.base + scene.row.shift:,}."
+            return f"It serves once the service of {scene.row.holder} has all blocks up to {scene.row.base:,}."
         case State.CLOSING:
             return f"{scene.row.holder} archives what is left, and releases it."
     return _of_a_server(scene)
@@ -130,7 +130,7 @@ def _of_a_switchover(scene: Scene) -> str:
     reached = max((spare.reached for spare in scene.spares if spare.lives and row.wanted in (spare.keeper, "*")), default=None)
     if reached is None:
         return f"A switchover to {to} waits for its standby."
-    lacks = row.archived + row.shift - reached
+    lacks = row.archived - reached
     return (
         f"A switchover to {to} begins." if lacks <= NEAR else f"A switchover to {to} waits: its standby lacks {lacks:,} blocks."
     )

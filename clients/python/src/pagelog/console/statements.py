@@ -18,7 +18,7 @@ SELECT
 """
 
 GENERATIONS = """
-SELECT g.log, g.generation, g.holder, g.base + g.shift AS base, g.began
+SELECT g.log, g.generation, g.holder, g.base, g.began
 FROM unnest(%(logs)s::integer[]) AS w(log) CROSS JOIN LATERAL (
   SELECT * FROM pagelog_generation p WHERE p.log = w.log ORDER BY p.generation DESC LIMIT %(most)s) g
 ORDER BY g.log, g.generation

@@ -250,7 +250,7 @@ class Keeper:
             return ("nowhere", name)
         archived = served.reached if served is not None and database.holds else row.archived
         lines = self.lines if database.holds or holder is None else holder.lines
-        return ("at", name, row.generation, row.run, row.address, archived, lines, row.images, row.shift)
+        return ("at", name, row.generation, row.run, row.address, archived, lines, row.images, row.shift, row.base)
 
     def where_next(self, line: Line, name: str, least: int) -> None:
         """Says where it is, and waits for a generation that is about to be published here."""
