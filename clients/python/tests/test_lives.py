@@ -17,6 +17,9 @@ from service import PATIENCE, stand_still
 class Ends(Kept):
     keepers = "a"
 
+    def beat(self) -> int:
+        return next(keeper.beat for keeper in self.keeping.referee.everything().keepers if keeper.name == "a")
+
     def test_a_keeper_that_is_told_to_end_before_it_has_adopted_archives_the_rest(self) -> None:
         with self.keeping.primary() as primary:
             self.commit(primary, "1", durable=True)
@@ -34,6 +37,8 @@ class Ends(Kept):
         self.addCleanup(trigger.close)
         line.count_from_now()
         eventually(lambda: "adopt: PostgreSQL: cancelled" in self.keeping.said(), "an adoption in doubt")
+        keeper, looks = self.keeping.processes["a"], self.beat()
+        eventually(lambda: self.beat() > looks + 3 or keeper.poll() is not None, "looks after it")
         trigger.close()
         self.assertEqual(self.keeping.processes["a"].wait(PATIENCE), 0)
         self.assertEqual((self.texts(), self.keeping.row().run), ([b"1", b"2"], None))

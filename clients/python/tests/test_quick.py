@@ -95,6 +95,14 @@ class Statements(Referees):
             self.keep(session, batch_of(self.row, kept, "r1"))
         self.assertEqual(session._deadline, 0.4)
 
+    def test_one_that_does_not_fit_into_the_socket_of_a_server_that_hangs_is_cut_too(self) -> None:
+        line = Line(stalls=True)
+        self.addCleanup(line.close)
+        _, session, kept = self.prepared(line.url(self.url), deadline=0.2)
+        line.count_from_now(to=0)
+        with patch.object(quick, "SMALL", 1 << 30), self.assertRaises(Doubt):
+            self.keep(session, batch_of(self.row, kept, "r1", 1000, b"x" * 3000))
+
     def test_one_that_is_given_up_leaves_no_answer_to_the_next(self) -> None:
         line = Line(stalls=True)
         self.addCleanup(line.close)

@@ -22,6 +22,7 @@ class Prepared:
         self._names: list[str] = []
         self._formats: list[pq.Format] = []
         self._results: list[pq.abc.PGresult] = []
+        self._is_lost = False
         text = _VALUE.sub(self._number, statement)
         result = connection.pgconn.prepare(_NAME, text.encode())
         if result.status != pq.ExecStatus.COMMAND_OK:
@@ -40,15 +41,21 @@ class Prepared:
         self._connection.pgconn.send_query_prepared(_NAME, [_bytes(values[name]) for name in self._names], self._formats)
 
     def flush(self) -> bool:
-        """Sends what is left. Returns whether that is all."""
-        return self._connection.pgconn.flush() == 0
+        """Sends what is left. Returns whether that is all, or the line is gone."""
+        try:
+            return self._connection.pgconn.flush() == 0
+        except psycopg.Error:
+            self._is_lost = True
+            return True
 
     def has_answer(self) -> bool:
         """Takes what has come. Returns whether that is all: the server is ready for the next one, or the line is gone."""
         try:
             self._connection.pgconn.consume_input()
         except psycopg.Error:
-            pass  # the result says so
+            self._is_lost = True
+        if self._is_lost:
+            return True
         while not self._connection.pgconn.is_busy():
             result = self._connection.pgconn.get_result()
             if result is None:
@@ -58,7 +65,7 @@ class Prepared:
 
     def receive(self) -> list[list[bytes | None]]:
         """The rows of the answer, once it is there. Raises `psycopg.Error`."""
-        if not self._results:
+        if self._is_lost or not self._results:  # a result that came before the end of the commit says nothing
             raise psycopg.OperationalError("the connection is lost")
         found = self._results[-1]
         if found.status != pq.ExecStatus.TUPLES_OK:

@@ -3,6 +3,7 @@
 from __future__ import annotations
 
 import asyncio
+from contextlib import suppress
 from typing import Any, Sequence
 
 import psycopg
@@ -30,6 +31,11 @@ class QuickReferee(Referee):
             return False
         connection, prepared = self._prepared
         return connection is self._connection and prepared.statement == statements.KEEP and not connection.closed
+
+    def fileno(self) -> int:
+        """The socket of the connection, where it `is_prepared`."""
+        assert self._connection is not None
+        return self._connection.fileno()
 
     def keep(self, batches: Sequence[Batch]) -> frozenset[int]:
         """As of any referee, and prepares the next one."""
@@ -77,25 +83,29 @@ class QuickSession(Session):
         return await super().keep(batches)
 
     async def _kept(self, batches: Sequence[Batch]) -> frozenset[int]:
-        loop, descriptor = asyncio.get_running_loop(), self._quick.descriptor
-        assert descriptor is not None
+        loop, line = asyncio.get_running_loop(), self._quick.fileno()
         prepared, answered = self._quick.send(batches), loop.create_future()
 
         def move() -> None:
             if not answered.done() and prepared.flush() and prepared.has_answer():
+                leave()  # at once: where the line is gone, another may have its number next
                 answered.set_result(None)
 
+        def leave() -> None:
+            for remove in (loop.remove_writer, loop.remove_reader):
+                with suppress(OSError):  # it is closed
+                    remove(line)
+
         timer = loop.call_later(self._deadline, self.cut)
-        loop.add_reader(descriptor, move)
+        loop.add_reader(line, move)
         try:
             if not prepared.flush():
-                loop.add_writer(descriptor, move)
+                loop.add_writer(line, move)
             await answered
         finally:
             timer.cancel()
-            loop.remove_reader(descriptor)
-            loop.remove_writer(descriptor)
             if answered.cancelled() or not answered.done():
+                leave()
                 self._quick.close()  # its answer would come to the next one
         kept = self._quick.receive(prepared)
         self.was_quick()
