@@ -32,7 +32,11 @@ class Rows:
         self.url = new_url()
         self.session = psycopg.connect(self.url, autocommit=True)
         names = [*(f"db{number:03}" for number in range(1, count + 1)), *more]
-        report = {name: {"state": "serving", "entries_left": 16_000_000 - at, "memory": 3, "hard": 100 + at} for at, name in enumerate(names) if has_reports}
+        report = {
+            name: {"state": "serving", "entries_left": 16_000_000 - at, "memory": 3, "hard": 100 + at}
+            for at, name in enumerate(names)
+            if has_reports
+        }
         self.session.execute("INSERT INTO pagelog_keeper (name, run, lines, beat, report) VALUES ('a', 'life', '127.0.0.1:1', 1, %s)",
                              (json.dumps(report),))  # fmt: skip
         with self.session.cursor() as cursor:
@@ -59,7 +63,9 @@ class Console:
         words += ["--token-file", self._private("token", token + "\n")] if token else []
         self.log = (self.folder / "log").open("w+")
         environment = {**os.environ, "PYTHONPATH": str(SOURCE), "PYTHONDONTWRITEBYTECODE": "1"}
-        self.process = subprocess.Popen(list(map(str, words)), stdout=subprocess.PIPE, stderr=self.log, text=True, env=environment)
+        self.process = subprocess.Popen(
+            list(map(str, words)), stdout=subprocess.PIPE, stderr=self.log, text=True, env=environment
+        )
         assert self.process.stdout is not None
         line = self.process.stdout.readline()
         assert line.startswith("listening 127.0.0.1:"), self.said()

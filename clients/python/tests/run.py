@@ -52,6 +52,7 @@ PARTS = {
     "test_attacks": "doubts, hangs and interrupts of keepers and of their clients",
     "test_kept_trails": "trails of named databases",
     "test_lives": "keepers that end, begin, and take a folder",
+    "test_quick": "few blocks, pulled and kept without a thread",
     "test_runs": "a run of a service, its tokens and its process",
     "test_machine": "what a keeper decides",
     "test_disks": "what durable means without a standby of PostgreSQL",

@@ -97,7 +97,9 @@ class Lively(Kept):
             self.follower.until(lambda: self.shop["generation"] > before and self.shop["state"] == "serving")  # type: ignore[operator]
             self.assertEqual(self.commit(primary, "2", durable=True), 2)
         took = f"shop: {self.shop['holder']} took it"
-        self.assertTrue([said for said in self.follower.said() if said.startswith(took) and "from position 1" in said], self.follower.said())
+        self.assertTrue(
+            [said for said in self.follower.said() if said.startswith(took) and "from position 1" in said], self.follower.said()
+        )
         *_, old, now = self.console.detail("shop")["generations"]
         self.assertEqual((old["end"], old["ended"], now["base"], now["end"]), (1, now["began"], 1, None))
 
@@ -122,7 +124,9 @@ class Lively(Kept):
         self.until(state="silent")
         self.assertIn(f"The beat of {holder} stands still; nobody takes it over while it is paused.", str(self.shop["next"]))
         self.assertIn(f": the beat of keeper {holder} stands still", self.follower.said())
-        self.assertEqual({each["name"]: each["lives"] for each in self.follower.head["keepers"]}, {each: each != holder for each in "ab"})
+        self.assertEqual(
+            {each["name"]: each["lives"] for each in self.follower.head["keepers"]}, {each: each != holder for each in "ab"}
+        )
         self.keeping.start(holder)
         self.until(state="serving")
 
@@ -229,7 +233,9 @@ class ByRows(OfAPage):
         with trail.engine.begin() as connection:
             reader.answers([Pull(99)])
             keeper.step()
-            connection.exec_driver_sql("UPDATE pagelog_trail_piece SET data = 'x' WHERE first = (SELECT max(first) FROM pagelog_trail_piece)")
+            connection.exec_driver_sql(
+                "UPDATE pagelog_trail_piece SET data = 'x' WHERE first = (SELECT max(first) FROM pagelog_trail_piece)"
+            )
         follower.until(lambda: console.detail("db001")["trail_is_damaged"])
 
 
@@ -267,7 +273,10 @@ class Away(unittest.TestCase):
 class Doors(unittest.TestCase):
     def test_who_has_the_token_may_look(self) -> None:
         with Rows(1) as rows, Console(rows.url, token=TOKEN) as console:
-            self.assertEqual([console.ask(path)[0].status for path in ("/api/state", "/api/events", "/api/databases/db001", "/static/app.js")], [401] * 4)
+            self.assertEqual(
+                [console.ask(path)[0].status for path in ("/api/state", "/api/events", "/api/databases/db001", "/static/app.js")],
+                [401] * 4,
+            )
             reply, _ = console.ask("/")
             self.assertEqual((reply.status, reply.getheader("Location")), (303, "/login"))
             for wrong in ("Bearer " + TOKEN[:-1], "Bearer " + TOKEN + "x", "Bearer", "Basic " + TOKEN, TOKEN, "Bearer é"):
@@ -292,10 +301,16 @@ class Doors(unittest.TestCase):
             self.assertEqual(len(console.json("/api/state", Cookie=value)["databases"]), 1)
             name, _, rest = value.partition("=")
             until, _, seal = rest.partition(".")
-            for forged in (f"{int(until) + 1}.{seal}", f"{until}.{seal[:-1]}0x", f".{seal}", until, f"{int(time.time()) - 1}.{seal}"):
+            for forged in (
+                f"{int(until) + 1}.{seal}",
+                f"{until}.{seal[:-1]}0x",
+                f".{seal}",
+                until,
+                f"{int(time.time()) - 1}.{seal}",
+            ):
                 self.assertEqual(console.ask("/api/state", Cookie=f"{name}={forged}")[0].status, 401, forged)
             reply, _ = console.ask("/logout", "POST", Cookie=value)
-            self.assertIn('Max-Age=0', reply.getheader("Set-Cookie") or "")
+            self.assertIn("Max-Age=0", reply.getheader("Set-Cookie") or "")
 
     def test_a_cookie_ends(self) -> None:
         from pagelog.console.door import LASTS, Door
@@ -337,7 +352,14 @@ class Doors(unittest.TestCase):
 class Headers(unittest.TestCase):
     def test_each_reply_has_them_and_no_page_has_a_script_of_its_own(self) -> None:
         with Rows(1) as rows, Console(rows.url) as console:
-            for path, status in (("/", 200), ("/login", 200), ("/static/app.js", 200), ("/static/no.js", 404), ("/api/state", 200), ("/no", 404)):
+            for path, status in (
+                ("/", 200),
+                ("/login", 200),
+                ("/static/app.js", 200),
+                ("/static/no.js", 404),
+                ("/api/state", 200),
+                ("/no", 404),
+            ):
                 reply, body = console.ask(path)
                 self.check(reply, status, path)
                 if reply.getheader("Content-Type", "").startswith("text/html"):
@@ -356,7 +378,9 @@ class Headers(unittest.TestCase):
         headers = dict(reply.getheaders())  # type: ignore[attr-defined]
         self.assertEqual(reply.status, status, what)  # type: ignore[attr-defined]
         policy = dict(part.strip().partition(" ")[::2] for part in headers["Content-Security-Policy"].split(";"))
-        self.assertEqual((policy["default-src"], policy["script-src"], policy["frame-ancestors"]), ("'none'", "'self'", "'none'"), what)
+        self.assertEqual(
+            (policy["default-src"], policy["script-src"], policy["frame-ancestors"]), ("'none'", "'self'", "'none'"), what
+        )
         self.assertNotIn("unsafe", headers["Content-Security-Policy"])
         self.assertEqual((headers["X-Content-Type-Options"], headers["Referrer-Policy"]), ("nosniff", "no-referrer"), what)
         self.assertIn(headers["Cache-Control"], ("no-store", "no-cache"))

@@ -27,7 +27,14 @@ FREE = Row(1, "shop", 3, archived=900, shift=100)
 
 
 class Sentences(unittest.TestCase):
-    def said(self, row: Row, state: State = State.SERVING, spares: tuple[Spare, ...] = (), living: str = "ab", forecast: Forecast = Forecast()) -> str:
+    def said(
+        self,
+        row: Row,
+        state: State = State.SERVING,
+        spares: tuple[Spare, ...] = (),
+        living: str = "ab",
+        forecast: Forecast = Forecast(),
+    ) -> str:
         return sentence(Scene(row, state, spares, frozenset(living), forecast))
 
     def test_the_state(self) -> None:
@@ -69,7 +76,9 @@ class Sentences(unittest.TestCase):
         self.assertEqual(self.said(ROW, State.CLOSING), "a archives what is left, and releases it.")
 
     def test_a_forecast(self) -> None:
-        self.assertEqual(forecast_of(500, 1024, 2.0, None, 0, None), Forecast((500 - (1 - 0.8) * 1024) / 2, "list", 250.0))  # a fifth stays
+        self.assertEqual(
+            forecast_of(500, 1024, 2.0, None, 0, None), Forecast((500 - (1 - 0.8) * 1024) / 2, "list", 250.0)
+        )  # a fifth stays
         self.assertEqual(forecast_of(500, 1024, 2.0, 60, 100, 1.0), Forecast(20.0, "memory", 250.0))
         self.assertEqual(forecast_of(150, 1024, 2.0, None, 0, None), Forecast(0.0, "list", 75.0))
         self.assertEqual(forecast_of(500, 1024, 0.0, 60, 100, -1.0), Forecast())
@@ -79,7 +88,10 @@ class Sentences(unittest.TestCase):
 
 class Events(unittest.TestCase):
     def told(self, before: list[Row], now: list[Row], standbys: str = "") -> list[str]:
-        looks = [{row.id: Known(row, State.SERVING, frozenset(names)) for row in rows} for rows, names in ((before, ""), (now, standbys))]
+        looks = [
+            {row.id: Known(row, State.SERVING, frozenset(names)) for row in rows}
+            for rows, names in ((before, ""), (now, standbys))
+        ]
         return [f"{event.name or ''}: {event.text} ({event.level})" for event in of_databases(looks[0], looks[1], 1.0)]
 
     def test_of_one(self) -> None:
@@ -94,7 +106,9 @@ class Events(unittest.TestCase):
         ):  # fmt: skip
             self.assertEqual(self.told([before], [now]), [f"shop: {told}"] if told else [])
         self.assertEqual(self.told([ROW], [ROW], "bc"), ["shop: b stands by (plain)", "shop: c stands by (plain)"])
-        self.assertEqual((self.told([], [ROW]), self.told([ROW], [])), (["shop: was created (plain)"], ["shop: was dropped (warning)"]))
+        self.assertEqual(
+            (self.told([], [ROW]), self.told([ROW], [])), (["shop: was created (plain)"], ["shop: was dropped (warning)"])
+        )
 
     def test_what_is_so_of_many_is_told_once(self) -> None:
         before = [replace(ROW, id=number, name=f"db{number}") for number in range(300)]
@@ -108,7 +122,11 @@ class Histories(unittest.TestCase):
     def test_rates_lag_and_falls(self) -> None:
         history = History()
         for second in range(41):
-            history.add(Sample(1000.0 + second, "run", 10 * second, 10 * second + (30 if second > 37 else 0), 5000 - 7 * second, 100 + second))
+            history.add(
+                Sample(
+                    1000.0 + second, "run", 10 * second, 10 * second + (30 if second > 37 else 0), 5000 - 7 * second, 100 + second
+                )
+            )
         self.assertEqual((history.commits, history.lag_seconds, history.fall(), history.growth()), (13.0, 2.0, 7.0, 1.0))
         points = history.points()
         self.assertEqual(([point.at for point in points], points[-1].commits), ([1005.0 + 5 * at for at in range(8)], 16.0))

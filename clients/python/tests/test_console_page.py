@@ -23,14 +23,28 @@ except ModuleNotFoundError:
 DRIVER = shutil.which("chromedriver")
 LACKING = "no browser here: apt-get install --no-install-recommends chromium chromium-driver python3-selenium"
 CONTRAST = """
-const light = (text) => { const [r, g, b] = text.match(/[\\d.]+/g).map(Number).map((v) => v / 255)
-  .map((v) => v <= 0.04045 ? v / 12.92 : ((v + 0.055) / 1.055) ** 2.4); return 0.2126 * r + 0.7152 * g + 0.0722 * b; };
-const ground = (node) => { for (; node; node = node.parentElement) { const c = getComputedStyle(node).backgroundColor;
-  if (!/, 0\\)|transparent/.test(c)) return c; } return getComputedStyle(document.documentElement).backgroundColor; };
-return [...document.querySelectorAll("td, th, h1, h2, p, button, dt, dd, a, .quiet, time")].filter((each) => each.offsetParent && each.textContent.trim())
-  .map((each) => { const [a, b] = [light(getComputedStyle(each).color), light(ground(each))]; return [(Math.max(a, b) + 0.05) / (Math.min(a, b) + 0.05), each.outerHTML]; })
-  .filter(([contrast]) => contrast < 4.5).map(([contrast, text]) => `${contrast.toFixed(2)} ${text.slice(0, 80)}`);
+const channel = (value) => (value <= 0.04045 ? value / 12.92 : ((value + 0.055) / 1.055) ** 2.4);
+const light = (text) => {
+  const [r, g, b] = text.match(/[\\d.]+/g).map((value) => channel(value / 255));
+  return 0.2126 * r + 0.7152 * g + 0.0722 * b;
+};
+const ground = (node) => {
+  for (; node; node = node.parentElement) {
+    const found = getComputedStyle(node).backgroundColor;
+    if (!/, 0\\)|transparent/.test(found)) return found;
+  }
+  return getComputedStyle(document.documentElement).backgroundColor;
+};
+const contrast = (node) => {
+  const both = [light(getComputedStyle(node).color), light(ground(node))];
+  return (Math.max(...both) + 0.05) / (Math.min(...both) + 0.05);
+};
+const words = "h1, h2, h3, p, button, dt, dd, a, .quiet, time, td, th";
+const nodes = [...document.querySelectorAll(words)].filter((each) => !each.closest("#rows tr:nth-child(n + 9)"));
+return nodes.filter((each) => each.textContent.trim() && each.offsetParent && contrast(each) < 4.5)
+  .map((each) => `${contrast(each).toFixed(2)} ${each.outerHTML.slice(0, 90)}`);
 """
+"""What is read with too little contrast: all words, and of the table the first rows."""
 NAMELESS = """
 return [...document.querySelectorAll("button, a, input, [role=img], th")].filter((each) => each.checkVisibility?.() !== false)
   .filter((each) => !(each.textContent.trim() || each.getAttribute("aria-label") || each.labels?.length)).map((each) => each.outerHTML);
@@ -72,7 +86,15 @@ class Browsed(unittest.TestCase):
     def resize(self, width: int, height: int, scheme: str = "light") -> None:
         self.browser.execute_cdp_cmd("Emulation.setDeviceMetricsOverride", {"width": width, "height": height, "deviceScaleFactor": 1,
                                                                             "mobile": width < 600})  # fmt: skip
-        self.browser.execute_cdp_cmd("Emulation.setEmulatedMedia", {"features": [{"name": "prefers-color-scheme", "value": scheme}]})
+        self.browser.execute_cdp_cmd(
+            "Emulation.setEmulatedMedia",
+            {
+                "features": [
+                    {"name": "prefers-color-scheme", "value": scheme},
+                    {"name": "prefers-reduced-motion", "value": "reduce"},
+                ]
+            },
+        )
 
     def js(self, script: str, *arguments: object) -> Any:
         return self.browser.execute_script(script, *arguments)
@@ -85,7 +107,9 @@ class Browsed(unittest.TestCase):
         return str(self.js("return document.querySelector(arguments[0])?.innerText ?? ''", selector))
 
     def texts(self, selector: str) -> list[str]:
-        return list(self.js("return [...document.querySelectorAll(arguments[0])].map((each) => each.textContent.trim())", selector))
+        return list(
+            self.js("return [...document.querySelectorAll(arguments[0])].map((each) => each.textContent.trim())", selector)
+        )
 
     def rows(self) -> list[list[str]]:
         """The texts of the visible cells of the visible rows."""
@@ -120,18 +144,25 @@ class OnePage(Browsed):
     def test_three_hundred_are_filtered_sorted_and_read_on_a_phone(self) -> None:
         with Rows(300) as rows:
             console = self.console(rows.url)
-            rows.session.execute("UPDATE pagelog_log SET run = NULL, holder = NULL, address = NULL WHERE name IN ('db150', 'db151')")
+            rows.session.execute(
+                "UPDATE pagelog_log SET run = NULL, holder = NULL, address = NULL WHERE name IN ('db150', 'db151')"
+            )
             rows.session.execute("UPDATE pagelog_log SET paused = true WHERE name IN ('db151', 'db299')")
             self.open(console)
             names = self.names()
             self.assertEqual((len(names), names[:3]), (300, ["db150", "db151", "db299"]))  # the most urgent first
-            self.assertEqual(self.texts("#states button"), ["all 300", "nobody has it 2", "no beat 0", "taking 0", "closing 0", "serving 298", "paused 2"])
+            self.assertEqual(
+                self.texts("#states button"),
+                ["all 300", "nobody has it 2", "no beat 0", "taking 0", "closing 0", "serving 298", "paused 2"],
+            )
             self.browser.find_element(By.CSS_SELECTOR, "#states button:nth-of-type(2)").click()
             self.assertEqual([row[:2] for row in self.rows()], [["nobody has it", "db150"], ["nobody has it paused", "db151"]])
             self.browser.find_element(By.CSS_SELECTOR, "#states button:first-of-type").click()
             self.browser.find_element(By.CSS_SELECTOR, ".c-name button").click()
             self.browser.find_element(By.CSS_SELECTOR, ".c-name button").click()
-            self.assertEqual((self.names()[0], self.js("return document.querySelector('th.c-name').ariaSort")), ("db300", "descending"))
+            self.assertEqual(
+                (self.names()[0], self.js("return document.querySelector('th.c-name').ariaSort")), ("db300", "descending")
+            )
             self.check_page()
             for width, scheme in ((360, "light"), (360, "dark"), (768, "dark"), (1440, "dark")):
                 self.resize(width, 740, scheme)
@@ -178,7 +209,10 @@ class OnePage(Browsed):
             self.press(Keys.ESCAPE)
             self.assertEqual(len(self.names()), 30)
             reached = [self.tab() for _ in range(18)]
-            self.assertEqual(reached[:8], ["all 30", "nobody has it 0", "no beat 0", "taking 0", "closing 0", "serving 30", "paused 0", "State"])
+            self.assertEqual(
+                reached[:8],
+                ["all 30", "nobody has it 0", "no beat 0", "taking 0", "closing 0", "serving 30", "paused 0", "State"],
+            )
             self.assertEqual(reached[-1], "db010")  # one stop for all rows
             self.assertFalse([each for each in reached[:-1] if each.startswith("db")])
 
@@ -190,7 +224,9 @@ class OnePage(Browsed):
             self.open(console)
             self.assertEqual(self.names(), [HOSTILE, "db001"])
             self.js("document.querySelector('#rows a').click()")
-            eventually(lambda: self.text("#detail-title") == HOSTILE and HOSTILE in self.text(".part-generations") + HOSTILE, "its page")
+            eventually(
+                lambda: self.text("#detail-title") == HOSTILE and HOSTILE in self.text(".part-generations") + HOSTILE, "its page"
+            )
             self.assertIn(HOSTILE, self.text("#facts"))
             self.assertEqual(self.js("return document.querySelectorAll('img').length"), 1)
             self.check_page()
@@ -226,12 +262,18 @@ class Takeover(Browsed, Kept):
         with self.keeping.primary() as primary:
             self.open(console, "#/shop")
             self.commit(primary, "1", durable=True)
-            eventually(lambda: self.text(".part-marks") == "serving" and "blocks behind" in self.text(".part-facts"), "that it serves")
+            eventually(
+                lambda: self.text(".part-marks") == "serving" and "blocks behind" in self.text(".part-facts"), "that it serves"
+            )
             row = self.keeping.row()
             os.kill(self.keeping.pid(), signal.SIGKILL)
-            eventually(lambda: self.keeping.row().generation > row.generation and self.keeping.row().address is not None, "a takeover")
+            eventually(
+                lambda: self.keeping.row().generation > row.generation and self.keeping.row().address is not None, "a takeover"
+            )
             holder = self.keeping.row().holder
-            eventually(lambda: f"{holder} took it" in self.text(".part-events") and self.text(".part-marks") == "serving", "the takeover")
+            eventually(
+                lambda: f"{holder} took it" in self.text(".part-events") and self.text(".part-marks") == "serving", "the takeover"
+            )
             eventually(lambda: int(self.js("return document.querySelectorAll('.strip rect').length")) >= 2, "the strip")
             self.assertIn(f"shop: {holder}", self.js("return document.getElementById('said').textContent"))
             self.check_page()

@@ -163,6 +163,24 @@ class OneKeeper(Kept):
                 print("x" * 2000, file=text, flush=True)
                 self.assertEqual(text.readline(), "")
 
+    def test_who_asks_for_the_next_place_is_told_as_soon_as_there_is_one(self) -> None:
+        place = self.keeping.place()
+        with self.keeping.line() as text:
+            print(f"where shop {place.generation}\nwhere none 1\nwhere shop {place.generation + 1}\nwhere shop", file=text, flush=True)
+            self.assertEqual([text.readline().split()[:3] for _ in range(3)],
+                             [["at", "shop", str(place.generation)], ["unknown", "none"], ["at", "shop", str(place.generation)]])  # fmt: skip
+            # The third question is held back, and answered in the end with what there is.
+            self.assertEqual(text.readline().split()[:3], ["at", "shop", str(place.generation)])
+            gate = Gate(self.keeping.url, "NEW.address IS NOT NULL AND OLD.address IS NULL")
+            os.kill(self.keeping.pid(), signal.SIGKILL)
+            gate.somebody_waits()
+            print(f"where shop {place.generation + 1}\nwhere shop", file=text, flush=True)
+            self.assertEqual(text.readline().split(), ["nowhere", "shop"])
+            gate.open()
+            while (words := text.readline().split())[0] == "nowhere":
+                print(f"where shop {place.generation + 1}", file=text, flush=True)
+            self.assertEqual(words[:3], ["at", "shop", str(place.generation + 1)])
+
     def test_a_place_is_published_once_its_service_has_all_that_is_archived(self) -> None:
         with self.keeping.primary() as primary:
             for number in range(1, 41):

@@ -67,8 +67,13 @@ class OneKeeper(Trailed):
         (first, why), (second, _) = self.lists()
         self.assertEqual((first, why, second), (before, f"generation {before} was released: the service ended", after))
         self.assertEqual([line.split(":")[0] for line in self.replayed()], ["list 1", "list 2"])
+        # A service that begins with images has blocks of its own below them.
+        self.keeping.word("succeed", "shop")
+        eventually(lambda: len(self.lists()) == 3, "the list of the succession")
+        self.assertIn("began with images", self.keeping.word("replay", "shop"))
+        self.assertEqual(len(self.replayed()), 4)
         id = self.keeping.row().id
         self.keeping.word("drop", "shop", "--force")
         self.assertEqual(self.lists(), [])  # so that a new database of this name has a trail of its own
         with Trail(self.keeping.url, f"shop!{id}") as trail:
-            self.assertEqual([one.generation for one in trail.lists()], [first, second])
+            self.assertEqual([one.generation for one in trail.lists()][:2], [first, second])

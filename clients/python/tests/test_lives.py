@@ -10,6 +10,7 @@ import psycopg
 
 from keepers import Kept, Line, Trigger, eventually
 from pagelog.keeper.referee import Referee
+from pagelog.keeper.schema import FORMAT
 from service import PATIENCE
 
 
@@ -77,7 +78,7 @@ class Vanished(Kept):
                 self.assertEqual(text.readline().split(), ["unknown", "shop"])
             self.assertIn("shop: the referee knows nothing of the database", self.keeping.said())
             os.kill(pid, signal.SIGCONT)
-            session.execute("UPDATE pagelog_log SET format = 2 WHERE name = 'shop'")
+            session.execute(f"UPDATE pagelog_log SET format = {FORMAT} WHERE name = 'shop'")
             session.execute("NOTIFY pagelog_keeper")
             eventually(lambda: self.keeping.said().count("shop: serves\n") == 2, "the word that it is there again")
             self.assertEqual(self.commit(primary, "2", durable=True), 2)

@@ -13,7 +13,7 @@ from datetime import datetime, timezone
 from itertools import islice
 from typing import Any, Iterable
 
-from pagelog.console.events import Event, Known, of_databases, of_keepers
+from pagelog.console.events import Event, Known, of_databases, of_keepers, taken
 from pagelog.console.history import History, Sample
 from pagelog.console.outlook import Forecast, Scene, Spare, State, forecast_of, sentence, state_of
 from pagelog.console.source import Generation, Seen
@@ -91,7 +91,8 @@ class Board:
         known = {row.id: self._known_of(seen.look, row, living) for row in seen.look.rows}
         for recorded in seen.recorded:
             for failover in self._trails.setdefault(recorded.name, TrailCounts()).take(recorded):
-                events.append(Event(failover.at, f"epoch {failover.epoch} began: principal {failover.primary} is its primary", failover.name))
+                text = f"epoch {failover.epoch} began: principal {failover.primary} is its primary"
+                events.append(Event(failover.at, text, failover.name))
         if self._seen is None:
             events += _past(seen)
         else:
@@ -126,8 +127,8 @@ class Board:
     def _show(self, at: float, living: frozenset[str]) -> None:
         assert self._seen is not None
         for id in self._histories.keys() - self._known.keys():
-            for of_id in (self._histories, self._generations):
-                of_id.pop(id, None)
+            del self._histories[id]
+            self._generations.pop(id, None)
         names = {known.row.name for known in self._known.values()}
         for name in self._rows.keys() - names:
             del self._rows[name]
@@ -146,18 +147,19 @@ class Board:
         history.add(Sample(at, row.run, row.archived, hard, left, held))
         audit = max(self.limits.audit, left or 0)
         forecast = forecast_of(left, audit, history.fall(), held, self.limits.memory, history.growth())
-        spares = tuple(Spare(standby.keeper, standby.reached + row.shift, standby.keeper in living) for standby in look.standbys_of(row.id))
+        spares = tuple(Spare(each.keeper, each.reached + row.shift, each.keeper in living) for each in look.standbys_of(row.id))
         trail, generations = self._trails.get(row.name), self._generations.get(row.id, ())
         lag = None if hard is None else max(0, hard - row.archived)
-        reads = trail.reads(at) if trail else None
+        begins = [each.began.timestamp() for each in generations]
         return {
             "name": row.name, "state": known.state.value, "paused": row.paused, "wanted": row.wanted, "holder": row.holder,
-            "address": row.address, "generation": row.generation, "began": iso(generations[-1].began.timestamp()) if generations else None,
-            "begins": [iso(each.began.timestamp()) for each in generations if each.began.timestamp() > at - DAY][-24:],
+            "address": row.address, "generation": row.generation, "began": iso(begins[-1]) if begins else None,
+            "begins": [iso(each) for each in begins if each > at - DAY][-24:],
             "position": row.archived + row.shift, "lag": lag, "lag_seconds": _short(history.lag_seconds),
-            "commits": _short(history.commits), "reads": _short(reads), "entries_left": left, "entries": audit, "memory": held,
+            "commits": _short(history.commits), "reads": _short(trail.reads(at)) if trail else None, "entries_left": left, "entries": audit, "memory": held,
             "memory_limit": self.limits.memory or None, "standbys": [asdict(spare) for spare in spares],
-            "denials": sum(trail.denials(at).values()) if trail else None, "next": sentence(Scene(row, known.state, spares, living, forecast)),
+            "denials": sum(trail.denials(at).values()) if trail else None,
+            "next": sentence(Scene(row, known.state, spares, living, forecast)),
             "next_in": _short(forecast.seconds, 2) if known.state is State.SERVING and not row.paused else None,
         }  # fmt: skip
 
@@ -193,7 +195,9 @@ class Board:
 
     def _head(self) -> dict[str, Any]:
         look, away = (self._seen.look if self._seen else Look()), self._away
-        keepers = [{"name": keeper.name, "lines": keeper.lines, "lives": self._keepers[keeper.name][1]} for keeper in look.keepers]
+        keepers = [
+            {"name": keeper.name, "lines": keeper.lines, "lives": self._keepers[keeper.name][1]} for keeper in look.keepers
+        ]
         return {
             "version": VERSION, "look": self.number, "at": iso(self._at), "keepers": keepers,
             "postgresql": {
@@ -209,12 +213,13 @@ class Board:
         if known is None:
             return None
         generations, trail = self._generations.get(known.row.id, ()), self._trails.get(name)
+        points = self._histories[known.row.id].points()
         ends: list[Generation | None] = [*generations[1:], None]
         events = islice((_event(event) for _, event in reversed(self._events) if event.name == name), 20)
         return {
             "version": VERSION, "at": iso(self._at), **self._rows[name].fields,
             "generations": [_generation(one, end) for one, end in zip(generations, ends)],
-            "points": [[iso(each.at), each.lag, round(each.commits, 2), each.entries_left] for each in self._histories[known.row.id].points()],
+            "points": [[iso(each.at), each.lag, round(each.commits, 2), each.entries_left] for each in points],
             "has_trail": name in self._seen.trails if self._seen else False,
             "rules": trail.denials(self._at) if trail else {}, "trail_is_damaged": trail is not None and trail.is_damaged,
             "denied": [{**asdict(denial), "at": iso(denial.at)} for denial in reversed(trail.latest)] if trail else [],
@@ -231,7 +236,7 @@ def _report(look: Look, row: Row) -> dict[str, Any]:
 def _past(seen: Seen) -> list[Event]:
     """Events of before the first look: the generations of all databases."""
     names = {row.id: row.name for row in seen.look.rows}
-    return [Event(each.began.timestamp(), f"{each.holder} took it: generation {each.generation} from position {each.base:,}", names[id])
+    return [Event(each.began.timestamp(), taken(each.holder, each.generation, each.base), names[id])
             for id, generations in seen.generations.items() for each in generations]  # fmt: skip
 
 

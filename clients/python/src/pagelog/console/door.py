@@ -85,7 +85,9 @@ class Door:
 
     def _seal(self, until: str) -> str:
         assert self._token is not None
-        return hmac.new(self._token, f"pagelog console until {until}".encode("utf-8", "surrogatepass"), hashlib.sha256).hexdigest()
+        return hmac.new(
+            self._token, f"pagelog console until {until}".encode("utf-8", "surrogatepass"), hashlib.sha256
+        ).hexdigest()
 
 
 def _host_of(header: str) -> str:

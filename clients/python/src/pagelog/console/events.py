@@ -71,7 +71,8 @@ def _changes(before: Known, now: Known) -> Iterator[Change]:
     if row.generation != old.generation:
         yield _taken(old, row)
     elif row.run is None and old.run is not None:
-        yield Change(f"{old.holder} released it at position {row.archived + row.shift:,}", f"{old.holder} released # databases", "bad")
+        text = f"{old.holder} released it at position {row.archived + row.shift:,}"
+        yield Change(text, f"{old.holder} released # databases", "bad")
     elif row.address is not None and row.address != old.address:
         yield Change(f"{row.holder} serves it at {row.address}", f"{row.holder} serves # databases", "good")
     if now.state is State.CLOSING and before.state is not State.CLOSING:
@@ -90,8 +91,13 @@ def _taken(old: Row, row: Row) -> Change:
     holder = row.holder or "a keeper"
     whose = f" from {old.holder}" if old.holder not in (None, row.holder) else ""
     serves = ", and serves it" if row.address is not None else ""
-    return Change(f"{holder} took it{whose}{serves}: generation {row.generation} from position {row.base + row.shift:,}",
-                  f"{holder} took # databases{whose}{serves.replace(' it', ' them')}", "warning")  # fmt: skip
+    text = taken(holder, row.generation, row.base + row.shift, f"{whose}{serves}")
+    return Change(text, f"{holder} took # databases{whose}{serves.replace(' it', ' them')}", "warning")
+
+
+def taken(holder: str, generation: int, base: int, how: str = "") -> str:
+    """That a keeper began a generation."""
+    return f"{holder} took it{how}: generation {generation} from position {base:,}"
 
 
 def of_keepers(before: Mapping[str, Any], now: Mapping[str, Any], at: float) -> Iterator[Event]:

@@ -71,7 +71,7 @@ class History:
 
     @property
     def lag_seconds(self) -> float | None:
-        """For how long the oldest block that is not archived has been seen; 0 where all is archived, None where nothing is known."""
+        """For how long the oldest block that is not archived has been seen; 0 where all is, None where nothing is known."""
         last = self._recent[-1]
         if last.lag is None:
             return None

@@ -102,7 +102,7 @@ def _of_nobody(scene: Scene) -> str:
 
 
 def _of_a_silent_holder(scene: Scene) -> str:
-    holder, others = scene.row.holder, scene.living - {scene.row.holder}
+    holder, others = scene.row.holder, [keeper for keeper in scene.living if keeper != scene.row.holder]
     if scene.row.paused:
         return f"The beat of {holder} stands still; nobody takes it over while it is paused."
     if not others:
@@ -131,7 +131,9 @@ def _of_a_switchover(scene: Scene) -> str:
     if reached is None:
         return f"A switchover to {to} waits for its standby."
     lacks = row.archived + row.shift - reached
-    return f"A switchover to {to} begins." if lacks <= NEAR else f"A switchover to {to} waits: its standby lacks {lacks:,} blocks."
+    return (
+        f"A switchover to {to} begins." if lacks <= NEAR else f"A switchover to {to} waits: its standby lacks {lacks:,} blocks."
+    )
 
 
 def _about(seconds: float) -> str:

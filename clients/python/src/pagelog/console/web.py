@@ -46,9 +46,9 @@ class Pages:
         made.on_response_prepare.append(_add_headers)
         made.on_shutdown.append(self._leave)
         made.add_routes([
-            web.get("/", self.page), web.get("/login", self.login_page), web.post("/login", self.login), web.post("/logout", self.logout),
-            web.get("/static/{name}", self.file), web.get("/api/state", self.state), web.get("/api/databases/{name}", self.database),
-            web.get("/api/events", self.events, allow_head=False),
+            web.get("/", self.page), web.get("/static/{name}", self.file), web.get("/login", self.login_page),
+            web.post("/login", self.login), web.post("/logout", self.logout), web.get("/api/state", self.state),
+            web.get("/api/databases/{name}", self.database), web.get("/api/events", self.events, allow_head=False),
         ])  # fmt: skip
         return made
 
@@ -91,7 +91,8 @@ class Pages:
     async def login(self, request: web.Request) -> web.StreamResponse:
         """Gives a cookie for the token."""
         if not self.door.is_token(str((await request.post()).get("token", "")).strip()):
-            return web.Response(status=403, body=self._files["login.html"].replace(b'class="wrong" hidden', b'class="wrong"'), content_type="text/html", charset="utf-8")
+            wrong = self._files["login.html"].replace(b'class="wrong" hidden', b'class="wrong"')
+            return web.Response(status=403, body=wrong, content_type="text/html", charset="utf-8")
         response = web.HTTPSeeOther("/")
         response.set_cookie(COOKIE, self.door.cookie(), max_age=LASTS, httponly=True, samesite="Strict")
         return response
@@ -130,7 +131,7 @@ class Pages:
             self._watched(bool(self._following))
 
     async def _follow(self, request: web.Request) -> web.StreamResponse:
-        response = web.StreamResponse(headers={"Content-Type": "text/event-stream", "Cache-Control": "no-store", "X-Accel-Buffering": "no"})
+        response = web.StreamResponse(headers={"Content-Type": "text/event-stream", "X-Accel-Buffering": "no"})
         await response.prepare(request)
         assert request.transport is not None
         request.transport.get_extra_info("socket").setsockopt(socket.SOL_SOCKET, socket.SO_SNDBUF, BUFFER)
@@ -141,7 +142,8 @@ class Pages:
             try:
                 await asyncio.wait_for(response.write(f"{lead}id: {number}\nevent: look\ndata: {message}\n\n".encode()), PATIENCE)
             except (asyncio.TimeoutError, ConnectionError):
-                request.transport and request.transport.abort()
+                if request.transport is not None:
+                    request.transport.abort()
                 return response
             lead = ""
 

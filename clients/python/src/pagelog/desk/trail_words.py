@@ -339,7 +339,7 @@ def replay_word(
         hard = 0
         for one in chosen(trail, run):
             with bar(f"list {one.run}") as told:
-                done = replay(trail, one, archive, start=start, texts=more, told=told)
+                done = replay(trail, one, _blocks_for(archive, one), start=start, texts=more, told=told)
             _say_replayed(one, done, is_last=one == trail.lists()[-1])
             hard = done.blocks
         if accounts is not None and Role.SECONDARY in accounts.of_role and archive is not None:
@@ -352,6 +352,14 @@ def _archive(url: str, name: str, stack: ExitStack) -> Archive | None:
     except NoArchive as error:
         click.echo(f"pagelogctl: {error}: no block is compared", err=True)
         return None
+
+
+def _blocks_for(archive: Archive | None, one: TrailList) -> Archive | None:
+    """The archive, if it has the blocks of the list from LSN 1 on."""
+    if archive is None or archive.begins_with_blocks(one.generation):
+        return archive
+    click.echo(f"list {one.run}: generation {one.generation} began with images, or its first blocks are pruned: no block is compared")
+    return None
 
 
 def _compare(archive: Archive, reader: Reader, hard: int) -> None:

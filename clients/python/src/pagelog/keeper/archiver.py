@@ -12,6 +12,9 @@ from pagelog.keeper.rows import Batch, Kept, Row
 from pagelog.keeper.served import Served
 from pagelog.keeper.waits import Waits
 
+FEW = 8
+"""Of a service that is known to have more than so many new blocks, a thread pulls a thousand at once."""
+
 
 class Archiver:
     """Of one run. The line `durable` is its doorbell: it polls nothing.
@@ -76,7 +79,7 @@ class Archiver:
         """Archives what is hardened by now. False where nothing more can be."""
         served, waited = self._served, self._waits.now()
         try:
-            batch = await asyncio.to_thread(self._pulled)
+            batch = await self._next_batch()
         except (AuditListFull, TurnsSpent):
             served.is_broken = True
             return False
@@ -92,9 +95,15 @@ class Archiver:
             return True
         return await self._kept(batch)
 
-    def _pulled(self) -> Batch:
+    async def _next_batch(self) -> Batch:
         served = self._served
-        blocks = tuple(served.pulled(served.reached))
+        blocks = None if served.hard > served.reached + FEW else await served.pulled_at_once(served.reached)
+        if blocks is None:
+            blocks = await asyncio.to_thread(served.pulled, served.reached)
+        return self._batch_of(tuple(blocks))
+
+    def _batch_of(self, blocks: tuple[bytes, ...]) -> Batch:
+        served = self._served
         return Batch(self._row.id, served.run, served.generation, served.reached, digest(served.chain, blocks), blocks)
 
     async def _kept(self, batch: Batch) -> bool:

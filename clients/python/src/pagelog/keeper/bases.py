@@ -11,8 +11,9 @@ from typing import Iterable, Iterator, Sequence
 import psycopg
 from psycopg.pq import TransactionStatus
 
+from pagelog.keeper.batches import array_of
 from pagelog.keeper.images import MARK, Image, Replay
-from pagelog.keeper.referee import BrokenArchive, Doubt, Referee, _array, digest
+from pagelog.keeper.referee import BrokenArchive, Doubt, Referee, digest
 
 AT_ONCE = 16
 """Images of one statement: 8 MiB at most."""
@@ -139,8 +140,8 @@ class Bases:
             at += len(image.data)
         self._referee._ask(_KEEP, {
             "log": self._log, "base": position, "masks": b"".join(image.mask.to_bytes(8, "big") for image in images),
-            "ranges": _array(image.range for image in images), "crcs": _array(zlib.crc32(image.data) for image in images),
-            "starts": _array(starts), "lengths": _array(len(image.data) for image in images),
+            "ranges": array_of(image.range for image in images), "crcs": array_of(zlib.crc32(image.data) for image in images),
+            "starts": array_of(starts), "lengths": array_of(len(image.data) for image in images),
             "bytes": b"".join(image.data for image in images),
         })  # fmt: skip
 

@@ -58,16 +58,18 @@ class Committer:
 
     async def _run(self) -> None:
         while True:
-            try:
-                await asyncio.wait_for(self._came.wait(), self._idle)
-            except asyncio.TimeoutError:
+            idle = asyncio.get_running_loop().call_later(self._idle, self._came.set)
+            await self._came.wait()
+            idle.cancel()
+            if not self._due:
                 await self._session.close()
+                self._came.clear()
                 await self._came.wait()
             batches = self._taken()
             if not batches:
                 continue
             try:
-                kept = await self._session.ask(self._session.referee.keep, [due.batch for due in batches])
+                kept = await self._session.keep([due.batch for due in batches])
             except (Doubt, Refused, Away):
                 kept = frozenset()
             for due in batches:

@@ -58,6 +58,13 @@ class Database:
             self.succession.tend()
         self.kick()
 
+    def hear(self, generation: int, archived: int) -> None:
+        """Its holder has said that it released this generation at this position. It is tried at once: a take has its conditions."""
+        if self.is_known and not self.holds and self.row.run is not None and self.row.generation == generation:
+            self.row = replace(self.row, run=None, holder=None, address=None, archived=archived)
+            self._beat, self._still_for = None, 0.0
+            self.kick()
+
     def _seen_service(self) -> Served | None:
         if self.served is None or self.served.process is None:
             return None
@@ -206,17 +213,11 @@ class Database:
         if not await self._ask(self._referee.publish, row.id, served.run, served.process.address, served.shift, served.images):
             return False
         self.row = replace(row, address=served.process.address, shift=served.shift, images=served.images)
+        self.shared.changed(row.name)
         return True
 
     async def _filled(self, served: Served, archived: int, chain: bytes) -> None:
-        """Fills it up to this position, over a connection to the archive of its own."""
-        if archived > served.reached:
-            settings = self.shared.settings
-            referee = Referee(settings.url, settings.name, self.shared.life)
-            try:
-                await asyncio.to_thread(served.follow, referee, self.row.id, archived, chain)
-            finally:
-                referee.close()
+        await self.shared.fill(served, self.row.id, archived, chain)
 
     async def _adopt(self) -> bool:
         row, settings = self.row, self.shared.settings
@@ -288,6 +289,8 @@ class Database:
     async def _close(self) -> bool:
         """Fence, the rest into the archive, release: nothing is lost, not even what nobody has asked durable."""
         served = self.own
+        if self.work.archiver is not None:
+            await self.work.archiver.reached(served.hard)  # before, so that less is to be done while nobody may write
         try:
             await self.succession.give_up()
             end = await asyncio.to_thread(served.close)
@@ -338,6 +341,7 @@ class Database:
         self._watch(successor)
         self.work.begin(self.row, successor)
         self.moves.tell()
+        self.shared.changed(name)
         for line in self.waits.taken():
             line.say("over", name, before.generation, switch.end)
         await self.work.recorded(recorder)

@@ -17,8 +17,10 @@ from pagelog.keeper.folder import Folder
 from pagelog.keeper.lines import Line, Server
 from pagelog.keeper.machine import Stillness
 from pagelog.keeper.notify import notify
+from pagelog.keeper.places import Places
+from pagelog.keeper.quick import QuickReferee, QuickSession
 from pagelog.keeper.referee import KeeperError, Referee, Superseded
-from pagelog.keeper.rows import Look, StandbyRow, Synchronous
+from pagelog.keeper.rows import Look, StandbyRow, Synchronous, released_of
 from pagelog.keeper.run import end_orphans, has_services
 from pagelog.keeper.served import seconds
 from pagelog.keeper.session import Session
@@ -45,10 +47,14 @@ class Keeper:
         self.databases: dict[int, Database] = {}
         self.look = Look()
         self.lines = settings.lines
-        self._session = Session(self._referee(listens=True), settings.ttl)
-        self._writer = Session(self._referee(), 2 * settings.ttl)
-        self._shared = Shared(settings, self.life, self._session, Committer(self._writer, settings.ttl), self._say, self._trails())
+        self._session = Session(Referee(settings.url, settings.name, self.life, listens=True, requires_standby=settings.require_standby),
+                                settings.ttl)  # fmt: skip
+        self._writer = QuickSession(QuickReferee(settings.url, settings.name, self.life, requires_standby=settings.require_standby),
+                                    2 * settings.ttl)  # fmt: skip
+        self._shared = Shared(settings, self.life, self._session, Committer(self._writer, settings.ttl), self._say,
+                              self._changed, self._trails())  # fmt: skip
         self._server = Server(self)
+        self._places = Places(self.where)
         self._lives: dict[str, Stillness] = {}
         self._living: set[str] = set()
         self.synchronous = Synchronous()
@@ -56,10 +62,6 @@ class Keeper:
         self._stops = False
         self._may_have = False
         """Whether there are services of an earlier life, and no look has shown yet what they have."""
-
-    def _referee(self, *, listens: bool = False) -> Referee:
-        return Referee(self.settings.url, self.settings.name, self.life, listens=listens,
-                       requires_standby=self.settings.require_standby)  # fmt: skip
 
     def _trails(self) -> Trails | None:
         if not self.settings.trail:
@@ -102,6 +104,7 @@ class Keeper:
             while not self._is_over():
                 if committing.done():
                     return 1  # its next life adopts what it has
+                await self._hear()
                 await self._look()
                 await self._session.rest(self.settings.ttl / LOOKS)
             return 0
@@ -172,6 +175,14 @@ class Keeper:
 
     # Looking.
 
+    async def _hear(self) -> None:
+        """Takes what a release has said for true, before a look shows it: what follows has its own conditions."""
+        for name, generation, archived in map(released_of, self._session.taken()):
+            database = self._named(name)
+            if database is not None:
+                database.hear(generation, archived)
+        await asyncio.sleep(0)  # a take goes before the look
+
     async def _look(self) -> None:
         reached = {
             each.row.id: each.served.reached for each in self.databases.values() if each.served is not None and not each.holds
@@ -197,6 +208,7 @@ class Keeper:
             holder = self.look.keeper(row.holder)
             is_noted = any(standby.keeper == self.settings.name for standby in self.look.standbys_of(row.id))
             database.see(row, None if holder is None else holder.beat, self._others(row.id), is_noted=is_noted)
+            self._changed(row.name)
         for id in self.databases.keys() - {row.id for row in self.look.rows}:
             self.databases[id].lose()
         self._may_have = False
@@ -256,6 +268,13 @@ class Keeper:
             await database.moves.wait(left)
         line.say(*self.where(database.row.name))
 
+    def next_place(self, line: Line, name: str, least: int) -> None:
+        """Answers now or later."""
+        self._places.ask(line, name, least)
+
+    def _changed(self, name: str) -> None:
+        self._places.changed(name)
+
     def standby(self, name: str) -> tuple[object, ...]:
         """A standby of it, whichever keeper has it: the last look says how far it is, and of an own one what it has."""
         database = self._named(name)
@@ -281,6 +300,7 @@ class Keeper:
 
     def gone(self, line: Line) -> None:
         """Nobody waits over it any more."""
+        self._places.gone(line)
         for database in self.databases.values():
             database.waits.gone(line)
 

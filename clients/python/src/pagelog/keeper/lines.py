@@ -3,6 +3,7 @@ they answer.
 
     where NAME [LEAST]              at NAME GENERATION RUN ADDRESS ARCHIVED LINES BASE SHIFT | nowhere NAME | unknown NAME
                                     held back for a second at most by a keeper that is about to publish generation LEAST
+    next NAME LEAST                 the same, held back for a second at most until there is a place of generation LEAST or a later one
     standby NAME                    standby NAME ADDRESS RUN REACHED BASE SHIFT | standby NAME - - - - -
     durable NAME GENERATION N       durable NAME GENERATION M, M at or above N: all up to M is archived
                                     over NAME GENERATION END: all up to END is archived, and nothing above it will ever be
@@ -46,6 +47,9 @@ class Answers(Protocol):
 
     def where_next(self, line: Line, name: str, least: int) -> None:
         """Writes the answer to `where` once this generation or a later one is published, or nobody here is about to."""
+
+    def next_place(self, line: Line, name: str, least: int) -> None:
+        """Writes the answer to `next` once there is a place of this generation or a later one, or after a while."""
 
     def standby(self, name: str) -> tuple[object, ...]:
         """The words of the answer to `standby`."""
@@ -101,6 +105,8 @@ class Server:
                 line.say(*self._answers.where(name))
             case ["where", name, least]:
                 self._answers.where_next(line, name, int(least))
+            case ["next", name, least]:
+                self._answers.next_place(line, name, int(least))
             case ["standby", name]:
                 line.say(*self._answers.standby(name))
             case ["durable", name, generation, position]:

@@ -21,6 +21,7 @@ class Prepared:
         self._connection = connection
         self._names: list[str] = []
         self._formats: list[pq.Format] = []
+        self._results: list[pq.abc.PGresult] = []
         text = _VALUE.sub(self._number, statement)
         result = connection.pgconn.prepare(_NAME, text.encode())
         if result.status != pq.ExecStatus.COMMAND_OK:
@@ -35,6 +36,7 @@ class Prepared:
 
     def send(self, values: Mapping[str, Any]) -> None:
         """Sends it with these values. What does not fit into the socket goes with `flush`. Raises `psycopg.Error`."""
+        self._results.clear()
         self._connection.pgconn.send_query_prepared(_NAME, [_bytes(values[name]) for name in self._names], self._formats)
 
     def flush(self) -> bool:
@@ -42,20 +44,23 @@ class Prepared:
         return self._connection.pgconn.flush() == 0
 
     def has_answer(self) -> bool:
-        """Takes what has come. Returns whether `receive` waits for nothing, as where the line is gone."""
+        """Takes what has come. Returns whether that is all: the server is ready for the next one, or the line is gone."""
         try:
             self._connection.pgconn.consume_input()
         except psycopg.Error:
-            return True
-        return not self._connection.pgconn.is_busy()
+            pass  # the result says so
+        while not self._connection.pgconn.is_busy():
+            result = self._connection.pgconn.get_result()
+            if result is None:
+                return True
+            self._results.append(result)
+        return False
 
     def receive(self) -> list[list[bytes | None]]:
-        """The rows of the answer. Raises `psycopg.Error`."""
-        found = self._connection.pgconn.get_result()
-        while (more := self._connection.pgconn.get_result()) is not None:
-            found = more
-        if found is None:
+        """The rows of the answer, once it is there. Raises `psycopg.Error`."""
+        if not self._results:
             raise psycopg.OperationalError("the connection is lost")
+        found = self._results[-1]
         if found.status != pq.ExecStatus.TUPLES_OK:
             raise psycopg.errors.error_from_result(found)
         return [[found.get_value(row, column) for column in range(found.nfields)] for row in range(found.ntuples)]

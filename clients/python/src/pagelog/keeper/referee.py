@@ -21,8 +21,9 @@ from psycopg.conninfo import conninfo_to_dict, make_conninfo
 
 from pagelog.errors import PagelogError
 from pagelog.keeper import statements
+from pagelog.keeper.batches import array_of, values_of
 from pagelog.keeper.refusal import is_refusal, line_of
-from pagelog.keeper.rows import Batch, KeeperRow, Kept, Look, Row, StandbyRow, Synchronous
+from pagelog.keeper.rows import Batch, Kept, Look, Row, look_of
 from pagelog.keeper.schema import CHANNEL, FORMAT, script
 
 PIECE = 2048
@@ -142,6 +143,16 @@ class Referee:
             made.execute(f"LISTEN {CHANNEL}")
         return made
 
+    def take_notified(self) -> None:
+        """Takes the notifications that have come without a statement, and waits for nothing."""
+        if self._connection is not None:
+            try:
+                self._connection.pgconn.consume_input()
+            except psycopg.Error:
+                return  # the next statement says so
+            while (found := self._connection.pgconn.notifies()) is not None:
+                self.notified.append(found.extra.decode(errors="replace"))
+
     def _take_notice(self, notice: psycopg.errors.Diagnostic) -> None:
         """A commit whose wait for the standby was cancelled succeeds, with a warning."""
         if notice.severity_nonlocalized not in ("NOTICE", "INFO", "LOG", "DEBUG"):
@@ -154,16 +165,23 @@ class Referee:
         try:
             rows = connection.execute(statement, values or None, binary=binary).fetchall()
         except psycopg.Error as error:
-            if is_refusal(error) and not connection.closed:
-                raise Refused(f"PostgreSQL: {line_of(error)}") from error
-            self.close()
-            self.turn_hosts()
-            raise Doubt(f"PostgreSQL: {line_of(error)}") from error
-        if self._warnings:
-            raise Doubt(f"PostgreSQL: {self._warnings[0]}")
+            raise self._meaning(error) from error
+        self._check_warnings()
         if self._requires_standby:
             self._confirm(connection)
         return rows
+
+    def _meaning(self, error: psycopg.Error) -> Refused | Doubt:
+        """What is to be raised for an error. After a doubt the next statement has another connection."""
+        if is_refusal(error) and self.descriptor is not None:
+            return Refused(f"PostgreSQL: {line_of(error)}")
+        self.close()
+        self.turn_hosts()
+        return Doubt(f"PostgreSQL: {line_of(error)}")
+
+    def _check_warnings(self) -> None:
+        if self._warnings:
+            raise Doubt(f"PostgreSQL: {self._warnings[0]}")
 
     def _confirm(self, connection: psycopg.Connection[Any]) -> None:
         """Returns once a synchronous standby has all that is flushed here. A commit alone does not say so: it waits for none where
@@ -207,16 +225,16 @@ class Referee:
         Raises `Superseded` where another keeper has the name by now.
         """
         [[own, *found]] = self._ask(statements.LOOK, {
-            "me": self.me, "run": self.run, "report": report, "logs": _array(reached), "reached": _array(reached.values()),
+            "me": self.me, "run": self.run, "report": report, "logs": array_of(reached), "reached": array_of(reached.values()),
         })  # fmt: skip
         if own != 1:
             raise Superseded(f"another keeper has the name {self.me}")
-        return _look_of(*found)
+        return look_of(*found)
 
     def everything(self) -> Look:
         """What a look returns, for who is no keeper."""
         [[_, *found]] = self._ask(statements.LOOK, {"me": "", "run": "", "report": None, "logs": "{}", "reached": "{}"})
-        return _look_of(*found)
+        return look_of(*found)
 
     def table(self, log: int) -> tuple[str, bytes]:
         """The text of the table of a database, and the secret of its keepers."""
@@ -257,7 +275,8 @@ class Referee:
         """Ends the generation of this run: nothing more is archived of it. Returns the archived position, or None."""
         found = self._ask(
             "WITH ended AS (UPDATE pagelog_log SET run = NULL, holder = NULL, address = NULL WHERE id = %s AND run = %s "
-            f"RETURNING name, archived) SELECT archived, pg_notify('{CHANNEL}', name) FROM ended", (log, run))  # fmt: skip
+            "RETURNING name, generation, archived) "
+            f"SELECT archived, pg_notify('{CHANNEL}', name || ' ' || generation || ' ' || archived) FROM ended", (log, run))  # fmt: skip
         return int(found[0][0]) if found else None
 
     # The archive.
@@ -267,22 +286,7 @@ class Referee:
 
         Returns the ids of the databases whose batch is kept, whole; of the others nothing is.
         """
-        blocks = [block for batch in batches for block in batch.blocks]
-        starts, at = [], 1
-        for block in blocks:
-            starts.append(at)
-            at += len(block)
-        found = self._ask(statements.KEEP, {
-            "logs": _array(batch.log for batch in batches), "runs": [batch.run for batch in batches],
-            "generations": _array(batch.generation for batch in batches),
-            "olds": _array(batch.old for batch in batches), "news": _array(batch.new for batch in batches),
-            "chains": b"".join(batch.chain.rjust(16, b"\0") for batch in batches),
-            "owners": _array(batch.log for batch in batches for _ in batch.blocks),
-            "lsns": _array(batch.old + at for batch in batches for at in range(1, len(batch.blocks) + 1)),
-            "crcs": _array(map(zlib.crc32, blocks)), "starts": _array(starts), "lengths": _array(map(len, blocks)),
-            "bytes": b"".join(blocks),
-        })  # fmt: skip
-        return frozenset(int(row[0]) for row in found)
+        return frozenset(int(row[0]) for row in self._ask(statements.KEEP, values_of(batches)))
 
     def kept(self, log: int, run: str) -> Kept | None:
         """What is archived of a run, after a batch in doubt or one that was not kept: it waits for one that still runs.
@@ -392,15 +396,5 @@ def shut_down(connection: psycopg.Connection[Any] | None) -> None:
         pass  # it is gone already
 
 
-def _array(numbers: Iterable[int]) -> str:
-    """An array of whole numbers as PostgreSQL reads it."""
-    return "{" + ",".join(map(str, numbers)) + "}"
-
-
 def _session_name(keeper: str) -> str:
     return f"pagelog keeper {keeper}"[:63]
-
-
-def _look_of(keepers: list[Any], rows: list[Any], standbys: list[Any], names: str, count: int | None) -> Look:
-    return Look(tuple(map(Row.of, rows)), tuple(KeeperRow(**found) for found in keepers),
-                tuple(StandbyRow(**found) for found in standbys), Synchronous(names, count))  # fmt: skip

@@ -127,3 +127,16 @@ class Kept:
     archived: int
     chain: bytes = field(repr=False)
     generation: int = 0
+
+
+def look_of(keepers: list[Any], rows: list[Any], standbys: list[Any], names: str, count: int | None) -> Look:
+    """From the columns of the statement."""
+    return Look(tuple(map(Row.of, rows)), tuple(KeeperRow(**found) for found in keepers),
+                tuple(StandbyRow(**found) for found in standbys), Synchronous(names, count))  # fmt: skip
+
+
+def released_of(notified: str) -> tuple[str, int, int]:
+    """The name, the generation and the archived position of a release, by what it has notified; of another notification no name."""
+    words = notified.split()
+    is_release = len(words) == 3 and words[1].isdecimal() and words[2].isdecimal()
+    return (words[0], int(words[1]), int(words[2])) if is_release else ("", 0, 0)

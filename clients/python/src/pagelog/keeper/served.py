@@ -13,6 +13,7 @@ from pagelog.keeper.bases import NOTHING, Bases, snapshot
 from pagelog.keeper.images import blocks_of, labelled
 from pagelog.keeper.loading import GROUP, Loader
 from pagelog.keeper.machine import Kind
+from pagelog.keeper.puller import Puller
 from pagelog.keeper.referee import BrokenArchive, Referee, digest
 from pagelog.keeper.run import Program, Run
 from pagelog.keeper.table import KEEPER, Form, keeper_of, quorum_of, table_of_run
@@ -28,7 +29,8 @@ PULLS = 64
 class Served:
     """The service of one run of a database. `reached` and `chain` are of the blocks that it was filled with, or that are
     archived of it. All blocks and positions here are the archive's: an LSN of the service is a position less `shift`. One
-    thread at a time calls each of its methods; `look`, `pulled` and the others may run side by side."""
+    thread at a time calls each of its methods; `look`, `pulled` and the others may run side by side, and
+    `pulled_at_once` is the event loop's."""
 
     def __init__(self, name: str, run: str, text: str, secret: bytes, *, timeout: float, is_read_only: bool = False) -> None:
         self.database = name
@@ -78,6 +80,7 @@ class Served:
         self._operator = Operator(self._connection(), credentials)
         self._looker = Operator(self._connection(), credentials)
         self._reader = Reader(self._connection(), credentials)
+        self._puller = Puller(process.address, credentials, self._timeout)
 
     def end(self) -> None:
         """Kills it, and removes what is noted of it."""
@@ -117,6 +120,11 @@ class Served:
             self.load(loader, referee.blocks(log, self.reached + 1, archived), archived, wanted)
         if is_fresh and self.process is not None:
             self.begun = self.process.memory
+
+    def fill(self, pieces: Iterable[Sequence[bytes]], archived: int, wanted: bytes) -> None:
+        """As `follow`, with these blocks of the archive, behind those that it has."""
+        with self.loader() as loader:
+            self.load(loader, pieces, archived, wanted)
 
     def loader(self) -> Loader:
         """A connection that fills it. Raises `Unreachable`."""
@@ -199,6 +207,14 @@ class Served:
         return self._entries
 
     # Pulling.
+
+    async def pulled_at_once(self, position: int) -> list[bytes] | None:
+        """As `pulled`, of few blocks, and without a thread; None where `pulled` has to see to it."""
+        found = await self._puller.pull(position - self.shift, self._reader.epoch)
+        if found is None:
+            return None
+        self.hard = max(self.hard, position + len(found))
+        return labelled(found, position + 1) if self.shift else found
 
     def pulled(self, position: int) -> list[bytes]:
         """The next blocks behind this position, at most 1,024. A block without records is served by no pull."""

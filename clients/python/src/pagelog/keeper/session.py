@@ -5,9 +5,10 @@ from __future__ import annotations
 import asyncio
 import os
 from concurrent.futures import ThreadPoolExecutor
-from typing import Any, Callable, TypeVar
+from typing import Any, Callable, Sequence, TypeVar
 
 from pagelog.keeper.referee import Referee
+from pagelog.keeper.rows import Batch
 
 Result = TypeVar("Result")
 _LONGEST = 60.0
@@ -24,6 +25,7 @@ class Session:
         self._thread = ThreadPoolExecutor(1)  # of its own: services that hang hold up no beat
         self.woken = asyncio.Event()
         """Set when a notification has come."""
+        self._notified: list[str] = []
 
     async def ask(self, call: Callable[..., Result], *arguments: Any) -> Result:
         """What the call returns or raises; it is a method of the referee."""
@@ -31,20 +33,38 @@ class Session:
             work = asyncio.get_running_loop().run_in_executor(self._thread, call, *arguments)
             done, _ = await asyncio.wait({work}, timeout=self._deadline)
             if done:
-                self._deadline = self._shortest
+                self.was_quick()
             else:
-                self._deadline = min(_LONGEST, 2 * self._deadline)
-                self.referee.cut()
+                self.cut()
             try:
                 return await work
             finally:
                 self._take_notified()
 
+    async def keep(self, batches: Sequence[Batch]) -> frozenset[int]:
+        """What the referee's `keep` returns or raises."""
+        return await self.ask(self.referee.keep, batches)
+
+    def was_quick(self) -> None:
+        """A statement has come to its end in time."""
+        self._deadline = self._shortest
+
+    def cut(self) -> None:
+        """Ends the statement that hangs."""
+        self._deadline = min(_LONGEST, 2 * self._deadline)
+        self.referee.cut()
+
     def _take_notified(self) -> None:
         """A notification may come with the reply of a statement. Then nothing is left at the socket to wake anyone."""
         if self.referee.notified:
+            self._notified += self.referee.notified
             self.referee.notified.clear()
             self.woken.set()
+
+    def taken(self) -> list[str]:
+        """The notifications that came since the last call."""
+        taken, self._notified = self._notified, []
+        return taken
 
     async def rest(self, seconds: float) -> None:
         """Waits so long, or until a notification comes."""
@@ -63,6 +83,8 @@ class Session:
 
     def _readable(self) -> None:
         if not self._turn.locked():  # else it is the reply of a statement
+            self.referee.take_notified()
+            self._take_notified()
             self.woken.set()
 
     async def close(self) -> None:

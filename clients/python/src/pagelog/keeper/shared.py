@@ -8,7 +8,8 @@ from typing import TYPE_CHECKING, Any, Callable, Coroutine
 
 from pagelog.keeper.committer import Committer
 from pagelog.keeper.lines import Line
-from pagelog.keeper.referee import Away, Doubt, Refused
+from pagelog.keeper.referee import PIECE, Away, Doubt, Referee, Refused
+from pagelog.keeper.served import Served
 from pagelog.keeper.session import Session
 from pagelog.keeper.settings import Settings
 
@@ -18,17 +19,32 @@ if TYPE_CHECKING:
 
 @dataclass
 class Shared:
-    """A keeper's settings, its life, its ways to the referee, and its tasks. `say` logs a sentence of a database."""
+    """A keeper's settings, its life, its ways to the referee, and its tasks. `say` logs a sentence of a database, and
+    `changed` says that its place may be another."""
 
     settings: Settings
     life: str
     session: Session
     committer: Committer
     say: Callable[[str, str], None]
+    changed: Callable[[str], None]
     trails: Trails | None = None
     ending: bool = False
     tasks: set[asyncio.Task[None]] = field(default_factory=set)
     successions: asyncio.Semaphore = field(default_factory=lambda: asyncio.Semaphore(1))
+
+    async def fill(self, served: Served, log: int, archived: int, chain: bytes) -> None:
+        """Fills it up to this position. Where much is missing, over a connection to the archive of its own."""
+        if archived <= served.reached:
+            return
+        if 0 < served.reached and archived <= served.reached + PIECE:
+            pieces = await self.session.ask(lambda *of: list(self.session.referee.blocks(*of)), log, served.reached + 1, archived)
+            return await asyncio.to_thread(served.fill, pieces, archived, chain)
+        referee = Referee(self.settings.url, self.settings.name, self.life)
+        try:
+            await asyncio.to_thread(served.follow, referee, log, archived, chain)
+        finally:
+            referee.close()
 
     async def tell_fate(self, line: Line, name: str, generation: int) -> None:
         """What became of a generation that is not this keeper's: by a statement that writes, as its end is final."""

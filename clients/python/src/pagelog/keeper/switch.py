@@ -7,7 +7,8 @@ from dataclasses import dataclass, field
 from typing import Any
 
 from pagelog.keeper import statements
-from pagelog.keeper.referee import Referee, _array
+from pagelog.keeper.batches import array_of
+from pagelog.keeper.referee import Referee
 from pagelog.keeper.schema import CHANNEL, FORMAT
 
 
@@ -44,8 +45,8 @@ def succeed(referee: Referee, switch: Switch) -> int | None:
     values: dict[str, Any] = {
         "id": switch.log, "run": switch.run, "generation": switch.generation, "me": referee.me, "next_run": switch.next_run,
         "address": switch.address, "shift": switch.shift, "images": switch.images, "old": switch.old, "new": switch.end,
-        "chain": switch.chain, "crcs": _array(map(zlib.crc32, switch.blocks)), "starts": _array(starts),
-        "lengths": _array(map(len, switch.blocks)), "bytes": b"".join(switch.blocks),
+        "chain": switch.chain, "crcs": array_of(map(zlib.crc32, switch.blocks)), "starts": array_of(starts),
+        "lengths": array_of(map(len, switch.blocks)), "bytes": b"".join(switch.blocks),
     }  # fmt: skip
     found = referee._ask(statements.SUCCEED, values)
     return int(found[0][0]) if found else None

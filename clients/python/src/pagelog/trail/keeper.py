@@ -78,7 +78,7 @@ class TrailKeeper:
                 self._end("the audit list is full: the database decides nothing any more")
                 raise
             if is_same:
-                one = one or self._begun(self.trail.begin(generation=self.generation, start=self.start))
+                one = one or self.trail.begin(generation=self.generation, start=self.start, tables=self._tables)
                 self._list = self.trail.keep(one, b"".join(map(encode_entry, found)), self._clock())
                 return Step(len(found), all(map(self._is_own, found)))
             if is_same is False:
@@ -122,14 +122,10 @@ class TrailKeeper:
             return None
         if self.start is not None and self.trail.start(last) is None:
             self.trail.set_start(last, self.start)
-        self._list = self._begun(last)
-        return last
-
-    def _begun(self, one: TrailList) -> TrailList:
-        """The list, with the texts that may be set in it."""
         for text in self._tables:
-            self.trail.give_table(one, text)
-        return one
+            self.trail.give_table(last, text)
+        self._list = last
+        return last
 
     def _is_of_the_service(self, one: TrailList | None) -> bool | None:
         """Whether the service of the last reply has this list; None where its connection is gone."""

@@ -1,35 +1,37 @@
 // The one table: a row for each database, changed where it stands.
 
 import { day, gauge, marks } from "./drawing.js";
-import { ago, compact, duration, element, number, rate, urgency } from "./words.js";
+import { ago, compact, duration, element, number, quiet, rate, urgency } from "./words.js";
+
+// A cell is drawn anew where its key is another.
 
 const text = (value) => ({ key: String(value), draw: () => [String(value)] });
-const missing = (value) => (value === null ? -1 : value);
+const missing = (value) => value ?? -1;
+const living = (database) => database.standbys.filter((each) => each.lives).map((each) => each.keeper);
 
-function stateCell(database) {
-  return { key: `${database.state} ${database.paused}`, draw: () => marks(database) };
-}
+const stateCell = (database) => ({ key: `${database.state} ${database.paused}`, draw: () => marks(database) });
 
-function nameCell(database) {
-  return { key: database.name, draw: () => [element("a", { href: `#/${encodeURIComponent(database.name)}`, tabindex: -1 }, database.name)] };
+function nameCell({ name }) {
+  return { key: name, draw: () => [element("a", { href: `#/${encodeURIComponent(name)}`, tabindex: -1 }, name)] };
 }
 
 function standbysCell(database) {
-  const lives = database.standbys.filter((each) => each.lives).map((each) => each.keeper);
-  return lives.length ? text(lives.join(", ")) : { key: "none", draw: () => [element("span", { class: "quiet" }, "none")] };
+  const names = living(database).join(", ");
+  return names ? text(names) : { key: "none", draw: () => [quiet("none")] };
 }
 
-function generationCell(database, now) {
-  const since = database.began ? ago(database.began, now) : "–";
-  return { key: `${database.generation} ${since}`, draw: () => [number(database.generation), element("span", { class: "quiet" }, `, ${since}`)] };
+function generationCell({ generation, began }, now) {
+  const since = began ? ago(began, now) : "–";
+  return { key: `${generation} ${since}`, draw: () => [number(generation), quiet(`, ${since}`)] };
 }
 
-function leftCell(database) {
-  const left = database.entries_left;
+const dayCell = ({ begins }, now) => ({ key: `${begins.join()} ${now.slice(0, 15)}`, draw: () => [day(begins, now)] });
+
+function leftCell({ entries_left: left, entries }) {
   if (left === null) return text("–");
-  const percent = Math.round((100 * left) / database.entries);
-  const words = `${percent} % of the list are left: ${number(left)} of ${number(database.entries)} entries`;
-  return { key: `${percent} ${compact(left)}`, draw: () => [gauge(left, database.entries, words), element("span", { title: words }, `${percent} %`)] };
+  const percent = `${Math.round((100 * left) / entries)} %`;
+  const words = `${percent} of the list are left: ${number(left)} of ${number(entries)} entries`;
+  return { key: `${percent} ${compact(left)}`, draw: () => [gauge(left, entries, words), element("span", { title: words }, percent)] };
 }
 
 function nextCell(database) {
@@ -37,21 +39,32 @@ function nextCell(database) {
   return { key: `${words}${database.next}`, draw: () => [element("span", { title: database.next }, words)] };
 }
 
+const numbers = (name, title, words, hint) => ({
+  name, title, hint, isNumber: true, cell: (each) => text(words(each[name])), by: (each) => missing(each[name]),
+});
+
 const COLUMNS = [
   { name: "state", title: "State", cell: stateCell, by: urgency },
   { name: "name", title: "Name", cell: nameCell, by: (each) => each.name, isHead: true },
   { name: "holder", title: "Holder", cell: (each) => text(each.holder ?? "–"), by: (each) => each.holder ?? "" },
-  { name: "standbys", title: "Standbys", cell: standbysCell, by: (each) => each.standbys.filter((one) => one.lives).length },
-  { name: "generation", title: "Generation", cell: generationCell, by: (each) => each.generation, hint: "Its number, and for how long it has been" },
-  { name: "day", title: "Last day", cell: (each, now) => ({ key: `${each.begins.join()} ${now.slice(0, 15)}`, draw: () => [day(each.begins, now)] }), by: (each) => each.begins.length },
-  { name: "position", title: "Position", cell: (each) => text(number(each.position)), by: (each) => each.position, isNumber: true },
-  { name: "commits", title: "Commits/s", cell: (each) => text(rate(each.commits)), by: (each) => missing(each.commits), isNumber: true },
-  { name: "reads", title: "Reads/s", cell: (each) => text(rate(each.reads)), by: (each) => missing(each.reads), isNumber: true },
-  { name: "lag", title: "Lag", cell: (each) => text(number(each.lag)), by: (each) => missing(each.lag), isNumber: true, hint: "Blocks that are hardened and not durable yet" },
-  { name: "denials", title: "Denied", cell: (each) => text(compact(each.denials)), by: (each) => missing(each.denials), isNumber: true, hint: "Requests denied in the last hour, where there is a trail" },
-  { name: "left", title: "List left", cell: leftCell, by: (each) => missing(each.entries_left), hint: "Entries left of the audit list; at the mark, a fifth, its keeper goes over to a fresh service" },
-  { name: "next", title: "Succession", cell: nextCell, by: (each) => each.next_in ?? Infinity, isNumber: true, hint: "When the next service is due" },
+  { name: "standbys", title: "Standbys", cell: standbysCell, by: (each) => living(each).length },
+  { name: "generation", title: "Generation", cell: generationCell, by: (each) => each.generation,
+    hint: "Its number, and for how long it has been" },
+  { name: "day", title: "Last day", cell: dayCell, by: (each) => each.begins.length,
+    hint: "When generations began in the last 24 hours" },
+  numbers("position", "Position", number, "The last durable position"),
+  numbers("commits", "Commits/s", rate, "Positions a second"),
+  numbers("reads", "Reads/s", rate, "Gets and pulls a second, where there is a trail"),
+  numbers("lag", "Lag", number, "Blocks that are hardened and not durable yet"),
+  numbers("denials", "Denied", compact, "Requests denied in the last hour, where there is a trail"),
+  { name: "left", title: "List left", cell: leftCell, by: (each) => missing(each.entries_left),
+    hint: "Entries left of the audit list; at the mark, a fifth, its keeper goes over to a fresh service" },
+  { name: "next", title: "Succession", cell: nextCell, by: (each) => each.next_in ?? Infinity, isNumber: true,
+    hint: "When the next service is due" },
 ];
+
+const classes = (column) => `c-${column.name}${column.isNumber ? " number" : ""}`;
+const compared = (a, b) => (a < b ? -1 : a > b ? 1 : 0);
 
 export class Table {
   constructor(head, body) {
@@ -62,12 +75,14 @@ export class Table {
     this.#showSort();
     body.addEventListener("keydown", (event) => this.#move(event));
     body.addEventListener("focusin", (event) => this.#choose(event.target.closest("tr")));
-    body.addEventListener("click", (event) => { if (!event.target.closest("a")) event.target.closest("tr")?.querySelector("a").click(); });
+    body.addEventListener("click", (event) => {
+      if (!event.target.closest("a")) event.target.closest("tr")?.querySelector("a").click();
+    });
   }
 
   #title(column) {
-    const button = element("button", { type: "button", title: column.hint ?? null }, column.title);
-    column.th = element("th", { scope: "col", class: `c-${column.name}${column.isNumber ? " number" : ""}` }, button);
+    const button = element("button", { type: "button", title: column.hint }, column.title);
+    column.th = element("th", { scope: "col", class: classes(column) }, button);
     button.addEventListener("click", () => {
       const isSame = this.sorted.column === column;
       this.sorted = { column, sign: isSame ? -this.sorted.sign : column.isNumber ? -1 : 1 };
@@ -84,7 +99,7 @@ export class Table {
 
   /** Shows these databases, of which those that `takes` says are visible. Returns how many are. */
   show(databases, now, takes) {
-    for (const [name, row] of this.rows) if (!databases.has(name)) { row.node.remove(); this.rows.delete(name); }
+    for (const name of [...this.rows.keys()].filter((each) => !databases.has(each))) this.#drop(name);
     let visible = 0;
     for (const database of databases.values()) {
       const row = this.rows.get(database.name) ?? this.#row(database.name);
@@ -99,19 +114,28 @@ export class Table {
   }
 
   #row(name) {
-    const cells = COLUMNS.map((column) => element(column.isHead ? "th" : "td", { scope: column.isHead ? "row" : null, class: `c-${column.name}${column.isNumber ? " number" : ""}` }));
+    const cells = COLUMNS.map((column) => {
+      const scope = column.isHead ? { scope: "row" } : {};
+      return element(column.isHead ? "th" : "td", { ...scope, class: classes(column) });
+    });
     const row = { node: element("tr", {}, ...cells) };
     this.rows.set(name, row);
     this.body.append(row.node);
     return row;
   }
 
-  /** Sorts anew; but not below the pointer or the focus, unless it was asked for. */
+  #drop(name) {
+    this.rows.get(name).node.remove();
+    this.rows.delete(name);
+  }
+
+  /** Sorts anew; but not below the pointer or the focus, unless it was asked for or a row is new. */
   #order(isAsked) {
-    if (!isAsked && (this.body.matches(":hover") || this.body.contains(document.activeElement)) && this.ordered === this.rows.size) return;
+    const isHeld = this.body.matches(":hover") || this.body.contains(document.activeElement);
+    if (!isAsked && isHeld && this.ordered === this.rows.size) return;
     const { column, sign } = this.sorted;
-    const compared = (a, b) => (a < b ? -1 : a > b ? 1 : 0);
-    const rows = [...this.rows.values()].sort((a, b) => sign * compared(column.by(a.database), column.by(b.database)) || compared(a.database.name, b.database.name));
+    const order = (a, b) => sign * compared(column.by(a), column.by(b)) || compared(a.name, b.name);
+    const rows = [...this.rows.values()].sort((a, b) => order(a.database, b.database));
     if (rows.some((row, at) => this.body.children[at] !== row.node)) this.body.append(...rows.map((row) => row.node));
     this.ordered = this.rows.size;
   }
@@ -125,11 +149,12 @@ export class Table {
 
   #move(event) {
     const visible = [...this.body.children].filter((each) => !each.hidden);
-    const at = visible.indexOf(event.target.closest("tr"));
-    const to = { ArrowDown: at + 1, ArrowUp: at - 1, PageDown: at + 10, PageUp: at - 10, Home: 0, End: visible.length - 1 }[event.key];
+    const at = visible.indexOf(event.target.closest("tr")), last = visible.length - 1;
+    const keys = { ArrowDown: at + 1, ArrowUp: at - 1, PageDown: at + 10, PageUp: at - 10, Home: 0, End: last };
+    const to = keys[event.key];
     if (to === undefined) return;
     event.preventDefault();
-    visible[Math.max(0, Math.min(visible.length - 1, to))].querySelector("a").focus();
+    visible[Math.max(0, Math.min(last, to))].querySelector("a").focus();
   }
 
   /** Marks the row of the database that is open. */
