@@ -25,10 +25,10 @@ from pagelog.request import Get, Pull
 from service import Service, fill
 
 DATABASE = {
-    "name": str, "state": str, "paused": bool, "wanted": (str, type(None)), "holder": (str, type(None)), "address": (str, type(None)),
+    "name": str, "state": str, "paused": bool, "read_only": bool, "wanted": (str, type(None)), "holder": (str, type(None)), "address": (str, type(None)),
     "generation": int, "began": (str, type(None)), "begins": list, "position": int, "lag": (int, type(None)),
     "lag_seconds": (float, type(None)), "commits": (float, type(None)), "reads": (float, type(None)), "entries_left": (int, type(None)),
-    "entries": int, "memory": (int, type(None)), "memory_limit": (int, type(None)), "standbys": list, "denials": (int, type(None)),
+    "entries": int, "due": int, "memory": (int, type(None)), "memory_limit": (int, type(None)), "standbys": list, "denials": (int, type(None)),
     "next": str, "next_in": (float, type(None)),
 }  # fmt: skip
 DETAIL = {**DATABASE, "version": int, "at": str, "generations": list, "points": list, "has_trail": bool, "rules": dict,

@@ -76,7 +76,7 @@ function facts(database, now) {
     ["Standbys", standbysOf(database)],
     ["Commits", `${rate(database.commits)} a second`],
     ["Reads", database.denials === null ? "not known: no trail is kept" : `${rate(database.reads)} a second`],
-    ["List left", ...(left === null ? ["–"] : [gauge(left, entries), `${number(left)} of ${number(entries)} entries`])],
+    ["List left", ...(left === null ? ["–"] : [gauge(database), `${number(left)} of ${number(entries)} entries`])],
     ["Memory", memory === null ? "–" : `${number(memory)} MiB${limit ? ` of ${number(limit)}` : ""}`],
   ];
 }
