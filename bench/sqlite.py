@@ -18,7 +18,7 @@ share of that of plain SQLite in WAL with synchronous=off. Both are medians of a
     scan        pages a second of a scan of the table by such a connection
 
 `check 0` asks the service at the beginning of each transaction whether the epoch goes on, `check 50` where the last answer
-is older than 50 ms. Their commits wait for the service. `unwaited` is as `check 50`, with synchronous=off and unwaited=64, so that
+is older than 50 ms. Their commits wait for the service. `unwaited` is as `check 50`, with synchronous=off and async_commits=64, so that
 its commits wait for nothing, as those of plain SQLite with synchronous=off do. A follower is a reader; its lag is from the
 moment that a commit was acknowledged to the end of the transaction in which the follower saw it, asked again and again. The
 service keeps its log in memory, and synchronous=full waits for a disk: the two promises are not equal.
@@ -318,7 +318,7 @@ def systems_of(first, second, third):
     from database import connect, reader
 
     def opened_unwaited():
-        connection = connect(third.address, check=50, unwaited=64)
+        connection = connect(third.address, check=50, async_commits=64)
         connection.execute("pragma synchronous = off")
         return connection
 

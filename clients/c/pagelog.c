@@ -1,6 +1,7 @@
 /* The object, and what it learns from replies. pagelog_connection.c has its connection, pagelog_calls.c the
  * calls that are repeated, pagelog_append.c the append. */
 #include "pagelog_inside.h"
+#include "pagelog_place.h"
 
 #include <sched.h>
 #include <stdio.h>
@@ -66,9 +67,33 @@ struct pagelog *pagelog_new(const struct pagelog_options *options) {
     if (log->options.reply_ms == 0) log->options.reply_ms = 10000;
     if (log->options.patience_ms == 0) log->options.patience_ms = 10000;
     pagelog_set_spin(log, options->spin_us);
-    if (split_address(log, options->address)) return log;
+    if (!options->address || split_address(log, options->address)) return log;
     pagelog_free(log);
     return NULL;
+}
+
+enum pagelog_outcome pagelog_enter(struct pagelog *log, const char *address,
+                                   const uint8_t token[PAGELOG_TOKEN_BYTES]) {
+    char *host = log->host, *port = log->port;
+    struct pagelog_zone zone;
+    if (!split_address(log, address)) {
+        free(log->host);
+        free(log->port);
+        log->host = host;
+        log->port = port;
+        return pagelog_fail(log, PAGELOG_NO_MEMORY);
+    }
+    free(host);
+    free(port);
+    pagelog_disconnect(log);
+    memcpy(log->options.token, token, PAGELOG_TOKEN_BYTES);
+    read_zone(&log->options, &zone);
+    log->zone = zone;
+    log->zone.is_seen = false;
+    log->epoch = log->writing_epoch = log->lost_failovers = 0;
+    log->end = log->witness.lsn = 0;
+    log->is_tidying_refused = log->owns_epoch = log->anew = log->stuck = false;
+    return PAGELOG_DONE;
 }
 
 void pagelog_free(struct pagelog *log) {

@@ -228,6 +228,12 @@ enum pagelog_outcome pagelog_blocks_difference(struct pagelog_blocks *blocks, ui
 /* Ends the block that is being filled, if it has a record. An append needs it. */
 enum pagelog_outcome pagelog_blocks_end(struct pagelog_blocks *blocks);
 
+/* Adds an encoded block, under the LSN that is next. MALFORMED where a block is being filled. */
+enum pagelog_outcome pagelog_blocks_add(struct pagelog_blocks *blocks, const uint8_t *block, size_t length);
+
+/* All LSNs become greater by so much. */
+void pagelog_blocks_shift(struct pagelog_blocks *blocks, int64_t by);
+
 /* Whether no record was added since the last block was ended. */
 bool pagelog_blocks_is_fresh(const struct pagelog_blocks *blocks);
 
@@ -246,7 +252,7 @@ struct pagelog;
 
 struct pagelog_options {
     const char *address; /* "HOST:PORT", "[HOST]:PORT" of IPv6; copied. A name is looked up at each connect,
-                          * for as long as the system's resolver takes */
+                          * for as long as the system's resolver takes. NULL: none yet (pagelog_enter) */
     uint32_t principal;
     uint8_t token[PAGELOG_TOKEN_BYTES];
     uint32_t database;
@@ -289,6 +295,9 @@ void pagelog_disconnect(struct pagelog *log);
  * follow this call, and may sleep for a tenth of a second each time. Once it is false everything that has to
  * wait is LOST at once, until the next call of this function. NULL: nobody is asked. */
 void pagelog_set_waiting(struct pagelog *log, bool (*goes_on)(void *argument), void *argument);
+
+/* Whether who waits for the object lets the wait go on: for who waits beside its calls. */
+bool pagelog_goes_on(struct pagelog *log);
 
 /* For a child of fork(): closes the object's descriptor there, and nothing else. It may be called while
  * another thread of the parent was using the object, which the child can only leave as it is then. */

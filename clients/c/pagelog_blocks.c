@@ -94,6 +94,26 @@ enum pagelog_outcome pagelog_blocks_end(struct pagelog_blocks *blocks) {
     return PAGELOG_DONE;
 }
 
+enum pagelog_outcome pagelog_blocks_add(struct pagelog_blocks *blocks, const uint8_t *block, size_t length) {
+    size_t start = end_of(blocks);
+    if (blocks->record_count > 0) return PAGELOG_MALFORMED;
+    if (!grow((void **)&blocks->bytes, &blocks->room, start + length, 1) ||
+        !grow((void **)&blocks->ends, &blocks->ends_room, blocks->count + 1, sizeof *blocks->ends))
+        return PAGELOG_NO_MEMORY;
+    memcpy(blocks->bytes + start, block, length);
+    pagelog_write_number(blocks->bytes + start, blocks->next_lsn++, 8);
+    blocks->ends[blocks->count++] = start + length;
+    return PAGELOG_DONE;
+}
+
+void pagelog_blocks_shift(struct pagelog_blocks *blocks, int64_t by) {
+    for (size_t i = 0; i < blocks->count; i++) {
+        uint8_t *lsn = blocks->bytes + (i > 0 ? blocks->ends[i - 1] : 0);
+        pagelog_write_number(lsn, pagelog_read_number(lsn, 8) + (uint64_t)by, 8);
+    }
+    blocks->next_lsn += (uint64_t)by;
+}
+
 /* The place of a partition among those of the block, or the place where it would be. */
 static size_t place_of(const struct pagelog_blocks *blocks, uint16_t partition, bool *found) {
     size_t place = blocks->partition_count;

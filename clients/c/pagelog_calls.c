@@ -29,7 +29,7 @@ void pagelog_progress(struct pagelog_patience *patience) {
 bool pagelog_may_try_again(struct pagelog_patience *patience) {
     unsigned doubled = patience->tries < 6 ? patience->tries : 6;
     struct timespec pause = {.tv_nsec = 1000000L << doubled};
-    if (pagelog_now() >= patience->until || !pagelog_waits_on(patience->log)) return false;
+    if (pagelog_now() >= patience->until || !pagelog_waits_on(&patience->log->waiter)) return false;
     if (patience->tries++ > 0) nanosleep(&pause, NULL);
     return true;
 }

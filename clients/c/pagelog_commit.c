@@ -1,6 +1,6 @@
 /* The commit: pages that differ become records, records fill blocks, and the end mark ends the last of them.
  */
-#include "pagelog_file_inside.h"
+#include "pagelog_move.h"
 
 #include <stdlib.h>
 #include <string.h>
@@ -162,7 +162,10 @@ static enum pagelog_outcome send_changes(struct commit *commit, struct mark *mar
     *fate = NOTHING_DIFFERS;
     if (is_nothing(file, end, blocks)) return PAGELOG_DONE;
     outcome = pagelog_add_mark(file, mark);
-    return outcome == PAGELOG_DONE ? send_last_blocks(file, fate) : outcome;
+    uint64_t position = position_of(file, mark->lsn); /* the append may move the file */
+    if (outcome == PAGELOG_DONE) outcome = send_last_blocks(file, fate);
+    mark->lsn = lsn_of(file, position);
+    return outcome;
 }
 
 /* Whether the end mark is in the log, of an epoch that is over: DONE where it is, CONFLICT where it is not.
@@ -177,7 +180,7 @@ static enum pagelog_outcome find_mark(struct pagelog_file *file, enum pagelog_ro
                        pagelog_refused(file->log)->row == 1 && !pagelog_is_anew(file->log);
     if (ends_before) return PAGELOG_CONFLICT;
     if (outcome != PAGELOG_DONE) return outcome;
-    bool is_ours = pagelog_read_mark(page, &found) && found.lsn == mark->lsn &&
+    bool is_ours = pagelog_read_mark(file, page, &found) && found.lsn == mark->lsn &&
                    found.session == mark->session && found.transaction == mark->transaction;
     return is_ours ? PAGELOG_DONE : PAGELOG_CONFLICT;
 }
@@ -201,7 +204,7 @@ static enum pagelog_outcome settle_doubt(struct pagelog_file *file, const struct
     const struct pagelog_file_options *options = &file->options;
     struct pagelog_reply refused = *pagelog_refused(file->log);
     enum pagelog_outcome cause = pagelog_outcome_of(&refused);
-    if (!options->has_operator) return PAGELOG_IN_DOUBT;
+    if (!options->has_operator || is_named(file)) return PAGELOG_IN_DOUBT; /* a move has looked already */
     file->doubted = mark->lsn;
     enum pagelog_outcome outcome = pagelog_take_over(
         file->log, options->operator_principal, options->operator_token, pagelog_writing_epoch(file->log));
@@ -224,7 +227,9 @@ static enum pagelog_outcome settle_doubt(struct pagelog_file *file, const struct
 static void note_failure(struct pagelog_file *file, enum pagelog_outcome outcome, uint64_t end) {
     if (pagelog_in_flight(file->log) > 0) pagelog_disconnect(file->log); /* blocks without an end */
     bool is_untouched = pagelog_end(file->log) == end && !pagelog_is_stuck(file->log);
-    if (outcome == PAGELOG_FENCED && !pagelog_is_anew(file->log))
+    if (is_named(file))
+        pagelog_become_follower(file);
+    else if (outcome == PAGELOG_FENCED && !pagelog_is_anew(file->log))
         pagelog_become_follower(file);
     else if (!is_untouched || outcome == PAGELOG_IN_DOUBT)
         file->is_broken = true;
@@ -238,8 +243,9 @@ static enum pagelog_outcome lose(struct pagelog_file *file, enum pagelog_outcome
     file->size = file->least = file->mark.size;
     file->on_their_way = 0;
     file->is_over = true;
+    file->named.is_gone = is_named(file);
     file->losses++;
-    if (file->is_fenced || (outcome == PAGELOG_FENCED && !pagelog_is_anew(file->log)))
+    if (is_named(file) || file->is_fenced || (outcome == PAGELOG_FENCED && !pagelog_is_anew(file->log)))
         pagelog_become_follower(file);
     else
         file->is_broken = true;
@@ -253,7 +259,7 @@ enum pagelog_outcome pagelog_file_settle(struct pagelog_file *file) {
     file->reason = NULL;
     enum pagelog_outcome outcome = pagelog_append_ended(file);
     if (outcome == PAGELOG_IN_DOUBT) outcome = settle_doubt(file, &file->mark);
-    if (outcome != PAGELOG_DONE) return lose(file, outcome);
+    if (outcome != PAGELOG_DONE) return file->is_over ? outcome : lose(file, outcome);
     file->on_their_way = 0;
     return PAGELOG_DONE;
 }
@@ -300,6 +306,8 @@ static bool has_changes(const struct commit *commit) {
 /* The differences are against `mark`: a file that has gone on from there, or may have, takes none of them. */
 static enum pagelog_outcome commit_if_allowed(struct commit *commit) {
     struct pagelog_file *file = commit->file;
+    enum pagelog_outcome outcome = pagelog_file_reserve(file);
+    if (outcome != PAGELOG_DONE) return outcome;
     if (!is_writer(file))
         return pagelog_file_fail(file, PAGELOG_FENCED, "this file is not written to: it follows");
     if (file->is_broken)
@@ -325,6 +333,7 @@ enum pagelog_outcome pagelog_file_commit(struct pagelog_file *file) {
     struct commit commit = {.file = file};
     enum pagelog_outcome outcome;
     if (file->is_over) return pagelog_refuse_until_begin(file);
+    if (file->named.is_gone) return pagelog_refuse_gone(file);
     file->reason = NULL;
     bool is_resized = file->size != file->mark.size || file->least != file->size;
     if (!is_resized && !pagelog_cache_is_changed(file->cache)) return PAGELOG_DONE;

@@ -43,25 +43,26 @@ enum pagelog_outcome pagelog_lose(struct pagelog *log) {
 /* ---- Waiting ---- */
 
 void pagelog_set_waiting(struct pagelog *log, bool (*goes_on)(void *argument), void *argument) {
-    log->goes_on = goes_on;
-    log->waiter = argument;
-    log->waits_since = 0;
-    log->is_given_up = false;
+    log->waiter = (struct pagelog_waiter){.goes_on = goes_on, .argument = argument};
 }
 
-bool pagelog_waits_on(struct pagelog *log) {
-    if (!log->goes_on || log->is_given_up) return !log->is_given_up;
+bool pagelog_waits_on(struct pagelog_waiter *waiter) {
+    if (!waiter->goes_on || waiter->is_given_up) return !waiter->is_given_up;
     uint64_t now = pagelog_now();
-    if (log->waits_since == 0) log->waits_since = now;
-    if (now - log->waits_since >= FREE_MS) log->is_given_up = !log->goes_on(log->waiter);
-    return !log->is_given_up;
+    if (waiter->since == 0) waiter->since = now;
+    if (now - waiter->since >= FREE_MS) waiter->is_given_up = !waiter->goes_on(waiter->argument);
+    return !waiter->is_given_up;
+}
+
+bool pagelog_goes_on(struct pagelog *log) {
+    return pagelog_waits_on(&log->waiter);
 }
 
 bool pagelog_wait_for(struct pagelog *log, int socket, short events, uint64_t deadline, short *ready) {
     for (;;) {
-        uint64_t now = pagelog_now(), most = log->goes_on ? SLICE_MS : 1000000;
+        uint64_t now = pagelog_now(), most = log->waiter.goes_on ? SLICE_MS : 1000000;
         struct pollfd fd = {.fd = socket, .events = events};
-        if (now >= deadline || !pagelog_waits_on(log)) return false;
+        if (now >= deadline || !pagelog_waits_on(&log->waiter)) return false;
         uint64_t left = deadline - now;
         int count = poll(&fd, 1, (int)(left < most ? left : most));
         if (count < 0 && errno != EINTR) return false;
@@ -105,7 +106,7 @@ static int connect_to(struct pagelog *log, const struct addrinfo *address, uint6
 
 enum pagelog_outcome pagelog_ensure_connected(struct pagelog *log) {
     struct addrinfo hints = {.ai_family = AF_UNSPEC, .ai_socktype = SOCK_STREAM}, *found = NULL;
-    if (log->is_given_up) return pagelog_fail(log, PAGELOG_LOST);
+    if (log->waiter.is_given_up || !log->host) return pagelog_fail(log, PAGELOG_LOST);
     if (log->socket >= 0) return PAGELOG_DONE;
     uint64_t deadline = pagelog_now() + log->options.connect_ms;
     if (getaddrinfo(log->host, log->port, &hints, &found) != 0) return pagelog_fail(log, PAGELOG_LOST);

@@ -1,6 +1,6 @@
 /* Opening, transactions, reads and writes. pagelog_mark.c has the end mark, pagelog_commit.c the commit,
  * pagelog_repair.c the repair, pagelog_follow.c the follower. */
-#include "pagelog_file_inside.h"
+#include "pagelog_move.h"
 
 #include <stdio.h>
 #include <stdlib.h>
@@ -27,12 +27,15 @@ struct pagelog_file *pagelog_file_new(const struct pagelog_file_options *options
     if (!file) return NULL;
     file->options = *options;
     snprintf(file->name, sizeof file->name, "%s", options->name ? options->name : "");
-    file->log = pagelog_new(&options->service);
+    bool is_made = !options->keepers || pagelog_make_named(file);
+    file->options.keepers = file->options.database_name = file->options.name =
+        NULL; /* they are the caller's */
+    file->log = pagelog_new(&file->options.service);
     file->cache = pagelog_cache_new(options->cache_pages ? options->cache_pages : DEFAULT_CACHE);
     file->blocks = pagelog_blocks_new();
     file->next = 1;
     file->fetched = malloc((size_t)GROUP * PAGELOG_PAGE_BYTES);
-    if (file->log && file->cache && file->blocks && file->fetched) return file;
+    if (is_made && file->log && file->cache && file->blocks && file->fetched) return file;
     pagelog_file_free(file);
     return NULL;
 }
@@ -40,6 +43,8 @@ struct pagelog_file *pagelog_file_new(const struct pagelog_file_options *options
 void pagelog_file_free(struct pagelog_file *file) {
     if (!file) return;
     pagelog_free(file->log);
+    pagelog_keepers_free(file->named.keepers);
+    pagelog_tail_free(&file->named.tail);
     pagelog_cache_free(file->cache);
     pagelog_blocks_free(file->blocks);
     free(file->pending.bytes);
@@ -56,10 +61,12 @@ enum pagelog_outcome pagelog_file_connect(struct pagelog_file *file, char *peer,
 
 void pagelog_file_set_waiting(struct pagelog_file *file, bool (*goes_on)(void *argument), void *argument) {
     pagelog_set_waiting(file->log, goes_on, argument);
+    if (is_named(file)) pagelog_keepers_set_waiting(file->named.keepers, goes_on, argument);
 }
 
 void pagelog_file_abandon(struct pagelog_file *file) {
     pagelog_abandon(file->log);
+    if (is_named(file)) pagelog_keepers_abandon(file->named.keepers);
 }
 
 /* Reads the newest end mark as a writer, and undoes what is after it. */
@@ -118,8 +125,6 @@ static enum pagelog_outcome open_fenced(struct pagelog_file *file) {
 }
 
 static enum pagelog_outcome open_writer(struct pagelog_file *file) {
-    if (getrandom(&file->session, sizeof file->session, 0) != sizeof file->session)
-        return pagelog_file_fail(file, PAGELOG_NO_MEMORY, "the system has no random number");
     enum pagelog_outcome outcome = look_at_name(file);
     if (outcome == PAGELOG_DONE) outcome = begin_to_write(file);
     bool is_overtaken =
@@ -129,7 +134,11 @@ static enum pagelog_outcome open_writer(struct pagelog_file *file) {
 
 enum pagelog_outcome pagelog_file_open(struct pagelog_file *file) {
     file->reason = NULL;
-    enum pagelog_outcome outcome = file->options.reads_only ? open_reader(file) : open_writer(file);
+    if (getrandom(&file->session, sizeof file->session, 0) != sizeof file->session)
+        return pagelog_file_fail(file, PAGELOG_NO_MEMORY, "the system has no random number");
+    enum pagelog_outcome outcome = is_named(file)             ? pagelog_open_named(file)
+                                   : file->options.reads_only ? open_reader(file)
+                                                              : open_writer(file);
     file->is_open = outcome == PAGELOG_DONE;
     file->size = file->least = file->mark.size;
     return outcome;
@@ -147,6 +156,7 @@ void pagelog_become_follower(struct pagelog_file *file) {
 enum pagelog_outcome pagelog_file_take_over(struct pagelog_file *file, uint32_t operator_principal,
                                             const uint8_t operator_token[PAGELOG_TOKEN_BYTES]) {
     file->reason = NULL;
+    if (is_named(file)) return pagelog_file_reserve(file);
     enum pagelog_outcome outcome = pagelog_file_settle(file);
     if (outcome != PAGELOG_DONE && !file->is_over) return outcome;
     pagelog_file_undo(file);
@@ -211,7 +221,8 @@ static enum pagelog_outcome look_after_commits(struct pagelog_file *file, uint64
 }
 
 /* Brings the file to the newest transaction, as far as that is due. */
-static enum pagelog_outcome refresh(struct pagelog_file *file, uint64_t now) {
+static enum pagelog_outcome refresh(struct pagelog_file *file) {
+    uint64_t now = file->begun; /* by which it was decided whether commits on their way are waited for */
     enum pagelog_outcome outcome = is_writer(file) ? begin_writer(file, now) : PAGELOG_DONE;
     if (!is_writer(file) && !file->options.at && is_due(file, now)) outcome = pagelog_follow(file);
     if (outcome != PAGELOG_DONE) return outcome;
@@ -225,10 +236,10 @@ enum pagelog_outcome pagelog_file_begin(struct pagelog_file *file) {
     if (!file->is_open) return pagelog_file_fail(file, PAGELOG_MALFORMED, "the file is not open");
     pagelog_file_undo(file);
     file->is_over = false;
-    uint64_t now = pagelog_now();
-    enum pagelog_outcome outcome = look_after_commits(file, now);
+    file->begun = pagelog_now();
+    enum pagelog_outcome outcome = look_after_commits(file, file->begun);
     if (outcome != PAGELOG_DONE) return outcome;
-    outcome = refresh(file, now);
+    outcome = is_named(file) ? pagelog_begin_named(file, refresh) : refresh(file);
     file->is_stale = outcome != PAGELOG_DONE && !is_writer(file) && file->options.may_be_stale;
     if (outcome != PAGELOG_DONE && !file->is_stale) return outcome;
     file->size = file->least = file->mark.size;
@@ -243,10 +254,17 @@ static enum pagelog_outcome out_of_memory(struct pagelog_file *file) {
 
 enum pagelog_outcome pagelog_fetch(struct pagelog_file *file, uint64_t lsn, const uint32_t *pages,
                                    size_t count, uint8_t *out) {
+    uint64_t position = position_of(file, lsn); /* the settling may move the file */
     if (file->on_their_way > 0) {
         enum pagelog_outcome settled = pagelog_file_settle(file);
         if (settled != PAGELOG_DONE) return settled;
     }
+    return is_named(file) ? pagelog_fetch_wherever(file, position, pages, count, out)
+                          : pagelog_fetch_here(file, lsn, pages, count, out);
+}
+
+enum pagelog_outcome pagelog_fetch_here(struct pagelog_file *file, uint64_t lsn, const uint32_t *pages,
+                                        size_t count, uint8_t *out) {
     enum pagelog_outcome outcome = pagelog_get(file->log, role_of(file), lsn, pages, count, out);
     if (outcome == PAGELOG_FENCED && is_writer(file) && !pagelog_is_anew(file->log)) {
         pagelog_become_follower(file);
@@ -307,6 +325,7 @@ enum pagelog_outcome pagelog_file_read(struct pagelog_file *file, uint64_t offse
     uint8_t *out = bytes;
     uint64_t left = offset < file->size ? file->size - offset : 0;
     if (file->is_over) return pagelog_refuse_until_begin(file);
+    if (file->named.is_gone) return pagelog_refuse_gone(file);
     *count = left < length ? (size_t)left : length;
     memset(out + *count, 0, length - *count);
     for (size_t done = 0; done < *count;) {
@@ -349,6 +368,7 @@ enum pagelog_outcome pagelog_file_write(struct pagelog_file *file, uint64_t offs
                                         size_t length) {
     const uint8_t *in = bytes;
     if (file->is_over) return pagelog_refuse_until_begin(file);
+    if (file->named.is_gone) return pagelog_refuse_gone(file);
     if (offset > PAGELOG_FILE_MOST || length > PAGELOG_FILE_MOST - offset)
         return pagelog_file_fail(file, PAGELOG_MALFORMED, "the file would be too long");
     for (size_t done = 0; done < length;) {
@@ -366,6 +386,7 @@ enum pagelog_outcome pagelog_file_write(struct pagelog_file *file, uint64_t offs
 enum pagelog_outcome pagelog_file_resize(struct pagelog_file *file, uint64_t size) {
     size_t start = (size_t)(size % PAGELOG_PAGE_BYTES);
     if (file->is_over) return pagelog_refuse_until_begin(file);
+    if (file->named.is_gone) return pagelog_refuse_gone(file);
     if (size > PAGELOG_FILE_MOST)
         return pagelog_file_fail(file, PAGELOG_MALFORMED, "the file would be too long");
     if (size < file->size && start > 0) { /* after the end of the file its last page has zeros */
@@ -420,7 +441,11 @@ const struct pagelog_reply *pagelog_file_refused(const struct pagelog_file *file
 }
 
 bool pagelog_file_may_commit(const struct pagelog_file *file) {
-    return is_writer(file) && !file->is_broken;
+    return is_named(file) ? !file->options.reads_only : is_writer(file) && !file->is_broken;
+}
+
+bool pagelog_file_is_named(const struct pagelog_file *file) {
+    return is_named(file);
 }
 
 uint64_t pagelog_file_losses(const struct pagelog_file *file) {
@@ -453,6 +478,14 @@ struct pagelog_file_state pagelog_file_state_of(const struct pagelog_file *file)
         .is_foreign = file->is_foreign,
         .is_misnamed = file->is_misnamed,
         .is_over = file->is_over,
+        .is_named = is_named(file),
+        .is_gone = file->named.is_gone,
+        .generation = file->named.place.generation,
+        .position = file->mark.lsn > 0 ? position_of(file, file->mark.lsn) : 0,
+        .durable = file->named.durable,
+        .committed = file->named.own,
+        .moves = file->named.moves,
+        .resent = file->named.resent,
         .lsn = file->mark.lsn,
         .end = pagelog_end(file->log),
         .size = file->mark.size,

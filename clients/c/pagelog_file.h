@@ -49,6 +49,12 @@ struct pagelog_file_options {
     /* Of the database, copied; NULL: any. The first commit of a writer that has a name gives it to a database
      * that has none, and from then on it is opened by that name alone. */
     const char *name;
+    /* Of a named database: its keepers, "HOST:PORT,HOST:PORT", and the name that they know it by. Both are
+     * copied; NULL: the service has the address of `service`. Positions take the place of LSNs in `at`. A
+     * writer needs an operator, and its principal has to be allowed to act as a secondary. */
+    const char *keepers, *database_name;
+    unsigned move_ms;  /* how long a call waits for a generation that it can go on in; 0: 30,000 */
+    bool durable_only; /* a reader of a named database sees nothing that could still be lost */
 };
 
 struct pagelog_file_state {
@@ -61,10 +67,15 @@ struct pagelog_file_state {
     bool is_foreign;  /* page 0 has something that is no end mark */
     bool is_misnamed; /* the database has another name */
     bool is_over;     /* commits that were not waited for were lost: nothing but a begin goes on from here */
-    uint64_t lsn;     /* of the transaction that is read: the LSN of its last block; 0: none yet */
-    uint64_t end;     /* of the log, as far as is known */
-    uint64_t size;    /* bytes, as committed at `lsn` */
-    uint64_t transaction; /* the number of the transaction at `lsn`, from 1 */
+    bool is_named, is_gone; /* of a named database; what was read is not in this generation, until a begin */
+    uint64_t generation, position, durable; /* of such a one: where `lsn` is in all generations, and up to
+                                             * where it is known to be durable */
+    uint64_t committed;     /* the position of the last commit of this file that is not lost */
+    uint64_t moves, resent; /* into other generations; blocks that were sent again there */
+    uint64_t lsn;           /* of the transaction that is read: the LSN of its last block; 0: none yet */
+    uint64_t end;           /* of the log, as far as is known */
+    uint64_t size;          /* bytes, as committed at `lsn` */
+    uint64_t transaction;   /* the number of the transaction at `lsn`, from 1 */
     uint32_t epoch, writing_epoch;
     struct pagelog_zone zone;
     size_t cached_pages;
@@ -145,6 +156,33 @@ uint64_t pagelog_file_size(const struct pagelog_file *file);
  * a begin, which reports what the log has got. */
 enum pagelog_outcome pagelog_file_commit(struct pagelog_file *file);
 
+/* Of a named database: makes the file the writer of an epoch, if it is not, so that what is committed next
+ * can only follow what was read. DONE: it may commit; for any other database always. FENCED: another writer
+ * has gone on since the begin. Else as of a begin. A commit does so by itself. */
+enum pagelog_outcome pagelog_file_reserve(struct pagelog_file *file);
+
+/* A position whose durability is waited for, and who knows of it. */
+struct pagelog_awaited {
+    uint64_t position, generation;
+    char lines[256];
+};
+
+/* Whether a position is known to be durable; else who is to be asked. */
+bool pagelog_file_is_durable(const struct pagelog_file *file, struct pagelog_awaited *awaited);
+
+struct pagelog_fate;
+
+/* Takes an answer of the keepers, as of pagelog_fate_of, which was waited for without the file. DONE: it may
+ * be asked whether it is durable. LOST: no keeper has said it, and it may be asked again. CONFLICT: it is not
+ * in the database, and never will be. Else as of a begin that finds commits lost. */
+enum pagelog_outcome pagelog_file_take_fate(struct pagelog_file *file, const struct pagelog_awaited *awaited,
+                                            enum pagelog_outcome outcome, const struct pagelog_fate *fate);
+
+/* Until when a call that begins now waits, in milliseconds of pagelog's clock; and whether it waits on: it
+ * sleeps a little then. */
+uint64_t pagelog_file_patience(const struct pagelog_file *file);
+bool pagelog_file_may_wait(struct pagelog_file *file, uint64_t until);
+
 /* Waits until what was committed is in the log. Any outcome but DONE: as above. */
 enum pagelog_outcome pagelog_file_settle(struct pagelog_file *file);
 
@@ -161,6 +199,9 @@ const struct pagelog_reply *pagelog_file_refused(const struct pagelog_file *file
 
 /* Whether a commit is allowed, as far as is known: it is a writer's, and the one before came to its end. */
 bool pagelog_file_may_commit(const struct pagelog_file *file);
+
+/* Whether it is a named database's. */
+bool pagelog_file_is_named(const struct pagelog_file *file);
 
 /* As `losses` and `lsn` of the state. */
 uint64_t pagelog_file_losses(const struct pagelog_file *file);

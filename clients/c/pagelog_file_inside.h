@@ -5,6 +5,8 @@
 #include "pagelog_cache.h"
 #include "pagelog_common.h"
 #include "pagelog_file.h"
+#include "pagelog_place.h"
+#include "pagelog_tail.h"
 
 enum { MARK_PAGE = 0, MARK_BYTES = 40, NAME_PLACE = MARK_BYTES, GROUP = 64 };
 
@@ -12,7 +14,8 @@ enum { MARK_PAGE = 0, MARK_BYTES = 40, NAME_PLACE = MARK_BYTES, GROUP = 64 };
  * blocks. */
 enum { IMAGE_EACH = 256 };
 
-/* What page 0 says: numbers of 8 bytes, the high one first, after a magic one. */
+/* What page 0 says: numbers of 8 bytes, the high one first, after a magic one. The bytes have a position
+ * where this has an LSN of the generation; without keepers the two are the same. */
 struct mark {
     uint64_t lsn, size, session, transaction;
 };
@@ -23,8 +26,29 @@ struct pending {
     size_t length, room;
 };
 
+/* Of a named database: where it is, and what it may lack there. Positions are of all generations, LSNs of
+ * this one. */
+struct named {
+    struct pagelog_keepers *keepers; /* NULL: the database has no name, and one address */
+    struct pagelog_place place;
+    bool has_place;
+    uint8_t token[PAGELOG_TOKEN_BYTES],
+        operator_token[PAGELOG_TOKEN_BYTES]; /* of the table; each run has others */
+    struct pagelog_tail tail; /* of who may write: the blocks that are not known to be durable */
+    uint64_t settled;         /* the generation whose log had all of these */
+    uint64_t told;            /* position: the blocks up to it were in its log, and may be sent again */
+    uint64_t own;             /* position: of the last commit of this file that was acknowledged */
+    uint64_t durable;         /* position: all up to it is durable */
+    uint64_t glanced;         /* when the keepers were asked last whether the generation goes on */
+    uint32_t epoch;           /* the last one whose primary was asked for */
+    bool is_closing;          /* that was the keeper, which closes the generation */
+    bool is_gone; /* the transaction that was read is not to be had here: nothing but a begin goes on */
+    uint64_t moves, resent;
+};
+
 struct pagelog_file {
     struct pagelog *log;
+    struct named named;
     struct pagelog_file_options options;
     struct pagelog_cache *cache;
     struct pagelog_blocks *blocks;
@@ -47,6 +71,7 @@ struct pagelog_file {
     uint64_t next;        /* of a follower: where the next pull begins */
     struct pending pending;
     bool is_far;      /* so much was pulled without an end mark that it was not kept aside */
+    uint64_t begun;   /* when the last begin was asked for */
     uint64_t checked; /* when the service last said that this is the newest, or that the epoch is not over */
     bool is_checked;
     uint32_t last_miss, ahead;   /* the page that was fetched last, and how many were with it */
@@ -70,6 +95,10 @@ bool pagelog_has_gone_on(const struct pagelog_file *file);
 /* The epoch of a writer is over: it follows from now on. */
 void pagelog_become_follower(struct pagelog_file *file);
 
+static inline bool is_named(const struct pagelog_file *file) {
+    return file->named.keepers != NULL;
+}
+
 /* Whether this file may commit. */
 static inline bool is_writer(const struct pagelog_file *file) {
     return !file->options.reads_only && !file->is_fenced;
@@ -84,15 +113,32 @@ static inline uint32_t pages_of(uint64_t size) {
     return (uint32_t)((size + PAGELOG_PAGE_BYTES - 1) / PAGELOG_PAGE_BYTES);
 }
 
+static inline uint64_t position_of(const struct pagelog_file *file, uint64_t lsn) {
+    return lsn + (uint64_t)file->named.place.shift;
+}
+
+/* The LSN of a position; 0 where it is before the first one of this generation. */
+static inline uint64_t lsn_of(const struct pagelog_file *file, uint64_t position) {
+    int64_t lsn = (int64_t)position - file->named.place.shift;
+    return lsn > 0 ? (uint64_t)lsn : 0;
+}
+
 /* Reads page 0, 8,192 bytes: false where it is neither an end mark nor all zeros. */
-bool pagelog_read_mark(const uint8_t *page, struct mark *mark);
+bool pagelog_read_mark(const struct pagelog_file *file, const uint8_t *page, struct mark *mark);
 
 /* Whether a block ends with an end mark of its own. */
-bool pagelog_has_mark(const uint8_t *block, struct mark *mark);
+bool pagelog_has_mark(const struct pagelog_file *file, const uint8_t *block, struct mark *mark);
+
+/* Whether two marks are of the same transaction. */
+bool pagelog_is_same_mark(const struct mark *one, const struct mark *other);
 
 /* Pages at an LSN, as the role that the file has. A writer that is fenced by it goes on as a secondary. */
 enum pagelog_outcome pagelog_fetch(struct pagelog_file *file, uint64_t lsn, const uint32_t *pages,
                                    size_t count, uint8_t *out);
+
+/* The same, in the generation that the file is in, and with nothing on its way. */
+enum pagelog_outcome pagelog_fetch_here(struct pagelog_file *file, uint64_t lsn, const uint32_t *pages,
+                                        size_t count, uint8_t *out);
 
 /* Whether page 0 has another name than the options. */
 bool pagelog_is_misnamed(const struct pagelog_file *file, const uint8_t *page);

@@ -1,6 +1,6 @@
 /* The follower: it pulls blocks, keeps them aside until an end mark comes, and then applies them to the pages
  * in memory. */
-#include "pagelog_file_inside.h"
+#include "pagelog_move.h"
 
 #include <stdlib.h>
 #include <string.h>
@@ -60,7 +60,7 @@ static enum pagelog_outcome take_block(struct pagelog_file *file, const uint8_t 
     if (!file->is_far && !keep_aside(&file->pending, block, length))
         return pagelog_file_fail(file, PAGELOG_NO_MEMORY, "this process has no memory left");
     file->next = pagelog_read_number(block, 8) + 1;
-    if (!pagelog_has_mark(block, &mark)) return PAGELOG_DONE;
+    if (!pagelog_has_mark(file, block, &mark)) return PAGELOG_DONE;
     if (file->is_far) pagelog_cache_clear(file->cache);
     file->is_far = false;
     apply_pending(file, &mark);
@@ -72,24 +72,29 @@ static enum pagelog_outcome take_block(struct pagelog_file *file, const uint8_t 
 static enum pagelog_outcome leap(struct pagelog_file *file, uint64_t *until) {
     struct pagelog_reply status;
     enum pagelog_outcome outcome = pagelog_status(file->log, PAGELOG_SECONDARY, &status);
-    bool is_far = outcome == PAGELOG_DONE && status.hard >= file->next + FAR_BEHIND;
-    *until = is_far ? 0 : status.hard;
-    return is_far ? pagelog_take_mark(file, status.hard) : outcome;
+    uint64_t limit = pagelog_limit_of(file), end = status.hard < limit ? status.hard : limit;
+    bool is_far = outcome == PAGELOG_DONE && end >= file->next + FAR_BEHIND;
+    *until = is_far ? 0 : end;
+    return is_far ? pagelog_take_mark(file, end) : outcome;
 }
 
 /* It ends where the log ended when it was behind, so that a writer that goes on for ever keeps nobody here:
  * what was committed before the begin is there. After a leap nothing is pulled, however far the log is said
  * to go on from that transaction. */
 enum pagelog_outcome pagelog_follow(struct pagelog_file *file) {
-    uint64_t until = UINT64_MAX;
+    uint64_t until = UINT64_MAX, limit = pagelog_limit_of(file);
+    if (file->next > limit) return PAGELOG_DONE;
     for (bool may_leap = true;;) {
         struct pagelog_reply pulled;
         size_t at = 0, length;
         const uint8_t *block;
         enum pagelog_outcome outcome = pagelog_pull(file->log, file->next, PAGELOG_PULL_BLOCKS, &pulled);
         if (outcome != PAGELOG_DONE) return outcome;
-        while (outcome == PAGELOG_DONE && (block = pagelog_next_block(&pulled, &at, &length)))
+        pagelog_hold_pulled(file, file->next, &pulled);
+        while (outcome == PAGELOG_DONE && (block = pagelog_next_block(&pulled, &at, &length))) {
+            if (pagelog_read_number(block, 8) > limit) return PAGELOG_DONE;
             outcome = take_block(file, block, length);
+        }
         if (outcome != PAGELOG_DONE) return outcome;
         file->next = pulled.next;
         if (pulled.hard != 0 || pulled.count == 0 || file->next > until) return PAGELOG_DONE;

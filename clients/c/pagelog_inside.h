@@ -67,8 +67,19 @@ struct ahead {
     size_t done;      /* replies that were read, each of them Done */
 };
 
+/* Who may end a wait. */
+struct pagelog_waiter {
+    bool (*goes_on)(void *); /* asked while a call waits; NULL: nobody is */
+    void *argument;
+    uint64_t since;   /* when the first wait began since that was set; 0: none has */
+    bool is_given_up; /* it has ended the wait */
+};
+
+/* Whether who waits lets the wait go on. */
+bool pagelog_waits_on(struct pagelog_waiter *waiter);
+
 struct pagelog {
-    char *host, *port;
+    char *host, *port; /* NULL: none yet */
     struct pagelog_options options;
     pid_t process;               /* that has made it */
     int socket;                  /* -1: not connected */
@@ -89,10 +100,7 @@ struct pagelog {
     bool anew;                    /* the service was started anew */
     bool stuck;                   /* the window may hold blocks of an append that is not DONE */
     struct ahead ahead;           /* of the append to come */
-    bool (*goes_on)(void *);      /* asked while a call waits; NULL: nobody is */
-    void *waiter;                 /* its argument */
-    uint64_t waits_since;         /* when the first wait began since that was set; 0: none has */
-    bool is_given_up;             /* it has ended the wait */
+    struct pagelog_waiter waiter; /* who may end a wait */
     bool waits;                   /* something was sent since the last wait */
     uint64_t spin_ns;             /* how long a wait looks for its reply awake */
     uint64_t usual_ns;            /* how long the last waits took on average */
@@ -165,9 +173,6 @@ struct pagelog_patience {
     unsigned epochs; /* that replies have reported, and the call was asked again in */
 };
 struct pagelog_patience pagelog_patience_of(struct pagelog *log);
-
-/* Whether who waits lets the wait go on. */
-bool pagelog_waits_on(struct pagelog *log);
 
 /* Something was done: the patience begins anew. */
 void pagelog_progress(struct pagelog_patience *patience);

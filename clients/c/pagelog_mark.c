@@ -1,5 +1,5 @@
 /* The end mark: its bytes, how it is found, and how it ends the blocks of a transaction. */
-#include "pagelog_file_inside.h"
+#include "pagelog_move.h"
 
 #include <string.h>
 
@@ -9,36 +9,41 @@ static const uint8_t magic[8] = {'p', 'l', 'f', 'i', 'l', 'e', '0', '1'};
  * a mark beyond that is forged, and a writer that believed it would write zeros for hours. */
 enum { MOST_ZEROS = PAGELOG_BLOCK_BYTES / PAGELOG_ZERO_BYTES };
 
-bool pagelog_read_mark(const uint8_t *page, struct mark *mark) {
+bool pagelog_read_mark(const struct pagelog_file *file, const uint8_t *page, struct mark *mark) {
     static const uint8_t zeros[MARK_BYTES];
     memset(mark, 0, sizeof *mark);
     if (memcmp(page, zeros, MARK_BYTES) == 0) return true;
     if (memcmp(page, magic, sizeof magic) != 0) return false;
-    mark->lsn = pagelog_read_number(page + 8, 8);
+    uint64_t position = pagelog_read_number(page + 8, 8);
+    mark->lsn = lsn_of(file, position);
     mark->size = pagelog_read_number(page + 16, 8);
     mark->session = pagelog_read_number(page + 24, 8);
     mark->transaction = pagelog_read_number(page + 32, 8);
     if (mark->size > PAGELOG_FILE_MOST) return false;
     uint64_t least = ((uint64_t)pages_of(mark->size) + MOST_ZEROS - 1) / MOST_ZEROS;
-    return mark->lsn > 0 && mark->lsn >= least;
+    return mark->lsn > 0 && position >= least;
 }
 
-static void write_mark(uint8_t *bytes, const struct mark *mark) {
+bool pagelog_is_same_mark(const struct mark *one, const struct mark *other) {
+    return one->lsn == other->lsn && one->session == other->session && one->transaction == other->transaction;
+}
+
+static void write_mark(const struct pagelog_file *file, uint8_t *bytes, const struct mark *mark) {
     memcpy(bytes, magic, sizeof magic);
-    uint8_t *at = pagelog_write_number(bytes + sizeof magic, mark->lsn, 8);
+    uint8_t *at = pagelog_write_number(bytes + sizeof magic, position_of(file, mark->lsn), 8);
     at = pagelog_write_number(at, mark->size, 8);
     at = pagelog_write_number(at, mark->session, 8);
     pagelog_write_number(at, mark->transaction, 8);
 }
 
-bool pagelog_has_mark(const uint8_t *block, struct mark *mark) {
+bool pagelog_has_mark(const struct pagelog_file *file, const uint8_t *block, struct mark *mark) {
     struct pagelog_records records;
     struct pagelog_record record = {0}, last = {0};
     pagelog_records_begin(&records, block);
     while (pagelog_records_next(&records, &record))
         last = record;
     return last.page == MARK_PAGE && last.offset == 0 && last.length == MARK_BYTES &&
-           pagelog_read_mark(last.bytes, mark) && mark->lsn == records.lsn;
+           pagelog_read_mark(file, last.bytes, mark) && mark->lsn == records.lsn;
 }
 
 /* Bytes of a Put's head. */
@@ -47,7 +52,9 @@ enum { PUT_BYTES = 9 };
 enum pagelog_outcome pagelog_append_ended(struct pagelog_file *file) {
     size_t count = pagelog_blocks_count(file->blocks);
     uint64_t asked = pagelog_now();
-    enum pagelog_outcome outcome = pagelog_append(file->log, file->blocks, file->options.written);
+    enum pagelog_outcome outcome = is_named(file) ? pagelog_hold_blocks(file) : PAGELOG_DONE;
+    if (outcome == PAGELOG_DONE) outcome = pagelog_append(file->log, file->blocks, file->options.written);
+    if (is_named(file)) outcome = pagelog_end_append(file, outcome);
     if (outcome != PAGELOG_DONE) return outcome;
     pagelog_blocks_drop(file->blocks, count);
     file->blocks_written += count;
@@ -92,7 +99,7 @@ enum pagelog_outcome pagelog_add_mark(struct pagelog_file *file, struct mark *ma
     enum pagelog_outcome outcome = PAGELOG_DONE;
     mark->lsn = pagelog_blocks_room(file->blocks, MARK_PAGE, (uint16_t)(before + MARK_BYTES));
     if (mark->lsn == 0) return PAGELOG_NO_MEMORY;
-    write_mark(bytes, mark);
+    write_mark(file, bytes, mark);
     if (is_image) outcome = pagelog_blocks_zero(file->blocks, MARK_PAGE);
     if (outcome == PAGELOG_DONE && has_name) outcome = add_name(file);
     if (outcome == PAGELOG_DONE) outcome = pagelog_blocks_put(file->blocks, MARK_PAGE, 0, bytes, MARK_BYTES);
@@ -111,12 +118,12 @@ enum pagelog_outcome pagelog_take_mark(struct pagelog_file *file, uint64_t lsn) 
     enum pagelog_outcome outcome = pagelog_fetch(file, lsn, &number, 1, page);
     if (outcome != PAGELOG_DONE) return outcome;
     file->is_foreign =
-        !pagelog_read_mark(page, &mark) || mark.lsn > lsn || (mark.lsn == 0 && !is_untouched(page));
+        !pagelog_read_mark(file, page, &mark) || mark.lsn > lsn || (mark.lsn == 0 && !is_untouched(page));
     if (file->is_foreign) {
         return pagelog_file_fail(file, PAGELOG_MALFORMED,
                                  "page 0 is no end mark: the database holds something else");
     }
-    if (mark.lsn != file->mark.lsn) {
+    if (!pagelog_is_same_mark(&mark, &file->mark)) {
         pagelog_cache_clear(file->cache);
         file->pending.length = 0;
         file->is_far = false;
@@ -125,6 +132,7 @@ enum pagelog_outcome pagelog_take_mark(struct pagelog_file *file, uint64_t lsn) 
     if (pagelog_is_misnamed(file, page)) return pagelog_refuse_name(file);
     file->is_named = page[NAME_PLACE] > 0;
     file->mark = mark;
+    file->named.is_gone = false;
     pagelog_expect(file->log, lsn, MARK_PAGE, 0, page, MARK_BYTES);
     return PAGELOG_DONE;
 }

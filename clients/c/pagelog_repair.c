@@ -1,6 +1,6 @@
 /* What became of blocks that have no end mark after them, or that are not whole: the repair undoes them, in a
  * transaction of its own. */
-#include "pagelog_file_inside.h"
+#include "pagelog_move.h"
 
 #include <stdlib.h>
 #include <string.h>
@@ -91,6 +91,7 @@ static enum pagelog_outcome touched_pages(struct pagelog_file *file, uint64_t en
         enum pagelog_outcome outcome = pagelog_pull(file->log, next, PAGELOG_PULL_BLOCKS, &pulled);
         if (outcome == PAGELOG_DENIED) break;
         if (outcome != PAGELOG_DONE) return outcome;
+        pagelog_hold_pulled(file, next, &pulled);
         while ((block = pagelog_next_block(&pulled, &at, &length)))
             if (!add_touched(pages, block, last)) return out_of_memory(file);
         next = pulled.next;
@@ -135,8 +136,10 @@ enum pagelog_outcome pagelog_repair(struct pagelog_file *file) {
     }
     free(pages.numbers);
     if (outcome == PAGELOG_DONE) outcome = pagelog_add_mark(file, &mark);
+    uint64_t position = position_of(file, mark.lsn); /* the append may move the file */
     if (outcome == PAGELOG_DONE) outcome = pagelog_append_ended(file);
     if (outcome != PAGELOG_DONE) return outcome;
+    mark.lsn = lsn_of(file, position);
     file->mark = mark;
     file->next = mark.lsn + 1;
     file->repairs++;

@@ -33,13 +33,26 @@
  *   patience=MS      how long lost connections are opened again; as `timeout`, 10000
  *   spin=US          how long a wait for a reply may look for it before it sleeps, as long as the last
  *                    replies came so soon; 50; 0: it sleeps at once, which costs less of a processor
- *   audit=N          how many entries the service's audit list may have; 16777216. A writer with `op` warns
- * in SQLite's log once nine tenths are there unwaited=N       with synchronous=off up to N commits, 64 at
- * most, may be on their way to the service while nobody waits for them; 0
+ *   audit=N          how many entries the service's audit list may have; 16777216. A writer with `op`
+ *                    warns in SQLite's log once nine tenths are there
+ *   async_commits=N  with synchronous=off up to N commits, 64 at most, may be on their way to the service
+ *                    while nobody waits for them; 0
+ *
+ * In place of `to`, for a database that keepers know by name:
+ *
+ *   where=ADDRESSES  the keepers, as 10.0.0.1:7500,10.0.0.2:7500, and
+ *   name=NAME        what they call it. A writer needs `op`, and has to be allowed to read as a secondary
+ *   move=MS          how long a call waits for a generation that it can go on in; 30000
+ *   durable=1        a secondary that sees nothing that could still be lost
+ *
+ * There `at` is a position, and synchronous=full and extra say that a COMMIT waits until the archive has it;
+ * normal, until the service has. What was acknowledged and is not durable yet a writer keeps, and sends again
+ * where a service has died, if nobody else has written there. So no statement fails for a succession, nor for
+ * a death by which nothing was lost. pagelog_move.h says what a move leaves.
  *
  * A transaction is committed by SQLITE_FCNTL_SYNC, which SQLite sends once for each, whatever `synchronous`
  * and `journal_mode` are: what was written since then becomes one transaction of the file. It waits until
- * that is in the log; only where `unwaited` is set and synchronous=off, nobody waits, and an error comes
+ * that is in the log; only where `async_commits` is set and synchronous=off, nobody waits, and an error comes
  * later. With synchronous=full or normal SQLite then syncs the file, which waits. The journal, by which
  * SQLite rolls back, is a file in this process' memory. There is no WAL.
  *
@@ -51,8 +64,11 @@
  *                        until the connection is closed), or a page cannot be read or written, whatever
  *                        refuses it: the transaction is not in the database
  *   SQLITE_IOERR_FSYNC   of a COMMIT: in doubt; the next transaction sees whether it is in it;
- *                        with `unwaited`, of anything: of the last commits, which nobody waited for,
- *                        one or more may not be in the database; the next transaction sees which
+ *                        with `async_commits`, of anything: of the last commits, which nobody waited for,
+ *                        one or more may not be in the database; the next transaction sees which.
+ *                        Of a named database: the same of acknowledged commits that were not durable, told
+ *                        once; with synchronous=full of a COMMIT that no keeper calls durable
+ *   SQLITE_BUSY_SNAPSHOT of a named database: another writer has gone on; nothing of the transaction is there
  *   SQLITE_FULL          the service's memory is full; with the extended code 269 the audit list is
  *   SQLITE_PERM          the table denies it, or there is no such database
  *   SQLITE_PROTOCOL      another session writes in this epoch, or what answers is no such service
@@ -70,10 +86,12 @@
  *
  * `PRAGMA pagelog` reports the state of the connection; `PRAGMA pagelog_lsn` and the like one number of it;
  * `PRAGMA pagelog_error` the last error in words; `PRAGMA pagelog_check = 50` changes `check`, and
- * `PRAGMA pagelog_spin = 0` changes `spin`. `PRAGMA pagelog_unwaited = N` waits for what is on its way, and
- * then changes `unwaited`. `PRAGMA pagelog_take_over` begins an epoch again after another writer has, for all
- * connections of the process, as an open with `op` does. `PRAGMA pagelog_entries` and `pagelog_entries_left`
- * count the audit list by some 24 requests of the operator. SQLite has a VFS report numbers as texts.
+ * `PRAGMA pagelog_spin = 0` changes `spin`. `PRAGMA pagelog_async_commits = N` waits for what is on its way,
+ * and then changes `async_commits`. `PRAGMA pagelog_take_over` begins an epoch again after another writer
+ * has, for all connections of the process, as an open with `op` does. `PRAGMA pagelog_entries` and
+ * `pagelog_entries_left` count the audit list by some 24 requests of the operator. Of a named database
+ * `pagelog_generation`, `pagelog_position`, `pagelog_durable`, `pagelog_moves` and `pagelog_resent` say where
+ * it is. SQLite has a VFS report numbers as texts.
  *
  * Connections of one process that write as one principal to one database share a file, by whatever address
  * they reach it, with the settings of the one that opened it, and lock as SQLite expects. Between processes
@@ -82,6 +100,7 @@
  * became of it nor commits again, until `PRAGMA locking_mode = normal` and one statement more have given the
  * lock back; and after one that was refused it may be refused all else until then, that statement included.
  */
+#include "pagelog_vfs.h"
 #include "pagelog_vfs_inside.h"
 
 #include <string.h>
@@ -96,14 +115,13 @@ sqlite3_vfs *pagelog_real_vfs;
 
 static int open_database(sqlite3_filename name, struct connection *connection, int flags, int *out_flags) {
     struct pagelog_file_options options = {.reads_only = (flags & SQLITE_OPEN_READONLY) != 0};
-    char address[VALUE_BYTES];
-    uint64_t entries;
-    const char *wrong = pagelog_read_settings(name, &options, address, &entries);
+    struct settings settings;
+    const char *wrong = pagelog_read_settings(name, &options, &settings);
     if (wrong) {
         sqlite3_log(SQLITE_MISUSE, "pagelog: the setting %s is missing, unknown, or cannot be read", wrong);
         return SQLITE_MISUSE;
     }
-    int code = pagelog_find_or_open(&options, entries, &connection->database);
+    int code = pagelog_find_or_open(&options, settings.entries, &connection->database);
     if (code != SQLITE_OK) return code;
     pagelog_open_connection(connection, name);
     if (out_flags && options.reads_only)
@@ -213,9 +231,6 @@ static int register_vfs(void) {
 }
 
 #ifdef PAGELOG_STATIC
-
-/* For a program that is linked with this file: registers the VFS. */
-int pagelog_register_vfs(void);
 
 int pagelog_register_vfs(void) {
     return register_vfs();

@@ -25,6 +25,7 @@ static int code_of(const struct pagelog_file *file, enum pagelog_outcome outcome
     case PAGELOG_LOST:
         return SQLITE_IOERR;
     case PAGELOG_FENCED:
+        if (pagelog_file_is_named(file)) return SQLITE_BUSY_SNAPSHOT;
         return pagelog_file_state_of(file).is_anew ? SQLITE_IOERR : SQLITE_READONLY;
     case PAGELOG_IN_DOUBT:
         return SQLITE_IOERR_FSYNC;
@@ -56,7 +57,7 @@ static void unlist_database(struct database *database) {
 /* Notes an outcome by its code. */
 static int note(struct database *database, int code) {
     if (code == SQLITE_IOERR_FSYNC) database->is_loss_untold = false;
-    if (pagelog_file_state_of(database->file).is_anew) unlist_database(database);
+    if (pagelog_file_state_of(database->file).is_anew && !database->is_named) unlist_database(database);
     pagelog_file_explain(database->file, database->error, sizeof database->error);
     sqlite3_log(code, "pagelog: %s", database->error);
     return code;
@@ -81,6 +82,7 @@ static void free_database(struct database *database) {
     sqlite3_free(database->key);
     sqlite3_free(database->address);
     sqlite3_free(database->name);
+    sqlite3_free(database->kept_name);
     sqlite3_free(database);
 }
 
@@ -89,7 +91,8 @@ static char *key_of(const struct pagelog_file_options *options) {
     char token[2 * PAGELOG_TOKEN_BYTES + 1];
     for (size_t i = 0; i < PAGELOG_TOKEN_BYTES; i++)
         sprintf(token + 2 * i, "%02x", options->service.token[i]);
-    return sqlite3_mprintf("%u %u %s", options->service.database, options->service.principal, token);
+    return sqlite3_mprintf("%u %u %s %s", options->service.database, options->service.principal, token,
+                           options->keepers ? options->database_name : "");
 }
 
 static void take_operator(struct database *database, const struct pagelog_file_options *options) {
@@ -107,11 +110,14 @@ static struct database *make_database(const struct pagelog_file_options *options
     database->references = 1;
     database->key = key_of(options);
     database->address = sqlite3_mprintf("%s", options->service.address);
+    database->is_named = options->keepers != NULL;
+    database->kept_name = sqlite3_mprintf("%s", database->is_named ? options->database_name : "");
     database->name = sqlite3_mprintf("%s", options->name);
     database->mutex = sqlite3_mutex_alloc(SQLITE_MUTEX_FAST);
     database->file = pagelog_file_new(options);
     take_operator(database, options);
-    if (database->key && database->address && database->name && database->mutex && database->file)
+    if (database->key && database->address && database->name && database->kept_name && database->mutex &&
+        database->file)
         return database;
     free_database(database);
     return NULL;
@@ -153,11 +159,11 @@ static struct database *find_listed(const struct database *made) {
  * reader has one of its own. */
 static int share(struct database **database) {
     struct database *made = *database, *found = find_listed(made);
-    if (!found) {
+    if (!found && !made->is_named) {
         enum pagelog_outcome outcome = pagelog_file_connect(made->file, made->peer, sizeof made->peer);
         if (outcome != PAGELOG_DONE) return pagelog_result_of_begin(made, outcome);
-        found = find_or_list(made);
     }
+    if (!found) found = find_or_list(made);
     if (!found) return SQLITE_OK;
     free_database(made);
     *database = found;
@@ -193,11 +199,21 @@ static int join(struct database *database, const struct pagelog_file_options *op
     return pagelog_take_over_if_wanted(database);
 }
 
+/* SQLite begins again where it is busy, if the transaction has read nothing yet. */
+int pagelog_reserve_database(struct database *database) {
+    enum pagelog_outcome outcome = pagelog_file_reserve(database->file);
+    if (outcome == PAGELOG_DONE) return SQLITE_OK;
+    struct pagelog_file_state state = pagelog_file_state_of(database->file);
+    if (outcome == PAGELOG_FENCED && !state.is_over && !state.is_gone) return SQLITE_BUSY;
+    return pagelog_result_of_begin(database, outcome);
+}
+
 /* One request when a writer opens, and one for each 64th of the list that it has filled itself. */
 void pagelog_warn_of_full_list(struct database *database) {
     struct pagelog_file_state state = pagelog_file_state_of(database->file);
     uint64_t since = state.wire.requests - database->looked, tenth = database->entries / 10;
     bool is_due = database->looked == 0 || since > database->entries / 64, has = false;
+    if (database->is_named) return; /* its keeper sees to that */
     if (!database->has_operator || !is_due || state.on_their_way > 0) return;
     database->looked = state.wire.requests;
     if (pagelog_file_has_entry(database->file, database->entries - tenth, &has) == PAGELOG_DONE && has)

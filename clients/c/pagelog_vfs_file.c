@@ -47,6 +47,7 @@ static int file_close(sqlite3_file *file) {
     pagelog_file_set_waiting(database->file, NULL, NULL);
     leave(database, SQLITE_OK);
     pagelog_unlist_connection(connection);
+    pagelog_keepers_free(connection->keepers);
     pagelog_release(database);
     return SQLITE_OK;
 }
@@ -138,8 +139,17 @@ static int note_refusal(struct connection *connection, int code) {
     return code;
 }
 
+/* What SQLite writes after a COMMIT that is in doubt: of its rollback nothing is done, and the next
+ * transaction, of a connection that keeps the lock, is refused. SQLITE_NOTFOUND where nothing is in doubt. */
+static int drop_write(const struct connection *connection) {
+    if (connection->decision == DECIDED) return SQLITE_NOTFOUND;
+    return connection->decision == IN_DOUBT ? SQLITE_OK : SQLITE_IOERR;
+}
+
 static int file_write(sqlite3_file *file, const void *bytes, int length, sqlite3_int64 offset) {
     struct database *database = enter(file);
+    int decided = drop_write((struct connection *)file);
+    if (decided != SQLITE_NOTFOUND) return leave(database, decided);
     ((struct connection *)file)->is_committed = false;
     forget_wal((struct connection *)file, bytes, length, offset);
     int code =
@@ -153,6 +163,8 @@ static int file_write(sqlite3_file *file, const void *bytes, int length, sqlite3
 static int file_truncate(sqlite3_file *file, sqlite3_int64 size) {
     bool is_committed = ((struct connection *)file)->is_committed;
     struct database *database = enter(file);
+    int decided = drop_write((struct connection *)file);
+    if (decided != SQLITE_NOTFOUND) return leave(database, decided);
     int code = pagelog_result(database, pagelog_file_resize(database->file, (uint64_t)size));
     if (is_committed && !pagelog_file_state_of(database->file).is_over) code = SQLITE_OK;
     return leave(database, note_error(file, as_io_error(code)));
@@ -161,8 +173,12 @@ static int file_truncate(sqlite3_file *file, sqlite3_int64 size) {
 /* Follows the commit, unless synchronous=off. */
 static int file_sync(sqlite3_file *file, int flags) {
     (void)flags;
+    struct connection *connection = (struct connection *)file;
     struct database *database = enter(file);
-    return leave(database, pagelog_result(database, pagelog_file_settle(database->file)));
+    if (connection->decision != DECIDED) return leave(database, SQLITE_OK); /* of a rollback */
+    int code = pagelog_result(database, pagelog_file_settle(database->file));
+    if (code == SQLITE_OK) code = pagelog_wait_until_durable(connection);
+    return leave(database, note_error(file, code));
 }
 
 static int file_size(sqlite3_file *file, sqlite3_int64 *size) {
@@ -189,6 +205,10 @@ static int file_device_characteristics(sqlite3_file *file) {
  * pagelog_error` still reports why the commit was. */
 static int commit(struct connection *connection) {
     struct database *database = connection->database;
+    if (connection->decision != DECIDED) {
+        connection->decision = ROLLED_BACK;
+        return SQLITE_OK;
+    }
     char error[ERROR_BYTES];
     bool is_rollback = connection->is_refused;
     memcpy(error, database->error, sizeof error);
@@ -256,6 +276,9 @@ void pagelog_open_connection(struct connection *connection, sqlite3_filename nam
     connection->is_exclusive = false;
     connection->busy = NULL;
     connection->sqlite = NULL;
+    connection->keepers = NULL;
+    connection->decision = DECIDED;
+    connection->synchronous = SYNCHRONOUS_FULL; /* as SQLite begins */
     connection->journal_mode = "delete";
     connection->base.pMethods = &file_methods;
     pagelog_list_connection(connection, name);

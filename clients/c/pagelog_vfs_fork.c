@@ -83,5 +83,6 @@ void pagelog_disown_connection(struct connection *connection) {
         .xSectorSize = inherited_sector_size,
         .xDeviceCharacteristics = inherited_device_characteristics,
     };
+    if (connection->keepers) pagelog_keepers_abandon(connection->keepers);
     connection->base.pMethods = &methods;
 }

@@ -4,6 +4,7 @@
 #define PAGELOG_VFS_INSIDE_H
 
 #include "pagelog_file.h"
+#include "pagelog_place.h"
 
 #ifdef PAGELOG_STATIC
 #include <sqlite3.h>
@@ -42,7 +43,11 @@ struct database {
     bool has_operator;           /* in whose name it is taken over */
     uint32_t operator_principal;
     uint8_t operator_token[PAGELOG_TOKEN_BYTES];
-    bool is_inherited;   /* this process is a child of the one that has opened it */
+    bool is_inherited; /* this process is a child of the one that has opened it */
+    bool is_named;     /* by keepers, the addresses of which are `address` then */
+    char *kept_name;   /* the name that they know it by, or NULL */
+    unsigned
+        durable_waits;   /* commits that are in the log, and wait until they are durable; others may read */
     bool is_loss_untold; /* the file has lost commits, and no statement has told it */
     uint64_t entries;    /* that the audit list may have */
     uint64_t looked;     /* requests of this file when it was last looked how full that is */
@@ -50,6 +55,13 @@ struct database {
     sqlite3_int64 room_bytes;
     char error[ERROR_BYTES];
 };
+
+/* Whether the last COMMIT, which is in the log, could not be told to be durable. SQLite rolls back then: what
+ * it writes for that is dropped, so that the COMMIT stays in doubt, and is not undone by another one. */
+enum decision { DECIDED, IN_DOUBT, ROLLED_BACK };
+
+/* Of `PRAGMA synchronous`. */
+enum { SYNCHRONOUS_OFF, SYNCHRONOUS_NORMAL, SYNCHRONOUS_FULL, SYNCHRONOUS_EXTRA };
 
 struct connection {
     sqlite3_file base;
@@ -67,7 +79,11 @@ struct connection {
     void *busy_argument;
     sqlite3 **sqlite;
     bool has_waited; /* the handler has let the present call wait */
-    /* What was set by `PRAGMA locking_mode` and `journal_mode`. */
+    /* Of a named database: who is asked what is durable, while others use the file. */
+    struct pagelog_keepers *keepers;
+    enum decision decision;
+    /* What was set by `PRAGMA synchronous`, `locking_mode` and `journal_mode`. */
+    int synchronous;
     bool is_exclusive;
     const char *journal_mode;
 };
@@ -110,10 +126,17 @@ enum { MOST_MS = 3600000, MOST_SPIN_US = 1000000 };
 /* Reads a number of at most `most`; false where the text is none. */
 bool pagelog_read_number_of(const char *text, uint64_t most, uint64_t *number);
 
+/* What the settings say beside the options, and what those point to. */
+struct settings {
+    char address[VALUE_BYTES],
+        name[VALUE_BYTES]; /* of the service; or the keepers, and the name that they know */
+    uint64_t entries;      /* that the audit list may have */
+};
+
 /* Reads all settings; the name of the first one that is missing, has no meaning, or cannot be read, or NULL.
  */
 const char *pagelog_read_settings(sqlite3_filename uri, struct pagelog_file_options *options,
-                                  char address[VALUE_BYTES], uint64_t *entries);
+                                  struct settings *settings);
 
 /* A number of microseconds, as the wire has it. */
 unsigned pagelog_spin_of(uint64_t us);
@@ -138,6 +161,10 @@ int pagelog_take_over_if_wanted(struct database *database);
 int pagelog_find_or_open(const struct pagelog_file_options *options, uint64_t entries,
                          struct database **found);
 
+/* Makes the database's file the writer, of a named one: SQLITE_BUSY where another has written since the
+ * begin. */
+int pagelog_reserve_database(struct database *database);
+
 /* Gives a reference back; the last one frees the database. */
 void pagelog_release(struct database *database);
 
@@ -157,6 +184,12 @@ void pagelog_call_untold(struct database *database, enum pagelog_outcome (*call)
 
 /* Makes a file of SQLite's a connection to its database, which is open. */
 void pagelog_open_connection(struct connection *connection, sqlite3_filename name);
+
+/* ---- pagelog_vfs_durable.c ---- */
+
+/* After a commit: waits until it is durable, where `synchronous` asks for that. Others may use the database
+ * meanwhile. */
+int pagelog_wait_until_durable(struct connection *connection);
 
 /* ---- pagelog_vfs_fork.c ---- */
 

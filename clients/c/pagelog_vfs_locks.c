@@ -13,12 +13,13 @@ void pagelog_lower_lock(struct database *database, struct connection *connection
     }
     if (lock == SQLITE_LOCK_NONE) database->sharing--;
     connection->lock = lock;
+    connection->decision = DECIDED;
     connection->is_refused = connection->is_committed = false;
 }
 
 /* The first of those that share the database begins a transaction of the file. */
 static int lock_shared(struct database *database) {
-    if (database->is_pending) return SQLITE_BUSY;
+    if (database->is_pending && database->durable_waits == 0) return SQLITE_BUSY;
     if (database->sharing > 0 && pagelog_file_state_of(database->file).is_over) return SQLITE_BUSY;
     if (database->is_loss_untold) {
         database->is_loss_untold = false;
@@ -52,6 +53,7 @@ static int refuse_commit(struct database *database) {
 static int lock_reserved(struct database *database, struct connection *connection) {
     if (database->reserved && database->reserved != connection) return SQLITE_BUSY;
     int code = pagelog_file_may_commit(database->file) ? SQLITE_OK : refuse_commit(database);
+    if (code == SQLITE_OK && !database->reserved) code = pagelog_reserve_database(database);
     if (code == SQLITE_OK) database->reserved = connection;
     return code;
 }

@@ -5,7 +5,8 @@
 #include <string.h>
 
 static const char *role_name(const struct pagelog_file_state *state) {
-    return state->is_writer ? "writer" : state->is_fenced ? "fenced" : "reader";
+    if (state->is_writer) return "writer";
+    return state->is_fenced && !state->is_named ? "fenced" : "reader";
 }
 
 /* What `PRAGMA pagelog_...` reports, by its name. */
@@ -22,7 +23,12 @@ static bool number_of(const struct pagelog_file_state *state, const char *name, 
         {"writing_epoch", state->writing_epoch},
         {"check", state->check_ms},
         {"spin", state->spin_us},
-        {"unwaited", state->unwaited},
+        {"async_commits", state->unwaited},
+        {"position", state->position},
+        {"durable", state->durable},
+        {"generation", state->generation},
+        {"moves", state->moves},
+        {"resent", state->resent},
         {"on_their_way", state->on_their_way},
         {"losses", state->losses},
         {"copies", state->zone.copies},
@@ -89,7 +95,7 @@ static int count_entries(struct database *database, bool is_left, char **words) 
 }
 
 /* Waits for what is on its way, and then changes how much may be. */
-static int set_unwaited(struct database *database, uint64_t number) {
+static int set_async_commits(struct database *database, uint64_t number) {
     int code = pagelog_result(database, pagelog_file_settle(database->file));
     if (code == SQLITE_OK) pagelog_file_set_unwaited(database->file, (unsigned)number);
     return code;
@@ -100,7 +106,7 @@ static int set_by_pragma(struct database *database, const char *name, const char
     const struct {
         const char *name;
         uint64_t most;
-    } settings[] = {{"_check", MOST_MS}, {"_spin", MOST_SPIN_US}, {"_unwaited", PAGELOG_WINDOW}};
+    } settings[] = {{"_check", MOST_MS}, {"_spin", MOST_SPIN_US}, {"_async_commits", PAGELOG_WINDOW}};
     uint64_t number = 0;
     size_t i = 0;
     while (i < 3 && sqlite3_stricmp(name, settings[i].name) != 0)
@@ -110,10 +116,27 @@ static int set_by_pragma(struct database *database, const char *name, const char
                         : sqlite3_mprintf("pagelog%s is a number from 0 to %llu", name, settings[i].most);
         return SQLITE_MISUSE;
     }
-    if (i == 2) return set_unwaited(database, number);
+    if (i == 2) return set_async_commits(database, number);
     if (i == 0) pagelog_file_set_check(database->file, (unsigned)number);
     if (i == 1) pagelog_file_set_spin(database->file, pagelog_spin_of(number));
     return SQLITE_OK;
+}
+
+/* What SQLite makes of the value of `PRAGMA synchronous`. */
+static int level_of(const char *value) {
+    static const char *const off[] = {"off", "no", "false"};
+    if (*value >= '0' && *value <= '9') return (*value - '0' + 1) % 8 > 0 ? *value - '0' : SYNCHRONOUS_OFF;
+    for (size_t i = 0; i < sizeof off / sizeof *off; i++)
+        if (sqlite3_stricmp(value, off[i]) == 0) return SYNCHRONOUS_OFF;
+    if (sqlite3_stricmp(value, "full") == 0) return SYNCHRONOUS_FULL;
+    return sqlite3_stricmp(value, "extra") == 0 ? SYNCHRONOUS_EXTRA : SYNCHRONOUS_NORMAL;
+}
+
+/* A sync cannot tell full from normal; only this pragma does. Within a transaction SQLite changes nothing. */
+static void note_synchronous(struct connection *connection, const char *value) {
+    bool is_changed =
+        !connection->sqlite || !*connection->sqlite || sqlite3_get_autocommit(*connection->sqlite);
+    if (is_changed) connection->synchronous = level_of(value);
 }
 
 /* SQLite takes a WAL to be possible where one connection keeps the lock, whatever the VFS has. There is none
@@ -122,6 +145,7 @@ static int answer_mode(struct connection *connection, char **arguments) {
     static const char *const modes[] = {"delete", "truncate", "persist", "memory", "off"};
     const char *name = arguments[1], *value = arguments[2];
     if (!value) return SQLITE_NOTFOUND;
+    if (sqlite3_stricmp(name, "synchronous") == 0) note_synchronous(connection, value);
     if (sqlite3_stricmp(name, "locking_mode") == 0) {
         if (sqlite3_stricmp(value, "exclusive") == 0) connection->is_exclusive = true;
         if (sqlite3_stricmp(value, "normal") == 0) connection->is_exclusive = false;

@@ -15,10 +15,11 @@ enum { DEFAULT_SPIN_US = 50 };
 enum { MOST_ENTRIES = 1 << 24 };
 
 /* The parameters of a URI: these, and SQLite's own. */
-static const char *const known[] = {
-    "to",          "db",    "id",     "token",  "op",      "optoken", "mode",      "at",       "check",
-    "stale",       "pages", "copies", "quorum", "written", "spin",    "timeout",   "patience", "unwaited",
-    "credentials", "audit", "vfs",    "cache",  "psow",    "nolock",  "immutable", "modeof"};
+static const char *const known[] = {"to",          "db",      "id",    "token",   "op",       "optoken",
+                                    "mode",        "at",      "check", "stale",   "pages",    "copies",
+                                    "quorum",      "written", "spin",  "timeout", "patience", "async_commits",
+                                    "credentials", "audit",   "vfs",   "cache",   "psow",     "nolock",
+                                    "immutable",   "modeof",  "where", "name",    "move",     "durable"};
 
 /* Looks in the file `path` for a line "NAME VALUE". */
 static bool find_in_file(const char *path, const char *name, char *value) {
@@ -111,15 +112,36 @@ unsigned pagelog_spin_of(uint64_t us) {
     return us == 0 ? PAGELOG_NO_SPIN : (unsigned)us;
 }
 
-/* Who asks which service for which database: the name of the first setting that is wrong, or NULL. */
-static const char *read_service(sqlite3_filename uri, struct pagelog_options *service,
-                                char address[VALUE_BYTES]) {
+/* Whether a URI names a database of keepers: the nearest place that has one of `to` and `where` decides. */
+static bool is_of_keepers(sqlite3_filename uri, char where[VALUE_BYTES]) {
+    bool has_address = sqlite3_uri_parameter(uri, "to") && !sqlite3_uri_parameter(uri, "where");
+    return !has_address && find_setting(uri, "where", where);
+}
+
+/* Where the database is: the name of the first setting that is wrong, or NULL. */
+static const char *read_place(sqlite3_filename uri, struct pagelog_file_options *options,
+                              struct settings *settings) {
+    uint64_t move = 0, durable = 0;
+    bool is_there = find_setting(uri, "to", settings->address);
+    options->service.address = settings->address;
+    if (sqlite3_uri_parameter(uri, "to") && sqlite3_uri_parameter(uri, "where")) return "where";
+    if (!is_of_keepers(uri, settings->address)) return is_there ? NULL : "to";
+    if (!find_setting(uri, "name", settings->name) || !*settings->name) return "name";
+    if (!read_setting(uri, "move", MOST_MS, &move)) return "move";
+    if (!read_setting(uri, "durable", 1, &durable)) return "durable";
+    options->keepers = settings->address;
+    options->database_name = settings->name;
+    options->move_ms = (unsigned)move;
+    options->durable_only = durable == 1 && options->reads_only;
+    return NULL;
+}
+
+/* Who asks for which database: the name of the first setting that is wrong, or NULL. */
+static const char *read_principal(sqlite3_filename uri, struct pagelog_options *service) {
     uint64_t database = 0, id = UINT64_MAX;
-    if (!find_setting(uri, "to", address)) return "to";
     if (!read_setting(uri, "id", UINT32_MAX, &id) || id == UINT64_MAX) return "id";
     if (!read_token(uri, "token", service->token)) return "token";
     if (!read_setting(uri, "db", UINT32_MAX, &database)) return "db";
-    service->address = address;
     service->principal = (uint32_t)id;
     service->database = (uint32_t)database;
     return NULL;
@@ -147,7 +169,7 @@ static const char *read_waits(sqlite3_filename uri, struct pagelog_file_options 
     uint64_t patience = timeout;
     if (!read_setting(uri, "patience", MOST_MS, &patience)) return "patience";
     if (!read_setting(uri, "spin", MOST_SPIN_US, &spin)) return "spin";
-    if (!read_setting(uri, "unwaited", PAGELOG_WINDOW, &unwaited)) return "unwaited";
+    if (!read_setting(uri, "async_commits", PAGELOG_WINDOW, &unwaited)) return "async_commits";
     options->service.connect_ms = options->service.reply_ms = (unsigned)timeout;
     options->service.patience_ms = (unsigned)patience;
     options->service.spin_us = pagelog_spin_of(spin);
@@ -157,22 +179,25 @@ static const char *read_waits(sqlite3_filename uri, struct pagelog_file_options 
 }
 
 const char *pagelog_read_settings(sqlite3_filename uri, struct pagelog_file_options *options,
-                                  char address[VALUE_BYTES], uint64_t *entries) {
+                                  struct settings *settings) {
     uint64_t pages = 0, stale = 0;
     const char *wrong = find_unknown(uri);
-    *entries = MOST_ENTRIES;
+    settings->entries = MOST_ENTRIES;
     if (!wrong && strlen(uri) > PAGELOG_NAME_BYTES) wrong = "(name)";
-    if (!wrong) wrong = read_service(uri, &options->service, address);
+    if (!wrong) wrong = read_place(uri, options, settings);
+    if (!wrong) wrong = read_principal(uri, &options->service);
     if (!wrong) wrong = read_zone(uri, options);
     if (!wrong) wrong = read_waits(uri, options);
     if (wrong) return wrong;
     if (!read_setting(uri, "at", PAGELOG_LAST_LSN, &options->at)) return "at";
     if (!read_setting(uri, "pages", UINT32_MAX, &pages)) return "pages";
     if (!read_setting(uri, "stale", 1, &stale)) return "stale";
-    if (!read_setting(uri, "audit", MOST_ENTRIES, entries) || *entries == 0) return "audit";
+    if (!read_setting(uri, "audit", MOST_ENTRIES, &settings->entries) || settings->entries == 0)
+        return "audit";
     options->reads_only = options->reads_only || options->at > 0;
     options->cache_pages = (size_t)pages;
     options->may_be_stale = stale == 1;
     options->name = uri;
-    return read_operator(uri, options) ? NULL : "op";
+    bool needs_operator = options->keepers && !options->reads_only; /* its writer begins epochs as it moves */
+    return read_operator(uri, options) && (options->has_operator || !needs_operator) ? NULL : "op";
 }

@@ -322,16 +322,60 @@ class Log:
         return text.value.decode()
 
 
+class Place(Structure):
+    _fields_ = [("generation", c_uint64), ("run", ctypes.c_char * 80), ("address", ctypes.c_char * 256), ("lines", ctypes.c_char * 256),
+                ("archived", c_uint64), ("base", c_uint64), ("shift", ctypes.c_int64)]
+
+
+class Fate(Structure):
+    _fields_ = [("end", c_uint64), ("is_over", c_bool)]
+
+
+declare("pagelog_keepers_new", c_void_p, c_char_p, c_char_p)
+declare("pagelog_keepers_free", None, c_void_p)
+declare("pagelog_where", c_uint, c_void_p, c_uint64, POINTER(Place))
+declare("pagelog_fate_of", c_uint, c_void_p, c_char_p, c_uint64, c_uint64, POINTER(Fate))
+declare("pagelog_token_of_run", None, c_void_p, Token, c_char_p, Token)
+
+
+class Keepers:
+    """What keepers say of a database."""
+
+    def __init__(self, addresses, name="shop"):
+        self.made = lib.pagelog_keepers_new(addresses.encode(), name.encode())
+
+    def __enter__(self):
+        return self
+
+    def __exit__(self, *_):
+        lib.pagelog_keepers_free(self.made)
+
+    def where(self, least=0):
+        place = Place()
+        return name(lib.pagelog_where(self.made, least, byref(place))), place
+
+    def fate(self, generation, position, lines=None):
+        fate = Fate()
+        return name(lib.pagelog_fate_of(self.made, lines and lines.encode(), generation, position, byref(fate))), fate
+
+    def token(self, key, run):
+        made = Token()
+        lib.pagelog_token_of_run(self.made, Token(*key), run.encode(), made)
+        return bytes(made)
+
+
 class FileOptions(Structure):
     _fields_ = [("service", Options), ("reads_only", c_bool), ("has_operator", c_bool), ("operator", c_uint32),
                 ("operator_token", Token), ("written", c_uint), ("unwaited", c_uint), ("check_ms", c_uint), ("cache_pages", c_size_t),
-                ("at", c_uint64), ("may_be_stale", c_bool), ("name", c_char_p)]
+                ("at", c_uint64), ("may_be_stale", c_bool), ("name", c_char_p), ("keepers", c_char_p), ("database_name", c_char_p),
+                ("move_ms", c_uint), ("durable_only", c_bool)]
 
 
 class State(Structure):
     _fields_ = [("is_writer", c_bool), ("is_fenced", c_bool), ("is_broken", c_bool), ("is_stale", c_bool),
                 ("is_anew", c_bool), ("is_foreign", c_bool), ("is_misnamed", c_bool), ("is_over", c_bool),
-                ("lsn", c_uint64), ("end", c_uint64), ("size", c_uint64), ("transaction", c_uint64),
+                ("is_named", c_bool), ("is_gone", c_bool), ("generation", c_uint64), ("position", c_uint64), ("durable", c_uint64),
+                ("committed", c_uint64), ("moves", c_uint64), ("resent", c_uint64), ("lsn", c_uint64), ("end", c_uint64), ("size", c_uint64), ("transaction", c_uint64),
                 ("epoch", c_uint32), ("writing_epoch", c_uint32), ("zone", Zone), ("cached_pages", c_size_t),
                 ("check_ms", c_uint), ("spin_us", c_uint), ("unwaited", c_uint), ("on_their_way", c_uint64),
                 ("losses", c_uint64), ("commits", c_uint64),

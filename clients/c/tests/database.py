@@ -33,6 +33,28 @@ def connect(address, principal=2, operator=1, **more):
                            check_same_thread=False)
 
 
+def named(keeper, principal=2, **more):
+    """A connection to the database of a stub."""
+    return sqlite_of(keeper.address, more.pop("name", keeper.name), principal, **more)
+
+
+def sqlite_of(keepers, name, principal, **more):
+    """A connection to a database that keepers know by name."""
+    parts = {"vfs": "pagelog", "where": keepers, "name": name, "id": principal, "token": TOKENS[principal], "timeout": 300000,
+             "move": 300000}
+    if "mode" not in more and "at" not in more:
+        parts.update(op=1, optoken=TOKENS[1])
+    timeout = more.pop("busy", 300.0)
+    parts.update(more)
+    text = "file:test?" + "&".join(f"{key}={value}" for key, value in parts.items())
+    return sqlite3.connect(text, uri=True, isolation_level=None, timeout=timeout, check_same_thread=False)
+
+
+def numbers(connection, *names):
+    """What pragmas of this VFS report."""
+    return tuple(int(one(connection, f"pragma pagelog_{name}")) for name in names)
+
+
 def reader(address, principal=3, **more):
     return connect(address, principal, None, mode="ro", **more)
 

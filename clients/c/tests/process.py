@@ -27,7 +27,7 @@ def wait_for_the_end():
 
 
 def writer(address, principal=2, unwaited=0, **more):
-    connection = connect(address, principal, unwaited=unwaited, **more)
+    connection = connect(address, principal, async_commits=unwaited, **more)
     if unwaited:
         connection.execute("pragma synchronous = off")
     return connection

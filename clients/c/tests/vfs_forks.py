@@ -117,7 +117,7 @@ def test_a_child_that_ends_leaves_the_parent_alone():
             return frame
 
         with Service() as service, Proxy(service.address, between=between) as proxy:
-            parent = connect(proxy.address, unwaited=unwaited, check=3600000)
+            parent = connect(proxy.address, async_commits=unwaited, check=3600000)
             parent.execute("create table t(a)")
             parent.execute(f"pragma synchronous = {'off' if unwaited else 'full'}")
             for number in range(10):
@@ -127,7 +127,7 @@ def test_a_child_that_ends_leaves_the_parent_alone():
                 same("closed", None, in_child(lambda: code_of(parent.close)))
                 if not unwaited:
                     same("nothing was sent", before, frames[0])
-            parent.execute("pragma pagelog_unwaited = 0")
+            parent.execute("pragma pagelog_async_commits = 0")
             same("the parent's connection", ("1", "0", "2"), tuple(one(parent, f"pragma pagelog_{name}") for name in
                                                                    ("connects", "losses", "writing_epoch")))
             same("rows", 50, one(reader(service.address), "select count(*) from t"))
@@ -141,7 +141,7 @@ def test_an_inherited_connection_refuses():
 
         def use():
             texts = ("select * from t", "insert into t values (9)", "begin immediate", "pragma pagelog_lsn",
-                     "pragma pagelog_unwaited = 1")
+                     "pragma pagelog_async_commits = 1")
             return [code_of(lambda: parent.execute(text).fetchall()) for text in texts]
 
         same("outside of a transaction", ["SQLITE_MISUSE"] * 5, in_child(use))

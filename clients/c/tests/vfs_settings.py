@@ -58,7 +58,7 @@ def test_a_pragma_that_means_nothing_is_refused():
                                   ("pagelog_check = 3600001", "SQLITE_MISUSE", "from 0 to 3600000"),
                                   ("pagelog_check = abc", "SQLITE_MISUSE", "from 0 to 3600000"),
                                   ("pagelog_spin = 1000001", "SQLITE_MISUSE", "from 0 to 1000000"),
-                                  ("pagelog_unwaited = 65", "SQLITE_MISUSE", "from 0 to 64"),
+                                  ("pagelog_async_commits = 65", "SQLITE_MISUSE", "from 0 to 64"),
                                   ("pagelog_lsn = 5", "SQLITE_MISUSE", "pagelog_lsn cannot be set"),
                                   ("pagelog_chekc", "SQLITE_ERROR", "no such pragma: pagelog_chekc"),
                                   ("pagelog_check = 3600000", None, "")):

@@ -47,7 +47,7 @@ def mixed(numbers, count):
 
 def unwaiting(address, **more):
     """A writer that waits for no commit."""
-    connection = connect(address, unwaited=64, **more)
+    connection = connect(address, async_commits=64, **more)
     connection.execute("pragma synchronous = off")
     return connection
 
@@ -90,7 +90,7 @@ def test_mixed_transactions_beside_plain_sqlite():
         for database, connection in enumerate((ours, unwaited)):
             same("integrity", "ok", one(connection, "pragma integrity_check"))
             same("dump", wanted, list(connection.iterdump()))
-            connection.execute("pragma pagelog_unwaited = 0")
+            connection.execute("pragma pagelog_async_commits = 0")
             with_reader = reader(service.address, db=database)
             same("integrity of a reader", "ok", one(with_reader, "pragma integrity_check"))
             same("dump of a reader", wanted, list(with_reader.iterdump()))
@@ -268,12 +268,12 @@ def number_of(connection, name):
 def test_commits_that_nobody_waits_for():
     """Only where both are said: `unwaited` and synchronous=off. Who closes waits."""
     with Service() as service:
-        connection = connect(service.address, check=3600000, unwaited=30)
+        connection = connect(service.address, check=3600000, async_commits=30)
         connection.execute("create table t(a)")
         for synchronous, unwaited, least, most in (("full", 30, 100, 100), ("normal", 30, 100, 100), ("off", 0, 100, 100),
                                                    ("off", 30, 0, 10)):
             connection.execute(f"pragma synchronous = {synchronous}")
-            same("unwaited", str(unwaited), one(connection, f"pragma pagelog_unwaited = {unwaited}"))
+            same("unwaited", str(unwaited), one(connection, f"pragma pagelog_async_commits = {unwaited}"))
             before = number_of(connection, "round_trips")
             for number in range(100):
                 connection.execute("insert into t values (?)", (number,))
@@ -306,7 +306,7 @@ def test_a_commit_waits_at_the_limit():
         first.execute("create table t(a)")
         first.close()
         with Proxy(service.address, between=between, holds=lambda: reports[0] % (limit + 1) > 0) as proxy:
-            connection = connect(proxy.address, check=3600000, unwaited=limit, timeout=5000, patience=1000)
+            connection = connect(proxy.address, check=3600000, async_commits=limit, timeout=5000, patience=1000)
             connection.execute("pragma synchronous = off")
             same("no row yet", 0, one(connection, "select count(*) from t"))
             before = number_of(connection, "round_trips")
@@ -323,7 +323,7 @@ def test_a_cache_of_lost_commits_is_not_believed():
     with Service() as service:
         old, other = (unwaiting(service.address, check=3600000) for _ in range(2))
         old.executescript("create table t(a); insert into t values (1);")
-        old.execute("pragma pagelog_unwaited = 64")
+        old.execute("pragma pagelog_async_commits = 64")
         for connection in (old, other):
             same("in the cache of both", [(1,)], connection.execute("select a from t").fetchall())
         new = connect(service.address, 5)
@@ -350,7 +350,7 @@ def test_lost_commits_and_a_connection_that_comes_after():
         with Service() as service, service.operator() as operator, Proxy(service.address, between=between) as proxy:
             old, looker = (unwaiting(proxy.address, check=3600000) for _ in range(2))
             old.executescript("pragma page_size = 4096; create table t(a); insert into t values (1);")
-            old.execute("pragma pagelog_unwaited = 64")
+            old.execute("pragma pagelog_async_commits = 64")
             operator.failover(2)
             may_pass.clear()
             old.execute("insert into t values (2)")
@@ -358,7 +358,7 @@ def test_lost_commits_and_a_connection_that_comes_after():
                 looker.execute("begin")
                 same("what nobody waited for", 2, one(looker, "select count(*) from t"))
             may_pass.set()
-            same("reported", "SQLITE_IOERR_FSYNC", code_of(lambda: old.execute("pragma pagelog_unwaited = 0")))
+            same("reported", "SQLITE_IOERR_FSYNC", code_of(lambda: old.execute("pragma pagelog_async_commits = 0")))
             new = connect(proxy.address, busy=0.1)
             if is_reading:
                 same("waits", "SQLITE_BUSY", code_of(lambda: one(new, "select count(*) from t")))
@@ -375,11 +375,11 @@ def test_commits_that_are_lost_while_a_connection_closes():
         with Service() as service, service.operator() as operator:
             closing, left = (unwaiting(service.address, check=3600000) for _ in range(2))
             left.executescript("create table t(a); insert into t values (1);")
-            left.execute("pragma pagelog_unwaited = 64")
+            left.execute("pragma pagelog_async_commits = 64")
             operator.failover(2)
             left.execute("insert into t values (2)")
             if is_told:
-                same("told", "SQLITE_IOERR_FSYNC", code_of(lambda: left.execute("pragma pagelog_unwaited = 0")))
+                same("told", "SQLITE_IOERR_FSYNC", code_of(lambda: left.execute("pragma pagelog_async_commits = 0")))
             closing.close()
             if not is_told:
                 same("told by the next", "SQLITE_IOERR_FSYNC", code_of(lambda: one(left, "select count(*) from t")))
@@ -396,12 +396,12 @@ def test_commits_that_are_lost_while_the_file_is_made_shorter():
                 connection = unwaiting(proxy.address, check=3600000)
                 connection.executescript("pragma auto_vacuum = full; create table t(a); create table u(a);")
                 connection.execute("insert into t values (zeroblob(100000))")
-                connection.execute("pragma pagelog_unwaited = 1")
+                connection.execute("pragma pagelog_async_commits = 1")
                 rule[0] = failing_over(service, wire.WRITE, write, to=2)
                 for text in ("insert into u values (1)", "insert into u values (2)", "delete from t", "select count(*) from t",
                              "select a from u"):
                     told.append(code_of(lambda: connection.execute(text).fetchall()))
-                told.append(code_of(lambda: connection.execute("pragma pagelog_unwaited = 0").fetchall()))
+                told.append(code_of(lambda: connection.execute("pragma pagelog_async_commits = 0").fetchall()))
                 there = (one(connection, "select count(*) from t"), one(connection, "select count(*) from u"))
                 same(f"before write {write}, lost", there != (0, 2) or number_of(connection, "losses") > 0,
                      "SQLITE_IOERR_FSYNC" in told)
@@ -421,7 +421,7 @@ def test_lost_commits_and_a_transaction_that_reads():
         writer.execute("create table t(a integer primary key, b)")
         writer.execute("with recursive g(v) as (select 1 union all select v + 1 from g where v < 300)"
                        "insert into t select v, zeroblob(3000) from g")
-        writer.execute("pragma pagelog_unwaited = 64")
+        writer.execute("pragma pagelog_async_commits = 64")
         operator.failover(2)
         may_pass.clear()
         writer.execute("update t set b = randomblob(3000)")
@@ -429,7 +429,7 @@ def test_lost_commits_and_a_transaction_that_reads():
         rows = looker.execute("select a, b from t")
         true("what nobody waited for", rows.fetchone()[1] != bytes(3000))
         may_pass.set()
-        same("reported", "SQLITE_IOERR_FSYNC", code_of(lambda: writer.execute("pragma pagelog_unwaited = 0")))
+        same("reported", "SQLITE_IOERR_FSYNC", code_of(lambda: writer.execute("pragma pagelog_async_commits = 0")))
         same("nobody begins", "SQLITE_BUSY", code_of(lambda: one(writer, "select count(*) from t")))
         same("torn", "SQLITE_IOERR_FSYNC", code_of(rows.fetchall))
         if looker.in_transaction:
@@ -488,7 +488,7 @@ def test_settings():
                            (f"id=3&token={TOKENS[3]}&op=1", "SQLITE_MISUSE"),
                            (f"id=3&token={TOKENS[3]}&mode=ro&spin=x", "SQLITE_MISUSE"),
                            (f"id=3&token={TOKENS[3]}&mode=ro&pages=x", "SQLITE_MISUSE"),
-                           (f"id=3&token={TOKENS[3]}&unwaited=65", "SQLITE_MISUSE"),
+                           (f"id=3&token={TOKENS[3]}&async_commits=65", "SQLITE_MISUSE"),
                            (f"id=3&token={TOKENS[4]}&mode=ro", "SQLITE_PERM"),
                            (f"id=3&token={TOKENS[3]}&mode=ro&db=2", "SQLITE_PERM"),
                            (f"id=3&token={TOKENS[3]}", "SQLITE_READONLY"),
@@ -829,7 +829,7 @@ def test_another_writer_between_a_commit_in_doubt_and_its_failover():
                 return None if is_away[0] else frame
 
             with Proxy(service.address, between=between) as proxy:
-                writer = connect(proxy.address, patience=2000, check=check, unwaited=unwaited)
+                writer = connect(proxy.address, patience=2000, check=check, async_commits=unwaited)
                 writer.execute("create table t(a integer primary key, b)")
                 writer.execute("create index i on t(b)")
                 writer.execute("with recursive g(v) as (select 1 union all select v + 1 from g where v < 90)"
@@ -841,10 +841,10 @@ def test_another_writer_between_a_commit_in_doubt_and_its_failover():
                 is_away[0] = True
                 writer.execute("commit")
                 if unwaited:
-                    same("waited for", "64", one(writer, "pragma pagelog_unwaited = 64"))
+                    same("waited for", "64", one(writer, "pragma pagelog_async_commits = 64"))
                 same("two failovers", (2, 4), (failovers[0], number_of(writer, "writing_epoch")))
                 writer.execute("insert into t values (201, 'next')")
-                writer.execute("pragma pagelog_unwaited = 0")
+                writer.execute("pragma pagelog_async_commits = 0")
                 for connection in (writer, reader(service.address)):
                     same("integrity", "ok", one(connection, "pragma integrity_check"))
                     same("rows", (183, 91, 1, 1), tuple(one(connection, f"select count(*) from t {which}") for which in
@@ -1084,19 +1084,19 @@ def test_another_session_in_the_epoch_of_a_writer_that_may_not_look():
     another's: no commit is reported that is not in the log."""
     for unwaited in (0, 64):
         with Service(table=START_TABLE) as service:
-            writer = connect(service.address, check=3600000, unwaited=unwaited)
+            writer = connect(service.address, check=3600000, async_commits=unwaited)
             writer.executescript("create table t(a); insert into t values (1); pragma synchronous = off;")
             lsn = number_of(writer, "end") + 1
             write_as_another(service.address, lsn, (2, 100, b"other"))
             code = code_of(lambda: writer.execute("insert into t values (2)"))
             if unwaited:
                 same("not known yet", None, code)
-                code = code_of(lambda: one(writer, "pragma pagelog_unwaited = 0"))
+                code = code_of(lambda: one(writer, "pragma pagelog_async_commits = 0"))
             same("another's", "SQLITE_IOERR_FSYNC" if unwaited else "SQLITE_PROTOCOL", code)
             if not unwaited:
                 same("why", f"conflict: denied C2, value {lsn}", one(writer, "pragma pagelog_error"))
             writer.execute("insert into t values (3)")
-            writer.execute("pragma pagelog_unwaited = 0")
+            writer.execute("pragma pagelog_async_commits = 0")
             for connection in (writer, reader(service.address)):
                 same("rows", [(1,), (3,)], connection.execute("select a from t").fetchall())
                 same("integrity", "ok", one(connection, "pragma integrity_check"))
@@ -1146,13 +1146,13 @@ def test_another_session_in_the_epoch_and_a_commit_of_several_blocks():
     for table in (TABLE, START_TABLE):
         for unwaited in (0, 64):
             with Service(table=table) as service, Proxy(service.address) as proxy:
-                writer = connect(service.address, check=3600000, unwaited=unwaited)
+                writer = connect(service.address, check=3600000, async_commits=unwaited)
                 writer.executescript("create table t(a integer primary key, b); insert into t values (1, 'x');")
                 other = connect(proxy.address, operator=None)
                 other.execute("insert into t values (20, 'y')")
                 writer.execute(f"pragma synchronous = {'off' if unwaited else 'full'}")
                 codes = [code_of(lambda: writer.execute("insert into t values (2, ?)", (random.Random(1).randbytes(200000),))),
-                         code_of(lambda: one(writer, "pragma pagelog_unwaited = 0"))]
+                         code_of(lambda: one(writer, "pragma pagelog_async_commits = 0"))]
                 same("in doubt", ["SQLITE_IOERR_FSYNC"], [code for code in codes if code])
                 true("at once, where it is waited for", unwaited or codes[0])
                 if not unwaited:

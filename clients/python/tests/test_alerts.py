@@ -41,11 +41,12 @@ class Rules(unittest.TestCase):
 
     def test_each_alert_names_a_section_of_the_runbook(self) -> None:
         rules = (RULES / "alerts.yml").read_text().split("- alert: ")[1:]
-        headings = re.findall(r"^#+ (.*)$", (TOP / "docs" / "RUNBOOK.md").read_text(), flags=re.M)
-        anchors = {re.sub(r"[^\w -]", "", heading).lower().replace(" ", "-") for heading in headings}
         for rule in rules:
-            found = re.search(r"runbook: docs/RUNBOOK.md#(\S+)", rule)
-            self.assertIn(found and found[1], anchors, rule.split()[0])
+            found = re.search(r"runbook: docs/(\w+).md#(\S+)", rule)
+            assert found is not None, rule.split()[0]
+            headings = re.findall(r"^#+ (.*)$", (TOP / "docs" / f"{found[1]}.md").read_text(), flags=re.M)
+            anchors = {re.sub(r"[^\w -]", "", heading).lower().replace(" ", "-") for heading in headings}
+            self.assertIn(found[2], anchors, rule.split()[0])
 
 
 class Scrapes(unittest.TestCase):

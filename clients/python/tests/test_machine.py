@@ -89,6 +89,10 @@ class Cases(unittest.TestCase):
         self.check(Action.END, ROW, STANDBY, ending=True)
         self.check(Action.END, ROW, replace(STANDBY, share=0.5))
         self.check(Action.END, ROW, replace(STANDBY, alive=False))
+        # One that is noted and is not there: others would count on it.
+        self.check(Action.STAND_DOWN, ROW, is_noted=True, ending=True)
+        self.check(Action.STAND_DOWN, ROW, is_noted=True, stands_by=True)
+        self.check(Action.NOTHING, ROW, STANDBY, is_noted=True)
 
     def test_of_what_is_over_and_of_what_the_referee_has_lost(self) -> None:
         self.check(Action.END, replace(ROW, generation=4), HOLDS)
@@ -105,7 +109,7 @@ class Cases(unittest.TestCase):
     def test_of_an_earlier_life(self) -> None:
         self.check(Action.ADOPT, OURS)
         self.check(Action.ADOPT, OURS, still=9 * TTL)
-        self.check(Action.NOTHING, OURS, ending=True)
+        self.check(Action.ADOPT, OURS, ending=True)  # what it has is archived before the keeper ends
 
     def test_a_standby_whose_take_was_in_doubt_finds_itself_the_holder(self) -> None:
         self.check(Action.FILL, replace(OURS, run="s", address=None), STANDBY)

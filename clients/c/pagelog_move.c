@@ -1,0 +1,368 @@
+/* Moves: where to, what is carried over, and what the log there lacks. */
+#include "pagelog_move.h"
+
+#include <stdio.h>
+#include <stdlib.h>
+#include <string.h>
+#include <time.h>
+
+enum {
+    QUICKEST_MS = 5,
+    SLOWEST_MS = 200,
+    GLANCE_MS = 1000,
+    SERVICE_PATIENCE_MS = 200,
+    DEFAULT_MOVE_MS = 30000
+};
+
+/* What comes before the records of a block, where it touches no partition. */
+enum { HEAD_BYTES = 12, LSN_BYTES = 8 };
+
+enum { SECTION_B = 2 };
+
+/* ---- What a named file begins with ---- */
+
+bool pagelog_make_named(struct pagelog_file *file) {
+    struct pagelog_file_options *options = &file->options;
+    struct named *named = &file->named;
+    named->keepers = pagelog_keepers_new(options->keepers, options->database_name);
+    if (!named->keepers) return false;
+    if (options->move_ms == 0) options->move_ms = DEFAULT_MOVE_MS;
+    options->service.address = NULL;
+    options->service.patience_ms = SERVICE_PATIENCE_MS; /* the wait for a place is the file's */
+    memcpy(named->token, options->service.token, PAGELOG_TOKEN_BYTES);
+    memcpy(named->operator_token, options->operator_token, PAGELOG_TOKEN_BYTES);
+    file->is_fenced = true;
+    return true;
+}
+
+bool pagelog_may_move(const struct pagelog_file *file, enum pagelog_outcome outcome) {
+    if (!is_named(file)) return false;
+    switch (outcome) {
+    case PAGELOG_LOST:
+    case PAGELOG_FENCED:
+    case PAGELOG_IN_DOUBT:
+    case PAGELOG_CONFLICT:
+    case PAGELOG_DENIED:
+    case PAGELOG_AUDIT_FULL:
+        return true;
+    default:
+        return false;
+    }
+}
+
+/* ---- Into another generation ---- */
+
+/* The transaction that was read cannot be had any more. */
+static void give_up_transaction(struct pagelog_file *file) {
+    pagelog_cache_clear(file->cache);
+    file->named.is_gone = true;
+}
+
+static uint64_t carried(uint64_t lsn, int64_t by) {
+    int64_t now = (int64_t)lsn + by;
+    return lsn == 0 || now < 0 ? 0 : (uint64_t)now;
+}
+
+/* What the file has of LSNs becomes what it is in a generation of another shift. */
+static void carry(struct pagelog_file *file, int64_t by) {
+    file->mark.lsn = carried(file->mark.lsn, by);
+    file->settled.lsn = carried(file->settled.lsn, by);
+    file->torn = carried(file->torn, by);
+    file->doubted = carried(file->doubted, by);
+    pagelog_blocks_shift(file->blocks, by);
+}
+
+/* Goes to the service of a place. */
+static enum pagelog_outcome enter(struct pagelog_file *file, const struct pagelog_place *place) {
+    struct named *named = &file->named;
+    uint8_t token[PAGELOG_TOKEN_BYTES];
+    pagelog_token_of_run(named->keepers, named->token, place->run, token);
+    enum pagelog_outcome outcome = pagelog_enter(file->log, place->address, token);
+    if (outcome != PAGELOG_DONE) return outcome;
+    pagelog_token_of_run(named->keepers, named->operator_token, place->run, file->options.operator_token);
+    carry(file, named->place.shift - place->shift);
+    if (named->has_place) named->moves++;
+    named->place = *place;
+    named->has_place = true;
+    if (file->options.durable_only && place->archived > named->durable) named->durable = place->archived;
+    pagelog_become_follower(file);
+    file->is_broken = file->is_far = false;
+    return PAGELOG_DONE;
+}
+
+/* ---- What the log has of the tail ---- */
+
+/* What has become durable in the generation that had the whole tail last, which is over. LOST: nobody can say
+ * it now. */
+static enum pagelog_outcome learn_end(struct pagelog_file *file) {
+    struct named *named = &file->named;
+    struct pagelog_fate fate;
+    if (pagelog_tail_is_empty(&named->tail) || named->settled == named->place.generation) return PAGELOG_DONE;
+    enum pagelog_outcome outcome =
+        pagelog_fate_of(named->keepers, NULL, named->settled, named->tail.next - 1, &fate);
+    if (outcome != PAGELOG_DONE) return outcome;
+    uint64_t told = fate.end < named->told ? fate.end : named->told;
+    if (told > named->durable) named->durable = told;
+    pagelog_tail_drop(&named->tail, told);
+    return PAGELOG_DONE;
+}
+
+/* Whether two blocks are the same, whatever their LSNs are. No block stands for one without records. */
+static bool is_same_block(const uint8_t *one, size_t one_length, const uint8_t *other, size_t other_length) {
+    static const uint8_t none[HEAD_BYTES];
+    if (!other) {
+        other = none;
+        other_length = HEAD_BYTES;
+    }
+    return one_length == other_length &&
+           memcmp(one + LSN_BYTES, other + LSN_BYTES, one_length - LSN_BYTES) == 0;
+}
+
+/* Compares what one pull has served. False at the first block that is another; the walk is at it then. */
+static bool compare_pulled(struct pagelog_file *file, const struct pagelog_reply *pulled, uint64_t hard,
+                           struct pagelog_tail_walk *walk) {
+    const struct pagelog_tail *tail = &file->named.tail;
+    size_t at = 0, length = 0, own_length;
+    const uint8_t *block = pagelog_next_block(pulled, &at, &length), *own;
+    while (walk->position < position_of(file, pulled->next) && walk->position <= hard) {
+        struct pagelog_tail_walk here = *walk;
+        bool is_served = block && position_of(file, pagelog_read_number(block, 8)) == here.position;
+        if (!(own = pagelog_tail_next(tail, walk, &own_length))) return true;
+        if (!is_same_block(own, own_length, is_served ? block : NULL, length)) {
+            *walk = here;
+            return false;
+        }
+        if (is_served) block = pagelog_next_block(pulled, &at, &length);
+    }
+    return true;
+}
+
+/* The first position, from one on, at which the log, which ends at `hard`, lacks the tail's block or has
+ * another one. */
+static enum pagelog_outcome compare(struct pagelog_file *file, uint64_t from, uint64_t hard,
+                                    uint64_t *differs) {
+    const struct pagelog_tail *tail = &file->named.tail;
+    struct pagelog_tail_walk walk = pagelog_tail_at(tail, from);
+    bool is_same = true;
+    while (is_same && walk.position <= hard && walk.position < tail->next) {
+        struct pagelog_reply pulled;
+        enum pagelog_outcome outcome =
+            pagelog_pull(file->log, lsn_of(file, walk.position), PAGELOG_PULL_BLOCKS, &pulled);
+        if (outcome != PAGELOG_DONE) return outcome;
+        if (pulled.next == lsn_of(file, walk.position))
+            break; /* the end of the log, whatever was told before */
+        is_same = compare_pulled(file, &pulled, hard, &walk);
+    }
+    *differs = walk.position;
+    return PAGELOG_DONE;
+}
+
+/* The newest end mark up to an LSN. */
+static enum pagelog_outcome mark_at(struct pagelog_file *file, uint64_t lsn, struct mark *mark) {
+    uint8_t page[PAGELOG_PAGE_BYTES];
+    const uint32_t number = MARK_PAGE;
+    enum pagelog_outcome outcome = pagelog_get(file->log, PAGELOG_SECONDARY, lsn, &number, 1, page);
+    if (outcome == PAGELOG_DONE && !pagelog_read_mark(file, page, mark)) *mark = (struct mark){0};
+    return outcome;
+}
+
+/* The end mark of a block of the tail; zeros where it has none. */
+static struct mark mark_of(const struct pagelog_file *file, uint64_t position) {
+    const struct pagelog_tail *tail = &file->named.tail;
+    struct pagelog_tail_walk walk = pagelog_tail_at(tail, position);
+    struct pagelog_records records;
+    struct pagelog_record record, last = {0};
+    struct mark mark = {0};
+    size_t length;
+    const uint8_t *block = pagelog_tail_next(tail, &walk, &length);
+    if (block) pagelog_records_begin(&records, block);
+    while (block && pagelog_records_next(&records, &record))
+        last = record;
+    bool is_mark = last.page == MARK_PAGE && last.offset == 0 && last.length == MARK_BYTES;
+    if (is_mark && !pagelog_read_mark(file, last.bytes, &mark)) mark = (struct mark){0};
+    return mark;
+}
+
+/* Of positions up to the base there may be images alone. The tail was there if it has the end mark that they
+ * have: DONE, or IN_DOUBT. */
+static enum pagelog_outcome compare_with_base(struct pagelog_file *file) {
+    uint64_t base = file->named.place.base;
+    struct mark found, own = mark_of(file, base);
+    enum pagelog_outcome outcome = mark_at(file, lsn_of(file, base), &found);
+    if (outcome != PAGELOG_DONE) return outcome;
+    return own.lsn > 0 && pagelog_is_same_mark(&own, &found) ? PAGELOG_DONE : PAGELOG_IN_DOUBT;
+}
+
+/* ---- Losing and sending again ---- */
+
+/* From a position on the tail is not in the database, or cannot be found there. */
+static enum pagelog_outcome lose_from(struct pagelog_file *file, uint64_t position,
+                                      enum pagelog_outcome outcome) {
+    struct named *named = &file->named;
+    bool was_told = position <= named->own;
+    pagelog_tail_cut(&named->tail, position);
+    named->settled = named->place.generation;
+    if (named->told >= position) named->told = position - 1;
+    pagelog_become_follower(file);
+    give_up_transaction(file);
+    if (!was_told)
+        return pagelog_file_fail(file, outcome, "another writer has gone on: it is not in the database");
+    named->own = position - 1;
+    file->on_their_way = 0;
+    file->losses++;
+    file->is_over = true;
+    return pagelog_file_fail(file, outcome,
+                             "commits that were not durable are lost: another writer has gone on");
+}
+
+/* Sends the tail from the end of the log on, in the epoch of this file. */
+static enum pagelog_outcome send_rest(struct pagelog_file *file) {
+    struct named *named = &file->named;
+    struct pagelog_tail_walk walk =
+        pagelog_tail_at(&named->tail, position_of(file, pagelog_end(file->log)) + 1);
+    struct pagelog_blocks *blocks = pagelog_blocks_new();
+    enum pagelog_outcome outcome = blocks ? PAGELOG_DONE : PAGELOG_NO_MEMORY;
+    while (outcome == PAGELOG_DONE && walk.position < named->tail.next) {
+        const uint8_t *block;
+        size_t length;
+        pagelog_blocks_restart(blocks, pagelog_end(file->log) + 1);
+        while (outcome == PAGELOG_DONE && pagelog_blocks_count(blocks) < GROUP &&
+               (block = pagelog_tail_next(&named->tail, &walk, &length)))
+            outcome = pagelog_blocks_add(blocks, block, length);
+        if (outcome == PAGELOG_DONE) outcome = pagelog_append(file->log, blocks, file->options.written);
+        if (outcome == PAGELOG_DONE) named->resent += pagelog_blocks_count(blocks);
+    }
+    pagelog_blocks_free(blocks);
+    return outcome;
+}
+
+/* The log ends within the tail: takes over from who has not written, and sends the rest. */
+static enum pagelog_outcome send_again(struct pagelog_file *file, const struct pagelog_reply *status) {
+    const struct pagelog_file_options *options = &file->options;
+    uint32_t writing = pagelog_writing_epoch(file->log);
+    bool is_anothers = file->named.settled == file->named.place.generation &&
+                       status->primary != PAGELOG_KEEPER && status->epoch != writing;
+    if (is_anothers) return lose_from(file, position_of(file, status->hard) + 1, PAGELOG_FENCED);
+    enum pagelog_outcome outcome =
+        pagelog_take_over(file->log, options->operator_principal, options->operator_token, status->epoch);
+    if (outcome == PAGELOG_DONE && pagelog_end(file->log) != status->hard) outcome = PAGELOG_LOST;
+    if (outcome == PAGELOG_DONE) outcome = send_rest(file);
+    if (outcome != PAGELOG_DONE) return outcome;
+    file->is_fenced = false;
+    return PAGELOG_DONE;
+}
+
+/* The first position of the tail that the log lacks, or has another block at. What lies below the base is
+ * compared block for block only where nothing was shifted, and may be images even there. */
+static enum pagelog_outcome compare_tail(struct pagelog_file *file, uint64_t hard, uint64_t *differs) {
+    const struct named *named = &file->named;
+    uint64_t base = named->place.base, first = named->tail.first;
+    enum pagelog_outcome outcome = PAGELOG_DONE;
+    *differs = first;
+    if (first > base || named->place.shift == 0) outcome = compare(file, first, hard, differs);
+    if (outcome != PAGELOG_DONE || *differs > base) return outcome;
+    outcome = compare_with_base(file);
+    return outcome == PAGELOG_DONE ? compare(file, base + 1, hard, differs) : outcome;
+}
+
+/* Sees to it that the log has the whole tail. */
+static enum pagelog_outcome settle_tail(struct pagelog_file *file, const struct pagelog_reply *status) {
+    struct named *named = &file->named;
+    uint64_t hard = position_of(file, status->hard), differs = 0;
+    if (pagelog_tail_is_empty(&named->tail)) return PAGELOG_DONE;
+    if (hard + 1 < named->tail.first) /* the archive went back */
+        return lose_from(file, hard + 1, PAGELOG_FENCED);
+    enum pagelog_outcome outcome = compare_tail(file, hard, &differs);
+    if (outcome == PAGELOG_IN_DOUBT) return lose_from(file, differs, outcome);
+    if (outcome != PAGELOG_DONE || differs == named->tail.next) return outcome;
+    return differs <= hard ? lose_from(file, differs, PAGELOG_FENCED) : send_again(file, status);
+}
+
+/* ---- The transaction that is read ---- */
+
+/* Looks whether it is in this generation, where it is at the same position. */
+static enum pagelog_outcome find_transaction(struct pagelog_file *file, uint64_t hard) {
+    struct named *named = &file->named;
+    struct mark found;
+    file->next = file->mark.lsn + 1;
+    file->pending.length = 0;
+    if (named->is_gone) return PAGELOG_DONE;
+    if (file->mark.transaction == 0 && named->place.base == 0) return PAGELOG_DONE; /* of an empty log */
+    bool is_below = position_of(file, file->mark.lsn) < named->place.base && named->place.shift != 0;
+    if (file->mark.lsn == 0 || file->mark.lsn > hard || is_below) {
+        give_up_transaction(file);
+        return PAGELOG_DONE;
+    }
+    enum pagelog_outcome outcome = mark_at(file, file->mark.lsn, &found);
+    if (outcome == PAGELOG_DONE && !pagelog_is_same_mark(&found, &file->mark)) give_up_transaction(file);
+    return outcome;
+}
+
+/* Goes on in the generation that the file is in. What is LOST is tried again, there or in the next one. */
+static enum pagelog_outcome go_on(struct pagelog_file *file) {
+    struct named *named = &file->named;
+    struct pagelog_reply status;
+    enum pagelog_outcome outcome = pagelog_status(file->log, PAGELOG_SECONDARY, &status);
+    if (outcome == PAGELOG_DENIED && pagelog_refused(file->log)->section == SECTION_B)
+        return pagelog_file_fail(file, outcome, "the principal has to be allowed to read as a secondary");
+    if (outcome == PAGELOG_DONE) outcome = learn_end(file);
+    if (outcome == PAGELOG_DONE) outcome = settle_tail(file, &status);
+    if (outcome != PAGELOG_DONE) return outcome;
+    named->settled = named->place.generation;
+    named->epoch = status.epoch;
+    named->is_closing = status.primary == PAGELOG_KEEPER && status.epoch > 1;
+    return find_transaction(file, pagelog_end(file->log));
+}
+
+/* Whether another try may help: the service has gone, or is closed by its keeper. */
+static bool is_passing(const struct pagelog_file *file, enum pagelog_outcome outcome) {
+    if (file->is_over || file->reason) return false; /* decided */
+    return outcome == PAGELOG_LOST || pagelog_may_move(file, outcome);
+}
+
+/* ---- The move ---- */
+
+/* Waits a little before the next try. False once the time is over. */
+static bool pause_until(struct pagelog_file *file, uint64_t until, unsigned *ms) {
+    struct timespec pause = {.tv_nsec = 1000000L * *ms};
+    if (pagelog_now() >= until || !pagelog_goes_on(file->log)) return false;
+    nanosleep(&pause, NULL);
+    *ms = 2 * *ms < SLOWEST_MS ? 2 * *ms : SLOWEST_MS;
+    return true;
+}
+
+/* One try: to the place that the keepers say, if it is another one, and on from there. */
+static enum pagelog_outcome try_to_move(struct pagelog_file *file, bool is_over) {
+    struct named *named = &file->named;
+    struct pagelog_place place;
+    uint64_t least = named->has_place ? named->place.generation : 0;
+    enum pagelog_outcome outcome = pagelog_where(named->keepers, least, &place);
+    bool is_other = !named->has_place || place.generation > least;
+    if (outcome == PAGELOG_DENIED)
+        return pagelog_file_fail(file, outcome, "the keepers know of no database of this name");
+    if (outcome != PAGELOG_DONE) return outcome;
+    if (!is_other && (is_over || pagelog_is_anew(file->log))) return PAGELOG_LOST;
+    if (is_other) outcome = enter(file, &place);
+    return outcome == PAGELOG_DONE ? go_on(file) : outcome;
+}
+
+static enum pagelog_outcome move(struct pagelog_file *file, bool is_over, enum pagelog_outcome cause) {
+    uint64_t until = pagelog_now() + file->options.move_ms, left = file->named.place.generation;
+    unsigned ms = QUICKEST_MS;
+    file->reason = NULL;
+    for (;;) {
+        enum pagelog_outcome outcome = try_to_move(file, is_over && file->named.place.generation == left);
+        if (outcome == PAGELOG_DONE || !is_passing(file, outcome)) return outcome;
+        pagelog_disconnect(file->log);
+        if (!pause_until(file, until, &ms))
+            return pagelog_file_fail(file, cause, "no generation could be used in time");
+    }
+}
+
+enum pagelog_outcome pagelog_move(struct pagelog_file *file, enum pagelog_outcome cause) {
+    return move(file, false, cause == PAGELOG_IN_DOUBT || cause == PAGELOG_AUDIT_FULL ? cause : PAGELOG_LOST);
+}
+
+enum pagelog_outcome pagelog_move_on(struct pagelog_file *file) {
+    return move(file, true, PAGELOG_LOST);
+}

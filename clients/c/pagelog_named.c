@@ -1,0 +1,162 @@
+/* A file of a named database: how it opens, begins and becomes the writer, wherever the database is. */
+#include "pagelog_move.h"
+
+#include <stdio.h>
+#include <string.h>
+
+/* Of one call: each move ends where the database can be used, and a peer that says so and refuses is left in
+ * the end. */
+enum { MOST_MOVES = 16 };
+
+/* ---- What is read ---- */
+
+uint64_t pagelog_limit_of(const struct pagelog_file *file) {
+    return file->options.durable_only ? lsn_of(file, file->named.durable) : UINT64_MAX;
+}
+
+/* Takes the newest transaction that may be read, or the one of `at`. */
+static enum pagelog_outcome take_newest(struct pagelog_file *file) {
+    struct named *named = &file->named;
+    struct pagelog_reply status;
+    uint64_t at = file->options.at, lsn = lsn_of(file, at), limit = pagelog_limit_of(file);
+    enum pagelog_outcome outcome = pagelog_status(file->log, PAGELOG_SECONDARY, &status);
+    if (outcome != PAGELOG_DONE) return outcome;
+    if (at == 0) lsn = status.hard < limit ? status.hard : limit;
+    if (at > 0 && at < named->place.base && named->place.shift != 0)
+        return pagelog_file_fail(file, PAGELOG_MALFORMED,
+                                 "this position is before the base of the generation");
+    pagelog_cache_clear(file->cache);
+    return pagelog_take_mark(file, lsn);
+}
+
+/* Asks until it is done, wherever the database is by then. */
+static enum pagelog_outcome ask_wherever(struct pagelog_file *file, enum pagelog_outcome outcome,
+                                         enum pagelog_outcome (*call)(struct pagelog_file *file)) {
+    for (unsigned moves = 0; !file->reason && pagelog_may_move(file, outcome) && moves < MOST_MOVES;
+         moves++) {
+        outcome = pagelog_move(file, outcome);
+        if (outcome != PAGELOG_DONE) return outcome;
+        outcome = file->named.is_gone ? take_newest(file) : call(file);
+    }
+    return outcome;
+}
+
+enum pagelog_outcome pagelog_open_named(struct pagelog_file *file) {
+    uint64_t asked = pagelog_now();
+    enum pagelog_outcome outcome = pagelog_move(file, PAGELOG_LOST);
+    if (outcome == PAGELOG_DONE) outcome = pagelog_glance(file);
+    if (outcome == PAGELOG_DONE) outcome = take_newest(file);
+    outcome = ask_wherever(file, outcome, take_newest);
+    if (outcome != PAGELOG_DONE) return outcome;
+    file->checked = asked;
+    file->is_checked = true;
+    return PAGELOG_DONE;
+}
+
+/* A keeper that closes a generation begins an epoch of its own. The service may be there for a while yet, and
+ * would show the past to a reader that has heard of no other. */
+static enum pagelog_outcome look_at_epoch(struct pagelog_file *file) {
+    struct named *named = &file->named;
+    struct pagelog_reply status;
+    if (is_writer(file) || pagelog_epoch(file->log) == named->epoch) return PAGELOG_DONE;
+    enum pagelog_outcome outcome = pagelog_status(file->log, PAGELOG_SECONDARY, &status);
+    if (outcome != PAGELOG_DONE) return outcome;
+    named->epoch = status.epoch;
+    named->is_closing = status.primary == PAGELOG_KEEPER && status.epoch > 1;
+    return PAGELOG_DONE;
+}
+
+enum pagelog_outcome pagelog_begin_named(struct pagelog_file *file,
+                                         enum pagelog_outcome (*refresh)(struct pagelog_file *file)) {
+    uint64_t generation;
+    enum pagelog_outcome outcome;
+    do {
+        generation = file->named.place.generation;
+        outcome = pagelog_glance(file);
+        if (outcome == PAGELOG_DONE) outcome = file->named.is_gone ? take_newest(file) : refresh(file);
+        if (!file->is_over) outcome = ask_wherever(file, outcome, refresh);
+        if (outcome == PAGELOG_DONE) outcome = look_at_epoch(file);
+        if (outcome == PAGELOG_DONE && file->named.is_closing) outcome = pagelog_glance(file);
+    } while (outcome == PAGELOG_DONE && file->named.place.generation != generation);
+    return outcome;
+}
+
+enum pagelog_outcome pagelog_fetch_wherever(struct pagelog_file *file, uint64_t position,
+                                            const uint32_t *pages, size_t count, uint8_t *out) {
+    file->reason = NULL;
+    enum pagelog_outcome outcome = pagelog_fetch_here(file, lsn_of(file, position), pages, count, out);
+    for (unsigned moves = 0; pagelog_may_move(file, outcome) && moves < MOST_MOVES; moves++) {
+        outcome = pagelog_move(file, outcome);
+        if (outcome != PAGELOG_DONE) return outcome;
+        if (file->named.is_gone) return pagelog_refuse_gone(file);
+        outcome = pagelog_fetch_here(file, lsn_of(file, position), pages, count, out);
+    }
+    return outcome;
+}
+
+enum pagelog_outcome pagelog_refuse_gone(struct pagelog_file *file) {
+    return pagelog_file_fail(file, PAGELOG_LOST,
+                             "the transaction that is read is not in this generation: begin again");
+}
+
+/* ---- Becoming the writer ---- */
+
+enum pagelog_outcome pagelog_write_on(struct pagelog_file *file) {
+    const struct pagelog_file_options *options = &file->options;
+    uint64_t end = pagelog_end(file->log);
+    enum pagelog_outcome outcome =
+        pagelog_take_over(file->log, options->operator_principal, options->operator_token, 0);
+    if (outcome != PAGELOG_DONE) return outcome;
+    if (pagelog_end(file->log) != end)
+        return pagelog_file_fail(file, PAGELOG_FENCED, "another writer has gone on meanwhile");
+    file->is_fenced = false;
+    return PAGELOG_DONE;
+}
+
+/* Whether the newest transaction at an LSN is the one that is read: DONE, or FENCED. */
+static enum pagelog_outcome compare_newest(struct pagelog_file *file, enum pagelog_role role, uint64_t lsn) {
+    uint8_t page[PAGELOG_PAGE_BYTES];
+    const uint32_t number = MARK_PAGE;
+    struct mark mark;
+    if (lsn == file->mark.lsn) return PAGELOG_DONE;
+    enum pagelog_outcome outcome = pagelog_get(file->log, role, lsn, &number, 1, page);
+    if (outcome != PAGELOG_DONE) return outcome;
+    if (pagelog_read_mark(file, page, &mark) && pagelog_is_same_mark(&mark, &file->mark)) return PAGELOG_DONE;
+    return pagelog_file_fail(file, PAGELOG_FENCED, "another writer has gone on since: begin again");
+}
+
+/* Looks before it takes over, so that a file which is behind fences nobody. */
+static enum pagelog_outcome become_writer(struct pagelog_file *file) {
+    const struct pagelog_file_options *options = &file->options;
+    struct pagelog_reply status;
+    uint64_t asked = pagelog_now();
+    enum pagelog_outcome outcome = pagelog_status(file->log, PAGELOG_SECONDARY, &status);
+    if (outcome == PAGELOG_DONE) outcome = compare_newest(file, PAGELOG_SECONDARY, status.hard);
+    if (outcome == PAGELOG_DONE)
+        outcome = pagelog_take_over(file->log, options->operator_principal, options->operator_token, 0);
+    if (outcome == PAGELOG_DONE) outcome = compare_newest(file, PAGELOG_PRIMARY, pagelog_end(file->log));
+    if (outcome != PAGELOG_DONE) return outcome;
+    file->is_fenced = file->is_broken = false;
+    file->checked = asked;
+    file->is_checked = true;
+    return pagelog_end(file->log) > file->mark.lsn ? pagelog_repair(file) : PAGELOG_DONE;
+}
+
+enum pagelog_outcome pagelog_file_reserve(struct pagelog_file *file) {
+    file->reason = NULL;
+    if (!is_named(file)) return PAGELOG_DONE;
+    if (file->is_over) return pagelog_refuse_until_begin(file);
+    if (file->named.is_gone) return pagelog_refuse_gone(file);
+    if (file->options.reads_only) return pagelog_file_fail(file, PAGELOG_FENCED, "this file only reads");
+    if (is_writer(file)) return PAGELOG_DONE;
+    enum pagelog_outcome outcome = become_writer(file);
+    for (unsigned moves = 0; !file->reason && pagelog_may_move(file, outcome) && moves < MOST_MOVES;
+         moves++) {
+        outcome = pagelog_move(file, outcome);
+        if (outcome != PAGELOG_DONE) return outcome;
+        if (file->named.is_gone) return pagelog_refuse_gone(file);
+        outcome = is_writer(file) ? PAGELOG_DONE : become_writer(file);
+    }
+    if (outcome != PAGELOG_DONE) pagelog_become_follower(file);
+    return outcome;
+}

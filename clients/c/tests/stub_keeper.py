@@ -1,0 +1,235 @@
+"""A keeper in this process, with an archive in a list: it makes successions, with and without images, and lets services die.
+Its lines are those of docs/KEEPERS.md."""
+
+import hashlib
+import hmac
+import json
+import socketserver
+import threading
+import tomllib
+
+from service import Asker, Proxy, TABLE, Service, framed, wire
+
+KEEPER = (1 << 32) - 1
+SECRET = b"s" * 16
+EMPTY_HEAD = bytes(4)  # of a block without records: no partitions, no records
+
+
+def token_of(token, name, run):
+    return hmac.new(token, f"{name}/{run}".encode(), hashlib.sha256).digest()[:16]
+
+
+def table_of(name, run, is_open=True, text=None):
+    """The table of a run, as the keepers make it of that of the database."""
+    table = tomllib.loads(text or TABLE.read_text())
+    principals = [(KEEPER, token_of(SECRET, name, run))]
+    principals += [(each["id"], token_of(bytes.fromhex(each["token"]), name, run)) for each in table["principal"]]
+    rows = [{"verdict": "allow", "who": KEEPER}]
+    rows += [{"verdict": "deny", "op": ["set_table"]}] if is_open else [
+        {"verdict": "deny", "role": role} for role in ("primary", "page_server", "operator")]
+    lines = [f'[[principal]]\nid = {number}\ntoken = "{token.hex()}"\n' for number, token in principals]
+    for row in rows + table["row"]:
+        lines.append("[[row]]\n" + "".join(f"{key} = {json.dumps(value)}\n" for key, value in row.items()))
+    return "\n".join(lines)
+
+
+class Keyed(Asker):
+    """An asker with the token of a run."""
+
+    def __init__(self, address, principal, role, key):
+        super().__init__(address, principal, role)
+        self.key = key
+
+    def once(self, op, rest=b"", epoch=None):
+        epoch = self.epoch if epoch is None else epoch
+        return self.carry(framed(wire.head(self.principal, self.role, op, epoch, 0, self.key) + rest))[4:]
+
+
+class Generation:
+    """One run of a service, with the archive's first blocks in it, or images of them and the rest."""
+
+    def __init__(self, keeper, number, base=0, shift=0):
+        self.keeper, self.number, self.base, self.shift = keeper, number, base, shift
+        self.run = f"run{number}"
+        self.key = token_of(SECRET, keeper.name, self.run)
+        self.service = Service(text=table_of(keeper.name, self.run), primary=KEEPER)
+        self.proxy = Proxy(self.service.address, between=keeper.watch)
+        self.address = self.proxy.address
+
+    def asker(self, role):
+        return Keyed(self.service.address, KEEPER, role, self.key)
+
+    def fill(self, blocks):
+        """Puts blocks at the end, each under the LSN that is next. Of each all bytes behind its LSN are given."""
+        with self.asker(wire.PRIMARY) as writer:
+            hard = writer.status()[2]
+            for number, rest in enumerate(blocks, hard + 1):
+                block = number.to_bytes(8, "big") + rest
+                for copy in (0, 1):
+                    assert writer.ask(wire.WRITE, wire.write(copy, block)) == b"\0"
+                assert writer.ask(wire.REPORT, wire.report(number)) == b"\0"
+
+    def blocks(self, position):
+        """What follows this position: without their LSNs."""
+        with self.asker(wire.SECONDARY) as asker:
+            hard = asker.status()[2]
+            found = {int.from_bytes(block[:8], "big"): block[8:] for block in asker.blocks(position - self.shift + 1)}
+            return [found.get(lsn, EMPTY_HEAD) for lsn in range(position - self.shift + 1, hard + 1)]
+
+    def images(self, position):
+        """The records of all pages at a position, page 0 last; of one without an end mark none."""
+        with self.asker(wire.SECONDARY) as asker:
+            lsn = position - self.shift
+            mark = asker.page(0, lsn)
+            pages = -(-int.from_bytes(mark[16:24], "big") // wire.PAGE_BYTES)
+            return [(page, asker.page(page, lsn)) for page in range(1, pages + 1)] + [(0, mark)]
+
+    def newest_mark(self):
+        """The position of the newest end mark."""
+        with self.asker(wire.SECONDARY) as asker:
+            return int.from_bytes(asker.page(0, asker.status()[2])[8:16], "big")
+
+    def close(self):
+        """Lets nobody write any more."""
+        with self.asker(wire.OPERATOR) as operator:
+            operator.set_table(table_of(self.keeper.name, self.run, is_open=False))
+            operator.failover(KEEPER)
+
+    def end(self):
+        self.service.end()
+        self.proxy.cut()
+
+
+class Before:
+    """A rule: before the `number`-th request of a client something happens."""
+
+    def __init__(self, number, event):
+        self.left, self.event = number, event
+
+    def __call__(self, frame):
+        self.left -= 1
+        if self.left == 0:
+            self.event()
+        return frame
+
+
+class StubKeeper:
+    """Of one database. `watch` is called with each request that a client sends, before the service has it."""
+
+    def __init__(self, name="shop"):
+        self.name, self.archive, self.ends = name, [], {}
+        self.changed = threading.Condition(threading.RLock())
+        self.is_archiving, self.is_published, self.asked = True, True, 0
+        self.rule = None
+        self.now = Generation(self, 1)
+        self.old = []
+        keeper = self
+
+        class Lines(socketserver.StreamRequestHandler):
+            def handle(self):
+                for line in self.rfile:
+                    answer = keeper.answer(line.decode().split())
+                    self.wfile.write(" ".join(map(str, answer)).encode() + b"\n")
+
+        class Server(socketserver.ThreadingTCPServer):
+            allow_reuse_address = daemon_threads = True
+
+        self.server = Server(("127.0.0.1", 0), Lines)
+        self.address = "127.0.0.1:%d" % self.server.server_address[1]
+        threading.Thread(target=self.server.serve_forever, args=(0.02,), daemon=True).start()
+
+    def __enter__(self):
+        return self
+
+    def __exit__(self, *_):
+        self.server.shutdown()
+        self.server.server_close()
+        for generation in [*self.old, self.now]:
+            generation.proxy.__exit__()
+            generation.end()
+
+    def watch(self, frame):
+        return frame if self.rule is None else self.rule(frame)
+
+    # The lines.
+
+    def answer(self, words):
+        with self.changed:
+            self.asked += 1
+            match words:
+                case ["where", name] if name != self.name:
+                    return "unknown", name
+                case ["where", name]:
+                    now = self.now
+                    if not self.is_published:
+                        return "nowhere", name
+                    return ("at", name, now.number, now.run, now.address, len(self.archive), self.address, now.base, now.shift)
+                case ["durable", name, generation, position]:
+                    return self.durable(name, int(generation), int(position))
+        return ("what",)
+
+    def durable(self, name, generation, position):
+        while generation == self.now.number and len(self.archive) < position:
+            if self.is_archiving:
+                self.archive_now()
+            if len(self.archive) < position and generation == self.now.number:
+                self.changed.wait(0.05)
+        if generation in self.ends:
+            return "over", name, generation, self.ends[generation]
+        return "durable", name, generation, len(self.archive)
+
+    # The archive.
+
+    def archive_now(self):
+        with self.changed:
+            try:
+                self.archive += self.now.blocks(len(self.archive))
+            except (OSError, AssertionError):
+                pass  # the service has died
+            self.changed.notify_all()
+
+    # Generations.
+
+    def next(self, images=True, in_pieces=1, empty=0):
+        """Another generation, with what is archived. Its images take as many blocks as there are pages, times `in_pieces`, and
+        `empty` ones before, so that its shift is anything."""
+        old = self.now
+        base = old.newest_mark() if images else len(self.archive)
+        records = old.images(base) if images and base else []
+        made = [EMPTY_HEAD] * empty if records else []
+        for page, data in records:
+            step = wire.PAGE_BYTES // (in_pieces if page else 1)
+            for at in range(0, len(data), step):
+                if page == 0 or data[at : at + step].strip(b"\0"):
+                    made.append(wire.block(1, [(page, at, data[at : at + step])])[8:])
+        new = Generation(self, old.number + 1, base, base - len(made) if records else 0)
+        new.fill(made + self.archive[base if records else 0 :])
+        return new
+
+    def switch(self, new):
+        with self.changed:
+            self.ends[self.now.number] = len(self.archive)
+            self.old.append(self.now)
+            self.now, self.is_published = new, True
+            self.changed.notify_all()
+
+    def succeed(self, **how):
+        """A planned succession: nothing of the log is lost."""
+        with self.changed:
+            self.now.close()
+            self.archive_now()
+            self.switch(self.next(**how))
+
+    def die(self, lost=0, others=None, **how):
+        """The service dies, once all but the last `lost` blocks of its log are archived. `others` is called before the
+        next generation is published, with it."""
+        with self.changed:
+            kept = len(self.archive) + max(0, len(self.now.blocks(len(self.archive))) - lost)
+            self.archive_now()
+            assert len(self.archive) - lost <= kept
+            del self.archive[kept:]
+            new = self.next(images=False)
+            self.now.end()
+            if others:
+                others(new)
+            self.switch(new)
