@@ -130,6 +130,22 @@ class Lively(Kept):
         self.keeping.start(holder)
         self.until(state="serving")
 
+    def test_a_succession_keeps_its_positions(self) -> None:
+        self.until(state="serving")
+        with self.keeping.primary() as primary:
+            for number in range(1, 4):
+                self.commit(primary, f"{number}", durable=True)
+            self.until(position=3, lag=0)
+            before, holder = int(self.shop["generation"]), self.shop["holder"]  # type: ignore[call-overload]
+            self.keeping.word("succeed", "shop")
+            self.follower.until(lambda: self.shop["generation"] > before and self.shop["state"] == "serving")  # type: ignore[operator]
+            self.assertEqual(self.commit(primary, "4", durable=True), 4)
+        self.until(position=4, lag=0, holder=holder)
+        told = f"shop: {holder} goes on with generation {self.shop['generation']} from position 3"
+        self.assertIn(told, self.follower.said())
+        self.assertEqual(self.console.detail("shop")["generations"][-1]["base"], 3)
+        self.follower.until(lambda: [each["reached"] for each in self.shop["standbys"]] == [4])  # type: ignore[attr-defined]
+
     def test_a_switchover_and_the_end_of_a_database(self) -> None:
         self.until(state="serving")
         before = self.shop["holder"]
