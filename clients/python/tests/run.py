@@ -47,6 +47,7 @@ PARTS = {
     "test_attacks": "doubts, hangs and interrupts of keepers and of their clients",
     "test_runs": "a run of a service, its tokens and its process",
     "test_machine": "what a keeper decides",
+    "test_turns": "whose turn it is to write",
     "test_disks": "what durable means without a standby of PostgreSQL",
     "test_referee": "one writer of an archive, by statements of PostgreSQL",
 }

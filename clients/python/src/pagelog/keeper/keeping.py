@@ -21,6 +21,7 @@ from pagelog.keeper.run import end_orphans
 from pagelog.keeper.served import seconds
 from pagelog.keeper.session import Session
 from pagelog.keeper.settings import Settings
+from pagelog.keeper.turns import AllTurns
 
 LOOKS = 4
 """How many looks there are in a ttl."""
@@ -40,6 +41,7 @@ class Keeper:
         self._writer = Session(self._referee(), 2 * settings.ttl)
         self._shared = Shared(settings, self.life, self._session, Committer(self._writer, settings.ttl), self._say)
         self._server = Server(self)
+        self._turns = AllTurns()
         self._lives: dict[str, Stillness] = {}
         self._living: set[str] = set()
         self.synchronous = Synchronous()
@@ -159,6 +161,7 @@ class Keeper:
                 database = self.databases[row.id] = Database(self._shared, row)
             holder = self.look.keeper(row.holder)
             database.see(row, None if holder is None else holder.beat, self._others(row.id))
+        self._turns.look(self._held)
 
     def _see_lives(self) -> None:
         now = seconds()
@@ -216,8 +219,18 @@ class Keeper:
         else:
             database.wait(line, generation, position)
 
+    def _held(self, name: str) -> int | None:
+        """The generation of it that is held here."""
+        database = self._named(name)
+        return database.served.generation if database is not None and database.holds and database.served is not None else None
+
+    def turn(self, line: Line, words: list[str]) -> None:
+        """Answers now or later."""
+        self._turns.take(line, words, self._held(words[1]))
+
     def gone(self, line: Line) -> None:
         """Nobody waits over it any more."""
+        self._turns.gone(line)
         for database in self.databases.values():
             database.waits.gone(line)
 

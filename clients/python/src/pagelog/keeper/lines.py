@@ -7,6 +7,7 @@ they answer.
                                     over NAME GENERATION END: all up to END is archived, and nothing above it will ever be
                                     above NAME GENERATION M: there is no N; the service ends at M
                                     elsewhere NAME GENERATION: ask `where` again
+    turn NAME ..                    whose turn it is to write: turns.py
 """
 
 from __future__ import annotations
@@ -44,6 +45,9 @@ class Answers(Protocol):
 
     def durable(self, line: Line, name: str, generation: int, position: int) -> None:
         """Writes the answer to `durable` once there is one."""
+
+    def turn(self, line: Line, words: list[str]) -> None:
+        """Answers the lines of turns, at once or later."""
 
     def gone(self, line: Line) -> None:
         """The client is gone, and waits for nothing."""
@@ -92,5 +96,7 @@ class Server:
                 line.say(*self._answers.standby(name))
             case ["durable", name, generation, position]:
                 self._answers.durable(line, name, int(generation), int(position))
+            case ["turn" | "back" | "hold", _, *_]:
+                self._answers.turn(line, words)
             case _:
                 line.say("what", *words[:1])
