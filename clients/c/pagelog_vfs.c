@@ -189,6 +189,7 @@ static int vfs_randomness(sqlite3_vfs *vfs, int length, char *out) {
 
 static int vfs_sleep(sqlite3_vfs *vfs, int microseconds) {
     (void)vfs;
+    if (pagelog_sleep_for_turn(microseconds)) return microseconds;
     return pagelog_real_vfs->xSleep(pagelog_real_vfs, microseconds);
 }
 

@@ -19,6 +19,7 @@ from urllib.parse import quote
 import psycopg
 
 from keepers import new_url
+from pagelog.keeper.schema import FORMAT
 from service import PATIENCE, SOURCE
 
 HOSTILE = "<img src=x onerror=alert(1)> \"'&</script>/../{x}"
@@ -42,7 +43,7 @@ class Rows:
         with self.session.cursor() as cursor:
             cursor.executemany(
                 "INSERT INTO pagelog_log (name, format, archived, epoch, generation, next_generation, run, holder, address) "
-                "VALUES (%s, 2, 100, 1, 1, 2, 'run', 'a', '127.0.0.1:2')", [(name,) for name in names])  # fmt: skip
+                f"VALUES (%s, {FORMAT}, 100, 1, 1, 2, 'run', 'a', '127.0.0.1:2')", [(name,) for name in names])  # fmt: skip
         self.session.execute("INSERT INTO pagelog_generation (log, generation, run, holder, base, shift) "
                              "SELECT id, 1, 'run', 'a', 0, 0 FROM pagelog_log")  # fmt: skip
 

@@ -28,11 +28,11 @@ from prometheus_client.parser import text_string_to_metric_families
 from pagelog import Block, NamedPrimary, NamedReader, Primary, Put, Reader
 from pagelog.desk.words import pagelogctl
 from pagelog.keeper.referee import KeeperError, Referee, digest, plain_url
-from pagelog.keeper.rows import Batch, Kept, Row
+from pagelog.keeper.rows import Batch, Row
 from pagelog.keeper.run import end_orphans
 from pagelog.place import Keepers, Place
 from postgres import postgres
-from service import PATIENCE, PROGRAM, SOURCE, TABLE, WIDE_TABLE, put, token
+from service import PATIENCE, PROGRAM, SOURCE, TABLE, WIDE_TABLE, put, stand_still, token
 
 _numbers = itertools.count(1)
 _shared: list[str] = []
@@ -207,6 +207,8 @@ class Keeping:
 
     def kill(self, name: str, number: int = signal.SIGKILL) -> None:
         process = self.processes[name]
+        if number == signal.SIGSTOP:
+            return stand_still(process.pid)
         process.send_signal(number)
         if number in (signal.SIGKILL, signal.SIGTERM):
             process.wait()

@@ -19,7 +19,7 @@ from pagelog.desk import watch
 from pagelog.desk.side_by_side import NotInTime, Task, look_at_all
 from pagelog.desk.watch import Watch
 from pagelog.request import Pull
-from service import PATIENCE, TOP, Service, fill, put
+from service import PATIENCE, TOP, Service, fill, put, stand_still
 from test_archive import words
 from test_looking import scrape
 
@@ -68,7 +68,7 @@ class Scrapes(unittest.TestCase):
     def test_a_service_that_hangs_is_down_within_the_scrape(self) -> None:
         address = self.metrics("--within", "1", dbs=2)
         self.assertEqual(scrape(address)['pagelog_up{db="0"}'], 1)
-        self.service.process.send_signal(signal.SIGSTOP)
+        stand_still(self.service.process.pid)
         for _ in range(3):
             found = scrape(address)
             self.assertEqual((found['pagelog_up{db="0"}'], found['pagelog_up{db="1"}']), (0, 0))

@@ -31,7 +31,7 @@ from pagelog.keeper.session import Session
 from pagelog.keeper.table import KEEPER, keeper_of
 from pagelog.place import Fate, Keepers
 from pagelog.reply import State
-from service import PATIENCE, PROGRAM, SOURCE
+from service import PATIENCE, PROGRAM, SOURCE, stand_still
 from test_referee import Referees
 
 
@@ -124,7 +124,7 @@ class Standbys(Kept):
                 eventually(lambda: reader.status().primary == KEEPER, "the closed table")
             looks = self.beat(holder)
             eventually(lambda: self.beat(holder) > looks + 1, "the wait for the rest")
-            os.kill(pid, signal.SIGSTOP)
+            stand_still(pid)
             gate.open()
             self.assertEqual(self.keeping.processes[holder].wait(PATIENCE), 0)
             self.assertEqual(self.commit(primary, "4", durable=True), 4)

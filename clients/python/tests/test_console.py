@@ -25,10 +25,10 @@ from pagelog.request import Get, Pull
 from service import Service, fill
 
 DATABASE = {
-    "name": str, "state": str, "paused": bool, "wanted": (str, type(None)), "holder": (str, type(None)), "address": (str, type(None)),
+    "name": str, "state": str, "paused": bool, "read_only": bool, "wanted": (str, type(None)), "holder": (str, type(None)), "address": (str, type(None)),
     "generation": int, "began": (str, type(None)), "begins": list, "position": int, "lag": (int, type(None)),
     "lag_seconds": (float, type(None)), "commits": (float, type(None)), "reads": (float, type(None)), "entries_left": (int, type(None)),
-    "entries": int, "memory": (int, type(None)), "memory_limit": (int, type(None)), "standbys": list, "denials": (int, type(None)),
+    "entries": int, "due": int, "memory": (int, type(None)), "memory_limit": (int, type(None)), "standbys": list, "denials": (int, type(None)),
     "next": str, "next_in": (float, type(None)),
 }  # fmt: skip
 DETAIL = {**DATABASE, "version": int, "at": str, "generations": list, "points": list, "has_trail": bool, "rules": dict,
@@ -129,6 +129,22 @@ class Lively(Kept):
         )
         self.keeping.start(holder)
         self.until(state="serving")
+
+    def test_a_succession_keeps_its_positions(self) -> None:
+        self.until(state="serving")
+        with self.keeping.primary() as primary:
+            for number in range(1, 4):
+                self.commit(primary, f"{number}", durable=True)
+            self.until(position=3, lag=0)
+            before, holder = int(self.shop["generation"]), self.shop["holder"]  # type: ignore[call-overload]
+            self.keeping.word("succeed", "shop")
+            self.follower.until(lambda: self.shop["generation"] > before and self.shop["state"] == "serving")  # type: ignore[operator]
+            self.assertEqual(self.commit(primary, "4", durable=True), 4)
+        self.until(position=4, lag=0, holder=holder)
+        told = f"shop: {holder} goes on with generation {self.shop['generation']} from position 3"
+        self.assertIn(told, self.follower.said())
+        self.assertEqual(self.console.detail("shop")["generations"][-1]["base"], 3)
+        self.follower.until(lambda: [each["reached"] for each in self.shop["standbys"]] == [4])  # type: ignore[attr-defined]
 
     def test_a_switchover_and_the_end_of_a_database(self) -> None:
         self.until(state="serving")

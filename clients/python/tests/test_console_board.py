@@ -16,14 +16,14 @@ from pagelog.console.board import Board, Limits
 from pagelog.console.door import Door
 from pagelog.console.events import Known, of_databases
 from pagelog.console.history import History, Sample
-from pagelog.console.outlook import Forecast, Scene, Spare, State, forecast_of, sentence, state_of
+from pagelog.console.outlook import Forecast, Scene, Spare, State, Use, forecast_of, sentence, state_of
 from pagelog.console.source import Source
 from pagelog.console.web import Pages
 from pagelog.keeper.rows import Row
 from service import PATIENCE
 
-ROW = Row(1, "shop", 3, "run", "a", "127.0.0.1:1", archived=900, base=500, shift=100)
-FREE = Row(1, "shop", 3, archived=900, shift=100)
+ROW = Row(1, "shop", 3, "run", "a", "127.0.0.1:1", archived=1000, base=600)
+FREE = Row(1, "shop", 3, archived=1000)
 
 
 class Sentences(unittest.TestCase):
@@ -48,13 +48,16 @@ class Sentences(unittest.TestCase):
         for seconds, by, words in ((11_000.0, "list", "A succession in about 3.1 h, by the list."), (0.0, "memory", "A succession now, by the memory."),
                                    (600.0, "list", "A succession in about 10 min, by the list."), (None, "", "No succession is foreseen.")):  # fmt: skip
             self.assertEqual(self.said(ROW, forecast=Forecast(seconds, by)), words)
+        under_way = "A succession is under way: the service of the next generation is made beside this one."
+        self.assertEqual(sentence(Scene(ROW, State.SERVING, is_succeeding=True)), under_way)
+        self.assertEqual(self.said(replace(ROW, succeed=True)), under_way)
         self.assertEqual(self.said(ROW, forecast=Forecast(is_early=True)), "It is too early to foresee its next succession.")
         paused = Row(1, "shop", 3, "run", "a", "127.0.0.1:1", paused=True)
         self.assertEqual(self.said(paused, forecast=Forecast(60.0, "list", 120.0)),
                          "Nobody takes it over or rolls it until it is resumed. Its list is full in about 2 min.")  # fmt: skip
 
     def test_what_comes_next_of_a_switchover(self) -> None:
-        wished = Row(1, "shop", 3, "run", "a", "127.0.0.1:1", archived=5000, shift=100, wanted="b")
+        wished = Row(1, "shop", 3, "run", "a", "127.0.0.1:1", archived=5100, wanted="b")
         self.assertEqual(self.said(wished), "A switchover to b waits for its standby.")
         for reached, lives, words in ((5100, True, "A switchover to b begins."), (4076, True, "A switchover to b begins."),
                                       (4075, True, "A switchover to b waits: its standby lacks 1,025 blocks."),
@@ -76,14 +79,13 @@ class Sentences(unittest.TestCase):
         self.assertEqual(self.said(ROW, State.CLOSING), "a archives what is left, and releases it.")
 
     def test_a_forecast(self) -> None:
-        self.assertEqual(
-            forecast_of(500, 1024, 2.0, None, 0, None), Forecast((500 - (1 - 0.8) * 1024) / 2, "list", 250.0)
-        )  # a fifth stays
-        self.assertEqual(forecast_of(500, 1024, 2.0, 60, 100, 1.0), Forecast(20.0, "memory", 250.0))
-        self.assertEqual(forecast_of(150, 1024, 2.0, None, 0, None), Forecast(0.0, "list", 75.0))
-        self.assertEqual(forecast_of(500, 1024, 0.0, 60, 100, -1.0), Forecast())
-        self.assertEqual(forecast_of(500, 1024, None, None, 0, None), Forecast(is_early=True))
-        self.assertEqual(forecast_of(500, 1024, None, 60, 0, 1.0).seconds, None)
+        still = Use(None, 0, None)
+        self.assertEqual(forecast_of(Use(768, 1024, 2.0), still, 0.5), Forecast(128.0, "list", 384.0))
+        self.assertEqual(forecast_of(Use(768, 1024, 2.0), still, 0.75), Forecast(256.0, "list", 384.0))
+        self.assertEqual(forecast_of(Use(768, 1024, 2.0), Use(30, 100, 1.0), 0.5), Forecast(20.0, "memory", 384.0))
+        self.assertEqual(forecast_of(Use(150, 1024, 2.0), still, 0.5), Forecast(0.0, "list", 75.0))
+        self.assertEqual(forecast_of(Use(500, 1024, 0.0), Use(60, 100, -1.0), 0.5), Forecast())
+        self.assertEqual(forecast_of(Use(500, 1024, None), Use(60, 0, 1.0), 0.5), Forecast(is_early=True))
 
 
 class Events(unittest.TestCase):
@@ -95,13 +97,16 @@ class Events(unittest.TestCase):
         return [f"{event.name or ''}: {event.text} ({event.level})" for event in of_databases(looks[0], looks[1], 1.0)]
 
     def test_of_one(self) -> None:
-        taken = Row(1, "shop", 4, "other", "b", "127.0.0.1:2", archived=900, base=900, shift=100)
+        taken = Row(1, "shop", 4, "other", "b", "127.0.0.1:2", archived=1000, base=1000)
         for before, now, told in (
             (ROW, taken, "b took it from a, and serves it: generation 4 from position 1,000 (warning)"),
             (FREE, replace(taken, address=None), "b took it: generation 4 from position 1,000 (warning)"),
             (replace(taken, address=None), taken, "b serves it at 127.0.0.1:2 (good)"),
             (ROW, FREE, "a released it at position 1,000 (bad)"), (ROW, replace(ROW, paused=True), "was paused (warning)"),
             (replace(ROW, paused=True), ROW, "was resumed (plain)"),
+            (ROW, replace(ROW, read_only=True), "may only be read now (warning)"),
+            (ROW, replace(ROW, succeed=True), "a succession was asked for (plain)"),
+            (ROW, replace(ROW, generation=4, base=1000, images=990), "a goes on with generation 4 from position 1,000 (plain)"),
             (ROW, replace(ROW, wanted="*"), "a switchover to another keeper was asked for (plain)"), (replace(ROW, wanted="b"), ROW, None),
         ):  # fmt: skip
             self.assertEqual(self.told([before], [now]), [f"shop: {told}"] if told else [])

@@ -220,16 +220,17 @@ class OnePage(Browsed):
         with Rows(1, HOSTILE) as rows:
             console = self.console(rows.url)
             rows.session.execute("UPDATE pagelog_keeper SET name = %s", (HOSTILE,))
-            rows.session.execute("UPDATE pagelog_log SET holder = %s", (HOSTILE,))
+            for table in ("log", "generation"):
+                rows.session.execute(f"UPDATE pagelog_{table} SET holder = %s", (HOSTILE,))
             self.open(console)
             self.assertEqual(self.names(), [HOSTILE, "db001"])
             self.js("document.querySelector('#rows a').click()")
-            eventually(
-                lambda: self.text("#detail-title") == HOSTILE and HOSTILE in self.text(".part-generations") + HOSTILE, "its page"
-            )
+            eventually(lambda: self.text("#detail-title") == HOSTILE and HOSTILE in self.text(".part-generations"), "its page")
             self.assertIn(HOSTILE, self.text("#facts"))
             self.assertEqual(self.js("return document.querySelectorAll('img').length"), 1)
             self.check_page()
+            self.js("location.hash = '#/%E0%A4%A'")  # a link that was cut
+            eventually(lambda: not self.browser.find_element(By.ID, "detail").is_displayed(), "the table alone")
 
     def test_a_login(self) -> None:
         with Rows(1) as rows:

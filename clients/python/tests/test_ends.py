@@ -29,7 +29,7 @@ from pagelog.fencing import ListGuard
 from pagelog.request import Pull, Write
 from pagelog.tables import TableText
 from postgres import SilentProxy, postgres
-from service import PATIENCE, SOURCE, TABLE, Service, all_that_is_drawn, fill, put
+from service import PATIENCE, SOURCE, TABLE, Service, all_that_is_drawn, fill, put, stand_still
 from test_archive import Folder, words
 
 
@@ -385,7 +385,7 @@ class Silence(Folder):
             main, other = pty.openpty()
             command = [sys.executable, "-B", "-m", "pagelog", "top", "--credentials", str(file), "--db", "0", "--db", "1", "--interval", "30"]
             environment = {**os.environ, "PYTHONPATH": str(SOURCE), "TERM": "xterm"}
-            service.process.send_signal(signal.SIGSTOP)
+            stand_still(service.process.pid)
             process = subprocess.Popen(command, stdin=other, stdout=other, stderr=other, env=environment)
             os.close(other)
             drawn = ""

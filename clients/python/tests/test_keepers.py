@@ -11,7 +11,7 @@ from keepers import Gate, Kept, Line, eventually
 from pagelog import Connection, Lost, OlderEpoch, Reader
 from pagelog.keeper.table import keeper_of
 from pagelog.place import UnknownName
-from service import PATIENCE
+from service import PATIENCE, stand_still
 from test_looking import check_alerts
 
 
@@ -43,11 +43,11 @@ class OneKeeper(Kept):
             self.commit(primary, "1", durable=True)
             before = self.keeping.place()
             pid = self.keeping.pid()
-            os.kill(pid, signal.SIGSTOP)
+            stand_still(pid)
             os.kill(pid, signal.SIGCONT)
             self.assertEqual(self.commit(primary, "2", durable=True), 2)
             self.assertEqual(self.keeping.place().generation, before.generation)
-            os.kill(pid, signal.SIGSTOP)
+            stand_still(pid)
             self.keeping.place(least=before.generation + 1)
             primary._timeout = primary._primary.connection.timeout = 1.0  # type: ignore[union-attr]
             self.assertEqual(self.commit(primary, "3", durable=True), 3)

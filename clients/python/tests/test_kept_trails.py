@@ -53,6 +53,21 @@ class TwoKeepers(Trailed):
 class OneKeeper(Trailed):
     keepers = "a"
 
+    def test_a_succession_ends_a_list_that_is_whole(self) -> None:
+        with self.keeping.primary() as primary:
+            for number in range(1, 21):
+                self.commit(primary, f"{number}", durable=number % 10 == 0)
+            before = self.keeping.place().generation
+            self.keeping.word("succeed", "shop")
+            after = self.keeping.place(least=before + 1).generation
+            self.assertEqual(self.commit(primary, "21", durable=True), 21)
+            eventually(lambda: len(self.lists()) == 2 and self.lists()[0][1] is not None, "both lists")
+        self.assertEqual(self.lists()[0], (before, f"generation {after} has begun: the service of the next generation is ready"))
+        first, second, third = self.replayed()
+        self.assertIn("20 blocks hardened, 20 of them archived, which fit", first)
+        self.assertIn(f"list 2: generation {after} began with images", second)
+        self.assertIn("lines are decided likewise", third)
+
     def test_a_service_that_is_killed_and_a_keeper_that_adopts(self) -> None:
         with self.keeping.primary() as primary:
             self.commit(primary, "1", durable=True)

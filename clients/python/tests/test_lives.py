@@ -11,7 +11,7 @@ import psycopg
 from keepers import Kept, Line, Trigger, eventually
 from pagelog.keeper.referee import Referee
 from pagelog.keeper.schema import FORMAT
-from service import PATIENCE
+from service import PATIENCE, stand_still
 
 
 class Ends(Kept):
@@ -72,7 +72,7 @@ class Vanished(Kept):
         with self.keeping.primary() as primary, psycopg.connect(self.keeping.url, autocommit=True) as session:
             self.commit(primary, "1", durable=True)
             place, pid = self.keeping.place(), self.keeping.pid()
-            os.kill(pid, signal.SIGSTOP)  # so that nothing is pulled
+            stand_still(pid)  # so that nothing is pulled
             with self.keeping.line() as text:
                 print(f"durable shop {place.generation} 2\nwhere shop", file=text, flush=True)
                 self.assertEqual(text.readline().split()[:3], ["at", "shop", str(place.generation)])

@@ -5,7 +5,7 @@ from __future__ import annotations
 import unittest
 from dataclasses import replace
 
-from pagelog.keeper.machine import Action, Facts, Kind, Own, State, Stillness, decide, state_of
+from pagelog.keeper.machine import Action, Facts, Kind, Own, Stage, State, Stillness, decide, state_of
 from pagelog.keeper.rows import Row, StandbyRow
 
 TTL = 4.0
@@ -59,6 +59,24 @@ class Cases(unittest.TestCase):
         self.check(Action.NOTHING, replace(RELEASED, wanted="*"), let_go=3)
         self.check(Action.TAKE, replace(RELEASED, wanted="*"), let_go=3, still=TTL)
         self.check(Action.TAKE, replace(RELEASED, wanted="*"), let_go=2)
+
+    def test_of_a_succession(self) -> None:
+        wished = replace(OURS, succeed=True)
+        self.check(Action.PREPARE, wished, HOLDS)
+        self.check(Action.NOTHING, replace(wished, paused=True), HOLDS)
+        self.check(Action.PREPARE, OURS, replace(HOLDS, share=0.5), succeed_at=0.5)
+        self.check(Action.NOTHING, OURS, replace(HOLDS, share=0.49), succeed_at=0.5)
+        for stage in (Stage.MAKING, Stage.FAILED):
+            self.check(Action.NOTHING, wished, replace(HOLDS, share=0.6), succeed_at=0.5, successor=stage)
+        self.check(Action.SUCCEED, OURS, HOLDS, successor=Stage.READY)
+        self.check(Action.SUCCEED, OURS, replace(HOLDS, share=0.9), successor=Stage.READY)
+        # Nothing waits for the next service where the present one may be full soon, has ended, or is to go elsewhere.
+        self.check(Action.CLOSE, wished, replace(HOLDS, share=0.8), succeed_at=0.5, successor=Stage.MAKING)
+        self.check(Action.RELEASE, wished, replace(HOLDS, alive=False), successor=Stage.READY)
+        self.check(Action.CLOSE, wished, HOLDS, ending=True, successor=Stage.READY)
+        self.check(Action.CLOSE, replace(OURS, wanted="c"), HOLDS, others=(OF_C,), successor=Stage.MAKING)
+        self.check(Action.NOTHING, replace(OURS, paused=True), HOLDS, successor=Stage.READY)
+        self.assertIs(state_of(Facts("a", TTL, OURS, HOLDS), Action.SUCCEED), State.SUCCEEDING)
 
     def test_of_a_released_database(self) -> None:
         self.check(Action.TAKE, RELEASED)

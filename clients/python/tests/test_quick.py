@@ -6,17 +6,16 @@ import asyncio
 import signal
 import unittest
 from dataclasses import replace
-from pathlib import Path
 from unittest.mock import patch
 
-from keepers import Line, Trigger, batch_of, eventually
+from keepers import Line, Trigger, batch_of
 from pagelog.keeper import quick
 from pagelog.keeper.puller import Puller
 from pagelog.keeper.quick import QuickReferee, QuickSession
 from pagelog.keeper.referee import Doubt, Refused
 from pagelog.keeper.rows import Batch, Kept
 from pagelog.request import PULL_MAX
-from service import PATIENCE, Service, fill
+from service import PATIENCE, Service, fill, stand_still
 from test_referee import Referees
 
 
@@ -160,9 +159,7 @@ class Pulls(unittest.TestCase):
 
     def test_a_service_that_hangs_or_is_gone(self) -> None:
         self.assertIsNotNone(self.pull(19))
-        self.service.process.send_signal(signal.SIGSTOP)
-        tasks = Path(f"/proc/{self.service.process.pid}/task")
-        eventually(lambda: all(task.read_text().rpartition(") ")[2][0] == "T" for task in tasks.glob("*/stat")), "the stop of each thread")
+        stand_still(self.service.process.pid)
         self.assertIsNone(self.pull(19))
         self.service.process.send_signal(signal.SIGCONT)
         self.assertIsNotNone(self.pull(19))  # over another connection: the late answer is of nobody

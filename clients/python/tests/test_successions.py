@@ -300,16 +300,16 @@ class Cuts(Succeeding):
             self.cut(step, deed)
 
     def test_the_keeper_dies(self) -> None:
-        self.cut_each("keeper", "made", "fenced", "loaded", "switched")
+        self.cut_each("keeper", "made", "loaded", "switched")
 
     def test_the_present_service_dies(self) -> None:
-        self.cut_each("present", "made", "fenced", "loaded")
+        self.cut_each("present", "fenced", "loaded")
 
     def test_the_next_service_dies(self) -> None:
-        self.cut_each("next", "filled", "fenced", "loaded")
+        self.cut_each("next", "filled", "loaded")
 
     def test_a_line_to_postgresql_is_cut(self) -> None:
-        self.cut_each("away", "loaded", "switched")
+        self.cut_each("away", "switched")
 
     def test_postgresql_is_away_between_the_fence_and_the_switch(self) -> None:
         self.keeping.start("a")

@@ -137,9 +137,9 @@ class Archive:
         """
         if not self._is_kept:
             return True
-        shift = sql.text("SELECT shift FROM pagelog_generation WHERE log = :log AND generation = :generation")
+        images = sql.text("SELECT images FROM pagelog_generation WHERE log = :log AND generation = :generation")
         with self.engine.begin() as connection:
-            found = connection.execute(shift, {"log": self.id, "generation": generation}).scalar()
+            found = connection.execute(images, {"log": self.id, "generation": generation}).scalar()
             first = connection.execute(sql.select(sql.func.min(_blocks.c.lsn)).where(_blocks.c.log == self.id)).scalar()
         return found == 0 and first in (1, None)
 

@@ -14,6 +14,7 @@ import time
 from typing import Sequence
 
 from pagelog.block import Block, Record
+from pagelog.client import FIRST_EPOCH
 from pagelog.credentials import Credentials
 from pagelog.errors import InDoubt, OutOfMemory, PagelogError, TimedOut
 from pagelog.following import GONE, Following, NamedAccount
@@ -219,14 +220,20 @@ class NamedPrimary(Following):
         credentials = self._account.of(place)
         witness = Reader(self._connection(place, 3), credentials)
         try:
-            # Looked at before, so that a writer which has lost something fences nobody.
             is_next = self.place is not None and place.generation > self.place.generation
-            hard = self._hard(witness) if self._tail and is_next else None
             known = 0
-            if hard is not None:
-                known = hard + place.shift
-                self._settle_tail(place, witness, 0, known)
-            self._primary = self._began(place, credentials, witness)
+            if is_next:
+                self._take_kept(place)
+            if not is_next or not self._is_first(place, credentials):
+                # Looked at before, so that a writer which has lost something fences nobody.
+                hard = self._hard(witness) if self._tail and is_next else None
+                if hard is not None:
+                    known = hard + place.shift
+                    self._settle_tail(place, witness, 0, known)
+                self._begin_epoch(place, credentials)
+            self._primary = Primary(self._connection(place, 3), credentials, epoch=self._epoch, alone=True, quorum=self._quorum,
+                                    witness=witness)  # fmt: skip
+            self._primary.begin()
             self._settle_tail(place, witness, known, self._primary.durable + place.shift)
         except _NotToBeKnown:
             raise
@@ -250,9 +257,30 @@ class NamedPrimary(Following):
         except (TableRow, NoRowMatches):
             return None
 
-    def _began(self, place: Place, credentials: Credentials, witness: Reader) -> Primary:
-        """The primary of a new epoch. In the generation that it was in, it follows on the epoch that this writer has begun last:
-        another writer that came since is not fenced."""
+    def _take_kept(self, place: Place) -> None:
+        """What the generation that it comes from had of this writer's blocks is durable, up to where that generation ended."""
+        assert self.place is not None
+        if not self._tail or self._tail[0].lsn > self.end:
+            return
+        if place.generation == self.place.generation + 1:
+            self._is_durable(place.kept)
+        else:
+            self._is_durable(self.keepers.fate(self.place.generation, self._tail[-1].lsn, place.lines).end)
+
+    def _is_first(self, place: Place, credentials: Credentials) -> bool:
+        """Whether it has begun the epoch after the keeper's own, of a writer that has lost nothing: then nobody has written there."""
+        if any(block.lsn <= self.end for block in self._tail):
+            return False
+        try:
+            with Operator(self._connection(place, 3), self._operator.of(place)) as operator:
+                self._epoch = operator.failover(credentials.id, epoch=FIRST_EPOCH)
+            return True
+        except OlderEpoch:
+            return False
+
+    def _begin_epoch(self, place: Place, credentials: Credentials) -> None:
+        """Begins an epoch. In the generation that it was in, it follows on the epoch that this writer has begun last: another writer
+        that came since is not fenced."""
         known = self._epoch if self.place is not None and self.place.generation == place.generation else None
         with Operator(self._connection(place, 3), self._operator.of(place)) as operator:
             while True:
@@ -263,9 +291,6 @@ class NamedPrimary(Following):
                     if operator.status().primary not in (KEEPER, credentials.id):
                         raise
                     known = error.epoch
-        primary = Primary(self._connection(place, 3), credentials, epoch=self._epoch, alone=True, quorum=self._quorum, witness=witness)
-        primary.begin()
-        return primary
 
     def _settle_tail(self, place: Place, witness: Reader, known: int, hard: int) -> None:
         """Compares what the log has of the tail above what is `known`. The rest is to be written again, if the log ends where it begins.

@@ -47,7 +47,8 @@ class BelowBase(PagelogError):
 @dataclass(frozen=True)
 class Place:
     """Where a generation is served; a standby has none, 0. A position is an LSN of its service plus `shift`; the service began with
-    the images of the pages at position `base`, or where that is 0 with the first block."""
+    the images of the pages at position `base`, or where that is 0 with the first block. The generation directly before this one
+    ended at position `kept`."""
 
     generation: int
     run: str
@@ -56,6 +57,7 @@ class Place:
     lines: str
     base: int
     shift: int
+    kept: int = 0
 
 
 @dataclass(frozen=True)
@@ -277,8 +279,8 @@ class Keepers:
 
 def _place(words: list[str]) -> Place | None:
     match words:
-        case ["at", _, generation, run, address, archived, lines, base, shift]:
-            return Place(int(generation), run, address, int(archived), lines, int(base), int(shift))
+        case ["at", _, generation, run, address, archived, lines, base, shift, kept]:
+            return Place(int(generation), run, address, int(archived), lines, int(base), int(shift), int(kept))
         case _:
             return None
 

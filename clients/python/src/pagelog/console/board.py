@@ -15,9 +15,10 @@ from typing import Any, Iterable
 
 from pagelog.console.events import Event, Known, of_databases, of_keepers, taken
 from pagelog.console.history import History, Sample
-from pagelog.console.outlook import Forecast, Scene, Spare, State, forecast_of, sentence, state_of
+from pagelog.console.outlook import Scene, Spare, State, Use, forecast_of, sentence, state_of
 from pagelog.console.source import Generation, Seen
 from pagelog.console.trails import TrailCounts
+from pagelog.keeper.machine import SUCCEED_AT
 from pagelog.keeper.rows import Look, Row
 
 VERSION = 1
@@ -29,11 +30,13 @@ DAY = 86400.0
 
 @dataclass(frozen=True)
 class Limits:
-    """As the keepers have them: seconds of a ttl, entries of an audit list, and MiB that a service may hold, 0 for no limit."""
+    """As the keepers have them: seconds of a ttl, entries of an audit list, MiB that a service may hold, 0 for no limit, and the
+    share of either at which the next service is made."""
 
     ttl: float = 5.0
     audit: int = 1 << 24
     memory: int = 0
+    share: float = SUCCEED_AT
 
 
 @dataclass
@@ -146,20 +149,23 @@ class Board:
         left, held, hard = report.get("entries_left"), report.get("memory"), report.get("hard")
         history.add(Sample(at, row.run, row.archived, hard, left, held))
         audit = max(self.limits.audit, left or 0)
-        forecast = forecast_of(left, audit, history.fall(), held, self.limits.memory, history.growth())
-        spares = tuple(Spare(each.keeper, each.reached + row.shift, each.keeper in living) for each in look.standbys_of(row.id))
+        used, grown = Use(left, audit, history.fall()), Use(held, self.limits.memory, history.growth())
+        forecast = forecast_of(used, grown, self.limits.share)
+        spares = tuple(Spare(each.keeper, each.reached, each.keeper in living) for each in look.standbys_of(row.id))
+        scene = Scene(row, known.state, spares, living, forecast, report.get("state") == "succeeding")
         trail, generations = self._trails.get(row.name), self._generations.get(row.id, ())
         lag = None if hard is None else max(0, hard - row.archived)
         begins = [each.began.timestamp() for each in generations]
         return {
-            "name": row.name, "state": known.state.value, "paused": row.paused, "wanted": row.wanted, "holder": row.holder,
+            "name": row.name, "state": known.state.value, "paused": row.paused, "read_only": row.read_only, "wanted": row.wanted, "holder": row.holder,
             "address": row.address, "generation": row.generation, "began": iso(begins[-1]) if begins else None,
             "begins": [iso(each) for each in begins if each > at - DAY][-24:],
-            "position": row.archived + row.shift, "lag": lag, "lag_seconds": _short(history.lag_seconds),
-            "commits": _short(history.commits), "reads": _short(trail.reads(at)) if trail else None, "entries_left": left, "entries": audit, "memory": held,
+            "position": row.archived, "lag": lag, "lag_seconds": _short(history.lag_seconds),
+            "commits": _short(history.commits), "reads": _short(trail.reads(at)) if trail else None, "entries_left": left, "entries": audit,
+            "due": int((1 - self.limits.share) * audit), "memory": held,
             "memory_limit": self.limits.memory or None, "standbys": [asdict(spare) for spare in spares],
             "denials": sum(trail.denials(at).values()) if trail else None,
-            "next": sentence(Scene(row, known.state, spares, living, forecast)),
+            "next": sentence(scene),
             "next_in": _short(forecast.seconds, 2) if known.state is State.SERVING and not row.paused else None,
         }  # fmt: skip
 

@@ -71,7 +71,7 @@ def _changes(before: Known, now: Known) -> Iterator[Change]:
     if row.generation != old.generation:
         yield _taken(old, row)
     elif row.run is None and old.run is not None:
-        text = f"{old.holder} released it at position {row.archived + row.shift:,}"
+        text = f"{old.holder} released it at position {row.archived:,}"
         yield Change(text, f"{old.holder} released # databases", "bad")
     elif row.address is not None and row.address != old.address:
         yield Change(f"{row.holder} serves it at {row.address}", f"{row.holder} serves # databases", "good")
@@ -83,15 +83,23 @@ def _changes(before: Known, now: Known) -> Iterator[Change]:
     if row.wanted != old.wanted and row.wanted is not None:
         asked = f"a switchover to {'another keeper' if row.wanted == '*' else row.wanted} was asked for"
         yield Change(asked, f"{asked}, of # databases")
+    if row.succeed and not old.succeed:
+        yield Change("a succession was asked for", "a succession was asked for, of # databases")
+    if row.read_only is not old.read_only:
+        word = "may only be read now" if row.read_only else "may be written again"
+        yield Change(word, f"# databases {word}", "warning" if row.read_only else "plain")
     for keeper in sorted(now.standbys - before.standbys):
         yield Change(f"{keeper} stands by", f"{keeper} stands by for # databases")
 
 
 def _taken(old: Row, row: Row) -> Change:
     holder = row.holder or "a keeper"
+    if holder == old.holder and row.images != old.images:  # a succession, and no loss
+        text = f"{holder} goes on with generation {row.generation} from position {row.base:,}"
+        return Change(text, f"{holder} goes on with new generations of # databases")
     whose = f" from {old.holder}" if old.holder not in (None, row.holder) else ""
     serves = ", and serves it" if row.address is not None else ""
-    text = taken(holder, row.generation, row.base + row.shift, f"{whose}{serves}")
+    text = taken(holder, row.generation, row.base, f"{whose}{serves}")
     return Change(text, f"{holder} took # databases{whose}{serves.replace(' it', ' them')}", "warning")
 
 

@@ -7,7 +7,7 @@ from enum import Enum
 from typing import Any, Mapping
 
 from pagelog.desk.durations import duration
-from pagelog.keeper.machine import NEAR, ROLL_AT
+from pagelog.keeper.machine import NEAR
 from pagelog.keeper.rows import Row
 
 
@@ -52,6 +52,8 @@ class Scene:
     living: frozenset[str] = frozenset()
     """The keepers whose beat does not stand still."""
     forecast: Forecast = Forecast()
+    is_succeeding: bool = False
+    """Whether its holder says that it makes the service of the next generation."""
 
 
 def state_of(row: Row, report: Mapping[str, Any], is_silent: bool) -> State:
@@ -65,15 +67,31 @@ def state_of(row: Row, report: Mapping[str, Any], is_silent: bool) -> State:
     return State.CLOSING if report.get("state") == "closing" else State.SERVING
 
 
-def forecast_of(left: int | None, audit: int, fall: float | None, held: int | None, limit: int, growth: float | None) -> Forecast:
-    """When the next service is due: `left` of `audit` entries fall by `fall` a second, `held` of `limit` MiB grow by `growth`."""
+@dataclass(frozen=True)
+class Use:
+    """What is left of a list, or held of a memory, of how much; and by how much that falls, or grows, in a second."""
+
+    now: int | None
+    limit: int
+    speed: float | None
+
+    @property
+    def moves(self) -> bool:
+        """Whether it is known, and comes nearer to its end."""
+        return self.now is not None and self.limit > 0 and self.speed is not None and self.speed > 0
+
+
+def forecast_of(entries: Use, memory: Use, share: float) -> Forecast:
+    """When either is used up to this share, at which the next service is due."""
     due: list[tuple[float, str]] = []
-    if left is not None and fall is not None and fall > 0:
-        due.append((max(0.0, left - (1 - ROLL_AT) * audit) / fall, "list"))
-    if held is not None and limit and growth is not None and growth > 0:
-        due.append((max(0.0, ROLL_AT * limit - held) / growth, "memory"))
-    full = left / fall if left is not None and fall is not None and fall > 0 else None
-    return Forecast(*min(due), full) if due else Forecast(is_early=left is not None and fall is None)
+    full = None
+    if entries.moves:
+        left, fall = entries.now or 0, entries.speed or 1.0
+        due.append((max(0.0, left - (1 - share) * entries.limit) / fall, "list"))
+        full = left / fall
+    if memory.moves:
+        due.append((max(0.0, share * memory.limit - (memory.now or 0)) / (memory.speed or 1.0), "memory"))
+    return Forecast(*min(due), full) if due else Forecast(is_early=entries.now is not None and entries.speed is None)
 
 
 def sentence(scene: Scene) -> str:
@@ -84,7 +102,7 @@ def sentence(scene: Scene) -> str:
         case State.SILENT:
             return _of_a_silent_holder(scene)
         case State.TAKING:
-            return f"It serves once the service of {scene.row.holder} has all blocks up to {scene.row.base + scene.row.shift:,}."
+            return f"It serves once the service of {scene.row.holder} has all blocks up to {scene.row.base:,}."
         case State.CLOSING:
             return f"{scene.row.holder} archives what is left, and releases it."
     return _of_a_server(scene)
@@ -116,6 +134,8 @@ def _of_a_server(scene: Scene) -> str:
     if row.paused:
         full = f" Its list is full in about {_about(forecast.full_in)}." if forecast.full_in is not None else ""
         return f"Nobody takes it over or rolls it until it is resumed.{full}"
+    if scene.is_succeeding or row.succeed:
+        return "A succession is under way: the service of the next generation is made beside this one."
     if row.wanted is not None and forecast.seconds != 0:
         return _of_a_switchover(scene)
     if forecast.seconds is None:
@@ -130,7 +150,7 @@ def _of_a_switchover(scene: Scene) -> str:
     reached = max((spare.reached for spare in scene.spares if spare.lives and row.wanted in (spare.keeper, "*")), default=None)
     if reached is None:
         return f"A switchover to {to} waits for its standby."
-    lacks = row.archived + row.shift - reached
+    lacks = row.archived - reached
     return (
         f"A switchover to {to} begins." if lacks <= NEAR else f"A switchover to {to} waits: its standby lacks {lacks:,} blocks."
     )

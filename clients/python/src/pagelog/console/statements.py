@@ -5,7 +5,7 @@ from pagelog.keeper.schema import FORMAT
 LOOK = f"""
 SELECT
   (SELECT COALESCE(json_agg(l), '[]') FROM (
-    SELECT id, name, generation, run, holder, address, archived, base, shift, wanted, paused
+    SELECT id, name, generation, run, holder, address, archived, base, images, wanted, succeed, read_only, paused
     FROM pagelog_log WHERE format = {FORMAT} AND NOT dropped ORDER BY name) l) AS databases,
   (SELECT COALESCE(json_agg(k), '[]') FROM (SELECT name, run, lines, beat, report FROM pagelog_keeper ORDER BY name) k) AS keepers,
   (SELECT COALESCE(json_agg(s), '[]') FROM (
@@ -18,7 +18,7 @@ SELECT
 """
 
 GENERATIONS = """
-SELECT g.log, g.generation, g.holder, g.base + g.shift AS base, g.began
+SELECT g.log, g.generation, g.holder, g.base, g.began
 FROM unnest(%(logs)s::integer[]) AS w(log) CROSS JOIN LATERAL (
   SELECT * FROM pagelog_generation p WHERE p.log = w.log ORDER BY p.generation DESC LIMIT %(most)s) g
 ORDER BY g.log, g.generation

@@ -22,7 +22,7 @@ def console_word(accounts: Accounts, listen: str, token_file: Path | None) -> No
     """Serve a page that shows named databases live. Needs [archive] url, of a role that may read; it writes nothing.
 
     It prints `listening HOST:PORT`. PostgreSQL is looked at once a second while a browser follows, else every five seconds.
-    What the keepers' [keeper] says of ttl, audit and memory is to be in the credentials too: by it successions are foretold.
+    What the keepers' [keeper] says of ttl, audit, memory and succeed is to be in the credentials too: by it successions are foretold.
 
     \b
     Example:
@@ -32,6 +32,7 @@ def console_word(accounts: Accounts, listen: str, token_file: Path | None) -> No
     from pagelog.console.door import Door, is_loopback, read_token
     from pagelog.console.running import run
     from pagelog.console.source import Source
+    from pagelog.keeper.machine import ROLL_AT, SUCCEED_AT
 
     host, colon, port = listen.rpartition(":")
     if not colon or not host or not port.isdecimal() or int(port) > 65535:
@@ -40,7 +41,8 @@ def console_word(accounts: Accounts, listen: str, token_file: Path | None) -> No
         raise click.UsageError(f"--listen: others reach {host}: say --token-file too")
     door = Door(read_token(token_file) if token_file else None, host)
     keeper = accounts.keeper
-    limits = Limits(float(keeper.get("ttl", Limits.ttl)), keeper.get("audit", Limits.audit), keeper.get("memory", 0) >> 20)
+    limits = Limits(float(keeper.get("ttl", Limits.ttl)), keeper.get("audit", Limits.audit), keeper.get("memory", 0) >> 20,
+                    float(keeper.get("succeed", SUCCEED_AT)) or ROLL_AT)  # fmt: skip
     source = Source(url_of_referee(accounts))
     try:
         asyncio.run(run(source, limits, door, host.strip("[]"), int(port), lambda bound: click.echo(f"listening {host}:{bound}")))

@@ -72,11 +72,11 @@ class Archiver:
             await self._doorbell.wait()
             async with self.turn:
                 self._doorbell.clear()
-                if not await self._archived():
+                if not await self.archived():
                     return
 
-    async def _archived(self) -> bool:
-        """Archives what is hardened by now. False where nothing more can be."""
+    async def archived(self) -> bool:
+        """Archives what is hardened by now. False where nothing more can be. The turn is the caller's."""
         served, waited = self._served, self._waits.now()
         try:
             batch = await self._next_batch()

@@ -1,7 +1,7 @@
 """The line protocol of keepers: text, one line each way, of at most 1,024 bytes. Replies come when they come, and name what
 they answer.
 
-    where NAME [LEAST]              at NAME GENERATION RUN ADDRESS ARCHIVED LINES BASE SHIFT | nowhere NAME | unknown NAME
+    where NAME [LEAST]              at NAME GENERATION RUN ADDRESS ARCHIVED LINES BASE SHIFT KEPT | nowhere NAME | unknown NAME
                                     held back for a second at most by a keeper that is about to publish generation LEAST
     next NAME LEAST                 the same, held back for a second at most until there is a place of generation LEAST or a later one
     standby NAME                    standby NAME ADDRESS RUN REACHED BASE SHIFT | standby NAME - - - - -
@@ -10,9 +10,11 @@ they answer.
                                     above NAME GENERATION M: there is no N; the service ends at M
                                     elsewhere NAME GENERATION: ask `where` again
     block NAME N                    block NAME N DIGEST: the SHA-256 of the archived block at position N | block NAME N -: none is there
+    turn NAME ..                    whose turn it is to write: turns.py
 
 All numbers are positions: an LSN of the service is a position less SHIFT. BASE is the position whose images the service began
-with: below it nothing can be read there. It is 0 where the service has the log from its first block.
+with: below it nothing can be read there. It is 0 where the service has the log from its first block. KEPT is where the
+generation before ended: all up to there is durable, and of what it had above nothing is here.
 """
 
 from __future__ import annotations
@@ -59,6 +61,9 @@ class Answers(Protocol):
 
     def block(self, line: Line, name: str, position: int) -> None:
         """Writes the answer to `block`."""
+
+    def turn(self, line: Line, words: list[str]) -> None:
+        """Answers the lines of turns, at once or later."""
 
     def gone(self, line: Line) -> None:
         """The client is gone, and waits for nothing."""
@@ -113,5 +118,7 @@ class Server:
                 self._answers.durable(line, name, int(generation), int(position))
             case ["block", name, position]:
                 self._answers.block(line, name, int(position))
+            case ["turn" | "back" | "hold", _, *_]:
+                self._answers.turn(line, words)
             case _:
                 line.say("what", *words[:1])

@@ -56,6 +56,7 @@ STATEMENTS = (
         log integer NOT NULL REFERENCES pagelog_log, generation bigint NOT NULL, run text NOT NULL, holder text NOT NULL,
         base bigint NOT NULL, shift bigint NOT NULL, began timestamptz NOT NULL DEFAULT clock_timestamp(),
         PRIMARY KEY (log, generation))""",
+    "ALTER TABLE pagelog_generation ADD COLUMN IF NOT EXISTS images bigint NOT NULL DEFAULT 0",
     """CREATE TABLE IF NOT EXISTS pagelog_table (
         log integer PRIMARY KEY REFERENCES pagelog_log, text text NOT NULL, secret bytea NOT NULL)""",
     """CREATE TABLE IF NOT EXISTS pagelog_keeper (

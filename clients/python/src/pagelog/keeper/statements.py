@@ -70,8 +70,8 @@ WITH begun AS (
   WHERE id = %(id)s AND run = %(run)s AND generation = %(generation)s AND archived = %(old)s AND NOT dropped
   RETURNING id, generation),
 noted AS (
-  INSERT INTO pagelog_generation (log, generation, run, holder, base, shift)
-  SELECT id, generation, %(next_run)s, %(me)s, %(new)s, %(shift)s FROM begun),
+  INSERT INTO pagelog_generation (log, generation, run, holder, base, shift, images)
+  SELECT id, generation, %(next_run)s, %(me)s, %(new)s, %(shift)s, %(images)s FROM begun),
 kept AS (
   INSERT INTO pagelog_block (log, lsn, crc, data)
   SELECT begun.id, %(old)s + b.n, b.crc, substring(%(bytes)b::bytea FROM b.start FOR b.length)
@@ -99,7 +99,7 @@ PUBLISH = """
 WITH told AS (
   UPDATE pagelog_log SET address = %(address)s, shift = %(shift)s, images = %(images)s
   WHERE id = %(id)s AND run = %(run)s RETURNING id, generation)
-UPDATE pagelog_generation g SET shift = %(shift)s FROM told WHERE g.log = told.id AND g.generation = told.generation RETURNING g.log
+UPDATE pagelog_generation g SET shift = %(shift)s, images = %(images)s FROM told WHERE g.log = told.id AND g.generation = told.generation RETURNING g.log
 """
 
 PIECE = """

@@ -26,6 +26,8 @@ HURRY_AT = 0.65
 """The share of the audit list, or of the memory, from which on the next generation waits for nothing."""
 NEAR = 256
 """How many archived blocks the next service may lack when the present one is closed."""
+_LITTLE, _ROUNDS = 64, 4
+"""Blocks that the switch may well archive by itself, and how often it is tried that there are no more."""
 MANY = 1 << 16
 """Blocks after a base from which on a newer one is made in any case; more where the base has more than half as many pages."""
 
@@ -41,8 +43,8 @@ class Succession:
         self._basing: asyncio.Task[None] | None = None
         self._referee: Referee | None = None
         self._has_turn, self._base_turn = False, asyncio.Lock()
-        self.base = self._pages = 0
-        """The newest base of the archive, as far as it is known here."""
+        self.base = self._pages = self._tried = 0
+        """The newest base of the archive as far as it is known here, how many pages it has, and where one was tried last."""
 
     @property
     def stage(self) -> Stage:
@@ -57,7 +59,7 @@ class Succession:
         """Makes a base where there are many blocks after the last one: each takeover has to load them."""
         served, few = self._database.own, self._few(MANY)
         many = max(few, 2 * self._pages) if few == MANY else few
-        if self._stage is Stage.NONE and served.reached - max(self.base, served.images) >= many and (
+        if self._stage is Stage.NONE and served.reached - max(self.base, served.images, self._tried) >= many and (
             self._basing is None or self._basing.done()
         ):  # fmt: skip
             self._basing = self._shared.spawn(self._tended(served), self._database.row.name)
@@ -76,6 +78,7 @@ class Succession:
 
     async def _make_base(self, served: Served) -> None:
         settings, row, began = self._shared.settings, self._database.row, seconds()
+        self._tried = served.reached
         wish = Wish(settings.url, row.id, served.reached, served.chain.hex(), settings.keep)
         made = await made_of(wish, served.reached - max(self.base, served.images))
         self.base, self._pages = made.position, made.pages
@@ -169,10 +172,21 @@ class Succession:
             await asyncio.to_thread(successor.open)  # nobody knows where it is, nor has its tokens
             with successor.loader() as loader:
                 async with archiver.turn:  # what it has sent is archived, and no other batch is pulled
-                    return await self._switch(served, successor, loader)
+                    return not await self._near(served, archiver) or await self._switch(served, successor, loader)
         except PagelogError as error:
             await self._fail(error)
             return True
+
+    async def _near(self, served: Served, archiver: Archiver) -> bool:
+        """Archives until little is left for the switch. False where the archive is not this run's any more."""
+        for _ in range(_ROUNDS):
+            before = served.reached
+            if not await archiver.archived():
+                return False
+            await self._follow(served)
+            if served.reached - before <= _LITTLE:
+                break
+        return True
 
     async def _switch(self, served: Served, successor: Served, loader: Loader) -> bool:
         row, began = self._database.row, seconds()

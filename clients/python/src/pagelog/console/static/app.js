@@ -132,8 +132,16 @@ at("filter").addEventListener("submit", (event) => {
 
 // Which database is open, by the hash, and the keys.
 
+function nameOf(hash) {
+  try {
+    return hash.startsWith("#/") ? decodeURIComponent(hash.slice(2)) : "";
+  } catch {
+    return ""; // it was cut amid a letter
+  }
+}
+
 function route() {
-  const name = location.hash.startsWith("#/") ? decodeURIComponent(location.hash.slice(2)) : "";
+  const name = nameOf(location.hash);
   const before = detail.name;
   if (name && name !== before) detail.open(name);
   if (!name && before !== undefined) detail.close();

@@ -76,7 +76,7 @@ function facts(database, now) {
     ["Standbys", standbysOf(database)],
     ["Commits", `${rate(database.commits)} a second`],
     ["Reads", database.denials === null ? "not known: no trail is kept" : `${rate(database.reads)} a second`],
-    ["List left", ...(left === null ? ["–"] : [gauge(left, entries), `${number(left)} of ${number(entries)} entries`])],
+    ["List left", ...(left === null ? ["–"] : [gauge(database), `${number(left)} of ${number(entries)} entries`])],
     ["Memory", memory === null ? "–" : `${number(memory)} MiB${limit ? ` of ${number(limit)}` : ""}`],
   ];
 }
@@ -128,7 +128,7 @@ function generations(found, width) {
 }
 
 function denials(found) {
-  if (!found.has_trail) return [quiet("No trail is kept of it: ", element("code", {}, "pagelogctl record"), " keeps one.")];
+  if (!found.has_trail) return [quiet("No trail is kept of it; ", element("code", {}, "trail"), " in [keeper] keeps one.")];
   const rules = Object.entries(found.rules), most = Math.max(1, ...rules.map(([, count]) => count));
   const lines = rules.map(([rule, count]) =>
     element("li", {}, element("span", {}, rule), bar(count / most), element("b", {}, number(count))));

@@ -27,6 +27,7 @@ const SHAPES = {
   silent: [line("M8 2.2 14.2 13.2H1.8z"), line("M8 6v3.6M8 11v.6")],
   nobody: [thick("M3.2 3.2l9.6 9.6M12.8 3.2l-9.6 9.6")],
   paused: [thick("M5.4 3v10M10.6 3v10")],
+  locked: [["rect", { x: 3.5, y: 7.5, width: 9, height: 6, rx: 1 }], line("M5.5 7V5a2.5 2.5 0 0 1 5 0v2")],
   good: [["circle", { cx: 8, cy: 8, r: 4 }]],
   plain: [["circle", { cx: 8, cy: 8, r: 2.2 }]],
   warning: [line("M8 3.2 13 8l-5 4.8L3 8z")],
@@ -42,10 +43,12 @@ export function shape(kind) {
 /** A word with its shape. */
 export const marked = (kind, word) => element("span", { class: `mark is-${kind}` }, shape(kind), word);
 
-/** The state of a database, and whether it is paused. */
+/** The state of a database, and whether it is paused or may only be read. */
 export function marks(database) {
-  const state = marked(database.state, STATES[database.state]);
-  return database.paused ? [state, " ", marked("paused", PAUSED)] : [state];
+  const found = [marked(database.state, STATES[database.state])];
+  if (database.paused) found.push(" ", marked("paused", PAUSED));
+  if (database.read_only) found.push(" ", marked("locked", "read-only"));
+  return found;
 }
 
 // Plots.
@@ -65,14 +68,14 @@ export function spark(points, words, least) {
     svg("path", { class: "trace", d: trace }));
 }
 
-/** How much of a list is left, and the mark at which its keeper goes over to a fresh service. Without words they stand beside. */
-export function gauge(left, all, words) {
-  const share = Math.max(0, Math.min(1, left / all));
+/** How much of a list is left, and the mark at which the next service is made. Without words they stand beside it. */
+export function gauge({ entries_left: left, entries, due }, words) {
+  const share = Math.max(0, Math.min(1, left / entries));
   const size = { width: 60, height: 8, viewBox: "0 0 60 8" };
-  return svg("svg", { class: `gauge${share < 0.3 ? " is-low" : ""}`, ...size, ...(words ? told(words) : HIDDEN) },
+  return svg("svg", { class: `gauge${left <= due ? " is-low" : ""}`, ...size, ...(words ? told(words) : HIDDEN) },
     svg("rect", { class: "track", width: 60, height: 8, rx: 2 }),
     svg("rect", { class: "left", width: 60 * share, height: 8, rx: 2 }),
-    svg("path", { class: "mark", d: "M12 0v8" }));
+    svg("path", { class: "mark", d: `M${((60 * due) / entries).toFixed(1)} 0v8` }));
 }
 
 /** A part of a whole; the number stands beside it. */

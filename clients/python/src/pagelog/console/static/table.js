@@ -9,7 +9,7 @@ const text = (value) => ({ key: String(value), draw: () => [String(value)] });
 const missing = (value) => value ?? -1;
 const living = (database) => database.standbys.filter((each) => each.lives).map((each) => each.keeper);
 
-const stateCell = (database) => ({ key: `${database.state} ${database.paused}`, draw: () => marks(database) });
+const stateCell = (database) => ({ key: `${database.state} ${database.paused} ${database.read_only}`, draw: () => marks(database) });
 
 function nameCell({ name }) {
   return { key: name, draw: () => [element("a", { href: `#/${encodeURIComponent(name)}`, tabindex: -1 }, name)] };
@@ -27,11 +27,12 @@ function generationCell({ generation, began }, now) {
 
 const dayCell = ({ begins }, now) => ({ key: `${begins.join()} ${now.slice(0, 15)}`, draw: () => [day(begins, now)] });
 
-function leftCell({ entries_left: left, entries }) {
+function leftCell(database) {
+  const { entries_left: left, entries } = database;
   if (left === null) return text("–");
   const percent = `${Math.round((100 * left) / entries)} %`;
   const words = `${percent} of the list are left: ${number(left)} of ${number(entries)} entries`;
-  return { key: `${percent} ${compact(left)}`, draw: () => [gauge(left, entries, words), element("span", { title: words }, percent)] };
+  return { key: `${percent} ${compact(left)}`, draw: () => [gauge(database, words), element("span", { title: words }, percent)] };
 }
 
 function nextCell(database) {
@@ -58,7 +59,7 @@ const COLUMNS = [
   numbers("lag", "Lag", number, "Blocks that are hardened and not durable yet"),
   numbers("denials", "Denied", compact, "Requests denied in the last hour, where there is a trail"),
   { name: "left", title: "List left", cell: leftCell, by: (each) => missing(each.entries_left),
-    hint: "Entries left of the audit list; at the mark, a fifth, its keeper goes over to a fresh service" },
+    hint: "Entries left of the audit list; at the mark its keeper makes the next service" },
   { name: "next", title: "Succession", cell: nextCell, by: (each) => each.next_in ?? Infinity, isNumber: true,
     hint: "When the next service is due" },
 ];

@@ -1,5 +1,5 @@
 use Rattle.pl_conn.specs.Serving.{Reaches}
-use Rattle.pl_conn.proofs.worker.turn_ready.Given as goal
+use Rattle.pl_conn.proofs.lines.turn_ready.Given as goal
 
 -- the pass is the gate's, and came of the first by calls
 abbrev pub invariant-loop-event : goal.invariant-loop-event
