@@ -387,10 +387,6 @@ inline resume() {
     fi
 }
 
-/* A law does nothing. */
-// resuming.rt: turns_are_a_conversation
-// ..
-
 /* A process of its own, so that the steps of a turn are here once. The worker waits until it has ended. */
 active proctype Turn() {
     byte held, replies, writes, taken, heard;
@@ -405,7 +401,7 @@ end_rests:
 
 /* The turns of a worker. */
 
-// worker.rt: turn
+// lines.rt: turn
 inline turn() {
                                                            // let mut reader = &line.socket;
                                                            // let mut writer = &line.socket;
@@ -420,7 +416,7 @@ inline push(at) {
     due[dues] = at; dues++
 }
 
-// worker.rt: Lines::settle
+// lines.rt: Lines::settle
 inline settle() {
     d_step {
                                                            // let Some(line) = self.items.get_mut(place)
@@ -450,7 +446,7 @@ inline settle() {
     }
 }
 
-// worker.rt: Lines::turn_at
+// lines.rt: Lines::turn_at
 inline turn_at() {
     if
     :: !is_open[at]                                        // let Some(line) = self.items.get_mut(place)
@@ -464,7 +460,7 @@ inline turn_at() {
     fi
 }
 
-// worker.rt: Lines::is_for_turn
+// lines.rt: Lines::is_for_turn
 inline is_for_turn() {
     d_step {
                                                            // let Some(line) = self.items.get_mut(event.token().0)
@@ -483,7 +479,7 @@ inline is_for_turn() {
     }
 }
 
-// worker.rt: turn_ready
+// lines.rt: turn_ready
 inline turn_ready() {
     do                                                     // for event in events.iter() {
     :: atomic {
@@ -501,7 +497,7 @@ inline turn_ready() {
     od
 }
 
-// worker.rt: Lines::turn_due
+// lines.rt: Lines::turn_due
 inline turn_due() {
     count = dues;                                          // let count = self.due.len();
     do                                                     // for at in 0..count {

@@ -51,9 +51,9 @@ byte awake;            /* how many workers poll awake */
 /* Constants without a step: how long a listener rests does not matter, nor how much room there is from the start. */
 // worker.rt: BELL
                                                            // const BELL: Token = Token(usize::MAX);
-// worker.rt: LINES
+// lines.rt: LINES
                                                            // const LINES: usize = 1_024;
-// worker.rt: AT_ONCE
+// polling.rt: AT_ONCE
                                                            // const AT_ONCE: Duration = Duration::ZERO;
 // accepting.rt: PASSING
                                                            // const PASSING: [i32; 14] = [1, 4, 12, 23, 24, 64, 71, 92,
@@ -63,20 +63,20 @@ byte awake;            /* how many workers poll awake */
 /* EVENTS and ROOM are smaller here. */
 // worker.rt: EVENTS
                                                            // const EVENTS: usize = 256;
-// serving.rt: WAITING
+// staff.rt: WAITING
                                                            // const WAITING: usize = 64;
 
 /* The count of a worker's connections. */
 
-// worker.rt: Post::open
+// post.rt: Post::open
 #define OPEN(post) counted[post]                           // self.open.load(SeqCst)
 
-// worker.rt: Post::opens
+// post.rt: Post::opens
 inline opens(post) {
     counted[post]++                                        // self.open.fetch_add(1, SeqCst);
 }
 
-// worker.rt: Post::closes
+// post.rt: Post::closes
 inline closes(post) {
 #ifdef NEVER_CLOSES
     skip
@@ -86,12 +86,12 @@ inline closes(post) {
 }
 
 /* An error of a poll. */
-// worker.rt: Post::leaves
+// post.rt: Post::leaves
                                                            // self.open.store(1 << 62, SeqCst);
 
 /* The accepting thread. */
 
-// worker.rt: Post::ring
+// post.rt: Post::ring
 inline ring(post) {
     rung[post] = true // let _rung = self.bell.wake();
 }
@@ -274,17 +274,17 @@ inline poll() {
 #define NOTHING_WAS_TOLD (told == 0)
 #endif
 
-// worker.rt: Lookout::takes
+// polling.rt: Lookout::takes
 inline takes() {
     atomic { ok = !taken; taken = true }                   // self.taken.swap(1, SeqCst) == 0
 }
 
-// worker.rt: Lookout::leaves
+// polling.rt: Lookout::leaves
 inline leaves() {
     taken = false                                          // self.taken.store(0, SeqCst);
 }
 
-// worker.rt: poll_awake
+// polling.rt: poll_awake
 inline poll_awake() {
     atomic { awake++; assert(awake == 1) };
     do                                                     // for _ in 0..idle_polls {
@@ -299,7 +299,7 @@ inline poll_awake() {
     atomic { polls = 0; awake-- }
 }
 
-// worker.rt: wait
+// polling.rt: wait
 inline wait() {
     takes();                                               // if idle_polls > 0 && lookout.takes() {
     if
@@ -344,7 +344,7 @@ inline turn_due() {
 }
 
 /* A poll reports at once what is registered. */
-// worker.rt: Lines::open
+// lines.rt: Lines::open
 inline open() {
                                                            // let _is_set = socket.set_nodelay(true).is_ok();
                                                            // if socket.set_nonblocking(true).is_err() {

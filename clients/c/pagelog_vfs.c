@@ -102,6 +102,7 @@
  * one statement more have given the lock back; and after one that was refused it may be refused all else
  * until then, that statement included.
  */
+#include "pagelog_vfs.h"
 #include "pagelog_vfs_inside.h"
 
 #include <string.h>
@@ -233,9 +234,6 @@ static int register_vfs(void) {
 }
 
 #ifdef PAGELOG_STATIC
-
-/* For a program that is linked with this file: registers the VFS. */
-int pagelog_register_vfs(void);
 
 int pagelog_register_vfs(void) {
     return register_vfs();

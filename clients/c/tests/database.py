@@ -35,7 +35,7 @@ def connect(address, principal=2, operator=1, **more):
 
 def named(keeper, principal=2, **more):
     """A connection to the database of a stub."""
-    return sqlite_of(keeper.address, keeper.name, principal, **more)
+    return sqlite_of(keeper.address, more.pop("name", keeper.name), principal, **more)
 
 
 def sqlite_of(keepers, database, principal, **more):

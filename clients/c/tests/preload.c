@@ -3,9 +3,9 @@
  *   make out/pagelog_preload.so
  *   LD_PRELOAD=out/pagelog_preload.so speedtest1 --vfs pagelog 'file:x?to=...'
  */
-#include <sqlite3.h>
+#include "../pagelog_vfs.h"
 
-int pagelog_register_vfs(void);
+#include <sqlite3.h>
 
 __attribute__((constructor)) static void preload(void) {
     if (sqlite3_initialize() == SQLITE_OK) pagelog_register_vfs();

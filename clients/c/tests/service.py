@@ -5,12 +5,14 @@ import os
 import pathlib
 import random
 import select
+import signal
 import socket
 import struct
 import subprocess
 import sys
 import tempfile
 import threading
+import time
 
 HERE = pathlib.Path(__file__).resolve().parent
 CLIENT = HERE.parent
@@ -318,3 +320,16 @@ def random_plan(seed, least, most):
     """Cuts each connection after a random number of bytes."""
     numbers = random.Random(seed)
     return lambda: numbers.randrange(least, most)
+
+
+@contextlib.contextmanager
+def stopped(service):
+    """A service that answers nothing for a while, each thread of which has stopped."""
+    service.process.send_signal(signal.SIGSTOP)
+    threads = pathlib.Path(f"/proc/{service.process.pid}/task")
+    while any(") T" not in (thread / "stat").read_text() for thread in threads.iterdir()):
+        time.sleep(0.01)
+    try:
+        yield
+    finally:
+        service.process.send_signal(signal.SIGCONT)

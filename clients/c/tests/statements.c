@@ -3,11 +3,11 @@
  *
  *   statements ADDRESS
  */
+#include "../pagelog_vfs.h"
+
 #include <sqlite3.h>
 #include <stdio.h>
 #include <string.h>
-
-int pagelog_register_vfs(void);
 
 static int failures;
 

@@ -2,15 +2,13 @@
 
 import contextlib
 import os
-import pathlib
-import signal
 import sqlite3
 import subprocess
 import time
 
 from check import run, same, true
 from database import EXTENSION, TOKENS, code_of, connect, one, reader, uri
-from service import CLIENT, START_TABLE, TABLE, Peer, Proxy, Service, plain_environment, wire
+from service import CLIENT, START_TABLE, TABLE, Peer, Proxy, Service, plain_environment, stopped, wire
 from vfs_forks import in_child
 
 MOST_BYTES = 4294967295 * 8192
@@ -276,19 +274,6 @@ def test_what_is_in_doubt_where_nothing_was_promised():
         is_armed[0] = True
         same("of a COMMIT", "SQLITE_IOERR_FSYNC", code_of(lambda: writer.execute("insert into t values (2)")))
         same("why", "in doubt", one(writer, "pragma pagelog_error").split(":")[0])
-
-
-@contextlib.contextmanager
-def stopped(service):
-    """A service that answers nothing for a while, each thread of which has stopped."""
-    service.process.send_signal(signal.SIGSTOP)
-    threads = pathlib.Path(f"/proc/{service.process.pid}/task")
-    while any(") T" not in (thread / "stat").read_text() for thread in threads.iterdir()):
-        time.sleep(0.01)
-    try:
-        yield
-    finally:
-        service.process.send_signal(signal.SIGCONT)
 
 
 def test_waits_end_with_the_busy_timeout():

@@ -3,7 +3,6 @@
 import ctypes
 import os
 import random
-import signal
 import socket
 import stat
 import threading
@@ -12,7 +11,7 @@ import time
 from binding import (CONFLICT, DENIED, DONE, FENCED, IN_DOUBT, LOST, MALFORMED, AUDIT_FULL, NO_SPIN, OPERATOR, PAGE_SERVER,
                      PRIMARY, SECONDARY, Blocks, Log, blocks_of, encode, numbered, records_of, request, token)
 from check import run, same, true
-from service import Proxy, Service, START_TABLE, TABLE, failing_over, wire
+from service import Proxy, Service, START_TABLE, TABLE, failing_over, stopped, wire
 
 
 def block_of(lsn, *records):
@@ -869,11 +868,10 @@ def test_every_wait_ends():
     with Service(workers=1) as service, Log(service.address, 2) as holder:
         same("holder", DONE, holder.join())
         with Log(service.address, 3, reply_ms=200, patience_ms=300) as log:
-            start = time.monotonic()
-            service.process.send_signal(signal.SIGSTOP)
-            same("a service that is silent", LOST, log.status(SECONDARY)[0])
-            true("no sooner than reply_ms", time.monotonic() - start > 0.19)
-            service.process.send_signal(signal.SIGCONT)
+            with stopped(service):
+                start = time.monotonic()
+                same("a service that is silent", LOST, log.status(SECONDARY)[0])
+                true("no sooner than reply_ms", time.monotonic() - start > 0.19)
         with Log(service.address, 3) as log:
             same("one worker, two connections", (DONE, DONE), (log.status(SECONDARY)[0], holder.status(PRIMARY)[0]))
     with Log("127.0.0.1:1", 2, patience_ms=100) as log:

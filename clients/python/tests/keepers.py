@@ -28,11 +28,11 @@ from prometheus_client.parser import text_string_to_metric_families
 from pagelog import Block, NamedPrimary, NamedReader, Primary, Put, Reader
 from pagelog.desk.words import pagelogctl
 from pagelog.keeper.referee import KeeperError, Referee, digest, plain_url
-from pagelog.keeper.rows import Batch, Kept, Row
+from pagelog.keeper.rows import Batch, Row
 from pagelog.keeper.run import end_orphans
 from pagelog.place import Keepers, Place
 from postgres import postgres
-from service import PATIENCE, PROGRAM, SOURCE, TABLE, WIDE_TABLE, put, token
+from service import PATIENCE, PROGRAM, SOURCE, TABLE, WIDE_TABLE, put, stand_still, token
 
 _numbers = itertools.count(1)
 _shared: list[str] = []
@@ -77,6 +77,8 @@ class Line:
     def __init__(self, bytes: int = 1 << 60, back: int = 1 << 60, *, stalls: bool = False) -> None:
         self.left = {"to": bytes, "back": back}
         self.stalls = stalls
+        self.instead = b""
+        """What comes back in place of the first bytes that are cut off."""
         self.folder = Path(tempfile.mkdtemp(prefix="pagelog-line-"))
         self.listener = socket.socket(socket.AF_UNIX)
         self.listener.bind(str(self.folder / ".s.PGSQL.5432"))
@@ -118,6 +120,7 @@ class Line:
                     (server if side is client else client).sendall(part)
                     if not data or len(part) < len(data):
                         if data and self.stalls:
+                            client.sendall(self.instead)
                             return  # both stay open, and nothing passes
                         client.close()
                         server.close()
@@ -125,6 +128,15 @@ class Line:
         except (OSError, ValueError):
             client.close()
             server.close()
+
+
+class Replying(Line):
+    """A line on which, instead of what is cut off, an error comes back, and both ends stay open."""
+
+    def __init__(self, severity: str, state: str) -> None:
+        super().__init__(stalls=True)
+        fields = b"".join(kind + text.encode() + b"\0" for kind, text in ((b"S", severity), (b"V", severity), (b"C", state), (b"M", "told")))
+        self.instead = b"E" + (len(fields) + 5).to_bytes(4, "big") + fields + b"\0" + b"Z\0\0\0\5I"
 
 
 class Keeping:
@@ -142,6 +154,8 @@ class Keeping:
                              f"audit = {audit}\n{more}")  # fmt: skip
         self.table = self.folder / "table.toml"
         self.table.write_text(WIDE_TABLE)
+        self.keeper: tuple[object, ...] = ("-m", "pagelog")
+        """How a keeper is called, as arguments of Python."""
         self.processes: dict[str, subprocess.Popen[str]] = {}
         self.ports = dict.fromkeys("abcd", 0)
 
@@ -185,7 +199,7 @@ class Keeping:
 
     def launch(self, *names: str, program: str = PROGRAM) -> None:
         for name in names:
-            words = [sys.executable, "-m", "pagelog", "keep", "--name", name, "--lines", f"127.0.0.1:{self.ports[name]}",
+            words = [sys.executable, *self.keeper, "keep", "--name", name, "--lines", f"127.0.0.1:{self.ports[name]}",
                      "--serve", "127.0.0.1", "--folder", self.folder / name, "--program", program, "--credentials", self.file]  # fmt: skip
             with (self.folder / f"{name}.log").open("a") as log:
                 self.processes[name] = subprocess.Popen(list(map(str, words)), stdout=subprocess.PIPE, stderr=log, text=True,
@@ -193,6 +207,8 @@ class Keeping:
 
     def kill(self, name: str, number: int = signal.SIGKILL) -> None:
         process = self.processes[name]
+        if number == signal.SIGSTOP:
+            return stand_still(process.pid)
         process.send_signal(number)
         if number in (signal.SIGKILL, signal.SIGTERM):
             process.wait()
@@ -317,3 +333,17 @@ class Gate:
             except psycopg.errors.LockNotAvailable:
                 continue
         self._session.close()
+
+
+class Trigger:
+    """Each statement that changes a row so runs this, until it is closed."""
+
+    def __init__(self, url: str, table: str, when: str, body: str) -> None:
+        self._session, self._table = psycopg.connect(url, autocommit=True), table
+        self._session.execute(f"CREATE OR REPLACE FUNCTION pagelog_attack() RETURNS trigger LANGUAGE plpgsql AS $$ BEGIN {body}; RETURN NEW; END $$")
+        self._session.execute(f"CREATE TRIGGER pagelog_attack BEFORE {when} EXECUTE FUNCTION pagelog_attack()")
+
+    def close(self) -> None:
+        if not self._session.closed:
+            self._session.execute(f"DROP TRIGGER pagelog_attack ON {self._table}")
+            self._session.close()

@@ -7,11 +7,13 @@ import random
 import resource
 import select
 import shutil
+import signal
 import socket
 import subprocess
 import sys
 import tempfile
 import threading
+import time
 from pathlib import Path
 from typing import Callable
 
@@ -34,6 +36,20 @@ WIDE_TABLE = TABLE.read_text() + '\n[[row]]\nverdict = "allow"\nwho = 2\nrole = 
 
 def token(principal: int) -> str:
     return str(principal) * 32
+
+
+def stand_still(pid: int) -> None:
+    """Stops a process by SIGSTOP. Returns once all its threads stand: on a busy machine one may run on for a while."""
+    os.kill(pid, signal.SIGSTOP)
+    while not all(_stands(task) for task in Path(f"/proc/{pid}/task").iterdir()):
+        time.sleep(0.001)
+
+
+def _stands(task: Path) -> bool:
+    try:
+        return (task / "stat").read_text().rpartition(")")[2].split()[0] in "TtZX"
+    except OSError:
+        return True  # it has ended
 
 
 class Service:

@@ -19,7 +19,7 @@ from pagelog.desk import watch
 from pagelog.desk.side_by_side import NotInTime, Task, look_at_all
 from pagelog.desk.watch import Watch
 from pagelog.request import Pull
-from service import PATIENCE, TOP, Service, fill, put
+from service import PATIENCE, TOP, Service, fill, put, stand_still
 from test_archive import words
 from test_looking import scrape
 
@@ -41,11 +41,12 @@ class Rules(unittest.TestCase):
 
     def test_each_alert_names_a_section_of_the_runbook(self) -> None:
         rules = (RULES / "alerts.yml").read_text().split("- alert: ")[1:]
-        headings = re.findall(r"^#+ (.*)$", (TOP / "docs" / "RUNBOOK.md").read_text(), flags=re.M)
-        anchors = {re.sub(r"[^\w -]", "", heading).lower().replace(" ", "-") for heading in headings}
         for rule in rules:
-            found = re.search(r"runbook: docs/RUNBOOK.md#(\S+)", rule)
-            self.assertIn(found and found[1], anchors, rule.split()[0])
+            found = re.search(r"runbook: docs/(\w+).md#(\S+)", rule)
+            assert found is not None, rule.split()[0]
+            headings = re.findall(r"^#+ (.*)$", (TOP / "docs" / f"{found[1]}.md").read_text(), flags=re.M)
+            anchors = {re.sub(r"[^\w -]", "", heading).lower().replace(" ", "-") for heading in headings}
+            self.assertIn(found[2], anchors, rule.split()[0])
 
 
 class Scrapes(unittest.TestCase):
@@ -67,7 +68,7 @@ class Scrapes(unittest.TestCase):
     def test_a_service_that_hangs_is_down_within_the_scrape(self) -> None:
         address = self.metrics("--within", "1", dbs=2)
         self.assertEqual(scrape(address)['pagelog_up{db="0"}'], 1)
-        self.service.process.send_signal(signal.SIGSTOP)
+        stand_still(self.service.process.pid)
         for _ in range(3):
             found = scrape(address)
             self.assertEqual((found['pagelog_up{db="0"}'], found['pagelog_up{db="1"}']), (0, 0))

@@ -14,37 +14,25 @@ import tempfile
 import threading
 import unittest
 from concurrent.futures import ThreadPoolExecutor
+from dataclasses import replace
 from pathlib import Path
 from unittest.mock import patch
 
 import psycopg
 
-from keepers import Gate, Kept, Keeping, Line, batch_of, eventually, new_database, new_url
+from keepers import Gate, Kept, Keeping, Line, Trigger, batch_of, blocks, eventually, new_database, new_url
 from pagelog import Connection, ConnectionLost, OlderEpoch, OtherPrimary, Primary, Reader
 from pagelog.keeper import referee as referee_module
-from pagelog.keeper.committer import Committer
+from pagelog.keeper.committer import Committer, Fenced
 from pagelog.keeper.referee import Doubt, Referee, digest
-from pagelog.keeper.rows import Batch
+from pagelog.keeper.rows import Batch, Kept as KeptBatch
 from pagelog.keeper.run import Facts, Run
 from pagelog.keeper.session import Session
 from pagelog.keeper.table import KEEPER, keeper_of
 from pagelog.place import Fate, Keepers
 from pagelog.reply import State
-from service import PATIENCE, PROGRAM, SOURCE
-
-
-class Trigger:
-    """Each statement that changes a row so runs this, until it is closed."""
-
-    def __init__(self, url: str, table: str, when: str, body: str) -> None:
-        self._session, self._table = psycopg.connect(url, autocommit=True), table
-        self._session.execute(f"CREATE OR REPLACE FUNCTION pagelog_attack() RETURNS trigger LANGUAGE plpgsql AS $$ BEGIN {body}; RETURN NEW; END $$")
-        self._session.execute(f"CREATE TRIGGER pagelog_attack BEFORE {when} EXECUTE FUNCTION pagelog_attack()")
-
-    def close(self) -> None:
-        if not self._session.closed:
-            self._session.execute(f"DROP TRIGGER pagelog_attack ON {self._table}")
-            self._session.close()
+from service import PATIENCE, PROGRAM, SOURCE, stand_still
+from test_referee import Referees
 
 
 class Statements(Kept):
@@ -136,7 +124,7 @@ class Standbys(Kept):
                 eventually(lambda: reader.status().primary == KEEPER, "the closed table")
             looks = self.beat(holder)
             eventually(lambda: self.beat(holder) > looks + 1, "the wait for the rest")
-            os.kill(pid, signal.SIGSTOP)
+            stand_still(pid)
             gate.open()
             self.assertEqual(self.keeping.processes[holder].wait(PATIENCE), 0)
             self.assertEqual(self.commit(primary, "4", durable=True), 4)
@@ -265,6 +253,68 @@ class ManyFiles(unittest.TestCase):
             self.assertTrue(run.is_alive)
             run.end()
         self.assertEqual(child.poll(), -signal.SIGKILL)
+
+
+class Committers(Referees):
+    def test_two_batches_of_one_database_are_in_one_statement_neither_with_each_other_nor_with_one_that_was_given_up(self) -> None:
+        kept, ship = self.taken(), new_database(self.referee, "ship")
+        taken = self.referee.take(ship, "r")
+        assert taken is not None
+        good = batch_of(self.row, kept, "r1")
+        given_up, late = replace(good, blocks=blocks(1, 3, b"given up")), replace(good, run="over")
+
+        async def keep() -> list[int]:
+            committer = Committer(Session(self.referee, PATIENCE), PATIENCE)
+            waits = [asyncio.create_task(committer.keep(batch)) for batch in (given_up, good, late, batch_of(ship, taken, "r"))]
+            await asyncio.sleep(0)  # all of them are due
+            waits[0].cancel()
+            running = asyncio.create_task(committer.run())
+            try:
+                with self.assertRaises(Fenced):
+                    await asyncio.wait_for(waits[2], PATIENCE)
+                return [(await asyncio.wait_for(wait, PATIENCE)).archived for wait in (waits[1], waits[3])]
+            finally:
+                running.cancel()
+
+        self.assertEqual(asyncio.run(keep()), [3, 3])
+        self.assertEqual(self.everything(), list(good.blocks))
+
+    def test_a_batch_that_nobody_waits_for_any_more_does_no_harm_to_the_next(self) -> None:
+        kept = self.taken()
+        found = asyncio.run(self.both(replace(batch_of(self.row, kept, "r1"), run="over"), batch_of(self.row, kept, "r1")))
+        self.assertEqual((found.archived, found.generation), (3, kept.generation))
+
+    async def both(self, over: Batch, good: Batch) -> KeptBatch:
+        """The end of a good batch, behind one whose keeper gives it up while it is looked up."""
+        loop, look_up = asyncio.get_running_loop(), self.referee.kept
+        committer = Committer(Session(self.referee, PATIENCE), PATIENCE)
+        running = asyncio.create_task(committer.run())
+        given_up = asyncio.create_task(committer.keep(over))
+
+        def give_up(log: int, run: str) -> KeptBatch | None:
+            loop.call_soon_threadsafe(given_up.cancel)
+            return look_up(log, run)
+
+        self.referee.kept = give_up  # type: ignore[method-assign]
+        await asyncio.wait({given_up})
+        try:
+            return await asyncio.wait_for(committer.keep(good), PATIENCE)
+        finally:
+            running.cancel()
+
+    def test_a_batch_of_a_run_that_is_over_is_fenced(self) -> None:
+        kept = self.taken()
+
+        async def keep() -> None:
+            committer = Committer(Session(self.referee, PATIENCE), PATIENCE)
+            running = asyncio.create_task(committer.run())
+            try:
+                with self.assertRaises(Fenced):
+                    await committer.keep(replace(batch_of(self.row, kept, "r1"), run="over"))
+            finally:
+                running.cancel()
+
+        asyncio.run(keep())
 
 
 class Away(unittest.TestCase):

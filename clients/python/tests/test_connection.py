@@ -12,7 +12,7 @@ import pagelog
 from pagelog import Address, Block, Connection, Put
 from pagelog.reply import Done, Page, State
 from pagelog.request import Failover, Get, Head, Report, Request, Role, Status, Write
-from service import PATIENCE, CuttingProxy, Service, put, token
+from service import PATIENCE, CuttingProxy, Service, put, stand_still, token
 
 PRIMARY = Head(2, bytes.fromhex(token(2)), Role.PRIMARY, 0, 1)
 SECONDARY = Head(3, bytes.fromhex(token(3)), Role.SECONDARY, 0, 1)
@@ -163,7 +163,7 @@ class Refused(unittest.TestCase):
         with Service(workers=1) as service, service.connection() as first:
             first.ask(Request(PRIMARY, Status()))
             with Connection(service.address, timeout=0.3) as second:
-                service.process.send_signal(signal.SIGSTOP)
+                stand_still(service.process.pid)
                 try:
                     with self.assertRaises(pagelog.TimedOut) as raised:
                         second.ask(Request(PRIMARY, Status()))

@@ -29,7 +29,7 @@ from pagelog.fencing import ListGuard
 from pagelog.request import Pull, Write
 from pagelog.tables import TableText
 from postgres import SilentProxy, postgres
-from service import PATIENCE, SOURCE, TABLE, Service, all_that_is_drawn, fill, put
+from service import PATIENCE, SOURCE, TABLE, Service, all_that_is_drawn, fill, put, stand_still
 from test_archive import Folder, words
 
 
@@ -340,18 +340,20 @@ class Silence(Folder):
             self.assertEqual((process.returncode, error.count("\n")), (128 + number, 1), (line, error))
 
     def test_what_is_cleaned_up_after_a_signal_waits_no_more(self) -> None:
-        code = ("import sys, time; sys.path.insert(0, sys.argv[1]); from pagelog.archive_engine import bound_waits, engine_of\n"
-                "bound_waits(); connection = engine_of(sys.argv[2]).connect(); connection.exec_driver_sql('select 1'); print('asks', flush=True)\n"
-                "try: time.sleep(100)\nfinally: connection.rollback()")
-        process = subprocess.Popen([sys.executable, "-B", "-c", code, str(SOURCE), self.silent_url], stdout=subprocess.PIPE,
-                                   stderr=subprocess.PIPE, text=True)  # fmt: skip
-        assert process.stdout is not None
-        self.assertEqual(process.stdout.readline(), "asks\n")
-        self.proxy.is_silent.set()
-        began = time.monotonic()
-        process.send_signal(signal.SIGINT)
-        process.communicate(timeout=PATIENCE)
-        self.assertLess(time.monotonic() - began, 25)  # the time-out of a statement is 30 s
+        for ending in ("try: asks(); time.sleep(100)\nfinally: connection.rollback()", "asks(); time.sleep(100)"):
+            self.proxy.is_silent.clear()
+            code = ("import sys, time; sys.path.insert(0, sys.argv[1]); from pagelog.archive_engine import bound_waits, engine_of\n"
+                    "bound_waits(); connection = engine_of(sys.argv[2]).connect(); connection.exec_driver_sql('select 1')\n"
+                    "def asks(): print('asks', flush=True)\n" + ending)
+            process = subprocess.Popen([sys.executable, "-B", "-c", code, str(SOURCE), self.silent_url], stdout=subprocess.PIPE,
+                                       stderr=subprocess.PIPE, text=True)  # fmt: skip
+            assert process.stdout is not None
+            self.assertEqual(process.stdout.readline(), "asks\n")
+            self.proxy.is_silent.set()
+            began = time.monotonic()
+            process.send_signal(signal.SIGINT)
+            process.communicate(timeout=PATIENCE)
+            self.assertLess(time.monotonic() - began, 25, ending)  # the time-out of a statement is 30 s
 
     def wait_until_it_asks(self, process: int) -> None:
         """Until it has a connection to the silent PostgreSQL, on which it waits."""
@@ -383,7 +385,7 @@ class Silence(Folder):
             main, other = pty.openpty()
             command = [sys.executable, "-B", "-m", "pagelog", "top", "--credentials", str(file), "--db", "0", "--db", "1", "--interval", "30"]
             environment = {**os.environ, "PYTHONPATH": str(SOURCE), "TERM": "xterm"}
-            service.process.send_signal(signal.SIGSTOP)
+            stand_still(service.process.pid)
             process = subprocess.Popen(command, stdin=other, stdout=other, stderr=other, env=environment)
             os.close(other)
             drawn = ""

@@ -11,7 +11,8 @@ from keepers import Gate, Kept, Line, eventually
 from pagelog import Connection, Lost, OlderEpoch, Reader
 from pagelog.keeper.table import keeper_of
 from pagelog.place import UnknownName
-from service import PATIENCE
+from service import PATIENCE, stand_still
+from test_looking import check_alerts
 
 
 class OneKeeper(Kept):
@@ -42,11 +43,11 @@ class OneKeeper(Kept):
             self.commit(primary, "1", durable=True)
             before = self.keeping.place()
             pid = self.keeping.pid()
-            os.kill(pid, signal.SIGSTOP)
+            stand_still(pid)
             os.kill(pid, signal.SIGCONT)
             self.assertEqual(self.commit(primary, "2", durable=True), 2)
             self.assertEqual(self.keeping.place().generation, before.generation)
-            os.kill(pid, signal.SIGSTOP)
+            stand_still(pid)
             self.keeping.place(least=before.generation + 1)
             primary._timeout = primary._primary.connection.timeout = 1.0  # type: ignore[union-attr]
             self.assertEqual(self.commit(primary, "3", durable=True), 3)
@@ -155,12 +156,30 @@ class OneKeeper(Kept):
                 self.assertEqual(text.readline().split(), ["durable", "shop", str(place.generation), "2"])
                 print(f"durable shop {place.generation} 9", file=text, flush=True)
                 self.assertEqual(text.readline().split(), ["above", "shop", str(place.generation), "2"])
-                for asked, answer in (("where none", "unknown none"), ("standby shop", "standby shop - - -"), ("x y", "what x"),
+                for asked, answer in (("where none", "unknown none"), ("standby shop", "standby shop - - - - -"), ("x y", "what x"),
                                       (f"durable shop {place.generation + 1} 1", f"elsewhere shop {place.generation + 1}")):  # fmt: skip
                     print(asked, file=text, flush=True)
                     self.assertEqual(text.readline().strip(), answer)
                 print("x" * 2000, file=text, flush=True)
                 self.assertEqual(text.readline(), "")
+
+    def test_who_asks_for_the_next_place_is_told_as_soon_as_there_is_one(self) -> None:
+        place = self.keeping.place()
+        with self.keeping.line() as text:
+            print(f"where shop {place.generation}\nwhere none 1\nwhere shop {place.generation + 1}\nwhere shop", file=text, flush=True)
+            self.assertEqual([text.readline().split()[:3] for _ in range(3)],
+                             [["at", "shop", str(place.generation)], ["unknown", "none"], ["at", "shop", str(place.generation)]])  # fmt: skip
+            # The third question is held back, and answered in the end with what there is.
+            self.assertEqual(text.readline().split()[:3], ["at", "shop", str(place.generation)])
+            gate = Gate(self.keeping.url, "NEW.address IS NOT NULL AND OLD.address IS NULL")
+            os.kill(self.keeping.pid(), signal.SIGKILL)
+            gate.somebody_waits()
+            print(f"where shop {place.generation + 1}\nwhere shop", file=text, flush=True)
+            self.assertEqual(text.readline().split(), ["nowhere", "shop"])
+            gate.open()
+            while (words := text.readline().split())[0] == "nowhere":
+                print(f"where shop {place.generation + 1}", file=text, flush=True)
+            self.assertEqual(words[:3], ["at", "shop", str(place.generation + 1)])
 
     def test_a_place_is_published_once_its_service_has_all_that_is_archived(self) -> None:
         with self.keeping.primary() as primary:
@@ -205,6 +224,7 @@ class Watched(Kept):
                 gate.open()
                 self.assertEqual(text.readline().split()[0], "durable")
                 eventually(lambda: self.of_shop() == (1, place.generation, 2, 0, 0), "a look after it")
+        check_alerts(self, {name for name, _ in self.keeping.metrics()}, of_keeper=True)
         self.keeping.word("drop", "shop", "--force")
         eventually(lambda: not any(label == "shop" for _, label in self.keeping.metrics()), "the end of its metrics")
 

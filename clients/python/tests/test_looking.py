@@ -263,11 +263,11 @@ def scrape(address: str) -> dict[str, float]:
     return {name: float(value) for name, value in (line.rsplit(" ", 1) for line in lines if not line.startswith("#"))}
 
 
-def check_alerts(test: unittest.TestCase, names: set[str]) -> None:
-    """Each name of a metric that the example of alerts has is one that is served."""
+def check_alerts(test: unittest.TestCase, names: set[str], *, of_keeper: bool = False) -> None:
+    """Each name of a metric that the example of alerts has is one that is served, by an exporter or by a keeper."""
     text = (HERE.parent / "prometheus" / "alerts.yml").read_text()
     used = set(re.findall(r"pagelog_\w+", "\n".join(line for line in text.splitlines() if "expr" in line or "(" in line)))
-    test.assertEqual(used - names, set())
+    test.assertEqual({name for name in used if name.startswith("pagelog_keeper_") == of_keeper} - names, set())
 
 
 if __name__ == "__main__":

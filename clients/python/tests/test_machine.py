@@ -5,7 +5,7 @@ from __future__ import annotations
 import unittest
 from dataclasses import replace
 
-from pagelog.keeper.machine import Action, Facts, Kind, Own, State, Stillness, decide, state_of
+from pagelog.keeper.machine import Action, Facts, Kind, Own, Stage, State, Stillness, decide, state_of
 from pagelog.keeper.rows import Row, StandbyRow
 
 TTL = 4.0
@@ -60,6 +60,24 @@ class Cases(unittest.TestCase):
         self.check(Action.TAKE, replace(RELEASED, wanted="*"), let_go=3, still=TTL)
         self.check(Action.TAKE, replace(RELEASED, wanted="*"), let_go=2)
 
+    def test_of_a_succession(self) -> None:
+        wished = replace(OURS, succeed=True)
+        self.check(Action.PREPARE, wished, HOLDS)
+        self.check(Action.NOTHING, replace(wished, paused=True), HOLDS)
+        self.check(Action.PREPARE, OURS, replace(HOLDS, share=0.5), succeed_at=0.5)
+        self.check(Action.NOTHING, OURS, replace(HOLDS, share=0.49), succeed_at=0.5)
+        for stage in (Stage.MAKING, Stage.FAILED):
+            self.check(Action.NOTHING, wished, replace(HOLDS, share=0.6), succeed_at=0.5, successor=stage)
+        self.check(Action.SUCCEED, OURS, HOLDS, successor=Stage.READY)
+        self.check(Action.SUCCEED, OURS, replace(HOLDS, share=0.9), successor=Stage.READY)
+        # Nothing waits for the next service where the present one may be full soon, has ended, or is to go elsewhere.
+        self.check(Action.CLOSE, wished, replace(HOLDS, share=0.8), succeed_at=0.5, successor=Stage.MAKING)
+        self.check(Action.RELEASE, wished, replace(HOLDS, alive=False), successor=Stage.READY)
+        self.check(Action.CLOSE, wished, HOLDS, ending=True, successor=Stage.READY)
+        self.check(Action.CLOSE, replace(OURS, wanted="c"), HOLDS, others=(OF_C,), successor=Stage.MAKING)
+        self.check(Action.NOTHING, replace(OURS, paused=True), HOLDS, successor=Stage.READY)
+        self.assertIs(state_of(Facts("a", TTL, OURS, HOLDS), Action.SUCCEED), State.SUCCEEDING)
+
     def test_of_a_released_database(self) -> None:
         self.check(Action.TAKE, RELEASED)
         self.check(Action.TAKE, RELEASED, STANDBY, others=(OF_C,))
@@ -89,6 +107,10 @@ class Cases(unittest.TestCase):
         self.check(Action.END, ROW, STANDBY, ending=True)
         self.check(Action.END, ROW, replace(STANDBY, share=0.5))
         self.check(Action.END, ROW, replace(STANDBY, alive=False))
+        # One that is noted and is not there: others would count on it.
+        self.check(Action.STAND_DOWN, ROW, is_noted=True, ending=True)
+        self.check(Action.STAND_DOWN, ROW, is_noted=True, stands_by=True)
+        self.check(Action.NOTHING, ROW, STANDBY, is_noted=True)
 
     def test_of_what_is_over_and_of_what_the_referee_has_lost(self) -> None:
         self.check(Action.END, replace(ROW, generation=4), HOLDS)
@@ -105,7 +127,7 @@ class Cases(unittest.TestCase):
     def test_of_an_earlier_life(self) -> None:
         self.check(Action.ADOPT, OURS)
         self.check(Action.ADOPT, OURS, still=9 * TTL)
-        self.check(Action.NOTHING, OURS, ending=True)
+        self.check(Action.ADOPT, OURS, ending=True)  # what it has is archived before the keeper ends
 
     def test_a_standby_whose_take_was_in_doubt_finds_itself_the_holder(self) -> None:
         self.check(Action.FILL, replace(OURS, run="s", address=None), STANDBY)

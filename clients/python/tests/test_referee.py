@@ -2,20 +2,17 @@
 
 from __future__ import annotations
 
-import asyncio
 import threading
 import unittest
 from dataclasses import replace
 
 import psycopg
 
-from keepers import Line, batch_of, blocks, new_database, new_url
+from keepers import Line, Replying, batch_of, blocks, new_database, new_url
 from pagelog.keeper import statements
-from pagelog.keeper.committer import Committer, Fenced
 from pagelog.keeper.referee import Away, BrokenArchive, Doubt, Referee, Refused, Superseded, digest
-from pagelog.keeper.rows import Batch, Kept, Row
-from pagelog.keeper.session import Session
-from service import PATIENCE
+from pagelog.keeper.rows import Kept, Row
+from postgres import SilentProxy, postgres
 
 
 class Referees(unittest.TestCase):
@@ -260,6 +257,17 @@ class Lines(Referees):
             thread.join()
             line.close()
 
+    def test_a_server_that_ends_a_session_amid_a_batch_may_have_committed_it(self) -> None:
+        for severity, state in (("PANIC", "53100"), ("FATAL", "25P03"), ("ERROR", "40003")):
+            kept, line = self.taken(f"run {state}"), Replying(severity, state)
+            referee = self.new("told", line.url(self.url))
+            line.count_from_now(back=0)
+            batch = batch_of(self.row, kept, f"run {state}")
+            with self.assertRaises(Doubt):
+                referee.keep([batch])
+            self.assertEqual(self.referee.kept(self.row.id, batch.run), Kept(batch.new, batch.chain, batch.generation))
+            line.close()
+
     def test_away(self) -> None:
         with self.assertRaises(Away):
             Referee("postgresql://nobody@/none?host=/nowhere").look()
@@ -268,6 +276,13 @@ class Lines(Referees):
         referee = Referee("postgresql://pagelog@/x?host=/a,/b,/c&port=1,2,3")
         referee.turn_hosts()
         self.assertEqual((referee._options["host"], referee._options["port"]), ("/b,/c,/a", "2,3,1"))
+
+    def test_a_silent_host_hides_none_behind_it(self) -> None:
+        with SilentProxy(postgres()) as silent:
+            silent.is_silent.set()
+            found = Referee(self.url.replace("host=", f"connect_timeout=1&host={silent.folder},"))
+            self.addCleanup(found.close)
+            self.assertIsNotNone(found.everything().row("shop"))
 
 
 class Replication(Referees):
@@ -388,42 +403,3 @@ class Replication(Referees):
             while True:
                 self.referee.look()
         self.assertEqual(self.seen().run, "r1")
-
-
-class Committers(Referees):
-    def test_a_batch_that_nobody_waits_for_any_more_does_no_harm_to_the_next(self) -> None:
-        kept = self.taken()
-        found = asyncio.run(self.both(replace(batch_of(self.row, kept, "r1"), run="over"), batch_of(self.row, kept, "r1")))
-        self.assertEqual((found.archived, found.generation), (3, kept.generation))
-
-    async def both(self, over: Batch, good: Batch) -> Kept:
-        """The end of a good batch, behind one whose keeper gives it up while it is looked up."""
-        loop, look_up = asyncio.get_running_loop(), self.referee.kept
-        committer = Committer(Session(self.referee, PATIENCE), PATIENCE)
-        running = asyncio.create_task(committer.run())
-        given_up = asyncio.create_task(committer.keep(over))
-
-        def give_up(log: int, run: str) -> Kept | None:
-            loop.call_soon_threadsafe(given_up.cancel)
-            return look_up(log, run)
-
-        self.referee.kept = give_up  # type: ignore[method-assign]
-        await asyncio.wait({given_up})
-        try:
-            return await asyncio.wait_for(committer.keep(good), PATIENCE)
-        finally:
-            running.cancel()
-
-    def test_a_batch_of_a_run_that_is_over_is_fenced(self) -> None:
-        kept = self.taken()
-
-        async def keep() -> None:
-            committer = Committer(Session(self.referee, PATIENCE), PATIENCE)
-            running = asyncio.create_task(committer.run())
-            try:
-                with self.assertRaises(Fenced):
-                    await committer.keep(replace(batch_of(self.row, kept, "r1"), run="over"))
-            finally:
-                running.cancel()
-
-        asyncio.run(keep())

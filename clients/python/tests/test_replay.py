@@ -25,7 +25,7 @@ from pagelog.trail.replay import (
     ANNULLED_BLOCK, DENIED_TEXT, UNARCHIVED_BLOCK, Difference, NotReplayable, Replay, Replayed, blocks_of, lines_of, replay,
 )  # fmt: skip
 from pagelog.trail.seal import seal
-from pagelog.trail.store import NO_DIGEST, _lists, _pieces, _texts, digest_of
+from pagelog.trail.store import NO_DIGEST, _lists, _pieces, _texts
 from pagelog_model.bodies import Malformed, read_request
 from pagelog_model.lines import read_lines
 from service import IS_LONG, PATIENCE, TOP, WIDE_TABLE, Service, fill, put

@@ -177,6 +177,15 @@ class Runs(unittest.TestCase):
         for run in runs:
             run.end()
 
+    def test_what_a_keeper_left_that_was_killed_while_it_started_a_service_is_removed(self) -> None:
+        run = self.start()
+        file = self.folder / run.facts.file_name
+        file.write_text(json.dumps({**vars(run.facts), "address": None}))  # it does not listen yet: nobody could adopt it
+        for name in (f"shop.{run.name}.table", "ship.r.table", "ship.r.said", "ship.r.json.new"):
+            (self.folder / name).touch()
+        self.assertEqual(end_orphans(self.folder, {run.name}), ["shop"])
+        self.assertEqual((run.is_alive, list(self.folder.iterdir())), (False, []))
+
     def test_a_service_that_does_not_start_leaves_nothing(self) -> None:
         with self.assertRaisesRegex(NotStarted, "fault: table"):
             Run.start(self.program, "shop", "r", "nonsense")

@@ -12,6 +12,7 @@ from pathlib import Path
 
 import pagelog
 from pagelog import Address, Operator
+from pagelog.archive import Archive
 from pagelog.errors import AuditListFull
 from pagelog.reply import LINE_SIZE, Entry, encode_entry
 from pagelog.request import AUDIT_MAX
@@ -174,10 +175,17 @@ class Kept(Folder):
             self.assertRaises(OtherKeeper, one.step)
 
     def test_another_generation_has_a_list_of_its_own(self) -> None:
-        TrailKeeper(self.operator, self.trail, generation=3).step()
+        old = TrailKeeper(self.operator, self.trail, generation=3)
+        old.step()
         with Service() as service, service.operator() as operator:
             TrailKeeper(operator, self.trail, generation=4).step()
-        self.assertEqual([(one.generation, one.ended) for one in self.trail.lists()], [(3, "generation 4 has taken over"), (4, None)])
+        ends = [(one.generation, (one.ended or "").partition(":")[0]) for one in self.trail.lists()]
+        self.assertEqual(ends, [(3, "generation 4 has begun"), (4, "")])
+        for zombie in (old, TrailKeeper(self.operator, self.trail, generation=3)):
+            self.assertRaises(OtherKeeper, zombie.step)
+        self.assertEqual([one.ended for one in self.trail.lists()][1:], [None])
+        with Archive(self.url, "shop", create=True) as archive:  # which is no named database's
+            self.assertTrue(archive.begins_with_blocks(3))
 
     def test_a_full_list_ends_and_says_so(self) -> None:
         with Service(audit=50) as service, service.operator() as operator, service.primary() as primary:
@@ -251,7 +259,7 @@ class Words(Folder):
 
     def test_a_picture_or_the_name_of_what_draws(self) -> None:
         self.operator.failover(2)
-        TrailKeeper(self.operator, self.trail).run(follow=False)
+        TrailKeeper(self.operator, self.trail, generation=7).run(follow=False)
         picture = self.folder / "shop.svg"
         process = words("trail", "shop", "--url", self.url, "--plot", picture)
         _, error = process.communicate(timeout=PATIENCE)
@@ -262,7 +270,7 @@ class Words(Folder):
             return
         self.assertEqual((process.returncode, error), (0, ""))
         drawn = picture.read_text()
-        for word in ("requests", "denials", "epoch 2"):
+        for word in ("requests", "denials", "epoch 2", "generation 7"):
             self.assertIn(word, drawn)
 
     def test_a_recorder_that_is_killed_or_told_to_end(self) -> None:

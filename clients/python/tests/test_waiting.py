@@ -140,25 +140,28 @@ class Followers(Archived):
         while text not in (line := stream.readline()):
             self.assertTrue(line, f"it ended, and did not say {text!r}")
 
-    def test_an_archiver_and_a_reader_of_the_audit_list_wait_for_it(self) -> None:
+    def test_an_archiver_and_readers_of_the_audit_list_wait_for_it(self) -> None:
         self.make()
         file = self.service.credentials_file()
         archives = words("archive", "--follow", "--credentials", file, "--url", self.url)
         audits = words("audit", "--follow", "--denied", "--first", "-1", "--credentials", file, PYTHONUNBUFFERED="1")
+        records = words("record", "shop", "--follow", "--idle", "0.1", "--credentials", file, "--url", self.url)
         self.wait_for(archives.stdout, "archived 100 of 100")
+        self.wait_for(records.stdout, "of list 1")
         with self.service.operator() as operator, self.assertRaises(pagelog.OlderEpoch):
             operator.failover(2)
             operator.failover(2, epoch=1)
         self.wait_for(audits.stdout, "OlderEpoch")
         self.start_with_the_waiting_table()
-        for process in (archives, audits):
+        for process in (archives, audits, records):
             self.wait_for(process.stderr, NOT_YET)
         self.restore()
         with self.service.primary() as primary:
             fill(primary, 7, seed=2)
         self.wait_for(archives.stdout, "archived 107 of 107")
         self.wait_for(audits.stderr, "here its new list begins")
-        for process in (archives, audits):
+        self.wait_for(records.stdout, "of list 2")
+        for process in (archives, audits, records):
             process.terminate()
             status, _, error = said(process)
             self.assertEqual((status, NOT_YET in error), (0, False))

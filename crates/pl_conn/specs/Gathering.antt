@@ -9,7 +9,7 @@ use Rattle.pl_table.specs.Request.{Query}
 use Rattle.pl_wire.specs.Answering.{Answered, AnswersBody, AnswersRead, Calls}
 use Rattle.pl_wire.specs.FrameReading.{StopsFrame}
 use Rattle.pl_wire.specs.Frames.{frames_of, longest_request}
-use Rattle.pl_wire.specs.FrameWriting.{reply_frame}
+use Rattle.pl_wire.specs.FrameWriting.{largest_reply_frame, reply_frame}
 use Rattle.pl_wire.specs.declared.fault.WireFault.{WireFault}
 use Rattle.pl_wire.specs.declared.frame_reading.FrameFault.{FrameFault}
 use Rattle.pl_conn.specs.Conversation.{Converses, MayWait, Scene, Talk, Talks, cause_of, replies_text}
@@ -24,6 +24,10 @@ pub record Box : Type 0 where
 -- nothing waits
 abbrev pub emptied : Box
 emptied = record { text = []; lens = [] }
+
+-- the most bytes of replies that wait, and one more: less than 256 KiB, and one reply
+abbrev pub waiting_limit : ℕ
+waiting_limit = 262144 + largest_reply_frame
 
 -- one reply more may wait: the frames that wait are few, and take less than 256 KiB
 abbrev pub MayGather : Box → Type 0

@@ -5,9 +5,9 @@ ghost use Rattle.std.specs.Prelude.{◌≡◌, ◌≢◌, ◌≤◌};
 ghost use Rattle.std.specs.IoError.{raw_os_error};
 ghost use Rattle.pl_conn.specs.Serving.{is_passing};
 
+use crate::post::Post;
 use crate::serving::Stop;
 use crate::watch::Watch;
-use crate::worker::Post;
 use crossbeam_channel::{Sender, TrySendError};
 use std::io;
 use std::net::{TcpListener, TcpStream};

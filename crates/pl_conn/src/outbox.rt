@@ -4,7 +4,7 @@ ghost use Rattle.std.specs.Prelude.{◌≡◌, ◌<◌, ◌≤◌, ◌↔◌, Er
 ghost use Rattle.pl_block.specs.Faults.{Returns};
 ghost use Rattle.pl_block.specs.declared.fault.Failed.TheVariants.{NoMemory};
 ghost use Rattle.pl_wire.specs.Reading.{MayLackMemory, request_reading};
-ghost use Rattle.pl_conn.specs.Gathering.{GathersAnswer, MayGather, emptied, whole_in};
+ghost use Rattle.pl_conn.specs.Gathering.{GathersAnswer, MayGather, emptied, waiting_limit, whole_in};
 
 use pl_table::Request;
 use pl_wire::{BodyFault, Gate, LARGEST_REPLY_FRAME, Latest, decode_request_after, put_answer};
@@ -30,15 +30,16 @@ pub(crate) struct Outbox {
 }
 
 impl Model for Outbox {
-    ghost use Rattle.std.specs.Prelude.{◌≤◌, vec_capacity};
-    ghost use Rattle.pl_conn.specs.Gathering.{Box};
+    ghost use Rattle.std.specs.Prelude.{◌<◌, ◌≤◌, vec_capacity, vec_len};
+    ghost use Rattle.pl_conn.specs.Gathering.{Box, waiting_limit};
 
     ghost Value = { Box };
 
     ghost view = { λ o. record { text = o.text.items; lens = o.lens.items } };
 
-    // Less than 256 KiB and one reply more, and the length of each.
-    ghost invariant = { λ o. (786511 ≤ vec_capacity o.text) × (4096 ≤ vec_capacity o.lens) };
+    // Less than 256 KiB and one reply more, and the length of each: so much waits at most, and has its room.
+    ghost invariant = { λ o. (waiting_limit ≤ vec_capacity o.text) × (4096 ≤ vec_capacity o.lens)
+        × (vec_len o.text < waiting_limit) };
 }
 
 // How many of the frames of these lengths are whole within this many bytes.
@@ -97,6 +98,7 @@ impl Outbox {
     /// The frames that wait.
     pub(crate) fn text(&self) -> &[u8]
         ensures value { result.now ≡ self.now.text }
+        ensures few { length result.now < waiting_limit }
     {
         &self.text
     }

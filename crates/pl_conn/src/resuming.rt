@@ -5,7 +5,8 @@ ghost use Rattle.std.specs.Io.KnownBytes.{IsAtEnd};
 ghost use Rattle.pl_wire.specs.FrameReading.{IsCut, IsDecided, LacksFrame};
 ghost use Rattle.pl_wire.specs.Frames.{longest_request};
 ghost use Rattle.pl_conn.specs.Conversation.{Ends, IsTooLong, scene};
-ghost use Rattle.pl_conn.specs.Resting.{HasFrame, Hears, Middle, Rests, Speaks, Tells, TurnsAreAConversation, TurnsJoin, middle};
+ghost use Rattle.pl_conn.specs.Gathering.{waiting_limit};
+ghost use Rattle.pl_conn.specs.Resting.{HasFrame, Hears, Middle, Rests, Speaks, Tells, middle};
 
 use crate::answering::{answer_first, answer_whole, write_ready};
 use crate::cause::Cause;
@@ -76,14 +77,16 @@ pub struct Conversation {
 }
 
 impl Model for Conversation {
-    ghost use Rattle.std.specs.Prelude.{◌≤◌, drop, length};
+    ghost use Rattle.std.specs.Prelude.{◌<◌, ◌≤◌, drop, length};
+    ghost use Rattle.pl_conn.specs.Gathering.{waiting_limit};
     ghost use Rattle.pl_conn.specs.Resting.{Middle};
 
     ghost Value = { Middle };
 
     ghost view = { λ c. record { unread = c.unread.items; waiting = drop c.sent c.waiting.items } };
 
-    ghost invariant = { λ c. (length c.unread.items ≤ 65540) × (c.sent ≤ length c.waiting.items) };
+    ghost invariant = { λ c. (length c.unread.items ≤ 65540) × (c.sent ≤ length c.waiting.items)
+        × (length c.waiting.items < waiting_limit) };
 }
 
 // What a read brought.
@@ -254,6 +257,7 @@ impl Conversation {
     // Writes the replies that wait, as many bytes as the writer takes now.
     fn tell<W: Write>(&mut self, alloc: Global, writer: &mut W) -> io::Result<()>
         ensures value { Tells (W.contents writer.old) self.old (W.contents writer.new) self.new }
+        ensures few { length self.new.waiting < waiting_limit }
         ensures err { OnErr result (0 < length self.new.waiting) }
     {
         let (count, end) = write_ready(writer, &self.waiting[self.sent..]);
@@ -275,6 +279,7 @@ impl Conversation {
     ) -> Result<(), AllocError>
         requires few { length unread.now ≤ 65540 }
         ensures ok { OnOk result (self.new ≡ middle unread.now self.old.waiting) }
+        ensures waits { length self.new.waiting < waiting_limit }
     {
         let is_long = self.unread.capacity() > MOST_KEPT;
         if unread.is_empty() && (is_long || self.unread.is_empty()) {
@@ -304,7 +309,9 @@ impl Conversation {
         spare: &mut Vec<u8>,
     ) -> Result<(), AllocError>
         requires few { length unread.now ≤ 65540 }
+        requires within { length text.now < waiting_limit }
         ensures ok { OnOk result (self.new ≡ middle unread.now text.now) }
+        ensures waits { length self.new.waiting < waiting_limit }
     {
         self.sent = 0;
         let end = put_all(&mut self.waiting, text);
@@ -346,6 +353,8 @@ impl Conversation {
         ensures value { Rests (G.calls gate.now)
             (scene (R.remaining reader.old) (W.contents writer.old) pass.old) self.old
             (scene (R.remaining reader.new) (W.contents writer.new) pass.new) self.new result }
+        // Fewer bytes of replies wait than 786,511 (`waiting_limit`).
+        ensures waits { length self.new.waiting < waiting_limit }
     {
         if self.tell(alloc, writer).is_err() {
             return Err(Cause::Write);
@@ -378,19 +387,3 @@ impl Conversation {
         Err(Cause::Write)
     }
 }
-
-/// Two turns of a conversation, one after the other, are as one: what both heard, and what both said. So all
-/// turns together answered the frames of all that they heard, in order, however it was cut.
-pub fn turns_join<G: Gate>(_gate: &G)
-    // Two turns, one after the other, are as one (`TurnsJoin`).
-    ensures law { TurnsJoin (G.calls _gate.now) }
-{}
-
-/// All turns of a conversation, from [`Conversation::new`] to its end, are a conversation as [`converse`](crate::converse)
-/// has it, however its reader and its writer cut their bytes: the frames of all that was read are answered in order, and it
-/// ends as `converse` would. It may answer any number of frames.
-pub fn turns_are_a_conversation<G: Gate>(_gate: &G)
-    // From the beginning to the end, turns are a conversation, with the same cause and the same number of replies
-    // (`TurnsAreAConversation`).
-    ensures law { TurnsAreAConversation (G.calls _gate.now) }
-{}

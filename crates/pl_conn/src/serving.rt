@@ -6,20 +6,18 @@ ghost use Rattle.pl_conn.specs.Serving.{Reaches, Returned, ServesConnections};
 ghost use Rattle.pl_conn.specs.Workers.{AllOf, each_of};
 
 use crate::accepting::accept_all;
+use crate::post::Post;
+use crate::staff::Staff;
 use crate::watch::{Unwatched, Watch};
-use crate::worker::{Lookout, Outcome, Post, Worker};
+use crate::worker::{Outcome, Worker};
 use crossbeam_channel::Sender;
-use mio::Poll;
 use pl_wire::Gate;
-use std::alloc::{AllocError, Global};
+use std::alloc::Global;
 use std::net::{Net, TcpListener, TcpStream};
 use std::snapshot::Snapshot;
-use std::sync::{Arc, Wait};
+use std::sync::Wait;
 use std::thread;
 use std::thread::{Promise, PromisedHandle, Scope, Threads};
-
-/// How many accepted sockets wait for one worker at most.
-const WAITING: usize = 64;
 
 /// Why no more connections were accepted.
 #[derive(Clone, Copy, Debug, PartialEq, Eq)]
@@ -46,79 +44,6 @@ pub struct Served<P> {
     pub stop: Stop,
     /// The passes of the workers, in the order in which they were handed in.
     pub passes: Vec<P>,
-}
-
-// Workers that are not yet started, and at the same places what the accepting thread needs of each.
-#[derive(Drop)]
-struct Staff {
-    workers: Vec<Worker>,
-    posts: Vec<Post>,
-    channels: Vec<Sender<TcpStream>>,
-}
-
-impl Staff {
-    fn with_room(alloc: Global, count: usize) -> Result<Staff, AllocError> {
-        Ok(Staff {
-            workers: Vec::with_capacity(alloc, count)?,
-            posts: Vec::with_capacity(alloc, count)?,
-            channels: Vec::with_capacity(alloc, count)?,
-        })
-    }
-
-    fn push(
-        &mut self,
-        worker: Worker,
-        post: Post,
-        channel: Sender<TcpStream>,
-    ) -> Result<(), AllocError> {
-        self.workers.push(worker)?;
-        self.posts.push(post)?;
-        self.channels.push(channel)?;
-        Ok(())
-    }
-
-    // One worker more, if there is memory for it, and descriptors.
-    fn add<R: Net>(
-        &mut self,
-        rt: &R,
-        alloc: Global,
-        lookout: &Arc<Lookout>,
-        idle_polls: u32,
-    ) -> Result<bool, AllocError> {
-        let Ok((channel, sockets)) = crossbeam_channel::bounded(alloc, WAITING) else {
-            return Ok(false);
-        };
-        match Worker::new(rt, alloc, sockets, lookout, idle_polls) {
-            Some((worker, post)) => {
-                self.push(worker, post, channel)?;
-                Ok(true)
-            }
-            None => Ok(false),
-        }
-    }
-
-    // This many, or as many as there is memory for, and descriptors. For each worker a descriptor more is held until all are
-    // hired, so that connections find as many.
-    fn hire<R: Net>(
-        rt: &R,
-        alloc: Global,
-        count: usize,
-        idle_polls: u32,
-    ) -> Result<Staff, AllocError> {
-        let mut staff = Staff::with_room(alloc, count)?;
-        let lookout = Arc::new(alloc, Lookout::new())?;
-        let mut held = Vec::with_capacity(alloc, count)?;
-        for _ in 0..count {
-            let Ok(one) = Poll::new(rt) else {
-                break;
-            };
-            held.push(one)?;
-            if !staff.add(rt, alloc, &lookout, idle_polls)? {
-                break;
-            }
-        }
-        Ok(staff)
-    }
 }
 
 // That the pass which a worker leaves is this one after calls of this gate.

@@ -1,5 +1,6 @@
 -- The index that the code keeps: of each page, the LSNs of the blocks that change it.
-use Rattle.std.specs.Prelude.{◌≡◌, ℕ, ◌+◌, ◌-◌, ◌<◌, ◌≤◌, ◌==◌, ◌⊎◌, Bool, true, List, [], ◌∷◌, ◌++◌, length, map, take, slice_index_or, unwrap_or, if◌then◌else◌, Option, Some, None, Vec, nat_eq}
+use Rattle.std.specs.Prelude.{◌≡◌, ℕ, ◌+◌, ◌-◌, ◌<◌, ◌≤◌, ◌==◌, ◌⊎◌, Bool, true, List, [], ◌∷◌, ◌++◌, length, map, take, slice_index_or, unwrap_or, if◌then◌else◌, Option, Some, None, Vec, nat_eq, vec_len, vec_capacity}
+use Rattle.std.specs.Option.{IsSomeAnd}
 use Rattle.std.specs.Ordering.{nat_cmp}
 use Rattle.std.specs.FinMap as maps
 use Rattle.std.specs.HashMap as hash
@@ -43,6 +44,10 @@ list_in (Some v) = v.items
 
 abbrev pub listed : {S Z : Type 0} → HashMap ℕ (Vec ℕ Z) S → ℕ → List ℕ
 listed m page = list_in (hash.get nat_eq m page)
+
+-- the page has a list, with room for one LSN more
+abbrev pub HasRoomUnder : {S Z : Type 0} → HashMap ℕ (Vec ℕ Z) S → ℕ → Type 0
+HasRoomUnder m page = IsSomeAnd (hash.get nat_eq m page) (λ v. vec_len v < vec_capacity v)
 
 -- the map as what is seen of it
 abbrev pub seen_lists : {Z : Type 0} → List (ℕ × Vec ℕ Z) → maps.FinMap nat_cmp (List ℕ)

@@ -1,8 +1,8 @@
 //! Which blocks of the log change a page.
 
-ghost use Rattle.std.specs.Prelude.{◌≡◌, ◌+◌, ◌<◌, ◌≤◌, ◌==◌, ◌++◌, ◌∷◌, ℕ, List, [], false, length, IfOk, OnOk, OnErr, if◌then◌else◌};
+ghost use Rattle.std.specs.Prelude.{◌≡◌, ◌+◌, ◌<◌, ◌≤◌, ◌==◌, ◌++◌, ◌∷◌, ℕ, List, [], false, length, IfOk, IsOk, OnOk, OnErr, if◌then◌else◌, vec_len, vec_capacity};
 ghost use Rattle.pl_block.specs.Spelling.{IsBlock};
-ghost use Rattle.pl_pages.specs.Index.{HasBlock, MayEndWith, SameIndex, ends_with, listed, lsns_at, with_lsn, without_lsn};
+ghost use Rattle.pl_pages.specs.Index.{HasBlock, HasRoomUnder, MayEndWith, SameIndex, ends_with, listed, lsns_at, with_lsn, without_lsn};
 ghost use Rattle.pl_pages.specs.State.{changes_page};
 
 use crate::changes::makes_page;
@@ -143,6 +143,7 @@ fn add_once(lsns: &mut Vec<u64>, lsn: u64) -> Result<(), AllocError>
     requires some { 0 < lsn }
     ensures ok { OnOk result (lsns.new.items ≡ with_lsn lsn lsns.old.items) }
     ensures err { OnErr result (lsns.new.items ≡ lsns.old.items) }
+    ensures succeeds { vec_len lsns.old < vec_capacity lsns.old → IsOk result }
 {
     if is_last(lsns, lsn) {
         return Ok(());
@@ -172,6 +173,7 @@ fn add(
     ensures ok { OnOk result ((q : ℕ) → listed lists.new q ≡
         (if page == q then with_lsn lsn (listed lists.old q) else listed lists.old q)) }
     ensures err { OnErr result ((q : ℕ) → listed lists.new q ≡ listed lists.old q) }
+    ensures succeeds { HasRoomUnder lists.old page → IsOk result }
 {
     if let Some(lsns) = lists.get_mut(&page) {
         return add_once(lsns, lsn);

@@ -1,6 +1,6 @@
 //! The pages of one database.
 
-ghost use Rattle.std.specs.Prelude.{◌≡◌, ◌≢◌, ◌+◌, ◌-◌, ◌<◌, ◌≤◌, ℕ, List, length, min, IfOk, IfSome, OnOk, OnErr, slice_index_or, take, ◌==◌, if◌then◌else◌};
+ghost use Rattle.std.specs.Prelude.{◌≡◌, ◌≢◌, ◌+◌, ◌-◌, ◌<◌, ◌≤◌, ℕ, List, length, min, IfOk, IfSome, IsOk, OnOk, OnErr, vec_capacity, slice_index_or, take, ◌==◌, if◌then◌else◌};
 ghost use Rattle.std.specs.List.{AllByRecursion};
 ghost use Rattle.std.specs.Borrow.{sem};
 ghost use Rattle.pl_block.specs.Block.{Content};
@@ -103,6 +103,8 @@ impl Pages {
             applied_at self.new other ≡ applied_at self.old other }
         // After an error no applied LSN has changed.
         ensures err { OnErr result (SameApplied self.old self.new) }
+        // An advance of a partition at or below one that was advanced before does not fail.
+        ensures succeeds { partition < length self.old.applied → IsOk result }
         // The number of chunks stays.
         ensures chunks { self.new.chunks ≡ self.old.chunks }
     {
@@ -197,6 +199,7 @@ fn raise(applied: &mut Vec<u64>, partition: u16, lsn: u64) -> Result<(), AllocEr
         (if other == partition then lsn else slice_index_or applied.old.items other 0)) }
     ensures err { OnErr result ((other : ℕ) →
         slice_index_or applied.new.items other 0 ≡ slice_index_or applied.old.items other 0) }
+    ensures succeeds { partition < vec_capacity applied.old → IsOk result }
 {
     let place = usize::from(partition);
     if applied.len() <= place {

@@ -5,7 +5,7 @@ ghost use Rattle.std.specs.Int.{w32, w64, to_be_bytes};
 ghost use Rattle.pl_core.specs.Appending.{AppendsTo, reply_in};
 ghost use Rattle.pl_core.specs.Reply.{FitsReply};
 ghost use Rattle.pl_wire.specs.Answering.{AnswersRead, PutsAnswer, refusal};
-ghost use Rattle.pl_wire.specs.FrameWriting.{page_head, reply_frame};
+ghost use Rattle.pl_wire.specs.FrameWriting.{largest_reply_frame, page_head, reply_frame};
 ghost use Rattle.pl_wire.specs.Replies.{kind_number, kind_of, reply_spelling};
 
 use crate::fault::BodyFault;
@@ -79,6 +79,7 @@ fn answer_onto<G: Gate>(
 fn open_page(out: &mut Vec<u8>)
     requires room { vec_len out.old + 13 ≤ vec_capacity out.old }
     ensures value { out.new.items ≡ out.old.items ++ page_head 0 }
+    ensures len { vec_len out.new ≡ vec_len out.old + 13 }
     ensures capacity { vec_capacity out.old ≤ vec_capacity out.new }
 {
     out.extend_from_slice(&PAGE_HEAD).unwrap();
@@ -100,6 +101,7 @@ fn close_page(out: &mut Vec<u8>, before: usize, at: u64)
     requires within { before + 13 ≤ vec_len out.old }
     ensures value { out.new.items ≡
         take (before + 5) out.old.items ++ to_be_bytes w64 at ++ drop (before + 13) out.old.items }
+    ensures len { vec_len out.new ≡ vec_len out.old }
     ensures capacity { vec_capacity out.new ≡ vec_capacity out.old }
 {
     put_lsn(out.as_mut_slice(), before, at);
@@ -141,6 +143,7 @@ fn put_whole(out: &mut Vec<u8>, before: usize, reply: &Reply)
     requires within { before + 13 ≤ vec_len out.old }
     requires room { before + 524367 ≤ vec_capacity out.old }
     ensures value { out.new.items ≡ take before out.old.items ++ reply_frame reply.now }
+    ensures few { length (reply_frame reply.now) ≤ largest_reply_frame }
     ensures capacity { vec_capacity out.old ≤ vec_capacity out.new }
 {
     restart(out, before, reply);
@@ -166,6 +169,8 @@ pub fn put_answer<G: Gate>(
     ensures own { G.owns gate.now pass.new }
     // The frame of a reply that the body may have is appended (`PutsAnswer`).
     ensures frame { PutsAnswer (G.calls gate.now) read pass.old out.old.items pass.new out.new.items }
+    // It has at most 524,367 bytes.
+    ensures few { vec_len out.new ≤ vec_len out.old + largest_reply_frame }
     // There is as much memory as before, or more.
     ensures capacity { vec_capacity out.old ≤ vec_capacity out.new }
 {

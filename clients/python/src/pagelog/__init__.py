@@ -27,7 +27,7 @@ from pagelog.operator import Operator
 from pagelog.named import NamedPrimary
 from pagelog.named_reader import NamedReader
 from pagelog.page_server import PageServer
-from pagelog.place import Lost
+from pagelog.place import BelowBase, Lost
 from pagelog.primary import Primary
 from pagelog.reader import Reader, Span
 from pagelog.reply import Blocks, Entry, Page, State
@@ -41,7 +41,7 @@ from pagelog.rules import (
 __version__ = "0.1.0"
 
 __all__ = [
-    "AboveTheEnd", "AboveTheWindow", "Account", "Accounts", "Address", "AuditListFull", "BelowQuorum", "Block",
+    "AboveTheEnd", "AboveTheWindow", "Account", "Accounts", "Address", "AuditListFull", "BelowBase", "BelowQuorum", "Block",
     "BlockFault", "Blocks", "Connection", "ConnectionLost", "Credentials", "CredentialsError", "Denial", "Entry",
     "Fault", "FrameFault", "HardenedAlready", "InDoubt", "LastEpoch", "LogWentBack", "Lost", "MalformedRequest", "NamedPrimary",
     "NamedReader", "NewerEpoch",

@@ -27,6 +27,8 @@ DEFAULT_URL = "sqlite:///pagelog-archive.db"
 """Where an archive is kept if nothing else is said: one file of SQLite in the folder that one is in."""
 FORMAT = 1
 """The number of the tables' form, which each log of an archive carries."""
+KEPT_FORMATS = (2, 3)
+"""Those of a named database, which its keepers write, and which may only be read here."""
 _READ_SIZE = 512
 _TRIES = 5
 
@@ -58,9 +60,13 @@ class Sizes:
 class Archive:
     """The archive of one log. A database error is an exception of SQLAlchemy, and then nothing of a batch was kept."""
 
-    def __init__(self, url: str, log: str = "0", *, create: bool = False) -> None:
-        """Opens the archive of the log of this name; with `create` makes what is not there. Raises `NoArchive`."""
+    def __init__(self, url: str, log: str = "0", *, create: bool = False, is_read: bool = False) -> None:
+        """Opens the archive of the log of this name; with `create` makes what is not there. Raises `NoArchive`.
+
+        With `is_read` the log may be a named database: who says so keeps nothing.
+        """
         self.log = log
+        self._formats = (FORMAT, *KEPT_FORMATS) if is_read else (FORMAT,)
         if not create and file_is_missing(url):
             raise NoArchive("there is no archive at this URL")
         self.engine = engine_of(url)
@@ -108,7 +114,8 @@ class Archive:
             raise NoArchive("there is no archive at this URL") from error
         if row is None:
             raise NoArchive(f"the archive has no log {self.log!r}: it has {', '.join(self._names()) or 'none'}")
-        if row.format != FORMAT:
+        self._is_kept = row.format in KEPT_FORMATS
+        if row.format not in self._formats:
             raise ArchiveError(f"the log has format {row.format}, and this program reads {FORMAT}")
         return int(row.id)
 
@@ -123,6 +130,18 @@ class Archive:
         if not isinstance(archived, int):
             raise ArchiveError(f"the archived LSN is {archived!r}, which is no number: the archive is damaged")
         return archived
+
+    def begins_with_blocks(self, generation: int) -> bool:
+        """Whether a service of this generation began with block 1, and all blocks since are kept. Else it began with images of pages,
+        or what was below a base of them is pruned. A log that is no named database begins so.
+        """
+        if not self._is_kept:
+            return True
+        images = sql.text("SELECT images FROM pagelog_generation WHERE log = :log AND generation = :generation")
+        with self.engine.begin() as connection:
+            found = connection.execute(images, {"log": self.id, "generation": generation}).scalar()
+            first = connection.execute(sql.select(sql.func.min(_blocks.c.lsn)).where(_blocks.c.log == self.id)).scalar()
+        return found == 0 and first in (1, None)
 
     @property
     def epoch(self) -> int:

@@ -2,9 +2,11 @@
 
 from __future__ import annotations
 
+import atexit
 import os
 import select
 import sys
+import threading
 import time
 from pathlib import Path
 from typing import Any
@@ -98,9 +100,17 @@ def without_password(text: str, url: str | None) -> str:
 
 # Waits for PostgreSQL that a signal ends.
 
+_exit_began = threading.Event()
+atexit.register(_exit_began.set)
+
 
 def _is_ended() -> bool:
-    """Whether a signal has raised what is handled now: then no cleaning up waits for a server that is silent."""
+    """Whether the process ends, or a signal has raised what is handled now: then no cleaning up waits for a server that is silent.
+
+    What nobody closed is cleaned up once Python ends, when the signal's exception was handled already.
+    """
+    if _exit_began.is_set():
+        return True
     error = sys.exc_info()[1]
     while error is not None and isinstance(error, Exception):
         error = error.__context__

@@ -111,6 +111,10 @@ class Block:
             raise BlockTooLong(f"{len(data)} bytes")
         return cls(_check(data), bytes(data))
 
+    def at(self, lsn: int) -> Block:
+        """The block with these records at another LSN."""
+        return self if lsn == self.lsn else Block(lsn, lsn.to_bytes(8, "big") + self.data[8:])
+
     @property
     def records(self) -> tuple[Record, ...]:
         """The records, in their order. They are decoded at each call."""

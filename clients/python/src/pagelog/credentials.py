@@ -13,6 +13,7 @@ PAGELOG_CREDENTIALS names the file.
 from __future__ import annotations
 
 import os
+import re
 import stat
 import tomllib
 from dataclasses import dataclass, field
@@ -26,6 +27,8 @@ from pagelog.request import COPIES_OF_QUORUM, QUORUM, Role
 FILE_VARIABLE = "PAGELOG_CREDENTIALS"
 """The variable of the environment that names the file."""
 _KEYS = ("to", "id", "token")
+_TIME = re.compile(r"([1-9][0-9]{0,5}) ?([smhdw])")
+_UNITS = {"s": "seconds", "m": "minutes", "h": "hours", "d": "days", "w": "weeks"}
 
 
 @dataclass(frozen=True)
@@ -63,13 +66,14 @@ class Account:
 class Accounts:
     """The accounts of a file and of the environment, by role, and what else the file says.
 
-    `archive_url` is the `url` of the section `archive`. The section `service` says what no reply of a service reports:
-    `audit_limit` is its `audit`, how many entries an audit list holds, `quorum` its `quorum`, 2 or 4, and `memory` its
+    `archive_url` is the `url` of the section `archive`, and `archive_keep` its `keep`. The section `service` says what no reply
+    of a service reports: `audit_limit` is its `audit`, how many entries an audit list holds, `quorum` its `quorum`, 2 or 4, and `memory` its
     `memory`, how many bytes of memory the service may take.
     """
 
     of_role: Mapping[Role, Account]
     archive_url: str | None = None
+    archive_keep: str | int | None = None
     audit_limit: int | None = None
     quorum: int = QUORUM
     memory: int | None = None
@@ -97,7 +101,7 @@ def load(file: str | Path | None = None, environment: Mapping[str, str] | None =
         raise CredentialsError(f"{name}: there is no section [{sorted(unknown)[0]}]")
     sections = {role: {**_section(document, role.word), **_variables(environment, role)} for role in Role}
     accounts = {role: _account(role, section) for role, section in sections.items() if section}
-    archive, service = _section(document, "archive", ("url",)), _section(document, "service", ("audit", "quorum", "memory"))
+    archive, service = _section(document, "archive", ("url", "keep")), _section(document, "service", ("audit", "quorum", "memory"))
     url, limit, quorum, memory = archive.get("url"), service.get("audit"), service.get("quorum", QUORUM), service.get("memory")
     if url is not None and not isinstance(url, str):
         raise CredentialsError("[archive]: url is a text")
@@ -107,7 +111,17 @@ def load(file: str | Path | None = None, environment: Mapping[str, str] | None =
         raise CredentialsError("[service]: quorum is 2 or 4")
     if memory is not None and (type(memory) is not int or memory < 1):
         raise CredentialsError("[service]: memory is a number of bytes, 1 or more")
-    return Accounts(accounts, url, limit, quorum, memory, _section(document, "keeper"))
+    return Accounts(accounts, url, keep_of(archive.get("keep")), limit, quorum, memory, _section(document, "keeper"))
+
+
+def keep_of(value: object) -> str | int | None:
+    """How much of the archive of a named database is kept: so many bases, or a time, as PostgreSQL reads it; None: all."""
+    if value is None or (type(value) is int and value >= 1):
+        return value
+    found = _TIME.fullmatch(value) if isinstance(value, str) else None
+    if found is None:
+        raise CredentialsError("[archive]: keep is a number of bases, or a time as 12h or 7d")
+    return f"{found[1]} {_UNITS[found[2]]}"
 
 
 def _read(file: Path) -> dict[str, Any]:

@@ -9,10 +9,12 @@ A position is what an LSN is to one service, and stands for the same block in al
 
 from __future__ import annotations
 
+import hashlib
 import time
 from typing import Sequence
 
 from pagelog.block import Block, Record
+from pagelog.client import FIRST_EPOCH
 from pagelog.credentials import Credentials
 from pagelog.errors import InDoubt, OutOfMemory, PagelogError, TimedOut
 from pagelog.following import GONE, Following, NamedAccount
@@ -22,11 +24,13 @@ from pagelog.packing import Packer
 from pagelog.place import QUICKEST, SLOWEST, Lost, Place
 from pagelog.primary import Primary
 from pagelog.reader import Reader
-from pagelog.request import QUORUM
+from pagelog.request import PULL_MAX, QUORUM
 from pagelog.rules import NoRowMatches, OlderEpoch, OtherPrimary, TableRow
 
 TAIL = 16 << 20
 """The most bytes of blocks that are kept because they are not known to be durable. Then a commit waits for the archive."""
+PULLS = 64
+"""Of one comparison: 1,024 blocks at most."""
 _DENIED = (OlderEpoch, OtherPrimary, TableRow, NoRowMatches)
 
 
@@ -144,9 +148,11 @@ class NamedPrimary(Following):
                 return self._end_for(self._ended)  # it was fenced as it began
             self._move()
             return
+        assert self.place is not None
+        shift = self.place.shift
         try:
-            for lsn in self._primary.harden([block for block in self._tail if block.lsn > self.end]):
-                self.end = max(self.end, lsn)
+            for lsn in self._primary.harden([block.at(block.lsn - shift) for block in self._tail if block.lsn > self.end]):
+                self.end = max(self.end, lsn + shift)
         except OutOfMemory:
             raise
         except (*GONE, *_DENIED) as error:
@@ -160,18 +166,20 @@ class NamedPrimary(Following):
         `error` is what it is for: it is raised where another writer is the cause. If the generation `is_over`, the next is waited for.
         """
         before = -1 if self.place is None else self.place.generation
-        deadline, wait = time.monotonic() + self.keepers.patience, QUICKEST
+        deadline, wait, may_stay = time.monotonic() + self.keepers.patience, QUICKEST, not isinstance(error, _DENIED)
         while True:
-            place = self.keepers.place(before)
+            place = self.keepers.place() if self.place is None else self.keepers.after(self.place)
             is_next = place.generation > before
             if not is_next and isinstance(error, _DENIED) and self._is_anothers(place):
                 self._leave()
                 return self._end_for(error)
-            if (is_next or not is_over) and self._is_settled(place):
+            # Where its keeper has closed it, the next generation comes; if it does not, the keeper was killed, and its next life opens it.
+            if (is_next or (may_stay and not is_over)) and self._is_settled(place):
                 return
+            may_stay = True
             if time.monotonic() > deadline:
                 raise error or TimedOut(f"in {self.keepers.patience} s no generation of {self.keepers.name} could be used")
-            time.sleep(wait)
+            self.keepers.wait_for(place.generation + 1, wait)
             wait = min(SLOWEST, 2 * wait)
 
     def _count_at(self, place: Place) -> None:
@@ -179,7 +187,7 @@ class NamedPrimary(Following):
         try:
             with Reader(self._connection(place), self._account.of(place)) as witness:
                 for block in [block for block in self._tail if block.lsn > self.end]:
-                    if block.lsn > witness.status().hard + place.shift or not self._is_there(witness, block):
+                    if block.lsn > witness.status().hard + place.shift or not self._is_there(place, witness, block):
                         break
                     self.end = block.lsn
         except PagelogError as doubt:
@@ -212,13 +220,21 @@ class NamedPrimary(Following):
         credentials = self._account.of(place)
         witness = Reader(self._connection(place, 3), credentials)
         try:
-            # Looked at before, so that a writer which has lost something fences nobody.
             is_next = self.place is not None and place.generation > self.place.generation
-            hard = self._hard(witness) if self._tail and is_next else None
-            if hard is not None:
-                self._settle_tail(place, witness, hard + place.shift)
-            self._primary = self._began(place, credentials, witness)
-            self._settle_tail(place, witness, self._primary.durable + place.shift)
+            known = 0
+            if is_next:
+                self._take_kept(place)
+            if not is_next or not self._is_first(place, credentials):
+                # Looked at before, so that a writer which has lost something fences nobody.
+                hard = self._hard(witness) if self._tail and is_next else None
+                if hard is not None:
+                    known = hard + place.shift
+                    self._settle_tail(place, witness, 0, known)
+                self._begin_epoch(place, credentials)
+            self._primary = Primary(self._connection(place, 3), credentials, epoch=self._epoch, alone=True, quorum=self._quorum,
+                                    witness=witness)  # fmt: skip
+            self._primary.begin()
+            self._settle_tail(place, witness, known, self._primary.durable + place.shift)
         except _NotToBeKnown:
             raise
         except (OlderEpoch, OtherPrimary) as error:
@@ -241,9 +257,30 @@ class NamedPrimary(Following):
         except (TableRow, NoRowMatches):
             return None
 
-    def _began(self, place: Place, credentials: Credentials, witness: Reader) -> Primary:
-        """The primary of a new epoch. In the generation that it was in, it follows on the epoch that this writer has begun last:
-        another writer that came since is not fenced."""
+    def _take_kept(self, place: Place) -> None:
+        """What the generation that it comes from had of this writer's blocks is durable, up to where that generation ended."""
+        assert self.place is not None
+        if not self._tail or self._tail[0].lsn > self.end:
+            return
+        if place.generation == self.place.generation + 1:
+            self._is_durable(place.kept)
+        else:
+            self._is_durable(self.keepers.fate(self.place.generation, self._tail[-1].lsn, place.lines).end)
+
+    def _is_first(self, place: Place, credentials: Credentials) -> bool:
+        """Whether it has begun the epoch after the keeper's own, of a writer that has lost nothing: then nobody has written there."""
+        if any(block.lsn <= self.end for block in self._tail):
+            return False
+        try:
+            with Operator(self._connection(place, 3), self._operator.of(place)) as operator:
+                self._epoch = operator.failover(credentials.id, epoch=FIRST_EPOCH)
+            return True
+        except OlderEpoch:
+            return False
+
+    def _begin_epoch(self, place: Place, credentials: Credentials) -> None:
+        """Begins an epoch. In the generation that it was in, it follows on the epoch that this writer has begun last: another writer
+        that came since is not fenced."""
         known = self._epoch if self.place is not None and self.place.generation == place.generation else None
         with Operator(self._connection(place, 3), self._operator.of(place)) as operator:
             while True:
@@ -254,18 +291,17 @@ class NamedPrimary(Following):
                     if operator.status().primary not in (KEEPER, credentials.id):
                         raise
                     known = error.epoch
-        primary = Primary(self._connection(place, 3), credentials, epoch=self._epoch, alone=True, quorum=self._quorum, witness=witness)
-        primary.begin()
-        return primary
 
-    def _settle_tail(self, place: Place, witness: Reader, hard: int) -> None:
-        """Compares what the log has of the tail. The rest is to be written again, if the log ends where it begins.
+    def _settle_tail(self, place: Place, witness: Reader, known: int, hard: int) -> None:
+        """Compares what the log has of the tail above what is `known`. The rest is to be written again, if the log ends where it begins.
 
         Raises `Lost` for the first block of it that is not there and never will be.
         """
         if self.place is None:
             self.durable_end = min(hard, place.archived)
-        lost = next((block.lsn for block in self._tail if block.lsn <= hard and not self._is_there(witness, block)), None)
+        lost = self._lost_below(place)
+        if lost is None:
+            lost = self._first_other(place, witness, [block for block in self._tail if known < block.lsn <= hard])
         if lost is None and self._tail and hard < self._tail[0].lsn - 1:
             lost = hard + 1  # what was durable is missing: the archive went back
         if lost is not None:
@@ -274,14 +310,38 @@ class NamedPrimary(Following):
             self._leave()
             raise Lost(lost)
 
-    def _is_there(self, witness: Reader, block: Block) -> bool:
+    def _lost_below(self, place: Place) -> int | None:
+        """Drops what of the tail is in the images that the service began with: no block of them can be pulled there, and the archive
+        is asked. Returns the first position of this writer's that is lost."""
+        for block in [block for block in self._tail if block.lsn <= place.base]:
+            digest = self.keepers.block(block.lsn)
+            if digest is None:
+                raise _NotToBeKnown(f"whether position {block.lsn} is this writer's is not known: the archive has its block no more")
+            if digest != hashlib.sha256(block.data).hexdigest():
+                return block.lsn
+            self.end = max(self.end, block.lsn)
+            self._is_durable(block.lsn)
+        return None
+
+    def _is_there(self, place: Place, witness: Reader, block: Block) -> bool:
         """Whether the log has this very block at its position."""
-        try:
-            span = witness.span(block.lsn, pulls=1)
-        except (TableRow, NoRowMatches) as error:
-            raise _NotToBeKnown(f"whether position {block.lsn} is this writer's is not known: its table lets it pull nothing") from error
-        found = {served.lsn: served for served in span.blocks}
-        return found.get(block.lsn, Block.of(block.lsn)) == block
+        return self._first_other(place, witness, [block]) is None
+
+    def _first_other(self, place: Place, witness: Reader, blocks: Sequence[Block]) -> int | None:
+        """The first position of these blocks, which have no gap, at which the log has another one. Many are pulled at once."""
+        at = 0
+        while at < len(blocks):
+            try:
+                span = witness.span(blocks[at].lsn - place.shift, pulls=min(PULLS, -(-(len(blocks) - at) // PULL_MAX)))
+            except (TableRow, NoRowMatches) as error:
+                raise _NotToBeKnown(f"whether position {blocks[at].lsn} is this writer's is not known: its table lets it pull nothing") from error
+            found = {served.lsn: served for served in span.blocks}
+            for block in blocks[at : at + max(1, span.last + 1 - span.first)]:
+                lsn = block.lsn - place.shift
+                if found.get(lsn, Block.of(lsn)) != block.at(lsn):
+                    return block.lsn
+                at += 1
+        return None
 
     def _is_durable(self, end: int) -> None:
         self.durable_end = max(self.durable_end, min(end, self.end))

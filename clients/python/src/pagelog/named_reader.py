@@ -7,8 +7,8 @@ from typing import Callable, Iterator, Sequence, TypeVar
 
 from pagelog.block import Block
 from pagelog.following import GONE, Following
-from pagelog.place import QUICKEST, SLOWEST
-from pagelog.reader import Reader
+from pagelog.place import QUICKEST, SLOWEST, BelowBase
+from pagelog.reader import Reader, Span
 from pagelog.reply import Page
 from pagelog.rules import AboveTheEnd, Section
 
@@ -16,7 +16,9 @@ Result = TypeVar("Result")
 
 
 class NamedReader(Following):
-    """Reads a named database, and follows it. Positions take the place of LSNs.
+    """Reads a named database, and follows it. Positions take the place of LSNs, in what it returns as well.
+
+    A service that began with images has nothing from below their position: `BelowBase` is raised for it.
 
     Without `durable_only` it sees what is in the log of the service, which may be lost with it: then a position that was
     read may later have another block. With it, it sees what is durable, at a standby where there is one.
@@ -44,7 +46,7 @@ class NamedReader(Following):
     def end(self) -> int:
         """The position up to which it can be read now: of the log, or with `durable_only` what is durable."""
         while True:
-            hard = self._asked(lambda reader: reader.status().hard) + (0 if self.place is None else self.place.shift)
+            hard = self._asked(lambda reader: reader.status().hard + self._shift)
             if not self.durable_only:
                 return hard
             if self._is_confirmed():
@@ -61,7 +63,7 @@ class NamedReader(Following):
         return bool(same) or not told
 
     def page(self, number: int, position: int | None = None) -> Page:
-        """The page at this position, by default at the end. Raises `AboveTheEnd`."""
+        """The page at this position, by default at the end. Raises `AboveTheEnd` and `BelowBase`."""
         return self.pages((number,), position)[0]
 
     def pages(self, numbers: Sequence[int], position: int | None = None) -> list[Page]:
@@ -71,7 +73,7 @@ class NamedReader(Following):
             at, run = end if position is None else position, self._run
             if self.durable_only and at > end:
                 raise AboveTheEnd(Section.C, 1, end)
-            found = self._asked(lambda reader: reader.pages(numbers, at))
+            found = self._asked(lambda reader: self._pages_at(reader, numbers, at), at)
             if not self.durable_only or run == self._run:
                 return found  # else it was read from another run than the one that the end is of
 
@@ -82,7 +84,7 @@ class NamedReader(Following):
             end, run = self.end(), self._run
             if end >= position:
                 first = position
-                span = self._asked(lambda reader: reader.span(first, pulls=64))
+                span = self._asked(lambda reader: self._span_at(reader, first), first - 1)
                 if self.durable_only and run != self._run:
                     continue  # it was read from another run than the one that the end is of
                 yield from (block for block in span.blocks if block.lsn <= end)
@@ -93,11 +95,39 @@ class NamedReader(Following):
                 time.sleep(min(wait, idle))
                 wait = min(2 * wait, idle)
 
-    def _asked(self, call: Callable[[Reader], Result]) -> Result:
+    @property
+    def _shift(self) -> int:
+        return 0 if self.place is None else self.place.shift
+
+    def _pages_at(self, reader: Reader, numbers: Sequence[int], position: int) -> list[Page]:
+        try:
+            found = reader.pages(numbers, position - self._shift)
+        except AboveTheEnd as error:
+            raise AboveTheEnd(error.section, error.row, error.value + self._shift) from error
+        return [Page(page.at + self._shift, page.data) for page in found] if self._shift else found
+
+    def _span_at(self, reader: Reader, first: int) -> Span:
+        shift, span = self._shift, reader.span(first - self._shift, pulls=64)
+        blocks = tuple(block.at(block.lsn + shift) for block in span.blocks)
+        return Span(span.first + shift, span.last + shift, blocks, span.connection)
+
+    def _reaching(self, position: int) -> Reader:
+        """The reader of a service that has this position. That of a standby may have begun later than the holder's."""
+        reader = self._reader or self._opened()
+        if self.place is not None and position < self.place.base and self.place.generation == 0:
+            self._shunned = self._run
+            self._leave()
+            reader = self._opened()
+        if self.place is not None and position < self.place.base:
+            raise BelowBase(position, self.place.base)
+        return reader
+
+    def _asked(self, call: Callable[[Reader], Result], position: int | None = None) -> Result:
+        """What the call returns, at a service that has the position."""
         deadline, wait = time.monotonic() + self.keepers.patience, QUICKEST
         while True:
             try:
-                return call(self._reader or self._opened())
+                return call((self._reader or self._opened()) if position is None else self._reaching(position))
             except GONE:
                 self._shunned = self._run
                 self._leave()
@@ -110,7 +140,13 @@ class NamedReader(Following):
         standby = self.keepers.standby() if self.durable_only else None
         if standby is not None and standby.run == self._shunned:
             standby = None  # it did not answer just now: the keepers may have no better word of it yet
-        self.place = standby or self.keepers.place(self._least)
+        was = self.place
+        if standby is not None:
+            self.place = standby
+        elif was is not None and was.generation == self._least:
+            self.place = self.keepers.after(was)
+        else:
+            self.place = self.keepers.place(self._least)
         self._least = max(self._least, self.place.generation)
         self._durable = self.place.archived
         self._reader = Reader(self._connection(self.place), self._account.of(self.place))

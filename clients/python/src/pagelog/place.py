@@ -3,6 +3,7 @@
 from __future__ import annotations
 
 import os
+import select
 import socket
 import time
 from dataclasses import dataclass
@@ -14,6 +15,8 @@ from pagelog.errors import PagelogError, TimedOut
 QUICKEST, SLOWEST = 0.005, 0.2
 """Seconds between two rounds of questions, the first and the longest."""
 _ANSWER = 1.0
+_HELD = 0.25
+"""Seconds for which an answer that keepers hold back is waited for; then it is tried again where the database was."""
 _SILENCE = 3.0
 _LONGEST = 1024
 
@@ -33,9 +36,19 @@ class Lost(PagelogError):
         super().__init__(f"position {position} is lost")
 
 
+class BelowBase(PagelogError):
+    """The service began with images of the pages at position `base`: nothing below it can be read there any more."""
+
+    def __init__(self, position: int, base: int) -> None:
+        self.position, self.base = position, base
+        super().__init__(f"position {position} is below {base}, with which the service began")
+
+
 @dataclass(frozen=True)
 class Place:
-    """Where a generation is served. A position is an LSN of its service plus `shift`; it began with all up to `base`."""
+    """Where a generation is served; a standby has none, 0. A position is an LSN of its service plus `shift`; the service began with
+    the images of the pages at position `base`, or where that is 0 with the first block. The generation directly before this one
+    ended at position `kept`."""
 
     generation: int
     run: str
@@ -44,6 +57,7 @@ class Place:
     lines: str
     base: int
     shift: int
+    kept: int = 0
 
 
 @dataclass(frozen=True)
@@ -68,15 +82,32 @@ class _Line:
 
     def ask(self, words: Sequence[object], timeout: float) -> list[str]:
         """The words of the answer. Raises `OSError`."""
+        self.send(words, timeout)
+        while (answer := self.take()) is None:
+            pass
+        return answer
+
+    def send(self, words: Sequence[object], timeout: float) -> None:
+        """Sends a question. Raises `OSError`."""
         self._socket.settimeout(timeout)
         self._socket.sendall(" ".join(map(str, words)).encode() + b"\n")
-        while b"\n" not in self._left:
+
+    def take(self) -> list[str] | None:
+        """Takes what comes next. Returns the words of the answer, or None where it is not whole yet. Raises `OSError`."""
+        if b"\n" not in self._left:
             data = self._socket.recv(_LONGEST)
             if not data or len(self._left) > _LONGEST:
                 raise ConnectionError("the keeper ended the connection")
             self._left += data
-        line, _, self._left = self._left.partition(b"\n")
+        line, end, rest = self._left.partition(b"\n")
+        if not end:
+            return None
+        self._left = rest
         return line.decode(errors="replace").split()
+
+    def fileno(self) -> int:
+        """Its socket."""
+        return self._socket.fileno()
 
 
 class Keepers:
@@ -102,9 +133,7 @@ class Keepers:
 
     def _ask(self, address: str, words: Sequence[object], timeout: float = _ANSWER) -> list[str]:
         """The answer of one keeper; of no words where it does not answer. Its connection is made anew then."""
-        if self._process != os.getpid():
-            self.close()  # a child that a fork made would read answers to its parent
-            self._process = os.getpid()
+        self._forget_parent()
         is_answered = False
         try:
             if address not in self._lines:
@@ -116,8 +145,8 @@ class Keepers:
             return []
         finally:
             # Where it was interrupted, too: the next question over it would get the answer to this one.
-            if not is_answered and (line := self._lines.pop(address, None)) is not None:
-                line.close()
+            if not is_answered:
+                self._leave(address)
 
     def where(self) -> Place | None:
         """The place of the highest generation that a keeper knows of; None where nobody serves it now.
@@ -141,16 +170,90 @@ class Keepers:
                 return found
             if time.monotonic() > deadline:
                 raise TimedOut(f"no keeper has said in {self.patience} s where {self.name} is")
-            time.sleep(wait)
+            self.wait_for(least, wait)
             wait = min(SLOWEST, 2 * wait)
+
+    def wait_for(self, least: int, seconds: float) -> None:
+        """Returns once a keeper says that generation `least` or a later one has a place, and after a while in any case.
+
+        All are asked, and hold their answers back until then. Where none does it waits for so many seconds.
+        """
+        self._forget_parent()
+        waiting = {line.fileno(): address for address in self._addresses if (line := self._asked(address, ("next", self.name, least)))}
+        deadline, poll = time.monotonic() + _HELD, select.poll()
+        for descriptor in waiting:
+            poll.register(descriptor, select.POLLIN)
+        try:
+            while waiting and (left := deadline - time.monotonic()) > 0:
+                for descriptor, _ in poll.poll(1000 * left):
+                    words = self._taken(waiting[descriptor])
+                    if words is None:
+                        continue
+                    poll.unregister(descriptor)
+                    del waiting[descriptor]
+                    place = _place(words)
+                    if place is not None and place.generation >= least:
+                        return
+        finally:
+            for address in waiting.values():  # its answer would be taken for that of the next question
+                self._leave(address)
+        if not waiting:
+            time.sleep(seconds)
+
+    def _asked(self, address: str, words: Sequence[object]) -> _Line | None:
+        """The line of a keeper, over which this was asked; None where it does not listen."""
+        try:
+            if address not in self._lines:
+                self._lines[address] = _Line(address)
+            self._lines[address].send(words, _ANSWER)
+            return self._lines[address]
+        except OSError:
+            self._leave(address)
+            return None
+
+    def _taken(self, address: str) -> list[str] | None:
+        """The words that have come from it; none where its line has ended."""
+        try:
+            return self._lines[address].take()
+        except (OSError, ValueError):
+            self._leave(address)
+            return []
+
+    def _leave(self, address: str) -> None:
+        if (line := self._lines.pop(address, None)) is not None:
+            line.close()
+
+    def _forget_parent(self) -> None:
+        """A child that a fork made would read answers to its parent."""
+        if self._process != os.getpid():
+            self.close()
+            self._process = os.getpid()
+
+    def after(self, place: Place) -> Place:
+        """The place of a later generation, if its keeper is about to publish one; else as `place`."""
+        found = _place(self._ask(place.lines, ("where", self.name, place.generation + 1), _SILENCE))
+        return found if found is not None and found.generation > place.generation else self.place(place.generation)
 
     def standby(self) -> Place | None:
         """A standby of it, which has durable blocks alone; None where no keeper knows of one."""
         for address in self._addresses:
             words = self._ask(address, ("standby", self.name))
-            if len(words) == 5 and words[0] == "standby" and words[4].isdecimal():
-                return Place(0, words[3], words[2], int(words[4]), address, 0, 0)
+            if len(words) == 7 and words[0] == "standby" and words[4].isdecimal():
+                return Place(0, words[3], words[2], int(words[4]), address, int(words[5]), int(words[6]))
         return None
+
+    def block(self, position: int) -> str | None:
+        """The SHA-256 of the block that the archive has at a position, of the keeper that answers first; None where it has none."""
+        deadline, wait = time.monotonic() + self.patience, QUICKEST
+        while True:
+            for address in self._addresses:
+                match self._ask(address, ("block", self.name, position), _SILENCE):
+                    case ["block", _, _, digest]:
+                        return None if digest == "-" else digest
+            if time.monotonic() > deadline:
+                raise TimedOut(f"no keeper has said in {self.patience} s which block of {self.name} is at position {position}")
+            time.sleep(wait)
+            wait = min(SLOWEST, 2 * wait)
 
     def fate(self, generation: int, position: int, lines: str | None = None) -> Fate:
         """How far this generation is durable, once it is so up to the position, or is over. Raises `TimedOut`.
@@ -176,8 +279,8 @@ class Keepers:
 
 def _place(words: list[str]) -> Place | None:
     match words:
-        case ["at", _, generation, run, address, archived, lines, base, shift]:
-            return Place(int(generation), run, address, int(archived), lines, int(base), int(shift))
+        case ["at", _, generation, run, address, archived, lines, base, shift, kept]:
+            return Place(int(generation), run, address, int(archived), lines, int(base), int(shift), int(kept))
         case _:
             return None
 

@@ -29,14 +29,16 @@ if TYPE_CHECKING:
     from pagelog.keeper.keeping import Keeper
 
 
-def _url_of(accounts: Accounts) -> str:
+def url_of_referee(accounts: Accounts) -> str:
+    """The URL of the referee's PostgreSQL. Ends where there is none."""
     url = os.environ.get(URL_VARIABLE) or accounts.archive_url
     if not url or not url.startswith("postgresql"):
         fail("named databases need PostgreSQL: put its url into the section [archive] of the credentials")
     return url
 
 
-def _named(name: str) -> str:
+def named(name: str) -> str:
+    """The name, if it is one."""
     if NAME.fullmatch(name) is None:
         fail(f"{name!r} is no name: letters, digits, dots, dashes and underscores, at most 63")
     return name
@@ -49,16 +51,16 @@ def referee_word(word: Callable[..., Any]) -> Callable[..., Any]:
     @faults
     @functools.wraps(word)
     def run(accounts: Accounts, **options: Any) -> Any:
-        with _referee_of(accounts) as referee:
+        with referee_of(accounts) as referee:
             return word(referee, **options)
 
     return run
 
 
 @contextmanager
-def _referee_of(accounts: Accounts) -> Iterator[Referee]:
+def referee_of(accounts: Accounts) -> Iterator[Referee]:
     """The referee. A fault of it is a line, and the exit status that the archive's database has for the like."""
-    referee = Referee(_url_of(accounts))
+    referee = Referee(url_of_referee(accounts))
     try:
         yield referee
     except (Away, Doubt) as error:
@@ -94,7 +96,7 @@ def keep_word(accounts: Accounts, name: str, lines: str, serve: str, folder: Pat
     faulthandler.register(signal.SIGUSR1)  # says what each thread is at
     logging.basicConfig(level=logging.INFO, stream=sys.stderr, format="%(asctime)s %(message)s")
     section = {**accounts.keeper, "require_standby": True} if require_standby else accounts.keeper
-    settings = Settings.of(_named(name), lines, serve, folder, program, _url_of(accounts), section)
+    settings = Settings.of(named(name), lines, serve, folder, program, url_of_referee(accounts), section, accounts.archive_keep)
     keeper = Keeper(settings)
     if settings.metrics is not None:
         _serve_metrics(keeper, settings.metrics)
@@ -131,7 +133,7 @@ def create_word(referee: Referee, name: str, table: Path) -> None:
     except (OSError, UnicodeDecodeError) as error:
         fail(f"{table}: {error}")
     read_table(text)
-    table_of_run(text, b"", _named(name), "", Form.OPEN)
+    table_of_run(text, b"", named(name), "", Form.OPEN)
     referee.prepare()
     if not referee.create(name, text, secrets.token_bytes(16)):
         fail(f"there is a database {name}, or was one")
@@ -139,7 +141,7 @@ def create_word(referee: Referee, name: str, table: Path) -> None:
 
 
 def _paused(referee: Referee, name: str | None, paused: bool) -> None:
-    count = referee.pause(None if name is None else _named(name), paused)
+    count = referee.pause(None if name is None else named(name), paused)
     if name is not None and count == 0:
         fail(f"there is no database {name}")
     click.echo(f"{'paused' if paused else 'resumed'} {name or f'{count} databases'}")
@@ -171,14 +173,17 @@ def resume_word(referee: Referee, name: str | None) -> None:
     _paused(referee, name, False)
 
 
-def _facts_of(look: Look, row: Row) -> dict[str, Any]:
+def facts_of(look: Look, row: Row) -> dict[str, Any]:
+    """What a look has of a database. What its service says of itself is as old as the holder's last look."""
     keeper = look.keeper(row.holder)
     report = {} if keeper is None else keeper.report.get(row.name, {})
     standbys = {standby.keeper: standby.reached for standby in look.standbys_of(row.id)}
+    hard = report.get("hard")
     return {
         "name": row.name, "generation": row.generation, "holder": row.holder, "place": row.address,
-        "archived": row.archived + row.shift, "standbys": standbys, "entries_left": report.get("entries_left"),
-        "memory": report.get("memory"), "wanted": row.wanted, "paused": row.paused,
+        "archived": row.archived, "lag": None if hard is None else max(0, hard - row.archived), "images": row.images, "standbys": standbys,
+        "entries_left": report.get("entries_left"), "memory": report.get("memory"), "memory_left": report.get("memory_left"),
+        "state": report.get("state"), "wanted": row.wanted, "succeed": row.succeed, "read_only": row.read_only, "paused": row.paused,
         "synchronous_standbys": look.synchronous.count,
     }  # fmt: skip
 
@@ -187,15 +192,17 @@ def _facts_of(look: Look, row: Row) -> dict[str, Any]:
 @click.option("--json", "as_json", is_flag=True, help="One line of JSON for each database.")
 @referee_word
 def kept_word(referee: Referee, as_json: bool) -> None:
-    """List the named databases: generation, holder, place, archived position, standbys, entries left, and memory in MiB;
-    and whether PostgreSQL has a synchronous standby.
+    """List the named databases: generation, holder, place, archived position, the oldest one that is kept and the newest base,
+    standbys, entries left, and memory in MiB; and whether PostgreSQL has a synchronous standby.
 
     \b
     Example:
       pagelogctl kept --credentials keeper.toml
     """
-    look = referee.everything()
-    found = [_facts_of(look, row) for row in look.rows if not row.dropped]
+    from pagelog.desk.history_words import columns_of
+
+    look, columns = referee.everything(), columns_of(referee)
+    found: list[dict[str, Any]] = [{**facts_of(look, row), **columns[row.id]} for row in look.rows if not row.dropped]
     if as_json:
         for facts in found:
             click.echo(json.dumps(facts))
@@ -203,14 +210,18 @@ def kept_word(referee: Referee, as_json: bool) -> None:
     from rich.console import Console
     from rich.table import Table
 
-    table = Table("name", "generation", "holder", "place", "archived", "standbys", "entries left", "memory", "state")
+    words = ("name", "generation", "holder", "place", "archived", "oldest", "base")
+    table = Table(*words, "standbys", "entries left", "memory", "state")
     for facts in found:
         standbys = ", ".join(f"{keeper} at {reached}" for keeper, reached in sorted(facts["standbys"].items()))
-        state = "paused" if facts["paused"] else f"to {facts['wanted']}" if facts["wanted"] else ""
-        words = ("name", "generation", "holder", "place", "archived")
-        table.add_row(*(_shown(facts[word]) for word in words), standbys, _shown(facts["entries_left"]), _shown(facts["memory"]), state)
+        table.add_row(*(_shown(facts[word]) for word in words), standbys, _shown(facts["entries_left"]), _shown(facts["memory"]), _state_of(facts))
     Console().print(table)
     click.echo(look.synchronous.meaning)
+
+
+def _state_of(facts: dict[str, Any]) -> str:
+    said = {"paused": facts["paused"], f"to {facts['wanted']}": facts["wanted"], "succeeds": facts["succeed"], "read-only": facts["read_only"]}
+    return ", ".join(word for word, holds in said.items() if holds)
 
 
 def _shown(value: object) -> str:
@@ -227,7 +238,7 @@ def where_word(referee: Referee, name: str) -> None:
     Example:
       pagelogctl where shop --credentials keeper.toml
     """
-    row = referee.everything().row(_named(name))
+    row = referee.everything().row(named(name))
     if row is None or row.address is None:
         fail(f"there is no database {name}" if row is None else f"nobody serves {name} now")
     click.echo(row.address)
@@ -246,7 +257,7 @@ def switchover_word(referee: Referee, name: str, keeper: str) -> None:
     """
     if keeper != "*" and referee.everything().keeper(keeper) is None:
         fail(f"there is no keeper {keeper}")
-    if not referee.wish(_named(name), keeper):
+    if not referee.wish(named(name), keeper):
         fail(f"there is no database {name}")
     click.echo(f"asked for {name} to go to {'another keeper' if keeper == '*' else keeper}")
 
@@ -272,8 +283,8 @@ def drop_word(accounts: Accounts, url: str | None, log: str | None, name: str | 
     elif log is not None or click.get_current_context().get_parameter_source("url") is ParameterSource.COMMANDLINE:
         raise click.UsageError("a NAME is a named database: it has neither --url nor --log")
     else:
-        with _referee_of(accounts) as referee:
-            _drop_named(referee, _named(name), yes)
+        with referee_of(accounts) as referee:
+            _drop_named(referee, named(name), yes)
 
 
 def _drop_named(referee: Referee, name: str, yes: bool) -> None:

@@ -31,12 +31,18 @@ last_option = click.option("--last", metavar="LSN", type=click.IntRange(0, HIGHE
 @last_option
 @click.option("--table", metavar="FILE", type=click.Path(), help="The real table, set at the end: the service was started with the one "
               "that `waiting-table` makes, and lets nobody else in before.")  # fmt: skip
+@click.argument("name", required=False)
+@click.option("--at", metavar="POSITION|TIME", help="Of a NAME: the position, or the last one that was archived by then.")
+@click.option("--as", "to", metavar="NAME", help="Of a NAME: the name of what is begun. [default: NAME-POSITION]")
 @json_option
 @faults
 def restore_word(
-    accounts: Accounts, db: int, url: str | None, log: str | None, quorum: str | None, last: int | None, table: str | None, as_json: bool
-) -> None:
+    accounts: Accounts, db: int, url: str | None, log: str | None, quorum: str | None, last: int | None, table: str | None, as_json: bool,
+    name: str | None, at: str | None, to: str | None,
+) -> None:  # fmt: skip
     """Fill a fresh database from an archive, LSN for LSN. Needs [primary], [secondary] and [operator], all at one address.
+
+    With a NAME: begin a database for readers under its keepers, with what the named database was at a position or a time.
 
     First the database's epoch is raised above all that were archived, so that writers of the time before are denied. Nothing is
     overwritten: a database that has anything but the beginning of the archived log is refused. A restore that was broken off
@@ -47,7 +53,14 @@ def restore_word(
     Examples:
       pagelogctl restore --credentials c.toml --db 0 --url sqlite:///db0.db
       pagelogctl restore --credentials restore.toml --db 0 --table table.toml
+      pagelogctl restore shop --at 2026-01-31T12:00:00+00:00 --credentials keeper.toml
     """
+    if (name is None) != (at is None) or (to is not None and name is None):
+        raise click.UsageError("a NAME has --at, and may have --as")
+    if name is not None and at is not None:
+        from pagelog.desk.history_words import restore_named
+
+        return restore_named(accounts, name, at, to)
     one_service(accounts, Primary, Reader, "both are of the database that is filled")
     one_service(accounts, Primary, Operator, "both are of the database that is filled")
     real = TableText.read(table) if table else None

@@ -3,7 +3,7 @@
 from __future__ import annotations
 
 from dataclasses import dataclass
-from typing import Mapping
+from typing import Iterable, Mapping
 
 from rich.console import Group, RenderableType
 from rich.panel import Panel
@@ -37,8 +37,16 @@ _COLUMNS = {
 """The columns, and how wide the terminal has to be for each of them to be shown."""
 
 
-def page(address: str, lines: Mapping[int, Line], at: str, width: int = 150) -> RenderableType:
-    """The whole page, for a terminal of `width` columns."""
+def page(title: str, tables: Iterable[RenderableType], at: str) -> RenderableType:
+    """The whole page, of a table of plain databases, or of named ones, or of both."""
+    parts: list[RenderableType] = []
+    for table in tables:
+        parts += [Text(), table] if parts else [table]
+    return Panel(Group(*parts), title=f"pagelog {title}", subtitle=f"{at}   q or Ctrl-C ends", title_align="left")
+
+
+def table_of(lines: Mapping[int, Line], width: int = 150) -> RenderableType:
+    """The databases of a service, for a terminal of `width` columns."""
     table = Table(expand=True, box=None, padding=(0, 1), header_style="bold")
     shown = [number for number, least in enumerate(_COLUMNS.values()) if width >= least]
     for number in shown:
@@ -49,7 +57,7 @@ def page(address: str, lines: Mapping[int, Line], at: str, width: int = 150) -> 
         table.add_row(*(cells[number] for number in shown if number < len(cells)))
     errors = [Text(f"db {line.database}: {line.error}", style="red") for line in lines.values() if line.error]
     warnings = [Text(words, style="bold red") for line in lines.values() if (words := warning(line))]
-    return Panel(Group(table, *errors, *warnings, Text(), _denials(lines)), title=f"pagelog {address}", subtitle=f"{at}   q or Ctrl-C ends", title_align="left")
+    return Group(table, *errors, *warnings, Text(), _denials(lines))
 
 
 def warning(line: Line) -> str:

@@ -1,4 +1,4 @@
-"""A trail as a picture: requests and denials by minute, and the failovers that began epochs. Needs pygal."""
+"""A trail as a picture: requests and denials by minute, the failovers that began epochs, and where generations began. Needs pygal."""
 
 from __future__ import annotations
 
@@ -14,20 +14,23 @@ def draw(summary: Summary, title: str, file: str) -> None:
     counts = summary.by_minute()
     minutes = range(min(counts), max(counts) + 1, MINUTE) if counts else range(0)
     most = max((requests for requests, _ in counts.values()), default=0)
-    begun: dict[int, list[int]] = {}
-    for seen, epoch in summary.epochs:
-        begun.setdefault(seen // MINUTE * MINUTE, []).append(epoch)
     chart = pygal.Line(title=title, x_title="minute in which they were seen", y_title="lines", x_label_rotation=45, no_data_text="no lines",
                        x_labels_major_count=12, show_minor_x_labels=False, include_x_axis=True, js=[])  # fmt: skip
     chart.x_labels = [datetime.fromtimestamp(minute / 1e6).strftime("%Y-%m-%d %H:%M") for minute in minutes]
     chart.add("requests", [counts.get(minute, (0, 0))[0] for minute in minutes])
     chart.add("denials", [counts.get(minute, (0, 0))[1] for minute in minutes])
-    if begun:
-        marks = [{"value": most, "label": _epochs(begun[minute])} if minute in begun else None for minute in minutes]
-        chart.add("epochs", marks, stroke=False, dots_size=6, print_labels=True)
+    for what, height, begun in (("epoch", most, summary.epochs), ("generation", most / 2, summary.generations)):
+        if begun:
+            labels = _labels(what, begun)
+            marks = [{"value": height, "label": labels[minute]} if minute in labels else None for minute in minutes]
+            chart.add(f"{what}s", marks, stroke=False, dots_size=6, print_labels=True)
     chart.render_to_file(file)
 
 
-def _epochs(numbers: list[int]) -> str:
-    """`epoch 2`, or `epochs 2 to 9`."""
-    return f"epoch {numbers[0]}" if len(numbers) == 1 else f"epochs {numbers[0]} to {numbers[-1]}"
+def _labels(what: str, begun: list[tuple[int, int]]) -> dict[int, str]:
+    """By minute, `epoch 2`, or `epochs 2 to 9`."""
+    found: dict[int, list[int]] = {}
+    for seen, number in begun:
+        found.setdefault(seen // MINUTE * MINUTE, []).append(number)
+    return {minute: f"{what} {numbers[0]}" if len(numbers) == 1 else f"{what}s {numbers[0]} to {numbers[-1]}"
+            for minute, numbers in found.items()}  # fmt: skip

@@ -16,14 +16,15 @@ from pagelog.archive import Archive, NoArchive
 from pagelog.credentials import FILE_VARIABLE, Accounts, load
 from pagelog.desk.audit_words import entry_fields, entry_line
 from pagelog.desk.options import (
-    URL_VARIABLE, _url, bar, client, credentials_option, db_option, fail, faults, first_line_of, is_lost_archive,
+    NOT_YET, URL_VARIABLE, _url, bar, client, credentials_option, db_option, fail, faults, first_line_of, is_lost_archive,
     is_of_the_archive, json_option, stopping, url_of,
 )  # fmt: skip
 from pagelog.errors import ConnectionLost, OutOfMemory, Unreachable
 from pagelog.keeping import all_blocks, compare
 from pagelog.operator import Operator
 from pagelog.reader import Reader
-from pagelog.request import Operation
+from pagelog.request import Operation, Role
+from pagelog.rules import UnknownPrincipal
 from pagelog.trail.keeper import TrailKeeper
 from pagelog.trail.pages import compare_pages
 from pagelog.trail.question import Question, Seen, Summary, answer, micros, moment
@@ -104,39 +105,47 @@ def record_word(
                 if not follow:
                     keeper.run(follow=False, keep=keep, told=tell, stop=stop)
                 while follow and not stop():
-                    _follow(keeper, lambda: keeper.run(follow=True, idle=idle, keep=keep, told=tell, stop=stop))
+                    _follow(keeper, tell, lambda: keeper.run(follow=True, idle=idle, keep=keep, told=tell, stop=stop))
             _seal(trail)
         finally:
             for one in trail.lists()[-1:]:
                 _say_recorded(one)
 
 
-def _follow(keeper: TrailKeeper, run: Callable[[], int]) -> None:
-    """Follows until it is stopped, or until the service or the archive is lost for a moment."""
+def _follow(keeper: TrailKeeper, tell: _Told, run: Callable[[], int]) -> None:
+    """Follows until it is stopped, or until the service or the archive is lost for a moment, or the service waits for its restore."""
     try:
         keeper.resume()
         run()
     except (ConnectionLost, Unreachable, OutOfMemory) as error:
-        _wait(f"service: {error}")
+        tell.wait(f"service: {error}; trying again")
+    except UnknownPrincipal:
+        if not keeper.operator.was_let_in:
+            raise
+        tell.wait(NOT_YET)
     except Exception as error:
         if not is_of_the_archive(error) or not is_lost_archive(error):
             raise
-        _wait(f"archive: {first_line_of(error)}")
-
-
-def _wait(text: str) -> None:
-    click.echo(f"pagelogctl: {text}; trying again", err=True)
-    time.sleep(1)
+        tell.wait(f"archive: {first_line_of(error)}; trying again")
 
 
 class _Told:
-    """Says how far the trail is and seals what was archived, once a minute, and when a new list begins."""
+    """Says how far the trail is and seals what was archived, once a minute, and when a new list begins; and why it waits, once."""
 
     def __init__(self, trail: Trail) -> None:
         self._trail = trail
         self._run, self._last = 0, 0.0
+        self._wait = ""
+
+    def wait(self, text: str) -> None:
+        """Waits a second before the next try."""
+        if text != self._wait:
+            click.echo(f"pagelogctl: {text}", err=True)
+        self._wait = text
+        time.sleep(1)
 
     def __call__(self, one: TrailList) -> None:
+        self._wait = ""
         if one.run != self._run or time.monotonic() - self._last >= 60:
             _seal(self._trail)
             _say_recorded(one)
@@ -159,8 +168,13 @@ def _say_recorded(one: TrailList) -> None:
 # Asking.
 
 
+def _accounts(_: click.Context, __: click.Parameter, value: str | None) -> Accounts | None:
+    return load(value) if value else None
+
+
 @click.command("trail")
 @click.argument("name")
+@click.option("--credentials", "accounts", metavar="FILE", callback=_accounts, help="Where [archive] has the url, as a keeper's file.")
 @url_option
 @list_option
 @click.option("--since", metavar="TIME", help="From when on, as 14:00, 14:00:30 or 2026-11-28T14:00. A time of day is the last that has passed.")
@@ -174,27 +188,28 @@ def _say_recorded(one: TrailList) -> None:
 @click.option("--follow", is_flag=True, help="Go on with what is recorded.")
 @faults
 def trail_word(
-    name: str, url: str | None, run: int | None, since: str | None, until: str | None, principal: int | None, op: str | None,
+    name: str, accounts: Accounts | None, url: str | None, run: int | None, since: str | None, until: str | None, principal: int | None, op: str | None,
     denied: bool, summary: bool, plot: str | None, as_json: bool, follow: bool,
 ) -> None:  # fmt: skip
-    """Show what was decided in some time, from a trail that `record` keeps. It asks no service.
+    """Show what was decided in some time, from a trail that `record` or a keeper keeps. It asks no service.
 
     The time of a line is when it was seen: it was decided by then, and after the line before it was.
 
     \b
     Examples:
       pagelogctl trail shop --since 14:00 --until 14:10 --denied
+      pagelogctl trail shop --credentials keeper.toml --since 14:00 --summary
       pagelogctl trail shop --op failover --json
       pagelogctl trail shop --since 14:00 --plot shop.svg
     """
     question = Question(*_times(since, until), principal, _operation(op), denied)
     if plot is not None:
         _need_pygal()
-    with Trail(url_of(url, Accounts({})), name) as trail, stopping() as stop:
+    with Trail(url_of(url, accounts or Accounts({})), name) as trail, stopping() as stop:
         if summary or plot is not None:
             counted = Summary()
             for one in chosen(trail, run):
-                counted.take(answer(trail, one, question))
+                counted.take(answer(trail, one, question), one.generation)
             if plot is not None:
                 from pagelog.desk.trail_plot import draw
 
@@ -254,7 +269,8 @@ def _time(seen: int) -> datetime:
 
 def _words(found: Seen | TrailList) -> str:
     if isinstance(found, TrailList):
-        return (f"{_clock(found.ended_seen or found.seen)} list {found.run} ends behind line {found.kept}, seen at {_clock(found.seen)}: "
+        of = f" of generation {found.generation}" if found.generation else ""
+        return (f"{_clock(found.ended_seen or found.seen)} list {found.run}{of} ends behind line {found.kept}, seen at {_clock(found.seen)}: "
                 f"{found.ended}")  # fmt: skip
     return f"{_clock(found.seen)} list {found.run}: {entry_line(found.entry)}"
 
@@ -265,7 +281,7 @@ def _clock(seen: int) -> str:
 
 def _json(found: Seen | TrailList) -> str:
     if isinstance(found, TrailList):
-        fields: dict[str, Any] = {"seen": _time(found.ended_seen or found.seen).isoformat(), "list": found.run, "ended": found.ended,
+        fields: dict[str, Any] = {"seen": _time(found.ended_seen or found.seen).isoformat(), "list": found.run, "generation": found.generation, "ended": found.ended,
                                   "last": found.kept, "last_seen": _time(found.seen).isoformat()}  # fmt: skip
         return json.dumps(fields)
     return json.dumps({"seen": _time(found.seen).isoformat(), "list": found.run, **entry_fields(found.entry)})
@@ -289,10 +305,6 @@ def _show_summary(counted: Summary, as_json: bool) -> None:
 # Replaying.
 
 
-def _accounts(_: click.Context, __: click.Parameter, value: str | None) -> Accounts | None:
-    return load(value) if value else None
-
-
 @click.command("replay")
 @click.argument("name")
 @url_option
@@ -300,8 +312,8 @@ def _accounts(_: click.Context, __: click.Parameter, value: str | None) -> Accou
 @start_table_option
 @start_primary_option
 @texts_option
-@click.option("--credentials", "accounts", metavar="FILE", callback=_accounts, help="With it, the blocks of the service are compared too, and "
-              f"pages at random, as [secondary]. {FILE_VARIABLE} is not taken here.")  # fmt: skip
+@click.option("--credentials", "accounts", metavar="FILE", callback=_accounts, help="With its [secondary], the blocks of the service are compared "
+              f"too, and pages at random; [archive] may have the url. {FILE_VARIABLE} is not taken here.")  # fmt: skip
 @db_option
 @faults
 def replay_word(
@@ -315,30 +327,39 @@ def replay_word(
     block of a denied or annulled write, and the text of a denied table.
 
     \b
-    Example:
+    Examples:
       pagelogctl replay shop --url sqlite:///db0.db --table t0.toml --primary 2
+      pagelogctl replay shop --credentials keeper.toml
     """
     start, more = start_of(table, primary), [text.read_bytes() for text in texts]
-    where = url_of(url, Accounts({}))
+    where = url_of(url, accounts or Accounts({}))
     with ExitStack() as stack:
         trail = stack.enter_context(Trail(where, name))
         archive = _archive(where, name, stack)
         hard = 0
         for one in chosen(trail, run):
             with bar(f"list {one.run}") as told:
-                done = replay(trail, one, archive, start=start, texts=more, told=told)
-            _say_replayed(one, done)
+                done = replay(trail, one, _blocks_for(archive, one), start=start, texts=more, told=told)
+            _say_replayed(one, done, is_last=one == trail.lists()[-1])
             hard = done.blocks
-        if accounts is not None and archive is not None:
+        if accounts is not None and Role.SECONDARY in accounts.of_role and archive is not None:
             _compare(archive, stack.enter_context(client(Reader, accounts, db)), hard)
 
 
 def _archive(url: str, name: str, stack: ExitStack) -> Archive | None:
     try:
-        return stack.enter_context(Archive(url, name))
+        return stack.enter_context(Archive(url, name, is_read=True))
     except NoArchive as error:
         click.echo(f"pagelogctl: {error}: no block is compared", err=True)
         return None
+
+
+def _blocks_for(archive: Archive | None, one: TrailList) -> Archive | None:
+    """The archive, if it has the blocks of the list from LSN 1 on."""
+    if archive is None or archive.begins_with_blocks(one.generation):
+        return archive
+    click.echo(f"list {one.run}: generation {one.generation} began with images, or its first blocks are pruned: no block is compared")
+    return None
 
 
 def _compare(archive: Archive, reader: Reader, hard: int) -> None:
@@ -349,12 +370,12 @@ def _compare(archive: Archive, reader: Reader, hard: int) -> None:
                "by the table")  # fmt: skip
 
 
-def _say_replayed(one: TrailList, done: Replayed) -> None:
+def _say_replayed(one: TrailList, done: Replayed, *, is_last: bool) -> None:
     click.echo(f"list {one.run}: {done.lines} lines are decided likewise; epoch {done.epoch}, {done.hard} blocks hardened, "
                f"{done.blocks} of them archived, which fit; digest {one.digest.hex()[:16]}")  # fmt: skip
     for what, count in sorted(done.unchecked.items()):
         click.echo(f"  not checked: {count} lines, which depend on {what}")
-    if done.archived > done.hard:
+    if done.archived > done.hard and is_last:
         click.echo(f"  not checked: blocks {done.hard + 1} to {done.archived} are archived, and the trail ends before they were hardened")
     if done.hard > done.blocks:
         click.echo(f"  not checked: blocks {done.blocks + 1} to {done.hard} are hardened by the trail, and not archived")

@@ -12,6 +12,9 @@ from pagelog.keeper.rows import Batch, Kept, Row
 from pagelog.keeper.served import Served
 from pagelog.keeper.waits import Waits
 
+FEW = 8
+"""Of a service that is known to have more than so many new blocks, a thread pulls a thousand at once."""
+
 
 class Archiver:
     """Of one run. The line `durable` is its doorbell: it polls nothing.
@@ -25,6 +28,9 @@ class Archiver:
         self._row, self._served, self._waits, self._committer = row, served, waits, committer
         self._say, self._changed = say, changed
         self._doorbell, self._advanced = asyncio.Event(), asyncio.Event()
+        self.turn = asyncio.Lock()
+        """Held for each batch, from its pull until its fate is known."""
+        self._wait = 0.05
         self.is_over = False
         self._is_stuck = False
 
@@ -61,32 +67,43 @@ class Archiver:
         self._changed()
 
     async def _run(self) -> None:
-        served, wait = self._served, 0.05
         self.ring()
         while True:
             await self._doorbell.wait()
-            self._doorbell.clear()
-            waited = self._waits.now()
-            try:
-                batch = await asyncio.to_thread(self._pulled)
-            except (AuditListFull, TurnsSpent):
-                served.is_broken = True
-                return
-            except PagelogError as error:
-                self._say(self._row.name, f"a pull failed: {error}")
-                await asyncio.sleep(wait)
-                wait = min(1.0, 2 * wait)
-                self.ring()
-                continue
-            wait = 0.05
-            if not batch.blocks:
-                self._waits.tell_above(waited, served.generation, served.reached + self._row.shift)
-            elif not await self._kept(batch):
-                return
+            async with self.turn:
+                self._doorbell.clear()
+                if not await self.archived():
+                    return
 
-    def _pulled(self) -> Batch:
+    async def archived(self) -> bool:
+        """Archives what is hardened by now. False where nothing more can be. The turn is the caller's."""
+        served, waited = self._served, self._waits.now()
+        try:
+            batch = await self._next_batch()
+        except (AuditListFull, TurnsSpent):
+            served.is_broken = True
+            return False
+        except PagelogError as error:
+            self._say(self._row.name, f"a pull failed: {error}")
+            await asyncio.sleep(self._wait)
+            self._wait = min(1.0, 2 * self._wait)
+            self.ring()
+            return True
+        self._wait = 0.05
+        if not batch.blocks:
+            self._waits.tell_above(waited, served.generation, served.reached)
+            return True
+        return await self._kept(batch)
+
+    async def _next_batch(self) -> Batch:
         served = self._served
-        blocks = tuple(served.pulled(served.reached))
+        blocks = None if served.hard > served.reached + FEW else await served.pulled_at_once(served.reached)
+        if blocks is None:
+            blocks = await asyncio.to_thread(served.pulled, served.reached)
+        return self._batch_of(tuple(blocks))
+
+    def _batch_of(self, blocks: tuple[bytes, ...]) -> Batch:
+        served = self._served
         return Batch(self._row.id, served.run, served.generation, served.reached, digest(served.chain, blocks), blocks)
 
     async def _kept(self, batch: Batch) -> bool:
@@ -108,7 +125,7 @@ class Archiver:
             return False
         served.reached, served.chain = kept.archived, kept.chain
         self._advanced.set()
-        self._waits.tell(served.generation, served.reached + self._row.shift)
+        self._waits.tell(served.generation, served.reached)
         if served.hard > served.reached or len(self._waits):
             self.ring()
         return True

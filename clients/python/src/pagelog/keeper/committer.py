@@ -58,14 +58,18 @@ class Committer:
 
     async def _run(self) -> None:
         while True:
-            try:
-                await asyncio.wait_for(self._came.wait(), self._idle)
-            except asyncio.TimeoutError:
+            idle = asyncio.get_running_loop().call_later(self._idle, self._came.set)
+            await self._came.wait()
+            idle.cancel()
+            if not self._due:
                 await self._session.close()
+                self._came.clear()
                 await self._came.wait()
             batches = self._taken()
+            if not batches:
+                continue
             try:
-                kept = await self._session.ask(self._session.referee.keep, [due.batch for due in batches])
+                kept = await self._session.keep([due.batch for due in batches])
             except (Doubt, Refused, Away):
                 kept = frozenset()
             for due in batches:
@@ -77,16 +81,22 @@ class Committer:
                     looking.add_done_callback(partial(self._looked_up, due))
 
     def _taken(self) -> list[_Due]:
-        size, count = 0, 0
+        """Those of the next statement: one of a database, since two would be taken for one. What was given up is left out."""
+        size = 0
+        taken: dict[int, _Due] = {}
+        left = []
         for due in self._due:
+            if due.future.cancelled():
+                continue
             size += sum(map(len, due.batch.blocks))
-            if count and size > MOST:
-                break
-            count += 1
-        taken, self._due = self._due[:count], self._due[count:]
-        if not self._due:
+            if due.batch.log in taken or (taken and size > MOST):
+                left.append(due)
+            else:
+                taken[due.batch.log] = due
+        self._due = left
+        if not left:
             self._came.clear()
-        return taken
+        return list(taken.values())
 
     async def _look_up(self, due: _Due) -> None:
         """What became of a batch that is in doubt, or was not kept."""

@@ -3,47 +3,22 @@
 from __future__ import annotations
 
 import asyncio
-from dataclasses import dataclass, field, replace
-from typing import Any, Callable, Coroutine
+from dataclasses import replace
+from typing import Any, Callable
 
-from pagelog.errors import AuditListFull, PagelogError, TurnsSpent
-from pagelog.keeper.archiver import Archiver
-from pagelog.keeper.committer import Committer
+from pagelog.errors import PagelogError
+from pagelog.keeper.fates import Moves
 from pagelog.keeper.lines import Line
 from pagelog.keeper.machine import Action, Facts, Kind, Own, State, Stillness, decide, state_of
 from pagelog.keeper.referee import Away, Doubt, Referee, Refused
 from pagelog.keeper.rows import Row, StandbyRow
 from pagelog.keeper.run import Run, new_run
 from pagelog.keeper.served import Served, seconds
-from pagelog.keeper.session import Session
-from pagelog.keeper.settings import Settings
+from pagelog.keeper.shared import Shared
+from pagelog.keeper.succession import Succession
+from pagelog.keeper.switch import Switch
 from pagelog.keeper.waits import Waits
-
-
-@dataclass
-class Shared:
-    """What the databases of a keeper share. `say` logs a sentence of a database."""
-
-    settings: Settings
-    life: str
-    session: Session
-    committer: Committer
-    say: Callable[[str, str], None]
-    ending: bool = False
-    tasks: set[asyncio.Task[None]] = field(default_factory=set)
-
-    def spawn(self, work: Coroutine[Any, Any, None], what: str) -> asyncio.Task[None]:
-        """A task whose end by an error is said: a database that nobody keeps would be the result."""
-        task = asyncio.create_task(work)
-        self.tasks.add(task)
-
-        def ended(_: asyncio.Task[None]) -> None:
-            self.tasks.discard(task)
-            if not task.cancelled() and (error := task.exception()) is not None:
-                self.say(what, f"fault of the keeper: {type(error).__name__}: {error}")
-
-        task.add_done_callback(ended)
-        return task
+from pagelog.keeper.work import Work
 
 
 class Database:
@@ -52,37 +27,56 @@ class Database:
     def __init__(self, shared: Shared, row: Row) -> None:
         self.shared = shared
         self.row = row
+        self.is_known = True
+        """Whether the referee has it, as far as a look has shown."""
         self.served: Served | None = None
         self.doing = Action.NOTHING
         self.why = ""
         self.waits = Waits(row.name)
         self._beat: int | None = None
         self._others: tuple[StandbyRow, ...] = ()
+        self._is_noted = False
         self._let_go = self._failed = -1
-        self._still, self._silent = Stillness(shared.settings.ttl), Stillness(shared.settings.ttl)
+        self._still = Stillness(shared.settings.ttl)
         self._still_for = 0.0
         self._acting: asyncio.Task[None] | None = None
-        self._archiving: asyncio.Task[None] | None = None
-        self._looking: asyncio.Task[None] | None = None
-        self._archiver: Archiver | None = None
         self._news = False
+        self.work = Work(shared, row.name, self.waits, self.kick)
+        self.moves = Moves()
+        self.succession = Succession(self)
 
     # Facts.
 
-    def see(self, row: Row, beat: int | None, others: tuple[StandbyRow, ...]) -> None:
-        """What a look has shown. `beat` is the holder's."""
-        now = seconds()
-        self.row, self._beat, self._others = row, beat, others
-        self._still_for = self._still.see((row.generation, row.run, row.archived, row.wanted, beat), now)
-        served = self.served
-        if served is not None and served.process is not None:
-            served.silent = self._silent.see((served.run, served.answers), now)
-            if self._archiver is not None and served.hangs:
-                self._archiver.stir()
-            if self._looking is None or self._looking.done():
-                self._looking = self.shared.spawn(self._look(served), self.row.name)
-            if self._archiver is not None and self._archiver.may_begin_again and self.holds and served.is_alive:
-                self._begin_archiving(served)  # it was told that it is fenced, and is not
+    def see(self, row: Row, beat: int | None, others: tuple[StandbyRow, ...], *, is_noted: bool) -> None:
+        """What a look has shown. `beat` is the holder's, and `is_noted` is of a standby of this keeper."""
+        self.row, self._beat, self._others, self._is_noted, self.is_known = row, beat, others, is_noted, True
+        self._still_for = self._still.see((row.generation, row.run, row.archived, row.wanted, beat), seconds())
+        served, archiver = self._seen_service(), self.work.archiver
+        if served is not None and archiver is not None and archiver.may_begin_again and self.holds and served.is_alive:
+            self.work.begin(row, served)  # it was told that it is fenced, and is not
+        if served is not None and self.holds and row.address is not None:
+            self.succession.tend()
+        self.kick()
+
+    def hear(self, generation: int, archived: int) -> None:
+        """Its holder has said that it released this generation at this position. It is tried at once: a take has its conditions."""
+        if self.is_known and not self.holds and self.row.run is not None and self.row.generation == generation:
+            self.row = replace(self.row, run=None, holder=None, address=None, archived=archived)
+            self._beat, self._still_for = None, 0.0
+            self.kick()
+
+    def _seen_service(self) -> Served | None:
+        if self.served is None or self.served.process is None:
+            return None
+        self.work.see(self.served)
+        return self.served
+
+    def lose(self) -> None:
+        """A look has not shown it any more: PostgreSQL went back. Who waits is told to ask where it is."""
+        self.is_known = False
+        for line in self.waits.taken():
+            line.say("elsewhere", self.row.name, self.row.generation)
+        self._seen_service()
         self.kick()
 
     def facts(self) -> Facts:
@@ -91,8 +85,9 @@ class Database:
         if served is not None:
             own = Own(served.run, served.kind, served.generation, served.reached, served.is_alive, served.silent,
                       served.share(settings.program.audit, settings.memory))  # fmt: skip
-        return Facts(settings.name, settings.ttl, self.row, own, self._still_for, self._others, settings.standby,
-                     self.shared.ending, self._let_go, self._failed)  # fmt: skip
+        return Facts(settings.name, settings.ttl, self.row if self.is_known else None, own, self._still_for, self._others,
+                     self._is_noted, settings.standby, self.shared.ending, self._let_go, self._failed, settings.succeed or 1.0,
+                     self.succession.stage)  # fmt: skip
 
     @property
     def state(self) -> State:
@@ -105,24 +100,17 @@ class Database:
         return self.served is not None and self.served.run == self.row.run
 
     @property
+    def is_moving(self) -> bool:
+        """Whether this keeper is about to publish a generation of it."""
+        served = self.served
+        is_dead = served is not None and served.kind is Kind.HOLDER and not served.is_alive
+        return is_dead or self.doing in (Action.TAKE, Action.FILL, Action.RELEASE, Action.SUCCEED)
+
+    @property
     def is_at_rest(self) -> bool:
-        """Whether this keeper has no service of it, and does nothing about it."""
-        return self.served is None and (self._acting is None or self._acting.done())
-
-    async def _look(self, served: Served) -> None:
-        try:
-            await asyncio.to_thread(served.look)
-        except (AuditListFull, TurnsSpent):
-            served.is_broken = True
-            self.kick()
-        except PagelogError as error:
-            self.shared.say(self.row.name, f"the service does not answer its keeper: {error}")
-        if served.hard > served.reached and served is self.served:
-            self._ring()
-
-    def _ring(self) -> None:
-        if self._archiver is not None:
-            self._archiver.ring()
+        """Whether this keeper has no service of it, none of an earlier life either, and does nothing about it."""
+        is_mine = self.is_known and self.row.run is not None and self.row.holder == self.shared.settings.name
+        return self.served is None and not is_mine and (self._acting is None or self._acting.done())
 
     # Acting.
 
@@ -148,6 +136,7 @@ class Database:
                 goes_on = False  # the next look shows what became of it
             finally:
                 self.doing = Action.NOTHING
+                self.moves.tell()
 
     async def _do(self, action: Action) -> bool:
         """Does it. Returns whether there are new facts to decide from."""
@@ -166,6 +155,13 @@ class Database:
                 return await self._end()
             case Action.STAND_BY:
                 return await self._stand_by()
+            case Action.STAND_DOWN:
+                return await self._stand_down()
+            case Action.PREPARE:
+                self.succession.prepare()
+                return False
+            case Action.SUCCEED:
+                return self.work.archiver is not None and await self.succession.switch(self.work.archiver)
             case Action.UNWISH:
                 await self._ask(self._referee.wish, self.row.name, None)
                 return False
@@ -179,12 +175,13 @@ class Database:
     async def _ask(self, call: Callable[..., Any], *arguments: Any) -> Any:
         return await self.shared.session.ask(call, *arguments)
 
-    async def _new_served(self, run: str) -> Served:
+    async def new_served(self, run: str) -> Served:
+        """What is to be the service of this run."""
         text, secret = await self._ask(self._referee.table, self.row.id)
-        return Served(self.row.name, run, text, secret, timeout=self.shared.settings.ttl)
+        return Served(self.row.name, run, text, secret, timeout=self.shared.settings.ttl, is_read_only=self.row.read_only)
 
     async def _take(self) -> bool:
-        served = self.served or await self._new_served(new_run())
+        served = self.served or await self.new_served(new_run())
         kept = await self._ask(self._referee.take, self.row, served.run, self._beat)
         if kept is None:
             return False
@@ -194,7 +191,7 @@ class Database:
         return True
 
     async def _fill(self) -> bool:
-        served, row = self._own, self.row
+        served, row = self.own, self.row
         served.kind, served.generation = Kind.HOLDER, row.generation
         is_fresh = served.process is None
         try:
@@ -211,22 +208,16 @@ class Database:
                 self._failed = row.generation
             return True
         assert served.process is not None
-        if self._archiver is None:
-            self._begin_archiving(served)  # first: whether the address is published may be in doubt
-        if not await self._ask(self._referee.publish, row.id, served.run, served.process.address):
+        if self.work.archiver is None:
+            self.work.begin(self.row, served)  # first: whether the address is published may be in doubt
+        if not await self._ask(self._referee.publish, row.id, served.run, served.process.address, served.shift, served.images):
             return False
-        self.row = replace(row, address=served.process.address)
+        self.row = replace(row, address=served.process.address, shift=served.shift, images=served.images)
+        self.shared.changed(row.name)
         return True
 
     async def _filled(self, served: Served, archived: int, chain: bytes) -> None:
-        """Fills it up to this position, over a connection to the archive of its own."""
-        if archived > served.reached:
-            settings = self.shared.settings
-            referee = Referee(settings.url, settings.name, self.shared.life)
-            try:
-                await asyncio.to_thread(served.follow, referee, self.row.id, archived, chain)
-            finally:
-                referee.close()
+        await self.shared.fill(served, self.row.id, archived, chain)
 
     async def _adopt(self) -> bool:
         row, settings = self.row, self.shared.settings
@@ -236,12 +227,14 @@ class Database:
             process = await asyncio.to_thread(Run.adopt, settings.program.folder, row.name, row.run)
         kept = None if process is None else await self._ask(self._referee.kept, row.id, row.run)
         if process is None or kept is None:
+            self._let_go = row.generation
             await self._ask(self._referee.release, row.id, row.run)
             self.row = replace(row, run=None, holder=None, address=None)
             return True
-        served = await self._new_served(row.run)
+        served = await self.new_served(row.run)
         served.serve(process)
         served.generation, served.reached, served.chain = row.generation, kept.archived, kept.chain
+        served.shift, served.images = row.shift, row.images
         self.served = served
         self._watch(served)
         try:
@@ -250,11 +243,11 @@ class Database:
             self.shared.say(row.name, f"it could not be adopted: {error}")
             served.is_broken = True
             return True
-        self._begin_archiving(served)
+        self.work.begin(self.row, served)
         return True
 
     async def _stand_by(self) -> bool:
-        served = await self._new_served(new_run())
+        served = await self.new_served(new_run())
         served.kind, self.served = Kind.STANDBY, served
         try:
             await asyncio.to_thread(served.start, self.shared.settings.program)
@@ -267,12 +260,18 @@ class Database:
 
     async def _note_standby(self, served: Served) -> None:
         assert served.process is not None
-        await self._ask(self._referee.stand_by, self.row.id, served.process.address, served.run, served.reached)
-        served.is_noted = True
+        place = (served.process.address, served.run, served.reached, served.shift, served.images)
+        await self._ask(self._referee.stand_by, self.row.id, *place)
+        served.is_noted = self._is_noted = True
+
+    async def _stand_down(self) -> bool:
+        await self._ask(self._referee.stand_down, self.row.id)
+        self._is_noted = False
+        return True
 
     async def _follow(self) -> bool:
         """A standby follows the archive, as far as a look has shown it, and never more."""
-        served = self.served
+        served = self.served if self.is_known else None
         if served is not None and served.kind is Kind.STANDBY and served.reached < self.row.archived:
             try:
                 await self._filled(served, self.row.archived, self.row.chain)
@@ -289,28 +288,35 @@ class Database:
 
     async def _close(self) -> bool:
         """Fence, the rest into the archive, release: nothing is lost, not even what nobody has asked durable."""
-        served = self._own
+        served = self.own
+        await self.work.catch_up(served.hard)
         try:
+            await self.succession.give_up()
             end = await asyncio.to_thread(served.close)
         except PagelogError as error:
             self.shared.say(self.row.name, f"its table could not be closed: {error}")
             return False
-        if self._archiver is None or not await self._archiver.reached(end):
+        if self.work.archiver is None:
             return False
-        return await self._release()
+        is_archived, _ = await asyncio.gather(self.work.archiver.reached(end), self.work.recorded(self.work.recorder))
+        return is_archived and await self._release()
 
     async def _release(self) -> bool:
-        served, row = self._own, self.row
+        served, row, recorder = self.own, self.row, self.work.recorder
+        await self.succession.give_up()
         if not served.is_alive or self.doing is Action.RELEASE:
             await self._ended(served)
+        self._let_go = row.generation  # first: whether it is released may be in doubt
         archived = await self._ask(self._referee.release, row.id, served.run)
         if archived is None:
             return False
-        self.served, self._let_go = None, row.generation
+        self.served = None
         self.row = replace(row, run=None, holder=None, address=None, archived=archived)
         for line in self.waits.taken():
-            line.say("over", row.name, row.generation, archived + row.shift)
+            line.say("over", row.name, row.generation, archived)
         await self._ended(served)
+        if recorder is not None:
+            await recorder.end(f"generation {row.generation} was released: {self.why}")
         return not self.shared.ending
 
     async def _end(self) -> bool:
@@ -318,15 +324,33 @@ class Database:
         if served is None:
             return False
         self.served = None
+        await self.succession.give_up()
         await self._ended(served)
-        if served.kind is Kind.STANDBY:
-            await self._ask(self._referee.stand_down, self.row.id)
-        for line, positions in self.waits.taken().items():
-            self.shared.spawn(self._tell_fate(line, served.generation, max(positions)), self.row.name)
-        return True
+        for line in self.waits.taken():
+            self.shared.spawn(self.shared.tell_fate(line, self.row.name, served.generation), self.row.name)
+        return await self._stand_down() if served.kind is Kind.STANDBY else True
+
+    async def goes_on(self, successor: Served, generation: int, switch: Switch) -> None:
+        """The next generation has begun: what is asked of the one before is over, and its service is ended."""
+        before, name, recorder = self.own, self.row.name, self.work.recorder
+        self.work.stop()
+        successor.kind, successor.generation, self.served = Kind.HOLDER, generation, successor
+        self.row = replace(self.row, generation=generation, run=successor.run, address=switch.address, base=switch.end,
+                           archived=switch.end, shift=switch.shift, images=switch.images, chain=switch.chain, succeed=False)  # fmt: skip
+        self._watch(successor)
+        self.work.begin(self.row, successor)
+        self.moves.tell()
+        self.shared.changed(name)
+        for line in self.waits.taken():
+            line.say("over", name, before.generation, switch.end)
+        await self.work.recorded(recorder)
+        await self._end_process(before)
+        if recorder is not None:
+            await recorder.end(f"generation {generation} has begun: {self.why}")
 
     @property
-    def _own(self) -> Served:
+    def own(self) -> Served:
+        """The service that this keeper has."""
         assert self.served is not None
         return self.served
 
@@ -338,29 +362,20 @@ class Database:
     def _has_died(self, served: Served) -> None:
         assert served.process is not None
         asyncio.get_running_loop().remove_reader(served.process.descriptor)
-        if self._archiver is not None:
-            self._archiver.stir()
+        self.work.stir()
         self.kick()
 
     async def _ended(self, served: Served) -> None:
-        """Its process is killed, once."""
-        for task in (self._archiving, self._looking):
-            if task is not None:
-                task.cancel()
-        self._archiver = self._archiving = self._looking = None
+        """Its process is killed, once, and there is no work on it any more."""
+        self.work.stop()
+        await self._end_process(served)
+
+    async def _end_process(self, served: Served) -> None:
         process, served.process = served.process, None
         served.is_broken = True
         if process is not None:
             asyncio.get_running_loop().remove_reader(process.descriptor)
             await asyncio.to_thread(process.end)
-
-    def _begin_archiving(self, served: Served) -> None:
-        archiver = Archiver(self.row, served, self.waits, self.shared.committer, self.shared.say, self._news_of_archiver)
-        self._archiver, self._archiving = archiver, self.shared.spawn(archiver.run(), self.row.name)
-
-    def _news_of_archiver(self) -> None:
-        self.shared.session.woken.set()
-        self.kick()
 
     # Who waits.
 
@@ -368,24 +383,9 @@ class Database:
         """Answers `durable`, at once or later."""
         served = self.served
         if served is None or not self.holds or generation != served.generation:
-            self.shared.spawn(self._tell_fate(line, generation, position), self.row.name)
-        elif position <= served.reached + self.row.shift:
-            line.say("durable", self.row.name, generation, served.reached + self.row.shift)
+            self.shared.spawn(self.shared.tell_fate(line, self.row.name, generation), self.row.name)
+        elif position <= served.reached:
+            line.say("durable", self.row.name, generation, served.reached)
         else:
             self.waits.add(line, position)
-            self._ring()
-
-    async def _tell_fate(self, line: Line, generation: int, position: int) -> None:
-        """What became of a generation that is not this keeper's: by a statement that writes, as its end is final."""
-        end = await self._fate(generation)
-        if end is None:
-            line.say("elsewhere", self.row.name, generation)
-        else:
-            line.say("over", self.row.name, generation, end)
-
-    async def _fate(self, generation: int) -> int | None:
-        try:
-            found = await self._ask(self._referee.fate, self.row.name, generation)
-        except (Away, Doubt, Refused):
-            return None
-        return None if found is None else int(found)
+            self.work.ring()

@@ -8,21 +8,31 @@ import logging
 import secrets
 import signal
 from concurrent.futures import ThreadPoolExecutor
-from typing import Any
+from typing import TYPE_CHECKING, Any
 
 from pagelog.keeper.committer import Committer
-from pagelog.keeper.database import Database, Shared
+from pagelog.keeper.database import Database
+from pagelog.keeper.fates import tell_block
+from pagelog.keeper.folder import Folder
 from pagelog.keeper.lines import Line, Server
 from pagelog.keeper.machine import Stillness
 from pagelog.keeper.notify import notify
+from pagelog.keeper.places import Places
+from pagelog.keeper.quick import QuickReferee, QuickSession
 from pagelog.keeper.referee import KeeperError, Referee, Superseded
-from pagelog.keeper.rows import Look, StandbyRow, Synchronous
-from pagelog.keeper.run import end_orphans
+from pagelog.keeper.rows import Look, StandbyRow, Synchronous, released_of
+from pagelog.keeper.run import end_orphans, has_services
 from pagelog.keeper.served import seconds
 from pagelog.keeper.session import Session
 from pagelog.keeper.settings import Settings
+from pagelog.keeper.shared import Shared
 from pagelog.keeper.turns import AllTurns
 
+if TYPE_CHECKING:
+    from pagelog.keeper.recorder import Trails
+
+HELD_BACK = 1.0
+"""Seconds for which the answer to a `where` may wait for the next generation."""
 LOOKS = 4
 """How many looks there are in a ttl."""
 _log = logging.getLogger("pagelog.keeper")
@@ -33,24 +43,34 @@ class Keeper:
 
     def __init__(self, settings: Settings) -> None:
         self.settings = settings
+        self._folder = Folder(settings.program.folder, settings.name)
         self.life = secrets.token_hex(8)
         self.databases: dict[int, Database] = {}
         self.look = Look()
         self.lines = settings.lines
-        self._session = Session(self._referee(listens=True), settings.ttl)
-        self._writer = Session(self._referee(), 2 * settings.ttl)
-        self._shared = Shared(settings, self.life, self._session, Committer(self._writer, settings.ttl), self._say)
+        self._session = Session(Referee(settings.url, settings.name, self.life, listens=True, requires_standby=settings.require_standby),
+                                settings.ttl)  # fmt: skip
+        self._writer = QuickSession(QuickReferee(settings.url, settings.name, self.life, requires_standby=settings.require_standby),
+                                    2 * settings.ttl)  # fmt: skip
+        self._shared = Shared(settings, self.life, self._session, Committer(self._writer, settings.ttl), self._say,
+                              self._changed, self._trails())  # fmt: skip
         self._server = Server(self)
+        self._places = Places(self.where)
         self._turns = AllTurns()
         self._lives: dict[str, Stillness] = {}
         self._living: set[str] = set()
         self.synchronous = Synchronous()
         self._said = ""
         self._stops = False
+        self._may_have = False
+        """Whether there are services of an earlier life, and no look has shown yet what they have."""
 
-    def _referee(self, *, listens: bool = False) -> Referee:
-        return Referee(self.settings.url, self.settings.name, self.life, listens=listens,
-                       requires_standby=self.settings.require_standby)  # fmt: skip
+    def _trails(self) -> Trails | None:
+        if not self.settings.trail:
+            return None
+        from pagelog.keeper.recorder import Trails
+
+        return Trails(self.settings.url, self.settings.trail, self.settings.ttl)
 
     def _say(self, name: str, sentence: str) -> None:
         _log.info("%s: %s", name, sentence)
@@ -64,12 +84,17 @@ class Keeper:
     # Its life.
 
     async def run(self) -> int:
-        """Keeps until it is told to end, or another has its name, or nothing can be archived any more. Returns the exit status."""
+        """Keeps until it is told to end, or another has its name, or nothing can be archived any more. Returns the exit status.
+
+        Raises `KeeperError` where another keeper has its folder.
+        """
         loop = asyncio.get_running_loop()
         loop.set_default_executor(ThreadPoolExecutor(64))
         for number in (signal.SIGTERM, signal.SIGINT):
             loop.add_signal_handler(number, self.end)
-        self.settings.program.folder.mkdir(parents=True, exist_ok=True, mode=0o700)
+        if not self._folder.take() and self._folder.owner != self.settings.name:
+            raise KeeperError(f"keeper {self._folder.owner or 'another'} has the folder {self._folder.path}")
+        self._may_have = has_services(self._folder.path)
         self.lines = await self._server.start(self.settings.lines)
         notify("READY=1")  # PostgreSQL may be away still
         self._shared.spawn(self._live(), "the watchdog")
@@ -81,6 +106,7 @@ class Keeper:
             while not self._is_over():
                 if committing.done():
                     return 1  # its next life adopts what it has
+                await self._hear()
                 await self._look()
                 await self._session.rest(self.settings.ttl / LOOKS)
             return 0
@@ -99,10 +125,12 @@ class Keeper:
     def end(self) -> None:
         """Hands over what it holds, and ends; told again, it ends at once, and leaves the services to its next life."""
         self._stops, self._shared.ending = self._shared.ending, True
+        self._say("the keeper", "told to end at once" if self._stops else "told to end")
         self._session.woken.set()
 
     def _is_over(self) -> bool:
-        return self._stops or (self._shared.ending and all(each.is_at_rest for each in self.databases.values()))
+        has_handed_over = not self._may_have and all(each.is_at_rest for each in self.databases.values())
+        return self._stops or (self._shared.ending and has_handed_over)
 
     async def _begin(self) -> None:
         """Takes its name, and ends the services of an earlier life that hold nothing."""
@@ -110,6 +138,9 @@ class Keeper:
             try:
                 await self._session.ask(self._session.referee.prepare)
                 await self._session.ask(self._session.referee.register, self.lines)
+                if not self._folder.take():
+                    await self._wait_for_folder()
+                    continue
                 look = await self._session.ask(self._session.referee.look)
             except Superseded:
                 raise
@@ -118,9 +149,15 @@ class Keeper:
                 await asyncio.sleep(self.settings.ttl / LOOKS)
                 continue
             wanted = {row.run for row in look.rows if row.run is not None and row.holder == self.settings.name}
-            for name in await asyncio.to_thread(end_orphans, self.settings.program.folder, wanted):
+            for name in await asyncio.to_thread(end_orphans, self._folder.path, wanted):
                 self._say(name, "a service of an earlier life that held nothing was ended")
             return
+
+    async def _wait_for_folder(self) -> None:
+        """Waits for the end of an earlier keeper of this name. Its beat stands still meanwhile, so that others may take over."""
+        self._say("the folder", "an earlier keeper of this name has it still")
+        while not self._folder.take() and not self._is_over():
+            await asyncio.sleep(self.settings.ttl / LOOKS / 4)
 
     async def _stop(self) -> None:
         await self._server.stop()
@@ -134,8 +171,19 @@ class Keeper:
                 asyncio.get_running_loop().remove_reader(database.served.process.descriptor)
         await self._session.close()
         await self._writer.close()
+        if self._shared.trails is not None:
+            self._shared.trails.close()
+        self._folder.leave()
 
     # Looking.
+
+    async def _hear(self) -> None:
+        """Takes what a release has said for true, before a look shows it: what follows has its own conditions."""
+        for name, generation, archived in map(released_of, self._session.taken()):
+            database = self._named(name)
+            if database is not None:
+                database.hear(generation, archived)
+        await asyncio.sleep(0)  # a take goes before the look
 
     async def _look(self) -> None:
         reached = {
@@ -160,7 +208,12 @@ class Keeper:
             if database is None:
                 database = self.databases[row.id] = Database(self._shared, row)
             holder = self.look.keeper(row.holder)
-            database.see(row, None if holder is None else holder.beat, self._others(row.id))
+            is_noted = any(standby.keeper == self.settings.name for standby in self.look.standbys_of(row.id))
+            database.see(row, None if holder is None else holder.beat, self._others(row.id), is_noted=is_noted)
+            self._changed(row.name)
+        for id in self.databases.keys() - {row.id for row in self.look.rows}:
+            self.databases[id].lose()
+        self._may_have = False
         self._turns.look(self._held)
 
     def _see_lives(self) -> None:
@@ -175,30 +228,55 @@ class Keeper:
 
     def _report(self) -> str:
         """What `kept` shows of the services of this keeper."""
-        audit, report = self.settings.program.audit, {}
+        audit, limit, report = self.settings.program.audit, self.settings.memory, {}
         for each in self.databases.values():
             if each.served is not None and each.served.process is not None:
+                memory = each.served.process.memory
                 report[each.row.name] = {"state": each.state.value, "entries_left": audit - each.served.entries,
-                                         "memory": each.served.process.memory >> 20, "hard": each.served.hard}  # fmt: skip
+                                         "memory": memory >> 20, "memory_left": max(0, limit - memory) >> 20 if limit else None,
+                                         "hard": each.served.hard}  # fmt: skip
         return json.dumps(report)
 
     # Answering.
 
     def _named(self, name: str) -> Database | None:
-        return next((each for each in self.databases.values() if each.row.name == name and not each.row.dropped), None)
+        return next((each for each in self.databases.values() if each.row.name == name and each.is_known and not each.row.dropped), None)
 
     def where(self, name: str) -> tuple[object, ...]:
         """Where a database is, as the last look has shown it, or as it is here."""
         database = self._named(name)
         if database is None:
-            return ("unknown", name)
+            return ("unknown" if self.look.keepers else "nowhere", name)  # before its first look it knows of none
         row, served = database.row, database.served
         holder = self.look.keeper(row.holder)
         if row.address is None or (holder is None and not database.holds):
             return ("nowhere", name)
         archived = served.reached if served is not None and database.holds else row.archived
         lines = self.lines if database.holds or holder is None else holder.lines
-        return ("at", name, row.generation, row.run, row.address, archived + row.shift, lines, row.base + row.shift, row.shift)
+        return ("at", name, row.generation, row.run, row.address, archived, lines, row.images, row.shift, row.base)
+
+    def where_next(self, line: Line, name: str, least: int) -> None:
+        """Says where it is, and waits for a generation that is about to be published here."""
+        database = self._named(name)
+        if database is None or not database.is_moving:
+            line.say(*self.where(name))
+        else:
+            self._shared.spawn(self._say_next(database, line, least), name)
+
+    async def _say_next(self, database: Database, line: Line, least: int) -> None:
+        ends = asyncio.get_running_loop().time() + HELD_BACK
+        while database.is_moving and (left := ends - asyncio.get_running_loop().time()) > 0:
+            if database.row.address is not None and database.row.generation >= least:
+                break
+            await database.moves.wait(left)
+        line.say(*self.where(database.row.name))
+
+    def next_place(self, line: Line, name: str, least: int) -> None:
+        """Answers now or later."""
+        self._places.ask(line, name, least)
+
+    def _changed(self, name: str) -> None:
+        self._places.changed(name)
 
     def standby(self, name: str) -> tuple[object, ...]:
         """A standby of it, whichever keeper has it: the last look says how far it is, and of an own one what it has."""
@@ -206,10 +284,10 @@ class Keeper:
         known = () if database is None else self.look.standbys_of(database.row.id)
         found = next((each for each in known if each.keeper in self._living), None)
         if database is None or found is None:
-            return ("standby", name, "-", "-", "-")
+            return ("standby", name, "-", "-", "-", "-", "-")
         own = database.served
         reached = own.reached if own is not None and own.run == found.run and not database.holds else found.reached
-        return ("standby", name, found.address, found.run, reached + database.row.shift)
+        return ("standby", name, found.address, found.run, reached, found.images, found.shift)
 
     def durable(self, line: Line, name: str, generation: int, position: int) -> None:
         """Answers now or later."""
@@ -218,6 +296,10 @@ class Keeper:
             line.say("unknown", name)
         else:
             database.wait(line, generation, position)
+
+    def block(self, line: Line, name: str, position: int) -> None:
+        """Answers from the archive, once PostgreSQL has."""
+        self._shared.spawn(tell_block(self._session, line, name, position), name)
 
     def _held(self, name: str) -> int | None:
         """The generation of it that is held here."""
@@ -230,6 +312,7 @@ class Keeper:
 
     def gone(self, line: Line) -> None:
         """Nobody waits over it any more."""
+        self._places.gone(line)
         self._turns.gone(line)
         for database in self.databases.values():
             database.waits.gone(line)

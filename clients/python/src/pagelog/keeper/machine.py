@@ -11,8 +11,10 @@ from enum import Enum
 
 from pagelog.keeper.rows import Row, StandbyRow
 
+SUCCEED_AT = 0.5
+"""The share of the audit list, or of the memory, at which a holder makes its next generation beside the present one."""
 ROLL_AT = 0.8
-"""The share of the audit list, or of the memory, at which a holder goes over to a fresh service."""
+"""The share at which it closes the present one without waiting for the next: its service may be full soon."""
 ANEW_AT = 0.5
 """The share of the audit list at which a standby is made anew: what it fills while it follows is missing after a take-over."""
 NEAR = 1024
@@ -37,7 +39,10 @@ class Action(Enum):
     RELEASE = "release"
     END = "end"
     STAND_BY = "stand by"
+    STAND_DOWN = "stand down"
     UNWISH = "unwish"
+    PREPARE = "prepare"
+    SUCCEED = "succeed"
 
 
 class State(Enum):
@@ -48,6 +53,16 @@ class State(Enum):
     TAKING = "taking"
     SERVING = "serving"
     CLOSING = "closing"
+    SUCCEEDING = "succeeding"
+
+
+class Stage(Enum):
+    """How far the service is that a holder makes for its next generation. It was given up just now where it `FAILED`."""
+
+    NONE = "none"
+    MAKING = "making"
+    READY = "ready"
+    FAILED = "failed"
 
 
 @dataclass(frozen=True)
@@ -68,8 +83,9 @@ class Facts:
     """All that a decision rests on. `row` is None where the referee has no such database.
 
     `still` is for how many seconds the row and the holder's beat have not changed, in an unbroken series of looks.
-    `others` are standbys of keepers that live. `let_go` is the generation that this keeper ended last, and `failed` one for which
-    it could fill no fresh service.
+    `others` are standbys of keepers that live, and `is_noted` is whether one of this keeper is noted. `let_go` is the generation
+    that this keeper ended last, and `failed` one for which it could fill no fresh service. At the share `succeed_at` the next
+    generation is made beside the present one.
     """
 
     me: str
@@ -78,10 +94,13 @@ class Facts:
     own: Own | None = None
     still: float = 0.0
     others: tuple[StandbyRow, ...] = ()
+    is_noted: bool = False
     stands_by: bool = False
     ending: bool = False
     let_go: int = -1
     failed: int = -1
+    succeed_at: float = 1.0
+    successor: Stage = Stage.NONE
 
 
 @dataclass(frozen=True)
@@ -99,6 +118,8 @@ def decide(facts: Facts) -> Decision:
         if own is None:
             return Decision(Action.NOTHING, "the referee has no such database")
         return Decision(Action.NOTHING, "the referee knows nothing of the database: PostgreSQL went back, and the service is kept")
+    if own is None and facts.is_noted:
+        return Decision(Action.STAND_DOWN, "a standby is noted that is not there any more")
     if row.dropped:
         return Decision(Action.END if own else Action.NOTHING, "the database was dropped")
     if own is not None and own.run == row.run:
@@ -107,10 +128,10 @@ def decide(facts: Facts) -> Decision:
         return _of_a_run_that_is_over(row, own)
     if own is not None and (not own.alive or own.silent >= facts.ttl):
         return Decision(Action.END, "the standby's service ended or hangs")
+    if row.run is not None and row.holder == facts.me:  # also where the keeper ends: what it has is to be archived
+        return Decision(Action.ADOPT, f"generation {row.generation} is of an earlier life of this keeper")
     if facts.ending:
         return Decision(Action.END if own else Action.NOTHING, "the keeper ends")
-    if row.run is not None and row.holder == facts.me:
-        return Decision(Action.ADOPT, f"generation {row.generation} is of an earlier life of this keeper")
     return _of_a_released(facts, row) if row.run is None else _of_another_holder(facts, row)
 
 
@@ -127,10 +148,22 @@ def _of_the_holder(facts: Facts, row: Row, own: Own) -> Decision:
         return Decision(Action.NOTHING, "serves; paused")
     if row.wanted == facts.me:
         return Decision(Action.UNWISH, "it is here already")
+    if facts.successor is Stage.READY:
+        return Decision(Action.SUCCEED, "the service of the next generation is ready")
     if own.share >= ROLL_AT:  # a wish may wait for ever
         return Decision(Action.CLOSE, f"its list or its memory is {own.share:.0%} full")
     if row.wanted is not None:
         return _of_a_wish(facts, row)
+    return _of_a_succession(facts, row, own)
+
+
+def _of_a_succession(facts: Facts, row: Row, own: Own) -> Decision:
+    if facts.successor is not Stage.NONE:
+        return Decision(Action.NOTHING, f"serves; the service of the next generation: {facts.successor.value}")
+    if row.succeed:
+        return Decision(Action.PREPARE, "a succession was asked for")
+    if own.share >= facts.succeed_at:
+        return Decision(Action.PREPARE, f"its list or its memory is {own.share:.0%} full")
     return Decision(Action.NOTHING, "serves")
 
 
@@ -187,6 +220,8 @@ def state_of(facts: Facts, doing: Action = Action.NOTHING) -> State:
         return State.TAKING if doing in (Action.TAKE, Action.ADOPT) else State.AWAY
     if doing is Action.CLOSE:
         return State.CLOSING
+    if doing is Action.SUCCEED:
+        return State.SUCCEEDING
     if facts.own.kind is Kind.STANDBY:
         return State.TAKING if doing is Action.TAKE else State.STANDBY
     return State.TAKING if doing is Action.FILL or facts.row is None or facts.row.address is None else State.SERVING

@@ -21,7 +21,9 @@ from psycopg.conninfo import conninfo_to_dict, make_conninfo
 
 from pagelog.errors import PagelogError
 from pagelog.keeper import statements
-from pagelog.keeper.rows import Batch, KeeperRow, Kept, Look, Row, StandbyRow, Synchronous
+from pagelog.keeper.batches import array_of, values_of
+from pagelog.keeper.refusal import is_refusal, line_of
+from pagelog.keeper.rows import Batch, Kept, Look, Row, look_of
 from pagelog.keeper.schema import CHANNEL, FORMAT, script
 
 PIECE = 2048
@@ -103,13 +105,7 @@ class Referee:
 
     def cut(self) -> None:
         """Ends a statement that hangs in another thread: its connection is shut down. A cancel would let a commit pass."""
-        connection = self._connection
-        try:
-            if connection is not None and not connection.closed:
-                with socket.socket(fileno=os.dup(connection.fileno())) as line:
-                    line.shutdown(socket.SHUT_RDWR)
-        except (OSError, psycopg.Error):
-            pass  # it is gone already
+        shut_down(self._connection)
 
     def turn_hosts(self) -> None:
         """The next connection tries the second host first. An old primary that still runs would be taken again and again."""
@@ -125,24 +121,37 @@ class Referee:
         return None if connection is None or connection.closed else connection.fileno()
 
     def _connected(self) -> psycopg.Connection[Any]:
-        if self._connection is not None and not self._connection.closed:
-            return self._connection
+        left = 1 + str(self._options.get("host") or "").count(",")
+        while self._connection is None or self._connection.closed:
+            try:
+                self._connection = self._connect()
+            except psycopg.Error as error:
+                self.turn_hosts()  # psycopg gives up at a host that is silent, as of a machine that is off
+                if (left := left - 1) == 0:
+                    raise Away(f"PostgreSQL: {line_of(error)}") from error
+        return self._connection
+
+    def _connect(self) -> psycopg.Connection[Any]:
         words: dict[str, Any] = {"connect_timeout": self._patience, "target_session_attrs": "read-write",
                                  "keepalives_idle": 5, "keepalives_interval": 2, "keepalives_count": 3, "options": "-c lock_timeout=3s",
                                  "application_name": _session_name(self.me), **self._options}  # fmt: skip
-        try:
-            made = psycopg.connect(make_conninfo(**words), autocommit=True)
-            made.add_notice_handler(self._take_notice)
-            made.add_notify_handler(lambda notify: self.notified.append(notify.payload))
-            made.execute("SELECT set_config('synchronous_commit', 'on', false) "
-                         "WHERE current_setting('synchronous_commit') NOT IN ('on', 'remote_apply')")  # fmt: skip
-            if self._listens:
-                made.execute(f"LISTEN {CHANNEL}")
-        except psycopg.Error as error:
-            self.turn_hosts()
-            raise Away(f"PostgreSQL: {_line(error)}") from error
-        self._connection = made
+        made = psycopg.connect(make_conninfo(**words), autocommit=True)
+        made.add_notice_handler(self._take_notice)
+        made.add_notify_handler(lambda notify: self.notified.append(notify.payload))
+        made.execute(statements.WAITS_FOR_STANDBY)
+        if self._listens:
+            made.execute(f"LISTEN {CHANNEL}")
         return made
+
+    def take_notified(self) -> None:
+        """Takes the notifications that have come without a statement, and waits for nothing."""
+        if self._connection is not None:
+            try:
+                self._connection.pgconn.consume_input()
+            except psycopg.Error:
+                return  # the next statement says so
+            while (found := self._connection.pgconn.notifies()) is not None:
+                self.notified.append(found.extra.decode(errors="replace"))
 
     def _take_notice(self, notice: psycopg.errors.Diagnostic) -> None:
         """A commit whose wait for the standby was cancelled succeeds, with a warning."""
@@ -156,16 +165,23 @@ class Referee:
         try:
             rows = connection.execute(statement, values or None, binary=binary).fetchall()
         except psycopg.Error as error:
-            if error.sqlstate is not None and not error.sqlstate.startswith("57P") and not connection.closed:
-                raise Refused(f"PostgreSQL: {_line(error)}") from error
-            self.close()
-            self.turn_hosts()
-            raise Doubt(f"PostgreSQL: {_line(error)}") from error
-        if self._warnings:
-            raise Doubt(f"PostgreSQL: {self._warnings[0]}")
+            raise self._meaning(error) from error
+        self._check_warnings()
         if self._requires_standby:
             self._confirm(connection)
         return rows
+
+    def _meaning(self, error: psycopg.Error) -> Refused | Doubt:
+        """What is to be raised for an error. After a doubt the next statement has another connection."""
+        if is_refusal(error) and self.descriptor is not None:
+            return Refused(f"PostgreSQL: {line_of(error)}")
+        self.close()
+        self.turn_hosts()
+        return Doubt(f"PostgreSQL: {line_of(error)}")
+
+    def _check_warnings(self) -> None:
+        if self._warnings:
+            raise Doubt(f"PostgreSQL: {self._warnings[0]}")
 
     def _confirm(self, connection: psycopg.Connection[Any]) -> None:
         """Returns once a synchronous standby has all that is flushed here. A commit alone does not say so: it waits for none where
@@ -177,7 +193,7 @@ class Referee:
             except psycopg.Error as error:
                 self.close()
                 self.turn_hosts()
-                raise Doubt(f"PostgreSQL: {_line(error)}") from error
+                raise Doubt(f"PostgreSQL: {line_of(error)}") from error
             if reached is None:
                 raise OneDisk("nothing becomes durable: a synchronous standby is required, and this role sees none in PostgreSQL")
             wanted = flushed if wanted is None else wanted
@@ -189,13 +205,13 @@ class Referee:
 
     def prepare(self) -> None:
         """Makes the tables that are not there. Where all are, no lock is taken, nor is a right to make any needed."""
-        if self._ask("SELECT to_regclass('pagelog_standby') IS NOT NULL") == [(True,)]:
+        if self._ask("SELECT 1 FROM pg_attribute WHERE attrelid = to_regclass('pagelog_standby') AND attname = 'images'"):
             return
         try:
             self._connected().execute(script())
         except psycopg.Error as error:
             self.close()
-            raise Refused(f"PostgreSQL: {_line(error)}") from error
+            raise Refused(f"PostgreSQL: {line_of(error)}") from error
 
     def register(self, lines: str) -> None:
         """Takes the keeper's name for this life of it. An earlier one that still runs finds itself superseded."""
@@ -209,16 +225,16 @@ class Referee:
         Raises `Superseded` where another keeper has the name by now.
         """
         [[own, *found]] = self._ask(statements.LOOK, {
-            "me": self.me, "run": self.run, "report": report, "logs": _array(reached), "reached": _array(reached.values()),
+            "me": self.me, "run": self.run, "report": report, "logs": array_of(reached), "reached": array_of(reached.values()),
         })  # fmt: skip
         if own != 1:
             raise Superseded(f"another keeper has the name {self.me}")
-        return _look_of(*found)
+        return look_of(*found)
 
     def everything(self) -> Look:
         """What a look returns, for who is no keeper."""
         [[_, *found]] = self._ask(statements.LOOK, {"me": "", "run": "", "report": None, "logs": "{}", "reached": "{}"})
-        return _look_of(*found)
+        return look_of(*found)
 
     def table(self, log: int) -> tuple[str, bytes]:
         """The text of the table of a database, and the secret of its keepers."""
@@ -250,15 +266,17 @@ class Referee:
             self._ask("SELECT pg_terminate_backend(pid) FROM pg_stat_activity WHERE application_name = %s AND usename = current_user",
                       (_session_name(keeper),))  # fmt: skip
 
-    def publish(self, log: int, run: str, address: str) -> bool:
-        """Tells everyone the address. False where the run holds the database no more."""
-        return bool(self._ask("UPDATE pagelog_log SET address = %s WHERE id = %s AND run = %s RETURNING id", (address, log, run)))
+    def publish(self, log: int, run: str, address: str, shift: int = 0, images: int = 0) -> bool:
+        """Tells everyone the address, and where positions are there. False where the run holds the database no more."""
+        values = {"id": log, "run": run, "address": address, "shift": shift, "images": images}
+        return bool(self._ask(statements.PUBLISH, values))
 
     def release(self, log: int, run: str) -> int | None:
         """Ends the generation of this run: nothing more is archived of it. Returns the archived position, or None."""
         found = self._ask(
             "WITH ended AS (UPDATE pagelog_log SET run = NULL, holder = NULL, address = NULL WHERE id = %s AND run = %s "
-            f"RETURNING name, archived) SELECT archived, pg_notify('{CHANNEL}', name) FROM ended", (log, run))  # fmt: skip
+            "RETURNING name, generation, archived) "
+            f"SELECT archived, pg_notify('{CHANNEL}', name || ' ' || generation || ' ' || archived) FROM ended", (log, run))  # fmt: skip
         return int(found[0][0]) if found else None
 
     # The archive.
@@ -268,22 +286,7 @@ class Referee:
 
         Returns the ids of the databases whose batch is kept, whole; of the others nothing is.
         """
-        blocks = [block for batch in batches for block in batch.blocks]
-        starts, at = [], 1
-        for block in blocks:
-            starts.append(at)
-            at += len(block)
-        found = self._ask(statements.KEEP, {
-            "logs": _array(batch.log for batch in batches), "runs": [batch.run for batch in batches],
-            "generations": _array(batch.generation for batch in batches),
-            "olds": _array(batch.old for batch in batches), "news": _array(batch.new for batch in batches),
-            "chains": b"".join(batch.chain.rjust(16, b"\0") for batch in batches),
-            "owners": _array(batch.log for batch in batches for _ in batch.blocks),
-            "lsns": _array(batch.old + at for batch in batches for at in range(1, len(batch.blocks) + 1)),
-            "crcs": _array(map(zlib.crc32, blocks)), "starts": _array(starts), "lengths": _array(map(len, blocks)),
-            "bytes": b"".join(blocks),
-        })  # fmt: skip
-        return frozenset(int(row[0]) for row in found)
+        return frozenset(int(row[0]) for row in self._ask(statements.KEEP, values_of(batches)))
 
     def kept(self, log: int, run: str) -> Kept | None:
         """What is archived of a run, after a batch in doubt or one that was not kept: it waits for one that still runs.
@@ -331,11 +334,12 @@ class Referee:
 
     # Standbys.
 
-    def stand_by(self, log: int, address: str, run: str, reached: int) -> None:
-        """Says where this keeper has a standby."""
-        self._ask("INSERT INTO pagelog_standby (log, keeper, address, run, reached) VALUES (%s, %s, %s, %s, %s) "
-                  "ON CONFLICT (log, keeper) DO UPDATE SET address = excluded.address, run = excluded.run, "
-                  "reached = excluded.reached RETURNING log", (log, self.me, address, run, reached))  # fmt: skip
+    def stand_by(self, log: int, address: str, run: str, reached: int, shift: int = 0, images: int = 0) -> None:
+        """Says where this keeper has a standby, and where positions are there."""
+        self._ask("INSERT INTO pagelog_standby (log, keeper, address, run, reached, shift, images) VALUES (%s, %s, %s, %s, %s, %s, %s) "
+                  "ON CONFLICT (log, keeper) DO UPDATE SET address = excluded.address, run = excluded.run, reached = excluded.reached, "
+                  "shift = excluded.shift, images = excluded.images RETURNING log",
+                  (log, self.me, address, run, reached, shift, images))  # fmt: skip
 
     def stand_down(self, log: int) -> None:
         """Says that this keeper has no standby any more."""
@@ -355,12 +359,14 @@ class Referee:
     def drop(self, name: str) -> bool:
         """Ends a named database for good: its keeper ends its service, and its blocks are deleted.
 
-        Its row stays, under a name that no database can have, so that a keeper which held it knows.
+        Its row stays, under a name that no database can have, so that a keeper which held it knows; under that name its trail is kept.
         """
         found = self._ask(
             "WITH gone AS (UPDATE pagelog_log SET dropped = true, name = name || '!' || id, run = NULL, holder = NULL, "
             "address = NULL WHERE name = %s AND format = %s AND NOT dropped RETURNING id) "
             f"SELECT id, pg_notify('{CHANNEL}', '') FROM gone", (name, FORMAT))  # fmt: skip
+        if found and self._ask("SELECT to_regclass('pagelog_trail_list') IS NOT NULL") == [(True,)]:
+            self._ask("UPDATE pagelog_trail_list SET log = %s WHERE log = %s RETURNING id", (f"{name}!{found[0][0]}", name))
         while found and self._ask("DELETE FROM pagelog_block WHERE (log, lsn) IN (SELECT log, lsn FROM pagelog_block "
                                   "WHERE log = %s ORDER BY lsn LIMIT 10000) RETURNING lsn", (found[0][0],)):  # fmt: skip
             pass
@@ -380,19 +386,15 @@ class Referee:
             f"SELECT id, pg_notify('{CHANNEL}', '') FROM told", (keeper, name, FORMAT)))  # fmt: skip
 
 
-def _array(numbers: Iterable[int]) -> str:
-    """An array of whole numbers as PostgreSQL reads it."""
-    return "{" + ",".join(map(str, numbers)) + "}"
+def shut_down(connection: psycopg.Connection[Any] | None) -> None:
+    """Ends what another thread waits for over this connection, if it has not ended."""
+    try:
+        if connection is not None and not connection.closed:
+            with socket.socket(fileno=os.dup(connection.fileno())) as line:
+                line.shutdown(socket.SHUT_RDWR)
+    except (OSError, psycopg.Error):
+        pass  # it is gone already
 
 
 def _session_name(keeper: str) -> str:
     return f"pagelog keeper {keeper}"[:63]
-
-
-def _line(error: Exception) -> str:
-    return (str(error).strip() or type(error).__name__).splitlines()[0]
-
-
-def _look_of(keepers: list[Any], rows: list[Any], standbys: list[Any], names: str, count: int | None) -> Look:
-    return Look(tuple(map(Row.of, rows)), tuple(KeeperRow(**found) for found in keepers),
-                tuple(StandbyRow(**found) for found in standbys), Synchronous(names, count))  # fmt: skip

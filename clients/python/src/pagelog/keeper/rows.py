@@ -10,7 +10,8 @@ from typing import Any, Mapping
 class Row:
     """A named database. `run` is None where it was released, `address` where its service may not be used yet.
 
-    Positions are LSNs plus the `shift` of the generation. `base` was the archived position when the generation began.
+    `base` was the archived position when the generation began. The service of the address has positions at LSNs less its
+    `shift`, and began with the images at position `images`; 0: with the first block.
     """
 
     id: int
@@ -22,8 +23,11 @@ class Row:
     archived: int = 0
     base: int = 0
     shift: int = 0
+    images: int = 0
     chain: bytes = field(default=b"", repr=False)
     wanted: str | None = None
+    succeed: bool = False
+    read_only: bool = False
     paused: bool = False
     dropped: bool = False
 
@@ -54,6 +58,8 @@ class StandbyRow:
     address: str
     run: str
     reached: int
+    shift: int = 0
+    images: int = 0
 
 
 @dataclass(frozen=True)
@@ -121,3 +127,16 @@ class Kept:
     archived: int
     chain: bytes = field(repr=False)
     generation: int = 0
+
+
+def look_of(keepers: list[Any], rows: list[Any], standbys: list[Any], names: str, count: int | None) -> Look:
+    """From the columns of the statement."""
+    return Look(tuple(map(Row.of, rows)), tuple(KeeperRow(**found) for found in keepers),
+                tuple(StandbyRow(**found) for found in standbys), Synchronous(names, count))  # fmt: skip
+
+
+def released_of(notified: str) -> tuple[str, int, int]:
+    """The name, the generation and the archived position of a release, by what it has notified; of another notification no name."""
+    words = notified.split()
+    is_release = len(words) == 3 and words[1].isdecimal() and words[2].isdecimal()
+    return (words[0], int(words[1]), int(words[2])) if is_release else ("", 0, 0)

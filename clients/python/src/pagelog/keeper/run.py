@@ -151,15 +151,27 @@ class Run:
         os.close(self.descriptor)
 
 
+def has_services(folder: Path) -> bool:
+    """Whether a service that is noted in this folder still runs."""
+    found = [descriptor for _, descriptor in _noted(folder)]
+    for descriptor in found:
+        os.close(descriptor)
+    return bool(found)
+
+
 def end_orphans(folder: Path, wanted: set[str]) -> list[str]:
-    """Ends the services of this folder whose runs are not among those. Returns the names of their databases."""
+    """Ends the services of this folder whose runs are not among those, or that did not come to listen, and removes what a keeper
+    that was killed has left. Returns the names of their databases."""
     ended = []
     for facts, descriptor in _noted(folder):
-        if facts.run in wanted:
+        if facts.run in wanted and facts.address is not None:
             os.close(descriptor)
         else:
             Run(folder, facts, descriptor).end()
             ended.append(facts.name)
+    left = [file for file in folder.glob("*.said") if not file.with_suffix(".json").exists()]
+    for file in (*left, *folder.glob("*.table"), *folder.glob("*.new")):
+        file.unlink(missing_ok=True)
     return ended
 
 

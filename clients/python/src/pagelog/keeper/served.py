@@ -3,12 +3,17 @@
 from __future__ import annotations
 
 import time
-from typing import Iterator, Sequence
+from contextlib import nullcontext
+from itertools import islice
+from typing import Iterable, Iterator, Sequence
 
 from pagelog.block import Block
 from pagelog.connection import Connection
-from pagelog.keeper.loading import Loader
+from pagelog.keeper.bases import NOTHING, Bases, snapshot
+from pagelog.keeper.images import blocks_of, labelled
+from pagelog.keeper.loading import GROUP, Loader
 from pagelog.keeper.machine import Kind
+from pagelog.keeper.puller import Puller
 from pagelog.keeper.referee import BrokenArchive, Referee, digest
 from pagelog.keeper.run import Program, Run
 from pagelog.keeper.table import KEEPER, Form, keeper_of, quorum_of, table_of_run
@@ -23,15 +28,20 @@ PULLS = 64
 
 class Served:
     """The service of one run of a database. `reached` and `chain` are of the blocks that it was filled with, or that are
-    archived of it. One thread at a time calls each of its methods; `look`, `pulled` and the others may run side by side."""
+    archived of it. All blocks and positions here are the archive's: an LSN of the service is a position less `shift`. One
+    thread at a time calls each of its methods; `look`, `pulled` and the others may run side by side, and
+    `pulled_at_once` is the event loop's."""
 
-    def __init__(self, name: str, run: str, text: str, secret: bytes, *, timeout: float) -> None:
+    def __init__(self, name: str, run: str, text: str, secret: bytes, *, timeout: float, is_read_only: bool = False) -> None:
         self.database = name
         self.run = run
         self.kind = Kind.HOLDER
         self.generation = 0
         self.reached = 0
         self.chain = b""
+        self.shift = 0
+        self.images = 0
+        """The position whose images it began with; 0: with the first block."""
         self.hard = 0
         self.answers = 0
         """How many looks it has answered."""
@@ -39,6 +49,9 @@ class Served:
         """For how many seconds it has answered none, in an unbroken series of the keeper's looks."""
         self.is_broken = False
         """Whether it refuses its keeper for good."""
+        self.begun = 0
+        """Bytes of memory that it held when it was filled, or opened."""
+        self._is_read_only = is_read_only
         self.is_noted = False
         """Whether the referee is known to have noted it as a standby."""
         self.process: Run | None = None
@@ -67,11 +80,20 @@ class Served:
         self._operator = Operator(self._connection(), credentials)
         self._looker = Operator(self._connection(), credentials)
         self._reader = Reader(self._connection(), credentials)
+        self._puller = Puller(process.address, credentials, self._timeout)
 
     def end(self) -> None:
         """Kills it, and removes what is noted of it."""
         if self.process is not None:
             self.process.end()
+
+    def operator(self) -> Operator:
+        """A keeper's operator over a connection of its own, for another thread."""
+        return Operator(self._connection(), keeper_of(self._secret, self.database, self.run))
+
+    def texts(self) -> tuple[bytes, bytes]:
+        """The tables of this run: closed, as it begins, and open."""
+        return self._table(Form.READING).encode(), self._table(Form.OPEN).encode()
 
     def _connection(self) -> Connection:
         assert self.process is not None
@@ -86,21 +108,50 @@ class Served:
         """Fills it with what it lacks of the archive, up to a position that a statement which wrote has returned.
 
         `wanted` is the digest that it has returned. Raises `BrokenArchive` where the blocks have another: they are read without a
-        write, and a server that was cut off may have others. Nobody reads what is above `reached` meanwhile.
+        write, and a server that was cut off may have others. Nobody reads what is above `reached` meanwhile. A service that has
+        nothing begins with the images of the newest base.
         """
         if archived <= self.reached:
             return
+        is_fresh = self.reached == 0
+        with self.loader() as loader, snapshot(referee) if is_fresh else nullcontext():
+            if is_fresh:
+                self._begin(Bases(referee, log), archived, loader)
+            self.load(loader, referee.blocks(log, self.reached + 1, archived), archived, wanted)
+        if is_fresh and self.process is not None:
+            self.begun = self.process.memory
+
+    def fill(self, pieces: Iterable[Sequence[bytes]], archived: int, wanted: bytes) -> None:
+        """As `follow`, with these blocks of the archive, behind those that it has."""
+        with self.loader() as loader:
+            self.load(loader, pieces, archived, wanted)
+
+    def loader(self) -> Loader:
+        """A connection that fills it. Raises `Unreachable`."""
         assert self.process is not None
-        credentials, chain = keeper_of(self._secret, self.database, self.run), self.chain
+        credentials = keeper_of(self._secret, self.database, self.run)
+        return Loader(self.process.address, credentials, quorum=quorum_of(self._text), timeout=self._timeout)
 
-        def pieces() -> Iterator[Sequence[bytes]]:
-            nonlocal chain
-            for piece in referee.blocks(log, self.reached + 1, archived):
+    def _begin(self, bases: Bases, archived: int, loader: Loader) -> None:
+        """With the images of the newest base. Its last block of them then has the base's position."""
+        base = bases.newest(archived)
+        if base is not NOTHING:
+            last = loader.load(1, _pieces(blocks_of(bases.images(base))))
+            self.shift, self.images = base.position - last, base.position
+            self.reached, self.chain, self.hard = base.position, base.chain, base.position
+
+    def load(self, loader: Loader, pieces: Iterable[Sequence[bytes]], archived: int, wanted: bytes) -> None:
+        """Loads the blocks behind `reached`, up to a position at which they have the digest that is wanted."""
+        chain, at = self.chain, self.reached
+
+        def with_lsns() -> Iterator[Sequence[bytes]]:
+            nonlocal chain, at
+            for piece in pieces:
                 chain = digest(chain, piece)
-                yield piece
+                yield labelled(piece, at + 1 - self.shift) if self.shift else piece
+                at += len(piece)
 
-        with Loader(self.process.address, credentials, quorum=quorum_of(self._text), timeout=self._timeout) as loader:
-            loader.load(self.reached + 1, pieces())
+        loader.load(self.reached + 1 - self.shift, with_lsns())
         if chain != wanted:
             raise BrokenArchive(f"{self.database}: the blocks up to {archived} are not those that were archived")
         self.reached, self.chain, self.hard = archived, chain, archived
@@ -109,19 +160,20 @@ class Served:
         """Raises `BrokenArchive` where it does not have exactly what is archived."""
         if (self.reached, self.chain) != (archived, chain):
             raise BrokenArchive(f"{self.database}: the service was filled with other blocks than the {archived} that are archived")
-        hard = self._operator.status().hard
+        hard = self._operator.status().hard + self.shift
         if hard != archived:
             raise BrokenArchive(f"{self.database}: the service has {hard} blocks where {archived} are archived")
 
     def open(self) -> None:
-        """From now on its table is that of the database."""
-        self._operator.set_table(self._table(Form.OPEN))
+        """From now on its table is that of the database, or lets clients read alone."""
+        self._operator.set_table(self._table(Form.READING if self._is_read_only else Form.OPEN))
+        self.begun = self.begun or (0 if self.process is None else self.process.memory)
 
     def close(self) -> int:
         """Lets nobody write any more, and returns the position of its end: table first, so that no writer undoes the fence."""
         self._operator.set_table(self._table(Form.READING))
         self._operator.failover(KEEPER)
-        self.hard = self._operator.status().hard
+        self.hard = self._operator.status().hard + self.shift
         return self.hard
 
     # Looking.
@@ -132,7 +184,7 @@ class Served:
         while has_more:
             probe = self._entries + self._step
             state, entries = self._looker._ask_all((Status(), Audit(probe, 1)))
-            self.hard = expect(State, state).hard
+            self.hard = expect(State, state).hard + self.shift
             has_more = bool(expect(Entries, entries).entries)
             if has_more:
                 self._entries = probe
@@ -140,9 +192,14 @@ class Served:
         self.answers += 1
 
     def share(self, audit: int, memory: int) -> float:
-        """How full its audit list or its memory is, the greater of the two: 0 to 1."""
-        held = self.process.memory / memory if memory and self.process is not None else 0.0
-        return max(self._entries / audit, held)
+        """How full its audit list or its memory is, the greater of the two: 0 to 1.
+
+        Where it began with much, it is the growth since then that counts: a fresh service would hold as much again. Twice of
+        what it began with counts as half.
+        """
+        held = self.process.memory if memory and self.process is not None else 0
+        grown = (held / self.begun - 1) / 2 if self.begun else 1.0
+        return max(self._entries / audit, min(held / memory, grown) if held else 0.0)
 
     @property
     def entries(self) -> int:
@@ -151,12 +208,29 @@ class Served:
 
     # Pulling.
 
+    async def pulled_at_once(self, position: int) -> list[bytes] | None:
+        """As `pulled`, of few blocks, and without a thread; None where `pulled` has to see to it."""
+        found = await self._puller.pull(position - self.shift, self._reader.epoch)
+        if found is None:
+            return None
+        self.hard = max(self.hard, position + len(found))
+        return labelled(found, position + 1) if self.shift else found
+
     def pulled(self, position: int) -> list[bytes]:
         """The next blocks behind this position, at most 1,024. A block without records is served by no pull."""
-        span = self._reader.span(position + 1, pulls=PULLS)
+        span = self._reader.span(position + 1 - self.shift, pulls=PULLS)
         found = {block.lsn: block.data for block in span.blocks}
-        self.hard = max(self.hard, span.last)
-        return [found.get(lsn) or Block.of(lsn).data for lsn in range(span.first, span.last + 1)]
+        self.hard = max(self.hard, span.last + self.shift)
+        blocks = [found.get(lsn) or Block.of(lsn).data for lsn in range(span.first, span.last + 1)]
+        return labelled(blocks, position + 1) if self.shift else blocks
+
+
+def _pieces(blocks: Iterator[bytes]) -> Iterator[list[bytes]]:
+    """Groups of them, with the LSNs from 1 on."""
+    first = 1
+    while piece := labelled(islice(blocks, GROUP), first):
+        yield piece
+        first += len(piece)
 
 
 def seconds() -> float:

@@ -3,10 +3,12 @@
 from __future__ import annotations
 
 import asyncio
+import os
 from concurrent.futures import ThreadPoolExecutor
-from typing import Any, Callable, TypeVar
+from typing import Any, Callable, Sequence, TypeVar
 
 from pagelog.keeper.referee import Referee
+from pagelog.keeper.rows import Batch
 
 Result = TypeVar("Result")
 _LONGEST = 60.0
@@ -23,6 +25,7 @@ class Session:
         self._thread = ThreadPoolExecutor(1)  # of its own: services that hang hold up no beat
         self.woken = asyncio.Event()
         """Set when a notification has come."""
+        self._notified: list[str] = []
 
     async def ask(self, call: Callable[..., Result], *arguments: Any) -> Result:
         """What the call returns or raises; it is a method of the referee."""
@@ -30,24 +33,42 @@ class Session:
             work = asyncio.get_running_loop().run_in_executor(self._thread, call, *arguments)
             done, _ = await asyncio.wait({work}, timeout=self._deadline)
             if done:
-                self._deadline = self._shortest
+                self.was_quick()
             else:
-                self._deadline = min(_LONGEST, 2 * self._deadline)
-                self.referee.cut()
+                self.cut()
             try:
                 return await work
             finally:
                 self._take_notified()
 
+    async def keep(self, batches: Sequence[Batch]) -> frozenset[int]:
+        """What the referee's `keep` returns or raises."""
+        return await self.ask(self.referee.keep, batches)
+
+    def was_quick(self) -> None:
+        """A statement has come to its end in time."""
+        self._deadline = self._shortest
+
+    def cut(self) -> None:
+        """Ends the statement that hangs."""
+        self._deadline = min(_LONGEST, 2 * self._deadline)
+        self.referee.cut()
+
     def _take_notified(self) -> None:
         """A notification may come with the reply of a statement. Then nothing is left at the socket to wake anyone."""
         if self.referee.notified:
+            self._notified += self.referee.notified
             self.referee.notified.clear()
             self.woken.set()
 
+    def taken(self) -> list[str]:
+        """The notifications that came since the last call."""
+        taken, self._notified = self._notified, []
+        return taken
+
     async def rest(self, seconds: float) -> None:
         """Waits so long, or until a notification comes."""
-        loop, descriptor = asyncio.get_running_loop(), self.referee.descriptor
+        loop, descriptor = asyncio.get_running_loop(), _copy_of(self.referee.descriptor)
         if descriptor is not None:
             loop.add_reader(descriptor, self._readable)
         try:
@@ -57,13 +78,24 @@ class Session:
         finally:
             if descriptor is not None:
                 loop.remove_reader(descriptor)
+                os.close(descriptor)
         self.woken.clear()
 
     def _readable(self) -> None:
         if not self._turn.locked():  # else it is the reply of a statement
+            self.referee.take_notified()
+            self._take_notified()
             self.woken.set()
 
     async def close(self) -> None:
         """Closes the connection, if no statement is being asked."""
         async with self._turn:
             self.referee.close()
+
+
+def _copy_of(descriptor: int | None) -> int | None:
+    """One that stays while it is watched: a statement may close its connection, and another socket get the number."""
+    try:
+        return None if descriptor is None else os.dup(descriptor)
+    except OSError:
+        return None

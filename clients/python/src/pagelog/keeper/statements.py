@@ -13,9 +13,9 @@ stood AS (
 SELECT (SELECT count(*) FROM me),
   (SELECT COALESCE(json_agg(k), '[]') FROM (SELECT name, run, lines, beat, report FROM pagelog_keeper) k),
   (SELECT COALESCE(json_agg(l), '[]') FROM (
-    SELECT id, name, generation, run, holder, address, archived, base, shift, encode(chain, 'hex') AS chain, wanted, paused,
-      dropped FROM pagelog_log WHERE format = {FORMAT} ORDER BY name) l),
-  (SELECT COALESCE(json_agg(s), '[]') FROM (SELECT log, keeper, address, run, reached FROM pagelog_standby) s),
+    SELECT id, name, generation, run, holder, address, archived, base, shift, images, encode(chain, 'hex') AS chain, wanted,
+      succeed, read_only, paused, dropped FROM pagelog_log WHERE format = {FORMAT} ORDER BY name) l),
+  (SELECT COALESCE(json_agg(s), '[]') FROM (SELECT log, keeper, address, run, reached, shift, images FROM pagelog_standby) s),
   current_setting('synchronous_standby_names'),
   CASE WHEN pg_has_role('pg_read_all_stats', 'USAGE')
     THEN (SELECT count(*) FROM pg_stat_replication WHERE sync_state IN ('sync', 'quorum')) END
@@ -26,10 +26,14 @@ SELECT (pg_current_wal_flush_lsn() - '0/0')::bigint, (SELECT (max(flush_lsn) - '
   WHERE sync_state IN ('sync', 'quorum'))
 """
 
+WAITS_FOR_STANDBY = """
+SELECT set_config('synchronous_commit', 'on', false) WHERE current_setting('synchronous_commit') NOT IN ('on', 'remote_apply')
+"""
+
 TAKE = """
 WITH taken AS (
   UPDATE pagelog_log SET generation = next_generation, next_generation = next_generation + 1, run = %(run)s, holder = %(me)s,
-    address = NULL, base = archived, wanted = NULL
+    address = NULL, base = archived, wanted = NULL, succeed = false
   WHERE id = %(id)s AND generation = %(generation)s AND archived = %(archived)s AND run IS NOT DISTINCT FROM %(seen_run)s::text
     AND NOT paused AND NOT dropped
     AND (%(beat)s::bigint IS NULL OR NOT EXISTS (SELECT 1 FROM pagelog_keeper k WHERE k.name = holder AND k.beat > %(beat)s::bigint))
@@ -58,6 +62,23 @@ kept AS (
 SELECT id FROM fence
 """
 
+SUCCEED = """
+WITH begun AS (
+  UPDATE pagelog_log SET generation = next_generation, next_generation = next_generation + 1, run = %(next_run)s, holder = %(me)s,
+    address = %(address)s, shift = %(shift)s, images = %(images)s, base = %(new)s, archived = %(new)s, chain = %(chain)b,
+    succeed = false
+  WHERE id = %(id)s AND run = %(run)s AND generation = %(generation)s AND archived = %(old)s AND NOT dropped
+  RETURNING id, generation),
+noted AS (
+  INSERT INTO pagelog_generation (log, generation, run, holder, base, shift, images)
+  SELECT id, generation, %(next_run)s, %(me)s, %(new)s, %(shift)s, %(images)s FROM begun),
+kept AS (
+  INSERT INTO pagelog_block (log, lsn, crc, data)
+  SELECT begun.id, %(old)s + b.n, b.crc, substring(%(bytes)b::bytea FROM b.start FOR b.length)
+  FROM begun, unnest(%(crcs)s::bigint[], %(starts)s::integer[], %(lengths)s::integer[]) WITH ORDINALITY AS b(crc, start, length, n))
+SELECT generation FROM begun
+"""
+
 FATE = f"""
 WITH me AS (UPDATE pagelog_keeper SET beat = beat WHERE name = %(me)s RETURNING 1)
 SELECT COALESCE(
@@ -66,6 +87,19 @@ SELECT COALESCE(
 FROM pagelog_log l
 WHERE l.name = %(name)s AND l.format = {FORMAT} AND EXISTS (SELECT 1 FROM me)
   AND EXISTS (SELECT 1 FROM pagelog_generation g WHERE g.log = l.id AND g.generation = %(generation)s)
+"""
+
+BLOCK = f"""
+WITH me AS (UPDATE pagelog_keeper SET beat = beat WHERE name = %(me)s RETURNING 1)
+SELECT encode(sha256(b.data), 'hex') FROM pagelog_block b JOIN pagelog_log l ON l.id = b.log
+WHERE l.name = %(name)s AND l.format = {FORMAT} AND b.lsn = %(position)s AND b.lsn <= l.archived AND EXISTS (SELECT 1 FROM me)
+"""
+
+PUBLISH = """
+WITH told AS (
+  UPDATE pagelog_log SET address = %(address)s, shift = %(shift)s, images = %(images)s
+  WHERE id = %(id)s AND run = %(run)s RETURNING id, generation)
+UPDATE pagelog_generation g SET shift = %(shift)s, images = %(images)s FROM told WHERE g.log = told.id AND g.generation = told.generation RETURNING g.log
 """
 
 PIECE = """

@@ -4,14 +4,14 @@ from __future__ import annotations
 
 import time
 from dataclasses import dataclass
-from typing import Callable
+from typing import Callable, Sequence
 
 from pagelog.errors import AuditListFull, ConnectionLost, LogWentBack
 from pagelog.operator import Operator
 from pagelog.reply import Entry, encode_entry
 from pagelog.request import AUDIT_MAX, Operation
 from pagelog.trail.question import entries_of
-from pagelog.trail.store import Start, Trail, TrailList
+from pagelog.trail.store import OtherKeeper, Start, Trail, TrailList
 from pagelog.trail.texts import TrailError
 
 QUICKEST = 1.0
@@ -46,13 +46,16 @@ class TrailKeeper:
     """
 
     def __init__(
-        self, operator: Operator, trail: Trail, *, generation: int = 0, start: Start | None = None, clock: Callable[[], int] = now
-    ) -> None:
-        """`start` is what each list begins from, where that is known: without it none can be replayed."""
+        self, operator: Operator, trail: Trail, *, generation: int = 0, start: Start | None = None, tables: Sequence[bytes] = (),
+        clock: Callable[[], int] = now,
+    ) -> None:  # fmt: skip
+        """`start` is what each list begins from, where that is known: without it none can be replayed. `tables` are texts that may
+        be set in any of them."""
         self.operator = operator
         self.trail = trail
         self.generation = generation
         self.start = start
+        self._tables = tables
         self._clock = clock
         self._list: TrailList | None = None
         self._connects = 0
@@ -75,7 +78,7 @@ class TrailKeeper:
                 self._end("the audit list is full: the database decides nothing any more")
                 raise
             if is_same:
-                one = one or self.trail.begin(generation=self.generation, start=self.start)
+                one = one or self.trail.begin(generation=self.generation, start=self.start, tables=self._tables)
                 self._list = self.trail.keep(one, b"".join(map(encode_entry, found)), self._clock())
                 return Step(len(found), all(map(self._is_own, found)))
             if is_same is False:
@@ -93,6 +96,11 @@ class TrailKeeper:
             raise TrailError("no list is followed")
         self.trail.give_table(one, text, line)
 
+    def end(self, why: str) -> None:
+        """The list that is followed gets no more lines, for this reason."""
+        if self._open_list() is not None:
+            self._end(why)
+
     def resume(self) -> None:
         """Takes up the list from the trail, after an error that leaves open whether lines were kept."""
         self._list, self._connects = None, 0
@@ -105,13 +113,17 @@ class TrailKeeper:
         if self._list is not None:
             return self._list
         [*_, last] = [None, *self.trail.lists()]
-        if last is not None and last.ended is None and last.generation != self.generation:
-            self._end(f"generation {self.generation} has taken over")
+        if last is not None and last.generation > self.generation:
+            raise OtherKeeper(f"generation {last.generation} has a list by now")
+        if last is not None and last.ended is None and last.generation < self.generation:
+            self._end(f"generation {self.generation} has begun: what was decided behind the last line was not seen")
             return None
         if last is None or last.ended is not None:
             return None
         if self.start is not None and self.trail.start(last) is None:
             self.trail.set_start(last, self.start)
+        for text in self._tables:
+            self.trail.give_table(last, text)
         self._list = last
         return last
 

@@ -93,11 +93,15 @@ class Summary:
     """By minute, as the time of its beginning, principal and rule, which is empty where they were allowed."""
     epochs: list[tuple[int, int]] = field(default_factory=list)
     """When an allowed failover was seen, and the epoch that began with it."""
+    generations: list[tuple[int, int]] = field(default_factory=list)
+    """When the first line of a generation was seen, and its number."""
 
-    def take(self, lines: Iterable[Seen]) -> None:
-        """Counts these lines too."""
+    def take(self, lines: Iterable[Seen], generation: int = 0) -> None:
+        """Counts these lines too, which are of one list; 0 is no generation."""
         for line in lines:
             entry = line.entry
+            if generation and generation not in (number for _, number in self.generations[-1:]):
+                self.generations.append((line.seen, generation))
             self.counts[line.seen // MINUTE * MINUTE, entry.principal, entry.rule] += 1
             if entry.operation is Operation.FAILOVER and entry.is_allowed:
                 self.epochs.append((line.seen, entry.epoch + 1))

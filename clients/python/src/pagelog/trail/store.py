@@ -15,7 +15,7 @@ import time
 import zlib
 from dataclasses import dataclass
 from datetime import datetime, timezone
-from typing import Any, Iterator
+from typing import Any, Iterator, Sequence
 
 import sqlalchemy as sql
 from sqlalchemy.engine import Engine
@@ -151,13 +151,17 @@ def day_of(seen: int) -> str:
 class Trail:
     """The trail of one log. A database error is an exception of SQLAlchemy, and then nothing of a reply was kept."""
 
-    def __init__(self, url: str, log: str = "0", *, create: bool = False) -> None:
-        """Opens the trail of the log of this name; with `create` makes what is not there. Raises `NoTrail`."""
+    def __init__(self, url: str, log: str = "0", *, create: bool = False, engine: Engine | None = None) -> None:
+        """Opens the trail of the log of this name; with `create` makes what is not there. Raises `NoTrail`.
+
+        `engine` is one of this URL that trails share. None of them closes it.
+        """
         self.url = url
         self.log = log
+        self._is_shared = engine is not None
         if not create and file_is_missing(url):
             raise NoTrail("there is no archive at this URL")
-        self.engine = engine_of(url)
+        self.engine = engine or engine_of(url)
         try:
             if create:
                 _make(self.engine)
@@ -168,8 +172,9 @@ class Trail:
             raise
 
     def close(self) -> None:
-        """Closes all connections to the database."""
-        self.engine.dispose()
+        """Closes all connections to the database, if they are its own."""
+        if not self._is_shared:
+            self.engine.dispose()
 
     def __enter__(self) -> Trail:
         return self
@@ -191,22 +196,23 @@ class Trail:
         except _NO_ROWS as error:
             raise TrailError("the trail's tables cannot be read: they are damaged") from error
 
-    def begin(self, *, generation: int = 0, start: Start | None = None) -> TrailList:
-        """Begins a list without lines. The one before it has to have ended."""
+    def begin(self, *, generation: int = 0, start: Start | None = None, tables: Sequence[bytes] = ()) -> TrailList:
+        """Begins a list without lines, which may set these tables, in one transaction. The one before it has to have ended."""
         before = self.lists()
         if before and before[-1].ended is None:
             raise TrailError(f"list {before[-1].run} has not ended")
         values = {"log": self.log, "run": len(before) + 1, "format": FORMAT, "generation": generation, "kept": 0, "pruned": 0,
-                  "seen": before[-1].seen if before else 0, "digest": NO_DIGEST}  # fmt: skip
+                  "seen": before[-1].seen if before else 0, "digest": NO_DIGEST,
+                  "start_primary": None if start is None else start.primary}  # fmt: skip
+        texts = ([(start.table, _START)] if start is not None else []) + [(text, _ANY) for text in dict.fromkeys(tables)]
         try:
             with self.engine.begin() as connection:
-                connection.execute(_lists.insert().values(values))
+                id = connection.execute(_lists.insert().values(values)).inserted_primary_key[0]
+                if texts:
+                    connection.execute(_texts.insert(), [_text(id, text, line) for text, line in texts])
         except sql.exc.IntegrityError as error:
             raise OtherKeeper(f"another keeper has begun list {len(before) + 1}") from error
-        begun = self.lists()[-1]
-        if start is not None:
-            self.set_start(begun, start)
-        return begun
+        return self.lists()[-1]
 
     def end(self, one: TrailList, why: str, seen: int) -> None:
         """The list gets no more lines, for this reason."""
@@ -220,7 +226,7 @@ class Trail:
         with self.engine.begin() as connection:
             connection.execute(_lists.update().where(_lists.c.id == one.id).values(start_primary=start.primary))
             connection.execute(_texts.delete().where(_texts.c.list == one.id, _texts.c.line == _START))
-            connection.execute(_texts.insert().values(_text(one, start.table, _START)))
+            connection.execute(_texts.insert().values(_text(one.id, start.table, _START)))
 
     def start(self, one: TrailList) -> Start | None:
         """What the database of this list began from, if that was said."""
@@ -231,7 +237,7 @@ class Trail:
 
     def give_table(self, one: TrailList, text: bytes, line: int | None = None) -> None:
         """Keeps the text of a table that was set, but for its tokens: by this line of the list, or by one whose length it has."""
-        values = _text(one, text, _ANY if line is None else line)
+        values = _text(one.id, text, _ANY if line is None else line)
         with self.engine.begin() as connection:
             same = (_texts.c.list == one.id, _texts.c.line == values["line"], _texts.c.digest == values["digest"])
             if connection.execute(sql.select(_texts.c.line).where(*same)).first() is None:
@@ -358,9 +364,9 @@ class Trail:
         return gone
 
 
-def _text(one: TrailList, text: bytes, line: int) -> dict[str, Any]:
+def _text(id: int, text: bytes, line: int) -> dict[str, Any]:
     hidden = without_tokens(text)
-    return {"list": one.id, "line": line, "digest": hashlib.sha256(hidden).hexdigest(), "text": hidden}
+    return {"list": id, "line": line, "digest": hashlib.sha256(hidden).hexdigest(), "text": hidden}
 
 
 def _piece(row: Any, last: Any) -> Piece:

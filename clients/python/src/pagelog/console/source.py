@@ -1,0 +1,163 @@
+"""Looks at PostgreSQL over one connection that may not write. It is for one thread; each look has an end."""
+
+from __future__ import annotations
+
+import threading
+import time
+import zlib
+from dataclasses import dataclass, field
+from datetime import datetime
+from typing import Any, Iterable, Mapping
+
+import psycopg
+from psycopg.conninfo import conninfo_to_dict, make_conninfo
+from psycopg.rows import dict_row
+
+from pagelog.archive_engine import without_password
+from pagelog.console import statements
+from pagelog.errors import PagelogError
+from pagelog.keeper.referee import plain_url, shut_down
+from pagelog.keeper.rows import KeeperRow, Look, Row, StandbyRow, Synchronous
+from pagelog.reply import LINE_SIZE
+from pagelog.trail.store import FORMAT, Piece
+
+GENERATIONS = 50
+"""How many generations of a database are shown, the last ones."""
+PIECES = 32
+"""How many pieces of trails a look reads, at most 1,024 lines each. What is left comes with the next one."""
+PAST = 3600
+"""Seconds: denials are counted from so long ago on."""
+LONGEST = 8.0
+"""Seconds after which a look is cut, as from a server that stands still."""
+_OPTIONS = {
+    "connect_timeout": 3, "target_session_attrs": "primary", "application_name": "pagelog console",
+    "keepalives_idle": 5, "keepalives_interval": 2, "keepalives_count": 3,
+    "options": f"-c statement_timeout={int(LONGEST * 1000)} -c lock_timeout=3s",
+}  # fmt: skip
+_NO_TABLES = (psycopg.errors.UndefinedTable, psycopg.errors.UndefinedColumn)
+
+
+class NoLook(PagelogError):
+    """PostgreSQL is away, silent, or refuses. The message is one line, without a password."""
+
+
+@dataclass(frozen=True)
+class Generation:
+    """When a generation of a database began, where, and at which position."""
+
+    generation: int
+    holder: str
+    base: int
+    began: datetime
+
+
+@dataclass(frozen=True)
+class Recorded:
+    """A piece of the trail of a database; None where it is damaged."""
+
+    name: str
+    piece: Piece | None
+
+
+@dataclass(frozen=True)
+class Seen:
+    """One look. `generations` has those databases whose generation is another than at the look before."""
+
+    look: Look
+    generations: Mapping[int, tuple[Generation, ...]] = field(default_factory=dict)
+    recorded: tuple[Recorded, ...] = ()
+    trails: frozenset[str] = frozenset()
+    """The databases that have a trail."""
+    is_prepared: bool = True
+    """False where PostgreSQL has no tables of keepers yet."""
+
+
+class Source:
+    """Looks again and again. What a look has returned of generations and trails, a later one does not return again."""
+
+    def __init__(self, url: str) -> None:
+        self._url = url
+        self._connection: psycopg.Connection[dict[str, Any]] | None = None
+        self._generations: dict[int, int] = {}
+        self._next: dict[int, int] = {}
+        """For each list of a trail the number of the line that comes next."""
+
+    def close(self) -> None:
+        """Closes the connection. The next look makes another."""
+        if self._connection is not None:
+            self._connection.close()
+        self._connection = None
+
+    def look(self) -> Seen:
+        """A look. Raises `NoLook`."""
+        hangs = threading.Timer(LONGEST, lambda: shut_down(self._connection))
+        hangs.daemon = True
+        hangs.start()
+        try:
+            return self._look()
+        except _NO_TABLES:
+            return Seen(Look(), is_prepared=False)
+        except (psycopg.Error, OSError) as error:
+            self._generations = {}  # the next look returns them again
+            if not isinstance(error, psycopg.errors.InsufficientPrivilege):
+                self.close()
+            raise NoLook(f"PostgreSQL: {self._line(error)}") from error
+        finally:
+            hangs.cancel()
+
+    def _line(self, error: Exception) -> str:
+        text = (str(error).strip() or type(error).__name__).splitlines()[0]
+        return without_password(text, self._url)
+
+    def _ask(self, statement: str, values: Mapping[str, Any] | None = None) -> list[dict[str, Any]]:
+        if self._connection is None or self._connection.closed:
+            words: dict[str, Any] = {**_OPTIONS, **conninfo_to_dict(plain_url(self._url))}
+            self._connection = psycopg.connect(make_conninfo(**words), autocommit=True, row_factory=dict_row)
+            self._connection.execute("SET default_transaction_read_only = on")
+        return self._connection.execute(statement, values).fetchall()
+
+    def _look(self) -> Seen:
+        [found] = self._ask(statements.LOOK)
+        look = Look(
+            tuple(Row(**row) for row in found["databases"]), tuple(KeeperRow(**row) for row in found["keepers"]),
+            tuple(StandbyRow(**row) for row in found["standbys"]), Synchronous(found["names"], found["standbys_of_postgresql"]),
+        )  # fmt: skip
+        generations = self._new_generations(look.rows)
+        if not found["has_trail"]:
+            return Seen(look, generations)
+        lists = self._ask(statements.LISTS, {"format": FORMAT})
+        return Seen(look, generations, tuple(self._new_pieces(lists)), frozenset(row["name"] for row in lists))
+
+    def _new_generations(self, rows: Iterable[Row]) -> dict[int, tuple[Generation, ...]]:
+        now = {row.id: row.generation for row in rows}
+        changed = [id for id, generation in now.items() if self._generations.get(id) != generation]
+        found: dict[int, list[Generation]] = {}
+        if changed:
+            for row in self._ask(statements.GENERATIONS, {"logs": changed, "most": GENERATIONS}):
+                found.setdefault(row.pop("log"), []).append(Generation(**row))
+        self._generations = now
+        return {id: tuple(generations) for id, generations in found.items()}
+
+    def _new_pieces(self, lists: list[dict[str, Any]]) -> Iterable[Recorded]:
+        """The pieces that have come, in the order in which they were seen."""
+        names = {row["id"]: row["name"] for row in lists}
+        due = [row["id"] for row in lists if row["kept"] >= self._next.get(row["id"], 1)]
+        if not due:
+            return
+        values = {"lists": due, "firsts": [self._next.get(id, 1) for id in due], "most": PIECES,
+                  "since": int((time.time() - PAST) * 1e6)}  # fmt: skip
+        rows = self._ask(statements.PIECES, values)
+        for row in rows:
+            self._next[row["list"]] = row["first"] + row["count"]
+            yield Recorded(names[row["list"]], _piece_of(row))
+        if len(rows) < PIECES:
+            for row in lists:  # the rest is older
+                self._next[row["id"]] = max(row["kept"] + 1, self._next.get(row["id"], 1))
+
+
+def _piece_of(row: Mapping[str, Any]) -> Piece | None:
+    try:
+        lines = zlib.decompress(bytes(row["data"]))
+    except zlib.error:
+        return None
+    return Piece(row["first"], row["seen"], lines) if len(lines) == row["count"] * LINE_SIZE else None

@@ -1,0 +1,40 @@
+"""What the console asks PostgreSQL. No statement writes, and none reads a table of principals or a block."""
+
+from pagelog.keeper.schema import FORMAT
+
+LOOK = f"""
+SELECT
+  (SELECT COALESCE(json_agg(l), '[]') FROM (
+    SELECT id, name, generation, run, holder, address, archived, base, images, wanted, succeed, read_only, paused
+    FROM pagelog_log WHERE format = {FORMAT} AND NOT dropped ORDER BY name) l) AS databases,
+  (SELECT COALESCE(json_agg(k), '[]') FROM (SELECT name, run, lines, beat, report FROM pagelog_keeper ORDER BY name) k) AS keepers,
+  (SELECT COALESCE(json_agg(s), '[]') FROM (
+    SELECT log, keeper, address, run, reached FROM pagelog_standby ORDER BY keeper) s) AS standbys,
+  current_setting('synchronous_standby_names') AS names,
+  CASE WHEN pg_has_role('pg_read_all_stats', 'USAGE')
+    THEN (SELECT count(*) FROM pg_stat_replication WHERE sync_state IN ('sync', 'quorum')) END AS standbys_of_postgresql,
+  COALESCE(has_table_privilege(to_regclass('pagelog_trail_list'), 'SELECT')
+    AND has_table_privilege(to_regclass('pagelog_trail_piece'), 'SELECT'), false) AS has_trail
+"""
+
+GENERATIONS = """
+SELECT g.log, g.generation, g.holder, g.base, g.began
+FROM unnest(%(logs)s::integer[]) AS w(log) CROSS JOIN LATERAL (
+  SELECT * FROM pagelog_generation p WHERE p.log = w.log ORDER BY p.generation DESC LIMIT %(most)s) g
+ORDER BY g.log, g.generation
+"""
+
+LISTS = f"""
+SELECT DISTINCT ON (t.log) t.id, t.log AS name, t.kept, t.ended
+FROM pagelog_trail_list t JOIN pagelog_log l ON l.name = t.log AND l.format = {FORMAT} AND NOT l.dropped
+WHERE t.format = %(format)s
+ORDER BY t.log, t.run DESC
+"""
+
+PIECES = """
+SELECT p.list, p.first, p.count, p.seen, p.data
+FROM unnest(%(lists)s::integer[], %(firsts)s::bigint[]) AS w(list, first)
+JOIN pagelog_trail_piece p ON p.list = w.list AND p.first >= w.first
+WHERE p.seen >= %(since)s
+ORDER BY p.seen, p.list, p.first LIMIT %(most)s
+"""

@@ -1,0 +1,50 @@
+"""console."""
+
+from __future__ import annotations
+
+import asyncio
+from pathlib import Path
+
+import click
+
+from pagelog.credentials import Accounts
+from pagelog.desk.keeper_words import url_of_referee
+from pagelog.desk.options import credentials_option, fail, faults
+
+
+@click.command("console")
+@credentials_option
+@click.option("--listen", default="127.0.0.1:7480", show_default=True, metavar="HOST:PORT", help="Where browsers reach it.")
+@click.option("--token-file", metavar="FILE", type=click.Path(path_type=Path), help="A file of mode 600 whose first line has the "
+              "token that a browser has to give. Needed where HOST is not of this machine alone.")  # fmt: skip
+@faults
+def console_word(accounts: Accounts, listen: str, token_file: Path | None) -> None:
+    """Serve a page that shows named databases live. Needs [archive] url, of a role that may read; it writes nothing.
+
+    It prints `listening HOST:PORT`. PostgreSQL is looked at once a second while a browser follows, else every five seconds.
+    What the keepers' [keeper] says of ttl, audit, memory and succeed is to be in the credentials too: by it successions are foretold.
+
+    \b
+    Example:
+      pagelogctl console --listen 127.0.0.1:7480 --credentials keeper.toml
+    """
+    from pagelog.console.board import Limits
+    from pagelog.console.door import Door, is_loopback, read_token
+    from pagelog.console.running import run
+    from pagelog.console.source import Source
+    from pagelog.keeper.machine import ROLL_AT, SUCCEED_AT
+
+    host, colon, port = listen.rpartition(":")
+    if not colon or not host or not port.isdecimal() or int(port) > 65535:
+        raise click.UsageError(f"--listen: {listen!r} is no address of the form HOST:PORT")
+    if token_file is None and not is_loopback(host):
+        raise click.UsageError(f"--listen: others reach {host}: say --token-file too")
+    door = Door(read_token(token_file) if token_file else None, host)
+    keeper = accounts.keeper
+    limits = Limits(float(keeper.get("ttl", Limits.ttl)), keeper.get("audit", Limits.audit), keeper.get("memory", 0) >> 20,
+                    float(keeper.get("succeed", SUCCEED_AT)) or ROLL_AT)  # fmt: skip
+    source = Source(url_of_referee(accounts))
+    try:
+        asyncio.run(run(source, limits, door, host.strip("[]"), int(port), lambda bound: click.echo(f"listening {host}:{bound}")))
+    except OSError as error:
+        fail(f"--listen: {listen}: {error.strerror or error}")

@@ -1,0 +1,112 @@
+"""Keeps small batches without a thread: their statement is prepared, sent, and waited for by the event loop."""
+
+from __future__ import annotations
+
+import asyncio
+from contextlib import suppress
+from typing import Any, Sequence
+
+import psycopg
+
+from pagelog.keeper import statements
+from pagelog.keeper.batches import values_of
+from pagelog.keeper.prepared import Prepared
+from pagelog.keeper.referee import Referee
+from pagelog.keeper.rows import Batch
+from pagelog.keeper.session import Session
+
+SMALL = 1 << 16
+"""The most bytes of blocks that are sent so: to make a statement of many takes the loop too long."""
+
+
+class QuickReferee(Referee):
+    """A referee whose statement `keep` can be sent and received apart, under the same conditions."""
+
+    _prepared: tuple[psycopg.Connection[Any], Prepared] | None = None
+
+    @property
+    def is_prepared(self) -> bool:
+        """Whether it can be sent at once. Where a standby has to be asked after it, it cannot."""
+        if self._prepared is None or self._requires_standby:
+            return False
+        connection, prepared = self._prepared
+        return connection is self._connection and prepared.statement == statements.KEEP and not connection.closed
+
+    def fileno(self) -> int:
+        """The socket of the connection, where it `is_prepared`."""
+        assert self._connection is not None
+        return self._connection.fileno()
+
+    def keep(self, batches: Sequence[Batch]) -> frozenset[int]:
+        """As of any referee, and prepares the next one."""
+        kept = super().keep(batches)
+        if not self.is_prepared and not self._requires_standby and self._connection is not None:
+            try:
+                self._prepared = self._connection, Prepared(self._connection, statements.KEEP)
+            except psycopg.Error:
+                self.close()  # what was kept is kept
+        return kept
+
+    def send(self, batches: Sequence[Batch]) -> Prepared:
+        """Sends the statement of `keep`, where it `is_prepared`. Raises as `keep`."""
+        assert self._prepared is not None
+        self._warnings.clear()
+        try:
+            self._prepared[1].send(values_of(batches))
+        except psycopg.Error as error:
+            raise self._meaning(error) from error
+        return self._prepared[1]
+
+    def receive(self, prepared: Prepared) -> frozenset[int]:
+        """What `keep` returns or raises, where `prepared` has an answer."""
+        try:
+            rows = prepared.receive()
+        except psycopg.Error as error:
+            raise self._meaning(error) from error
+        self._check_warnings()
+        return frozenset(int(row[0] or 0) for row in rows)
+
+
+class QuickSession(Session):
+    """A session of such a referee."""
+
+    def __init__(self, referee: QuickReferee, deadline: float) -> None:
+        super().__init__(referee, deadline)
+        self._quick = referee
+
+    async def keep(self, batches: Sequence[Batch]) -> frozenset[int]:
+        """As of any session."""
+        async with self._turn:
+            is_small = sum(len(block) for batch in batches for block in batch.blocks) <= SMALL
+            if is_small and self._quick.is_prepared:
+                return await self._kept(batches)
+        return await super().keep(batches)
+
+    async def _kept(self, batches: Sequence[Batch]) -> frozenset[int]:
+        loop, line = asyncio.get_running_loop(), self._quick.fileno()
+        prepared, answered = self._quick.send(batches), loop.create_future()
+
+        def move() -> None:
+            if not answered.done() and prepared.flush() and prepared.has_answer():
+                leave()  # at once: where the line is gone, another may have its number next
+                answered.set_result(None)
+
+        def leave() -> None:
+            for remove in (loop.remove_writer, loop.remove_reader):
+                with suppress(OSError):  # it is closed
+                    remove(line)
+
+        timer = loop.call_later(self._deadline, self.cut)
+        loop.add_reader(line, move)
+        try:
+            if not prepared.flush():
+                loop.add_writer(line, move)
+            await answered
+        finally:
+            timer.cancel()
+            if answered.cancelled() or not answered.done():
+                leave()
+                self._quick.close()  # its answer would come to the next one
+        kept = self._quick.receive(prepared)
+        self.was_quick()
+        return kept

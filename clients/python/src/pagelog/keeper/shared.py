@@ -1,0 +1,71 @@
+"""What the databases of a keeper share."""
+
+from __future__ import annotations
+
+import asyncio
+from dataclasses import dataclass, field
+from typing import TYPE_CHECKING, Any, Callable, Coroutine
+
+from pagelog.keeper.committer import Committer
+from pagelog.keeper.lines import Line
+from pagelog.keeper.referee import PIECE, Away, Doubt, Referee, Refused
+from pagelog.keeper.served import Served
+from pagelog.keeper.session import Session
+from pagelog.keeper.settings import Settings
+
+if TYPE_CHECKING:
+    from pagelog.keeper.recorder import Trails
+
+
+@dataclass
+class Shared:
+    """A keeper's settings, its life, its ways to the referee, and its tasks. `say` logs a sentence of a database, and
+    `changed` says that its place may be another."""
+
+    settings: Settings
+    life: str
+    session: Session
+    committer: Committer
+    say: Callable[[str, str], None]
+    changed: Callable[[str], None]
+    trails: Trails | None = None
+    ending: bool = False
+    tasks: set[asyncio.Task[None]] = field(default_factory=set)
+    successions: asyncio.Semaphore = field(default_factory=lambda: asyncio.Semaphore(1))
+
+    async def fill(self, served: Served, log: int, archived: int, chain: bytes) -> None:
+        """Fills it up to this position. Where much is missing, over a connection to the archive of its own."""
+        if archived <= served.reached:
+            return
+        if 0 < served.reached and archived <= served.reached + PIECE:
+            pieces = await self.session.ask(lambda *of: list(self.session.referee.blocks(*of)), log, served.reached + 1, archived)
+            return await asyncio.to_thread(served.fill, pieces, archived, chain)
+        referee = Referee(self.settings.url, self.settings.name, self.life)
+        try:
+            await asyncio.to_thread(served.follow, referee, log, archived, chain)
+        finally:
+            referee.close()
+
+    async def tell_fate(self, line: Line, name: str, generation: int) -> None:
+        """What became of a generation that is not this keeper's: by a statement that writes, as its end is final."""
+        try:
+            end = await self.session.ask(self.session.referee.fate, name, generation)
+        except (Away, Doubt, Refused):
+            end = None
+        if end is None:
+            line.say("elsewhere", name, generation)
+        else:
+            line.say("over", name, generation, end)
+
+    def spawn(self, work: Coroutine[Any, Any, None], what: str) -> asyncio.Task[None]:
+        """A task whose end by an error is said: a database that nobody keeps would be the result."""
+        task = asyncio.create_task(work)
+        self.tasks.add(task)
+
+        def ended(_: asyncio.Task[None]) -> None:
+            self.tasks.discard(task)
+            if not task.cancelled() and (error := task.exception()) is not None:
+                self.say(what, f"fault of the keeper: {type(error).__name__}: {error}")
+
+        task.add_done_callback(ended)
+        return task

@@ -1,0 +1,271 @@
+"""The next generation of a database, which its holder makes beside the present one: from images, and then the blocks after them.
+
+What fails before the fence costs nothing. What fails between the fence and the switch opens the present generation again where its
+service lives, and else is a takeover. What comes after the switch is the next generation's.
+"""
+
+from __future__ import annotations
+
+import asyncio
+from typing import TYPE_CHECKING, Sequence
+
+from pagelog.errors import PagelogError
+from pagelog.keeper.basing import SMALL, Wish, made_of
+from pagelog.keeper.loading import Loader
+from pagelog.keeper.machine import Stage
+from pagelog.keeper.referee import Away, BrokenArchive, Doubt, Referee, Refused, digest
+from pagelog.keeper.run import new_run
+from pagelog.keeper.served import Served, seconds
+from pagelog.keeper.switch import Switch, succeed
+
+if TYPE_CHECKING:
+    from pagelog.keeper.archiver import Archiver
+    from pagelog.keeper.database import Database
+
+HURRY_AT = 0.65
+"""The share of the audit list, or of the memory, from which on the next generation waits for nothing."""
+NEAR = 256
+"""How many archived blocks the next service may lack when the present one is closed."""
+_LITTLE, _ROUNDS = 64, 4
+"""Blocks that the switch may well archive by itself, and how often it is tried that there are no more."""
+MANY = 1 << 16
+"""Blocks after a base from which on a newer one is made in any case; more where the base has more than half as many pages."""
+
+
+class Succession:
+    """Of one database, while this keeper holds it."""
+
+    def __init__(self, database: Database) -> None:
+        self._database, self._shared = database, database.shared
+        self._successor: Served | None = None
+        self._stage, self._failed_at = Stage.NONE, 0.0
+        self._task: asyncio.Task[None] | None = None
+        self._basing: asyncio.Task[None] | None = None
+        self._referee: Referee | None = None
+        self._has_turn, self._base_turn = False, asyncio.Lock()
+        self.base = self._pages = self._tried = 0
+        """The newest base of the archive as far as it is known here, how many pages it has, and where one was tried last."""
+
+    @property
+    def stage(self) -> Stage:
+        """How far the next service is. A failure is forgotten after a ttl."""
+        if self._stage is Stage.FAILED and seconds() - self._failed_at >= self._shared.settings.ttl:
+            self._stage = Stage.NONE
+        return self._stage
+
+    # The base.
+
+    def tend(self) -> None:
+        """Makes a base where there are many blocks after the last one: each takeover has to load them."""
+        served, few = self._database.own, self._few(MANY)
+        many = max(few, 2 * self._pages) if few == MANY else few
+        if self._stage is Stage.NONE and served.reached - max(self.base, served.images, self._tried) >= many and (
+            self._basing is None or self._basing.done()
+        ):  # fmt: skip
+            self._basing = self._shared.spawn(self._tended(served), self._database.row.name)
+
+    async def _tended(self, served: Served) -> None:
+        try:
+            async with self._base_turn:
+                await self._make_base(served)
+        except PagelogError as error:
+            self._say(str(error))
+            await asyncio.sleep(self._shared.settings.ttl)
+
+    def _few(self, blocks: int) -> int:
+        """So many blocks, or what a short audit list has room for."""
+        return min(blocks, self._shared.settings.program.audit // 16)
+
+    async def _make_base(self, served: Served) -> None:
+        settings, row, began = self._shared.settings, self._database.row, seconds()
+        self._tried = served.reached
+        wish = Wish(settings.url, row.id, served.reached, served.chain.hex(), settings.keep)
+        made = await made_of(wish, served.reached - max(self.base, served.images))
+        self.base, self._pages = made.position, made.pages
+        pruned = f", and {made.pruned} blocks were pruned" if made.pruned else ""
+        self._say(f"a base of {made.pages} pages was made at position {made.position} in {seconds() - began:.1f} s{pruned}")
+
+    # Before the fence.
+
+    def prepare(self) -> None:
+        """Begins to make the next service, beside all else."""
+        self._stage = Stage.MAKING
+        self._task = self._shared.spawn(self._prepare(), self._database.row.name)
+
+    async def _prepare(self) -> None:
+        try:
+            await self._shared.successions.acquire()  # one at a time: each is a second copy in the machine's memory
+            self._has_turn = True
+            await self._made(self._database.own)
+            self._stage = Stage.READY
+        except (PagelogError, OSError) as error:
+            await self._fail(error)
+        self._database.kick()
+
+    async def _made(self, served: Served) -> None:
+        """A service with the images of a base, and the blocks after it but for the last few. The base is a ttl old by then, so that
+        who reads at a position of the last ttl can go on in the next generation; but not where the present service may soon be full."""
+        settings, began = self._shared.settings, seconds()
+        async with self._base_turn:
+            if served.reached - self.base > self._few(SMALL) or (self.base == 0 and served.reached):
+                await self._make_base(served)
+        successor = await self._database.new_served(new_run())
+        starting = asyncio.ensure_future(asyncio.to_thread(successor.start, settings.program))
+        try:
+            await asyncio.shield(starting)
+        except asyncio.CancelledError:
+            starting.add_done_callback(lambda _: successor.end())
+            raise
+        self._successor, self._referee = successor, Referee(settings.url, settings.name, self._shared.life)
+        while True:
+            await self._follow(served)
+            left = began + settings.ttl - seconds()
+            if served.reached - successor.reached <= NEAR:
+                if left <= 0 or served.share(settings.program.audit, settings.memory) >= HURRY_AT:
+                    return
+                await asyncio.sleep(min(left, settings.ttl / 16))
+
+    async def _follow(self, served: Served) -> None:
+        """Loads what is archived by now."""
+        successor = self._successor
+        assert successor is not None and self._referee is not None
+        if not successor.is_alive:
+            raise BrokenArchive("the service of the next generation ended")
+        await asyncio.to_thread(successor.follow, self._referee, self._database.row.id, served.reached, served.chain)
+
+    async def give_up(self) -> None:
+        """Ends what was made. The present generation is as it was."""
+        task, self._task = self._task, None
+        for each in (task, self._basing):
+            if each is not None and each is not asyncio.current_task() and not each.done():
+                each.cancel()
+                await asyncio.wait({each})
+        successor, self._successor = self._successor, None
+        if successor is not None:
+            await asyncio.to_thread(successor.end)
+        self._end()
+
+    def _end(self) -> None:
+        if self._referee is not None:
+            self._referee.close()
+        self._referee, self._stage = None, Stage.NONE
+        if self._has_turn:
+            self._has_turn = False
+            self._shared.successions.release()
+
+    async def _fail(self, error: Exception) -> None:
+        self._say(f"the succession was given up: {error}")
+        await self.give_up()
+        self._stage, self._failed_at = Stage.FAILED, seconds()
+
+    def _say(self, sentence: str) -> None:
+        self._shared.say(self._database.row.name, sentence)
+
+    # From the fence to the switch.
+
+    async def switch(self, archiver: Archiver) -> bool:
+        """Closes the present generation, and begins the next. Returns whether there are new facts to decide from."""
+        served, successor = self._database.own, self._successor
+        assert successor is not None
+        try:
+            await self._follow(served)
+            await asyncio.to_thread(successor.open)  # nobody knows where it is, nor has its tokens
+            with successor.loader() as loader:
+                async with archiver.turn:  # what it has sent is archived, and no other batch is pulled
+                    return not await self._near(served, archiver) or await self._switch(served, successor, loader)
+        except PagelogError as error:
+            await self._fail(error)
+            return True
+
+    async def _near(self, served: Served, archiver: Archiver) -> bool:
+        """Archives until little is left for the switch. False where the archive is not this run's any more."""
+        for _ in range(_ROUNDS):
+            before = served.reached
+            if not await archiver.archived():
+                return False
+            await self._follow(served)
+            if served.reached - before <= _LITTLE:
+                break
+        return True
+
+    async def _switch(self, served: Served, successor: Served, loader: Loader) -> bool:
+        row, began = self._database.row, seconds()
+        try:
+            switch = await asyncio.to_thread(self._closed, served, successor, loader)
+        except PagelogError as error:
+            await self._fail(error)
+            await self._open_again(served)
+            return True
+        closed = seconds()
+        generation = await self._switched(switch)
+        if generation is None:
+            await self._fail(Refused("the database is another's, or its archive went on"))
+            await self._open_again(served)
+            return True
+        self._say(f"generation {generation} begins at position {switch.end}, from images at {switch.images}: closed in "
+                  f"{1000 * (closed - began):.1f} ms, switched in {1000 * (seconds() - closed):.1f} ms, with {len(switch.blocks)} blocks of "
+                  f"generation {row.generation}")  # fmt: skip
+        self._successor = None
+        self._end()
+        await self._database.goes_on(successor, generation, switch)
+        return True
+
+    def _closed(self, served: Served, successor: Served, loader: Loader) -> Switch:
+        """Fences the present generation, and brings over what its log has beyond the next one's. In a thread."""
+        row = self._database.row
+        end = served.close()
+        blocks = _pulled(served, successor.reached, end)
+        known = served.reached - successor.reached
+        if digest(successor.chain, blocks[:known]) != served.chain:
+            raise BrokenArchive(f"the service has other blocks up to {served.reached} than those that are archived")
+        rest = tuple(blocks[known:])
+        chain = digest(served.chain, rest)
+        successor.load(loader, [blocks], end, chain)
+        assert successor.process is not None
+        return Switch(row.id, served.run, served.generation, served.reached, rest, chain, successor.run, successor.process.address,
+                      successor.shift, successor.images)  # fmt: skip
+
+    async def _switched(self, switch: Switch) -> int | None:
+        """The generation that has begun; None where it did not, and never will. In doubt a statement that writes finds out."""
+        wait = 0.05
+        while True:
+            try:
+                session = self._shared.session
+                generation = await session.ask(succeed, session.referee, switch)
+                if generation is not None:
+                    return int(generation)
+            except (Away, Doubt, Refused) as error:
+                self._say(f"the switch: {error}")
+            try:
+                return await self._looked_up(switch)
+            except (Away, Doubt, Refused):
+                await asyncio.sleep(wait)  # nobody may write until it is known
+                wait = min(1.0, 2 * wait)
+
+    async def _looked_up(self, switch: Switch) -> int | None:
+        referee = self._shared.session.referee
+        if (kept := await self._shared.session.ask(referee.kept, switch.log, switch.next_run)) is not None:
+            return int(kept.generation)
+        kept = await self._shared.session.ask(referee.kept, switch.log, switch.run)
+        if kept is not None and kept.archived == switch.old:
+            raise Doubt("it was not carried out, and may be asked again")
+        return None
+
+    async def _open_again(self, served: Served) -> None:
+        """The present generation goes on, if its service lives."""
+        try:
+            await asyncio.to_thread(served.open)
+        except PagelogError as error:
+            self._say(f"it could not be opened again: {error}")
+            served.is_broken = True
+
+
+def _pulled(served: Served, position: int, end: int) -> list[bytes]:
+    """The blocks behind a position up to the end of a log that is closed."""
+    blocks: list[bytes] = []
+    while position + len(blocks) < end:
+        piece: Sequence[bytes] = served.pulled(position + len(blocks))
+        if not piece:
+            raise BrokenArchive(f"the log of {served.database} ends at {position + len(blocks)} in place of {end}")
+        blocks += piece
+    return blocks[: end - position]

@@ -1,0 +1,96 @@
+"""What goes on beside the actions on a database: looks at its service and, while that is held, archiving and recording."""
+
+from __future__ import annotations
+
+import asyncio
+from typing import TYPE_CHECKING, Callable
+
+from pagelog.errors import AuditListFull, PagelogError, TurnsSpent
+from pagelog.keeper.archiver import Archiver
+from pagelog.keeper.machine import Stillness
+from pagelog.keeper.rows import Row
+from pagelog.keeper.served import Served, seconds
+from pagelog.keeper.shared import Shared
+from pagelog.keeper.waits import Waits
+
+if TYPE_CHECKING:
+    from pagelog.keeper.recorder import Recorder
+
+
+class Work:
+    """Of one database. `kick` is called where there is something to decide."""
+
+    def __init__(self, shared: Shared, name: str, waits: Waits, kick: Callable[[], None]) -> None:
+        self._shared, self._name, self._waits, self._kick = shared, name, waits, kick
+        self._silent = Stillness(shared.settings.ttl)
+        self._looking: asyncio.Task[None] | None = None
+        self._archiving: asyncio.Task[None] | None = None
+        self._recording: asyncio.Task[None] | None = None
+        self._served: Served | None = None
+        self.archiver: Archiver | None = None
+        self.recorder: Recorder | None = None
+
+    def see(self, served: Served) -> None:
+        """Whether a service that was started still answers is asked with each look."""
+        self._served = served
+        served.silent = self._silent.see((served.run, served.answers), seconds())
+        if self.archiver is not None and served.hangs:
+            self.archiver.stir()
+        if self._looking is None or self._looking.done():
+            self._looking = self._shared.spawn(self._look(served), self._name)
+
+    async def _look(self, served: Served) -> None:
+        try:
+            await asyncio.to_thread(served.look)
+        except (AuditListFull, TurnsSpent):
+            served.is_broken = True
+            self._kick()
+        except PagelogError as error:
+            if served is self._served:
+                self._shared.say(self._name, f"the service does not answer its keeper: {error}")
+        if self.recorder is not None and served is self._served:
+            self.recorder.look(served.entries)
+        if served.hard > served.reached and served is self._served:
+            self.ring()
+
+    def begin(self, row: Row, served: Served) -> None:
+        """From now on it is held: archived, and recorded."""
+        self._served = served
+        self.archiver = Archiver(row, served, self._waits, self._shared.committer, self._shared.say, self._news)
+        self._archiving = self._shared.spawn(self.archiver.run(), self._name)
+        if self._shared.trails is not None and self.recorder is None:
+            self.recorder = self._shared.trails.recorder(served, self._shared.say)
+            self._recording = self._shared.spawn(self.recorder.run(), self._name)
+
+    def _news(self) -> None:
+        self._shared.session.woken.set()
+        self._kick()
+
+    def ring(self) -> None:
+        """There is something to archive, or somebody who waits."""
+        if self.archiver is not None:
+            self.archiver.ring()
+
+    def stir(self) -> None:
+        """The service has died, which who waits for its archive has to know."""
+        if self.archiver is not None:
+            self.archiver.stir()
+
+    async def catch_up(self, end: int) -> None:
+        """Archives up to this position, if that takes no longer than a look: less is left for when nobody may write."""
+        if self.archiver is not None:
+            reached = asyncio.ensure_future(self.archiver.reached(end))
+            await asyncio.wait({reached}, timeout=self._shared.settings.ttl / 4)
+            reached.cancel()
+
+    async def recorded(self, recorder: Recorder | None) -> None:
+        """What the audit list has is kept too, if that can be had soon."""
+        if recorder is not None:
+            await asyncio.wait({asyncio.create_task(recorder.catch_up())}, timeout=self._shared.settings.ttl)
+
+    def stop(self) -> None:
+        """Nothing is done any more with the service."""
+        for task in (self._archiving, self._looking, self._recording):
+            if task is not None:
+                task.cancel()
+        self.archiver = self._archiving = self._looking = self.recorder = self._recording = self._served = None

@@ -1,0 +1,210 @@
+"""Bases: images in PostgreSQL, from the archive alone; what is pruned below them; and positions that are begun again."""
+
+from __future__ import annotations
+
+import json
+import random
+from dataclasses import replace
+
+import psycopg
+
+from keepers import Kept as KeptService
+from keepers import blocks, new_url
+from pagelog import Block, Put, Zero
+from pagelog.keeper.bases import NOTHING, Base, Bases, make_base
+from pagelog.keeper.images import MARK
+from pagelog.keeper.referee import BrokenArchive, Referee, digest
+from pagelog.keeper.rows import Batch, Kept
+from pagelog.keeper.schema import script
+from pagelog.keeper.switch import Switch, succeed
+from test_images import pages
+from test_referee import Referees
+
+
+class Made(Referees):
+    def setUp(self) -> None:
+        super().setUp()
+        self.kept = self.taken()
+        self.blocks: list[bytes] = []
+        self.bases = Bases(self.referee, self.row.id)
+        self.chance = random.Random(1)
+
+    def keep(self, made: list[bytes]) -> None:
+        batch = Batch(self.row.id, "r1", self.kept.generation, self.kept.archived, digest(self.kept.chain, made), tuple(made))
+        self.assertEqual(self.referee.keep([batch]), {self.row.id})
+        self.kept = Kept(batch.new, batch.chain, self.kept.generation)
+        self.blocks += made
+
+    def write(self, count: int, pages: int = 300) -> None:
+        """Archives blocks that change pages here and there."""
+        self.keep([Block.of(self.kept.archived + 1 + at, [Put(self.chance.randrange(pages), self.chance.randrange(8000), b"%d" % at)]).data
+                   for at in range(count)])  # fmt: skip
+
+    def base(self, chain: bytes | None = None) -> Base:
+        return make_base(self.referee, self.row.id, self.kept.archived, self.kept.chain if chain is None else chain)
+
+    def pages_of(self, base: Base) -> dict[int, bytes]:
+        return {number: page for image in self.bases.images(base) for number, page in image.pages()}
+
+    def rows(self, table: str = "image") -> list[tuple[int, ...]]:
+        column = {"image": "range, base", "block": "lsn", "base": "base"}[table]
+        with psycopg.connect(self.url) as connection:
+            return connection.execute(f"SELECT {column} FROM pagelog_{table} ORDER BY {column}").fetchall()
+
+
+class Making(Made):
+    def test_a_base_has_all_pages_and_a_later_one_keeps_what_has_changed_alone(self) -> None:
+        self.assertEqual((self.base(), self.bases.newest(9)), (NOTHING, NOTHING))
+        self.write(500)
+        first = self.base()
+        self.assertEqual((first.position, first.chain, self.bases.newest(500), self.bases.newest(499)), (500, self.kept.chain, first, NOTHING))
+        self.assertEqual((self.pages_of(first), first.pages), (pages(self.blocks), len(pages(self.blocks))))
+        self.write(20, pages=64)
+        self.keep([Block.of(521, [Zero(5), Put(70_000, 0, b"far")]).data])
+        second = self.base()
+        self.assertEqual(self.rows(), [(0, 500), (0, 521), (1, 500), (2, 500), (3, 500), (4, 500), (1093, 521)])
+        self.assertEqual(self.pages_of(second), pages(self.blocks))
+        self.assertEqual(self.pages_of(first), pages(self.blocks[:500]))
+        self.assertEqual((self.base(), self.rows("base")), (second, [(500,), (521,)]))
+
+    def test_images_of_a_base_that_was_given_up_are_no_harm(self) -> None:
+        self.write(100)
+        first = self.base()
+        self.write(50)
+        replay_of = Bases(self.referee, self.row.id)
+        with psycopg.connect(self.url) as connection:  # made, and its base never was
+            other = make_base(self.referee, self.row.id, self.kept.archived, self.kept.chain)
+            connection.execute("DELETE FROM pagelog_base WHERE base = %s", (other.position,))
+        self.assertEqual(self.bases.newest(150), first)
+        self.write(50, pages=10)
+        base = self.base()
+        self.assertEqual(self.pages_of(base), pages(self.blocks))
+        self.assertEqual({number: page for image in replay_of.images(first) for number, page in image.pages()}, pages(self.blocks[:100]))
+
+    def test_no_base_is_made_of_blocks_that_were_not_archived(self) -> None:
+        self.write(30)
+        with self.assertRaisesRegex(BrokenArchive, "are not those that were archived"):
+            self.base(chain=b"x" * 16)
+        self.assertEqual((self.rows("base"), self.rows()), ([], []))
+
+    def test_damage_of_images_is_found(self) -> None:
+        self.write(300)
+        base = self.base()
+        with psycopg.connect(self.url, autocommit=True) as connection:
+            connection.execute("UPDATE pagelog_image SET data = set_byte(data, 9, 255) WHERE range = 2")
+            with self.assertRaisesRegex(BrokenArchive, "range 2 at position 300 is damaged"):
+                self.pages_of(base)
+            connection.execute("DELETE FROM pagelog_image WHERE range = 2")
+            with self.assertRaisesRegex(BrokenArchive, "images at position 300 are not those"):
+                self.pages_of(base)
+
+    def test_a_base_is_laid_where_no_transaction_of_the_vfs_is_under_way(self) -> None:
+        def mark(position: int) -> bytes:
+            return Block.of(position, [Put(7, 0, b"p"), Put(0, 0, MARK[-8:] + position.to_bytes(8, "big") + bytes(24))]).data
+
+        self.keep([mark(1), *blocks(2, 1), mark(3), *blocks(4, 3)])
+        base = self.base()
+        self.assertEqual((base.position, self.pages_of(base)), (3, pages(self.blocks[:3])))
+        self.assertEqual(base.chain, digest(b"", self.blocks[:3]))
+        self.keep(list(blocks(7, 5)))
+        self.assertEqual(self.base(), base)  # no later transaction has ended
+        self.keep([Block.of(12, [Put(0, 0, MARK[-8:] + (11).to_bytes(8, "big") + bytes(24))]).data])  # another's mark, carried along
+        self.assertEqual(self.base(), base)
+        self.keep([mark(13)])
+        self.assertEqual(self.base().position, 13)
+
+
+class Pruning(Made):
+    def test_what_only_older_positions_need_is_pruned(self) -> None:
+        for _ in range(3):
+            self.write(100)
+            self.base()
+            self.write(10, pages=10)
+        last = self.base()
+        self.assertEqual((last.position, [self.bases.oldest_to_keep(keep) for keep in (1, 2, 3, 4, 5)]), (330, [330, 320, 210, 100, 0]))
+        self.assertEqual([self.bases.oldest_to_keep(keep) for keep in ("1 hours", "0 seconds")], [0, 330])
+        self.assertEqual(self.bases.prune(210), 210)
+        self.assertEqual((self.rows("block")[0], self.rows("base")), ((211,), [(210,), (320,), (330,)]))
+        for base in (210, 320, 330):
+            self.assertEqual(self.pages_of(self.bases.newest(base)), pages(self.blocks[:base]))
+        self.assertEqual((self.bases.prune(330), len(self.rows())), (120, 5))
+        self.assertEqual(self.pages_of(last), pages(self.blocks))
+        self.write(5)
+        self.assertEqual(self.pages_of(self.base()), pages(self.blocks))
+
+
+class Switches(Made):
+    def switch(self, **other: object) -> Switch:
+        rest = blocks(self.kept.archived + 1, 2)
+        made = Switch(self.row.id, "r1", self.kept.generation, self.kept.archived, rest, digest(self.kept.chain, rest), "r2", "x:1", -3, 5)
+        return replace(made, **other)  # type: ignore[arg-type]
+
+    def test_a_switch_is_under_the_fence_of_its_run_and_archives_the_rest(self) -> None:
+        self.write(5)
+        for wrong in (self.switch(run="r9"), self.switch(generation=9), self.switch(old=4), self.switch(log=99)):
+            self.assertIsNone(succeed(self.referee, wrong))
+        self.assertEqual((self.seen().run, self.seen().archived, len(self.rows("block"))), ("r1", 5, 5))
+        self.assertEqual(succeed(self.referee, self.switch()), 2)
+        seen = self.seen()
+        self.assertEqual((seen.run, seen.generation, seen.address, seen.shift, seen.images), ("r2", 2, "x:1", -3, 5))
+        self.assertEqual((seen.archived, seen.base, seen.chain), (7, 7, digest(self.kept.chain, blocks(6, 2))))
+        self.assertEqual((self.referee.fate("shop", 1), len(self.rows("block"))), (7, 7))
+        self.assertIsNone(succeed(self.referee, self.switch()))
+        # The old run archives nothing any more, and a take of what was seen before it fails.
+        late = Batch(self.row.id, "r1", 1, 7, b"", blocks(8, 1))
+        self.assertEqual(self.referee.keep([late]), frozenset())
+
+
+class Migration(Referees):
+    def test_the_tables_of_before_are_taken_on(self) -> None:
+        url, old = new_url(), "pagelog_base, pagelog_image"
+        with psycopg.connect(url, autocommit=True) as connection:
+            connection.execute(f"DROP TABLE {old}; ALTER TABLE pagelog_standby DROP COLUMN shift, DROP COLUMN images")
+            connection.execute("ALTER TABLE pagelog_log DROP COLUMN images, DROP COLUMN succeed, DROP COLUMN read_only")
+            connection.execute("ALTER TABLE pagelog_block DROP COLUMN came")
+            connection.execute("INSERT INTO pagelog_log (name, format, archived, epoch, chain) VALUES ('shop', 2, 2, 1, 'x')")
+            connection.execute("INSERT INTO pagelog_block (log, lsn, crc, data) VALUES (1, 1, 0, 'x')")
+        referee = Referee(url)
+        self.addCleanup(referee.close)
+        referee.prepare()
+        referee.prepare()
+        row = referee.everything().row("shop")
+        assert row is not None
+        self.assertEqual((row.archived, row.shift, row.images, row.succeed, row.read_only), (2, 0, 0, False, False))
+        with psycopg.connect(url, autocommit=True) as connection:
+            connection.execute("INSERT INTO pagelog_block (log, lsn, crc, data) VALUES (1, 2, 0, 'x')")
+            came = connection.execute("SELECT lsn, came IS NULL FROM pagelog_block ORDER BY lsn").fetchall()
+            connection.execute(script())  # each statement may be repeated
+        self.assertEqual(came, [(1, True), (2, False)])
+
+
+class Histories(KeptService):
+    keepers = "a"
+
+    def test_any_kept_position_is_begun_again_for_readers(self) -> None:
+        with self.keeping.primary() as primary:
+            for number in range(1, 11):
+                self.commit(primary, f"{number}", durable=True)
+                if number == 5:
+                    with psycopg.connect(self.keeping.url) as connection:
+                        [[time]] = connection.execute("SELECT clock_timestamp()").fetchall()
+            row = self.keeping.row()
+            make_base(self.keeping.referee, row.id, 7, digest(b"", self.keeping.archive()[:7]))
+            self.assertEqual(self.keeping.word("restore", "shop", "--at", 8, "--as", "eight"), "eight is shop at position 8, for readers\n")
+            self.assertIn("shop-5", self.keeping.word("restore", "shop", "--at", time.isoformat()))
+            for name, position, base in (("eight", 8, 7), ("shop-5", 5, 0)):
+                with self.keeping.reader(name) as reader:
+                    self.assertEqual((reader.end(), reader.page(0).data[:4].strip(b"\0")), (position, b"<%d>" % position))
+                    self.assertEqual([block.lsn for block in reader.blocks(base + 1, follow=False)], list(range(base + 1, position + 1)))
+                with self.assertRaises(Exception), self.keeping.primary(name) as writer:
+                    writer.keepers.patience = 1.0
+                    self.commit(writer, "none")
+            self.assertEqual(self.keeping.word("prune", "shop"), "pruned 7 blocks: positions from 7 on are kept\n")
+            for at in ("6", time.isoformat(), "11", "then"):
+                with self.assertRaisesRegex(AssertionError, "kept|neither a position nor a time"):
+                    self.keeping.word("restore", "shop", "--at", at)
+            with self.assertRaisesRegex(AssertionError, "there is a database eight"):
+                self.keeping.word("restore", "shop", "--at", 9, "--as", "eight")
+            kept = [json.loads(line) for line in self.keeping.word("kept", "--json").splitlines()]
+            facts = {each["name"]: (each["oldest"], each["base"], each["archived"], each["read_only"]) for each in kept}
+            self.assertEqual(facts, {"shop": (7, 7, 10, False), "eight": (7, 7, 8, True), "shop-5": (0, 0, 5, True)})

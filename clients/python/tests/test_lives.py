@@ -1,0 +1,134 @@
+"""Lives of keepers: what one leaves that was killed, what the next one finds, and what is left where a statement is in doubt."""
+
+from __future__ import annotations
+
+import json
+import os
+import signal
+
+import psycopg
+
+from keepers import Kept, Line, Trigger, eventually
+from pagelog.keeper.referee import Referee
+from pagelog.keeper.schema import FORMAT
+from service import PATIENCE, stand_still
+
+
+class Ends(Kept):
+    keepers = "a"
+
+    def beat(self) -> int:
+        return next(keeper.beat for keeper in self.keeping.referee.everything().keepers if keeper.name == "a")
+
+    def test_a_keeper_that_is_told_to_end_before_it_has_adopted_archives_the_rest(self) -> None:
+        with self.keeping.primary() as primary:
+            self.commit(primary, "1", durable=True)
+            self.keeping.kill("a")
+            self.commit(primary, "2")
+        line, file = Line(0), self.keeping.file
+        self.addCleanup(line.close)
+        file.write_text(file.read_text().replace(self.keeping.url, line.url(self.keeping.url)))
+        self.keeping.launch("a")
+        eventually(lambda: "PostgreSQL: " in self.keeping.said(), "a try to reach PostgreSQL")
+        self.keeping.processes["a"].send_signal(signal.SIGTERM)
+        eventually(lambda: self.keeping.said().count("told to end") == 1, "the word that it ends")
+        trigger = Trigger(self.keeping.url, "pagelog_log", "UPDATE ON pagelog_log FOR EACH ROW WHEN (NEW IS NOT DISTINCT FROM OLD)",
+                          "RAISE WARNING 'cancelled'")  # fmt: skip
+        self.addCleanup(trigger.close)
+        line.count_from_now()
+        eventually(lambda: "adopt: PostgreSQL: cancelled" in self.keeping.said(), "an adoption in doubt")
+        keeper, looks = self.keeping.processes["a"], self.beat()
+        eventually(lambda: self.beat() > looks + 3 or keeper.poll() is not None, "looks after it")
+        trigger.close()
+        self.assertEqual(self.keeping.processes["a"].wait(PATIENCE), 0)
+        self.assertEqual((self.texts(), self.keeping.row().run), ([b"1", b"2"], None))
+
+
+class Folders(Kept):
+    keepers = "a"
+
+    def test_another_keeper_with_its_folder_is_refused(self) -> None:
+        with self.keeping.primary() as primary:
+            self.commit(primary, "1", durable=True)
+            generation = self.keeping.row().generation
+            (self.keeping.folder / "b").symlink_to(self.keeping.folder / "a")
+            self.keeping.launch("b")
+            self.assertEqual(self.keeping.processes["b"].wait(PATIENCE), 1)
+            self.assertIn("KeeperError: keeper a has the folder", self.keeping.said())
+            self.commit(primary, "2", durable=True)
+            self.assertEqual(self.keeping.row().generation, generation)
+            # It is free once the first one is killed.
+            self.keeping.kill("a")
+            self.keeping.start("b")
+            primary.keepers._addresses = self.keeping.addresses
+            self.assertEqual(self.commit(primary, "3", durable=True), 3)
+
+
+class Vanished(Kept):
+    keepers = "a"
+    options = {"ttl": 8.0}
+
+    def test_who_waits_for_a_database_that_the_referee_has_lost_is_told(self) -> None:
+        with self.keeping.primary() as primary, psycopg.connect(self.keeping.url, autocommit=True) as session:
+            self.commit(primary, "1", durable=True)
+            place, pid = self.keeping.place(), self.keeping.pid()
+            stand_still(pid)  # so that nothing is pulled
+            with self.keeping.line() as text:
+                print(f"durable shop {place.generation} 2\nwhere shop", file=text, flush=True)
+                self.assertEqual(text.readline().split()[:3], ["at", "shop", str(place.generation)])
+                session.execute("UPDATE pagelog_log SET format = 99 WHERE name = 'shop'")  # as where PostgreSQL was restored to the past
+                session.execute("NOTIFY pagelog_keeper")
+                self.assertEqual(text.readline().split(), ["elsewhere", "shop", str(place.generation)])
+                print(f"durable shop {place.generation} 2", file=text, flush=True)
+                self.assertEqual(text.readline().split(), ["unknown", "shop"])
+            self.assertIn("shop: the referee knows nothing of the database", self.keeping.said())
+            os.kill(pid, signal.SIGCONT)
+            session.execute(f"UPDATE pagelog_log SET format = {FORMAT} WHERE name = 'shop'")
+            session.execute("NOTIFY pagelog_keeper")
+            eventually(lambda: self.keeping.said().count("shop: serves\n") == 2, "the word that it is there again")
+            self.assertEqual(self.commit(primary, "2", durable=True), 2)
+            self.assertEqual((self.keeping.place().generation, self.keeping.pid()), (place.generation, pid))
+
+
+class InDoubt(Kept):
+    keepers = "a"
+
+    def test_a_switchover_to_any_other_whose_release_was_in_doubt_leaves_the_others_time(self) -> None:
+        with self.keeping.primary() as primary:
+            self.commit(primary, "1", durable=True)
+        row, other = self.keeping.row(), Referee(self.keeping.url, "b", "life")
+        self.addCleanup(other.close)
+        other.register("127.0.0.1:1")
+        other.stand_by(row.id, "127.0.0.1:1", "s", 1)
+        trigger = Trigger(self.keeping.url, "pagelog_log", "UPDATE ON pagelog_log FOR EACH ROW WHEN (NEW.run IS NULL AND OLD.run IS NOT NULL)",
+                          "RAISE WARNING 'cancelled'")  # fmt: skip
+        self.addCleanup(trigger.close)
+        self.keeping.word("switchover", "shop")
+
+        def is_left_to_others() -> bool:
+            self.assertEqual(other.look().row("shop").generation, row.generation, self.keeping.said())  # type: ignore[union-attr]
+            return "any other keeper is wanted" in self.keeping.said()
+
+        eventually(is_left_to_others, "the word that it is left to others")
+        self.assertIn("close: PostgreSQL: cancelled", self.keeping.said())
+
+
+class Phantoms(Kept):
+    options = {"standby": False}
+
+    def test_a_standby_that_could_not_be_taken_back_is_taken_back_later(self) -> None:
+        with self.keeping.primary() as primary:
+            self.commit(primary, "1", durable=True)
+        other = "b" if self.keeping.row().holder == "a" else "a"
+        self.keeping.referee.pause("shop", True)  # so that its holder keeps it
+        self.keeping.referee.wish("shop", other)
+        eventually(lambda: other in self.keeping.standbys(), "the standby")
+        self.keeping.referee.wish("shop", None)
+        [note] = self.keeping.folder.glob(f"{other}/shop.*.json")
+        # It is not deleted, and PostgreSQL warns, so that it is in doubt.
+        trigger = Trigger(self.keeping.url, "pagelog_standby", "DELETE ON pagelog_standby FOR EACH ROW", "RAISE WARNING 'cancelled'")
+        self.addCleanup(trigger.close)
+        os.kill(json.loads(note.read_text())["pid"], signal.SIGKILL)
+        eventually(lambda: "end: PostgreSQL: cancelled" in self.keeping.said(), "the doubt")
+        trigger.close()
+        eventually(lambda: not self.keeping.standbys(), "the end of what is noted")

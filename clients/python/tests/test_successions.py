@@ -1,0 +1,329 @@
+"""The next generation of a database from images, at the same positions."""
+
+from __future__ import annotations
+
+import os
+import signal
+import threading
+from pathlib import Path
+from typing import Callable, Iterator
+from unittest.mock import patch
+
+import psycopg
+
+from cutting import STEPS
+from keepers import Gate, Keeping, Kept, eventually
+from pagelog import BelowBase, Block, ConnectionLost, Lost, Primary, Put
+from pagelog.place import Place
+from postgres import postgres
+from service import IS_LONG, PATIENCE
+
+CUTTING = Path(__file__).resolve().parent / "cutting.py"
+
+
+class Succeeding(Kept):
+    keepers = "a"
+
+    def succeed(self, *, waits: bool = True) -> Place:
+        """A succession by hand."""
+        before = self.keeping.place()
+        self.keeping.word("succeed", "shop")
+        return self.keeping.place(least=before.generation + 1) if waits else before
+
+
+class Writer:
+    """Commits in a thread, each third durable, until it is stopped. No commit may fail."""
+
+    def __init__(self, keeping: Keeping, before: int = 0) -> None:
+        """`before` is how many commits there are already."""
+        self.primary, self.before = keeping.primary(), before
+        self.texts: list[bytes] = []
+        self.fault: BaseException | None = None
+        self._stops = threading.Event()
+        self._thread = threading.Thread(target=self._write)
+
+    def __enter__(self) -> Writer:
+        self._thread.start()
+        return self
+
+    def stop(self) -> None:
+        """What it has committed is durable then."""
+        self._stops.set()
+        self._thread.join()
+
+    def __exit__(self, *_: object) -> None:
+        self.stop()
+        self.primary.close()
+        if self.fault is not None:
+            raise self.fault
+
+    def _write(self) -> None:
+        try:
+            while not self._stops.is_set():
+                self._commit(durable=len(self.texts) % 3 == 0)
+            self._commit(durable=True)
+        except BaseException as fault:
+            self.fault = fault
+
+    def _commit(self, *, durable: bool) -> None:
+        number = self.before + len(self.texts) + 1
+        text = b"%d" % number
+        self.primary.append(Put(0, 0, b"<%s>" % text))
+        position = self.primary.commit(durable=durable)
+        assert position == number, (position, number)
+        self.texts.append(text)
+
+    def has(self, more: int) -> None:
+        """Waits until it has committed so many more."""
+        wanted = len(self.texts) + more
+        eventually(lambda: len(self.texts) >= wanted or self.fault is not None, "commits of the writer")
+
+
+class OneKeeper(Succeeding):
+    def test_writers_and_readers_go_on_at_the_same_positions(self) -> None:
+        with self.keeping.primary() as primary, self.keeping.reader() as reader, self.keeping.reader(durable_only=True) as durable:
+            for number in range(1, 41):
+                self.commit(primary, f"{number}", durable=number % 10 == 0)
+            self.assertEqual((reader.end(), durable.end(), reader.page(0, 7).data[:3]), (40, 40, b"<7>"))
+            self.assertEqual((self.succeed().base, self.keeping.place().shift), (40, 39))
+            self.assertEqual(self.commit(primary, "41"), 41)
+            self.assertEqual(self.commit(primary, "42", durable=True), 42)
+            self.assertEqual([reader.page(0, at).data[:4] for at in (40, 41, 42)], [b"<40>", b"<41>", b"<42>"])
+            self.assertEqual([block.lsn for block in reader.blocks(41, follow=False)], [41, 42])
+            self.assertEqual((reader.end(), durable.end(), durable.page(0).at), (42, 42, 42))
+            for position in (39, 7):
+                with self.assertRaises(BelowBase):
+                    reader.page(0, position)
+            with self.assertRaises(BelowBase):
+                next(reader.blocks(40, follow=False))
+            self.succeed()
+            self.assertEqual(self.commit(primary, "43", durable=True), 43)
+            # What is below the base is not needed any more, neither by a take-over.
+            self.assertIn("pruned 40", self.keeping.word("prune", "shop"))
+            os.kill(self.keeping.pid(), signal.SIGKILL)
+            self.assertEqual(self.commit(primary, "44", durable=True), 44)
+            self.assertEqual((self.keeping.place().base, reader.page(0, 40).data[:4]), (40, b"<40>"))
+
+    def test_a_writer_and_a_follower_notice_nothing_of_many_successions(self) -> None:
+        seen: list[bytes] = []
+        with Writer(self.keeping) as writer, self.keeping.reader() as reader:
+            stops = threading.Event()
+
+            def follow() -> None:
+                for block in reader.blocks(1, idle=0.01, stop=lambda: stops.is_set() and len(seen) >= len(writer.texts)):
+                    seen.append(block.records[0].data.strip(b"<>"))  # type: ignore[union-attr]
+
+            follower = threading.Thread(target=follow)
+            follower.start()
+            for _ in range(3):
+                writer.has(30)
+                self.succeed()
+            writer.has(30)
+            writer.stop()
+            stops.set()
+            follower.join()
+        self.assertEqual((self.texts(), seen), (writer.texts, writer.texts))
+
+    def test_a_page_of_a_transaction_is_read_across_two_successions(self) -> None:
+        with self.keeping.primary() as primary, self.keeping.reader() as reader:
+            for number in range(1, 6):
+                self.commit(primary, f"{number}", durable=True)
+            self.succeed()
+            self.commit(primary, "6", durable=True)
+            position = reader.end()
+            self.assertEqual(reader.page(0, position).data[:3], b"<6>")
+            self.commit(primary, "7", durable=True)
+            for _ in range(2):
+                after = self.succeed()
+                self.assertEqual(reader.page(0, position).data[:3], b"<6>")
+                self.assertEqual(reader.place.run, after.run)  # type: ignore[union-attr]
+
+    def test_a_transaction_of_many_blocks_at_the_fence_is_written_whole(self) -> None:
+        with self.keeping.primary() as primary:
+            self.commit(primary, "1", durable=True)
+            harden, fenced = Primary.harden, threading.Event()
+
+            def harden_slowly(one: Primary, blocks: object) -> object:
+                for lsn in harden(one, blocks):  # type: ignore[arg-type]
+                    yield lsn
+                    if not fenced.is_set():  # a part of it is in the log
+                        fenced.set()
+                        self.succeed()
+
+            primary.append(*(Put(1 + at, 0, b"%d" % at * 2000) for at in range(1000)))
+            with patch.object(Primary, "harden", harden_slowly):
+                position = primary.commit(durable=True)
+            self.assertGreater(position, 100)
+            with self.keeping.reader() as reader:
+                self.assertEqual([page.data[:4] for page in reader.pages(range(1, 1001))], [(b"%d" % at * 2000)[:4] for at in range(1000)])
+            self.assertEqual(len(self.keeping.archive()), position)
+
+    def test_a_commit_in_doubt_across_a_succession_is_there_once(self) -> None:
+        with self.keeping.primary() as primary:
+            self.commit(primary, "1", durable=True)
+            for number in (2, 3):
+                # Of the first the block is in the images of the next generation, and the archive is asked; that of the second is pulled.
+                with patch.object(Primary, "harden", self.in_doubt(number)):
+                    self.assertEqual(self.commit(primary, f"{number}", durable=True), number)
+                self.assertEqual(self.keeping.place().base, 2)
+            self.assertEqual(self.commit(primary, "4", durable=True), 4)
+            self.assertEqual(self.texts(), [b"1", b"2", b"3", b"4"])
+
+    def in_doubt(self, position: int) -> Callable[..., Iterator[int]]:
+        """The first reply to a commit is lost, and comes to nothing until there is another generation."""
+        harden, cuts = Primary.harden, iter((True,))
+
+        def hardened(one: Primary, blocks: list[Block]) -> Iterator[int]:
+            lsns = list(harden(one, blocks))
+            if next(cuts, False):
+                eventually(lambda: self.keeping.row().archived >= position, "the block in the archive")
+                self.succeed()
+                raise ConnectionLost("the connection was lost before the reply")
+            yield from lsns
+
+        return hardened
+
+    def test_a_commit_in_doubt_whose_position_another_has_is_lost(self) -> None:
+        with self.keeping.primary() as one, self.keeping.primary(id=5) as other:
+            self.commit(one, "1", durable=True)
+            harden, cuts = Primary.harden, iter((True,))
+
+            def hardened(primary: Primary, blocks: list[Block]) -> Iterator[int]:
+                if primary.credentials.id == 2 and next(cuts, False):
+                    self.commit(other, "other", durable=True)
+                    self.succeed()
+                    raise ConnectionLost("the connection was lost before the reply")
+                yield from harden(primary, blocks)
+
+            with patch.object(Primary, "harden", hardened), self.assertRaises(Lost) as lost:
+                self.commit(one, "2")
+            self.assertEqual((lost.exception.position, self.texts()), (2, [b"1", b"other"]))
+            self.assertEqual(self.keeping.place().base, 2)
+
+    def test_a_where_is_held_back_until_the_next_generation_is_published(self) -> None:
+        with self.keeping.primary() as primary:
+            self.commit(primary, "1", durable=True)
+            gate = Gate(self.keeping.url, "NEW.generation > OLD.generation")
+            before = self.succeed(waits=False)
+            gate.somebody_waits()
+            with self.keeping.line() as text:
+                print(f"where shop {before.generation + 1}\nwhere shop", file=text, flush=True)
+                self.assertEqual(text.readline().split()[2], str(before.generation))  # of the second, which does not wait
+                gate.open()
+                self.assertEqual(text.readline().split()[2], str(before.generation + 1))
+                print(f"where shop {before.generation + 9}", file=text, flush=True)  # nobody is about to publish that
+                self.assertEqual(text.readline().split()[2], str(before.generation + 1))
+
+    def test_what_nobody_asked_durable_is_in_the_next_generation(self) -> None:
+        with self.keeping.primary() as primary:
+            self.commit(primary, "1", durable=True)
+            before = self.succeed(waits=False)
+            gate = Gate(self.keeping.url, "NEW.archived > OLD.archived AND NEW.generation = OLD.generation")
+            self.commit(primary, "2")
+            gate.somebody_waits()
+            for number in range(3, 32):
+                self.commit(primary, f"{number}")  # none of these was pulled when the present generation is closed
+            primary.close()  # and nobody writes them again
+            eventually(lambda: "is ready" in self.keeping.said(), "the service of the next generation")
+            gate.open()
+            self.keeping.place(least=before.generation + 1)
+            self.assertEqual((self.texts(), self.keeping.row().base), ([b"%d" % number for number in range(1, 32)], 31))
+
+
+class Thresholds(Succeeding):
+    options = {"audit": 8000, "ttl": 0.8}
+
+    def test_at_half_of_the_list_the_next_generation_is_made(self) -> None:
+        with Writer(self.keeping) as writer:
+            eventually(lambda: self.keeping.place().base > 0 or writer.fault is not None, "a generation with images")
+        self.assertEqual(self.texts(), writer.texts)
+        self.assertRegex(self.keeping.said(), "(?s)its list or its memory is .* begins at position .*, from images at")
+
+
+class TwoKeepers(Succeeding):
+    keepers = "ab"
+
+    def test_a_standby_that_is_behind_follows_and_has_a_place_of_its_own(self) -> None:
+        with self.keeping.primary() as primary, self.keeping.reader(durable_only=True) as reader:
+            self.commit(primary, "1", durable=True)
+            eventually(lambda: 1 in self.keeping.standbys().values(), "a standby")
+            holder = str(self.keeping.row().holder)
+            other = "b" if holder == "a" else "a"
+            self.keeping.kill(other, signal.SIGSTOP)  # its standby stays where it is
+            for number in range(2, 31):
+                self.commit(primary, f"{number}", durable=number == 30)
+            after = self.succeed()
+            self.assertEqual((after.base, self.keeping.row().holder), (30, holder))
+            self.commit(primary, "31", durable=True)
+            self.keeping.kill(other, signal.SIGCONT)
+            eventually(lambda: 31 in self.keeping.standbys().values(), "the rest at the standby")
+            eventually(lambda: reader.end() == 31, "the word of the standby")
+            self.assertEqual((reader.place.shift, reader.page(0, 7).data[:3]), (0, b"<7>"))  # type: ignore[union-attr]
+            os.kill(self.keeping.pid(), signal.SIGKILL)
+            self.assertEqual(self.commit(primary, "32", durable=True), 32)
+            place = self.keeping.place()
+            self.assertEqual((self.keeping.row().holder, place.base, place.shift), (other, 0, 0))
+            # A fresh standby begins with the images.
+            eventually(lambda: any(standby.images == 30 for standby in self.keeping.referee.everything().standbys), "a fresh standby")
+            self.assertEqual(self.texts(), [b"%d" % number for number in range(1, 33)])
+
+
+class Cuts(Succeeding):
+    """A succession that is cut off at the end of each of its steps: the present generation goes on, or the next has all."""
+
+    keepers = ""
+    options = {"ttl": 0.8}
+
+    def cut(self, step: str, deed: str) -> None:
+        """A keeper, the present or the next service dies at the end of the step, or the connection to PostgreSQL; then all go on."""
+        mark = self.keeping.folder / f"{step}-{deed}"
+        self.keeping.keeper = (CUTTING, step, deed, mark)
+        self.keeping.start("a")
+        self.keeping.keeper = ("-m", "pagelog")
+        with Writer(self.keeping, len(self.written)) as writer:
+            writer.has(5)
+            before = self.succeed(waits=False)
+            eventually(mark.exists, "the end of the step")
+            if deed == "keeper":
+                self.keeping.processes["a"].wait(PATIENCE)
+                self.keeping.start("a")
+            # What was asked for comes to pass in the end: it is asked for again, or a take-over has begun from images.
+            self.keeping.place(least=before.generation + 1)
+            writer.has(5)
+        self.written += writer.texts
+        self.assertEqual(self.texts(), self.written, f"{step}: {deed}")
+        self.keeping.kill("a", signal.SIGTERM)
+
+    def cut_each(self, deed: str, *steps: str) -> None:
+        self.written: list[bytes] = []
+        for step in STEPS if IS_LONG else steps:
+            self.cut(step, deed)
+
+    def test_the_keeper_dies(self) -> None:
+        self.cut_each("keeper", "made", "loaded", "switched")
+
+    def test_the_present_service_dies(self) -> None:
+        self.cut_each("present", "fenced", "loaded")
+
+    def test_the_next_service_dies(self) -> None:
+        self.cut_each("next", "filled", "loaded")
+
+    def test_a_line_to_postgresql_is_cut(self) -> None:
+        self.cut_each("away", "switched")
+
+    def test_postgresql_is_away_between_the_fence_and_the_switch(self) -> None:
+        self.keeping.start("a")
+        with Writer(self.keeping) as writer:
+            writer.has(5)
+            gate = Gate(self.keeping.url, "NEW.generation > OLD.generation")
+            before = self.succeed(waits=False)
+            gate.somebody_waits()
+            server = postgres()
+            server.crash()
+            gate._session.close()
+            server.start()
+            with psycopg.connect(self.keeping.url, autocommit=True) as connection:
+                connection.execute("DROP TRIGGER pagelog_gate ON pagelog_log")
+            self.keeping.place(least=before.generation + 1)
+            writer.has(5)
+        self.assertEqual(self.texts(), writer.texts)

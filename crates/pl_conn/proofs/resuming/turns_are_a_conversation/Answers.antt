@@ -1,5 +1,0 @@
-use Rattle.pl_conn.proofs.Finishing.{all_turns}
-use Rattle.pl_conn.proofs.resuming.turns_are_a_conversation.Goals as goal
-
-pub returns : goal.returns
-returns g c = record { law = all_turns _ }

@@ -1,0 +1,145 @@
+"""What the trial sees of the three machines: who leads PostgreSQL, which keeper holds the database, and whether all are well."""
+
+from __future__ import annotations
+
+import json
+import time
+import tomllib
+import urllib.request
+from dataclasses import dataclass
+from pathlib import Path
+from typing import Callable, Iterable
+
+from pagelog.keeper.referee import KeeperError, Referee, digest
+from pagelog.keeper.rows import Row
+from pagelog.place import Keepers
+
+from clients import NAME
+from nodes import ADDRESSES
+
+PATIENCE = 300.0
+"""Seconds for what has to come: on a machine with much else to do anything may take its time."""
+NEAR = 1 << 20
+"""Bytes of PostgreSQL's log that a server which follows may lack."""
+KEEPERS = [f"{address}:7500" for address in ADDRESSES.values()]
+
+
+def eventually(condition: Callable[[], bool], what: str) -> None:
+    """Waits for what has to come."""
+    deadline = time.monotonic() + PATIENCE
+    while not condition():
+        if time.monotonic() > deadline:
+            raise SystemExit(f"trial: in {PATIENCE:.0f} s it did not come: {what}")
+        time.sleep(0.1)
+
+
+def asked(address: str, path: str) -> dict[str, object]:
+    """The JSON that a machine answers; nothing where it does not."""
+    try:
+        with urllib.request.urlopen(f"http://{address}{path}", timeout=2) as reply:
+            return dict(json.load(reply))
+    except (OSError, ValueError):
+        return {}
+
+
+@dataclass(frozen=True)
+class Server:
+    """One of PostgreSQL, as Patroni shows it. `lag` is what it lacks, in bytes; None where that is unknown."""
+
+    role: str
+    timeline: int
+    lag: int | None
+
+
+def server_of(member: dict[str, object]) -> Server:
+    lag = member.get("lag", 0)
+    return Server(str(member["role"]), int(str(member.get("timeline", 0))), lag if isinstance(lag, int) else None)
+
+
+class Cluster:
+    def __init__(self, keeper_file: Path) -> None:
+        self._referee = Referee(tomllib.loads(keeper_file.read_text())["archive"]["url"])
+
+    # PostgreSQL.
+
+    def servers(self, names: Iterable[str] = ADDRESSES) -> dict[str, Server]:
+        """The servers that run, by the first of these machines that answers."""
+        for name in names:
+            members = asked(f"{ADDRESSES[name]}:8008", "/cluster").get("members")
+            if isinstance(members, list):
+                return {member["name"]: server_of(member) for member in members if member["state"] == "running"}
+        return {}
+
+    def leader(self, names: Iterable[str] = ADDRESSES) -> str | None:
+        return next((name for name, server in self.servers(names).items() if server.role == "leader"), None)
+
+    # Keepers.
+
+    def row(self) -> Row | None:
+        """The database as the referee has it; None where PostgreSQL cannot say now."""
+        try:
+            return self._referee.everything().row(NAME)
+        except KeeperError:
+            self._referee.close()
+            return None
+
+    def generation(self) -> int:
+        """Of the place that the keepers name; 0 where nobody serves it now."""
+        keepers = Keepers(NAME, KEEPERS)
+        try:
+            place = keepers.where()
+        finally:
+            keepers.close()
+        return 0 if place is None else place.generation
+
+    def holder(self) -> str:
+        found: list[str] = []
+
+        def is_held() -> bool:
+            row = self.row()
+            found[:] = [row.holder] if row is not None and row.holder is not None and row.address is not None else []
+            return bool(found)
+
+        eventually(is_held, "a holder")
+        return found[0]
+
+    def switch_over(self, to: str) -> None:
+        """Has the database handed over to the keeper of this machine."""
+        self._referee.wish(NAME, to)
+        eventually(lambda: self.holder() == to, f"a switchover to {to}")
+
+    # All of it.
+
+    def is_well(self) -> bool:
+        """Whether each machine has an etcd with a quorum, a server of PostgreSQL that leads or follows, and a keeper that follows."""
+        etcds = [asked(f"{address}:2379", "/health").get("health") == "true" for address in ADDRESSES.values()]
+        return all(etcds) and all(self._servers_follow(name) for name in ADDRESSES) and self._keepers_follow()
+
+    def _servers_follow(self, name: str) -> bool:
+        """Whether two servers follow the third, by what Patroni of this machine says: one that was cut off has another timeline."""
+        servers = self.servers([name]).values()
+        return (sorted(server.role for server in servers) == ["leader", "replica", "sync_standby"]
+                and len({server.timeline for server in servers}) == 1 and all(server.lag is not None and server.lag < NEAR for server in servers))  # fmt: skip
+
+    def _keepers_follow(self) -> bool:
+        """Whether the two keepers that do not hold the database have what is archived now."""
+        row = self.row()
+        if row is None or row.holder is None:
+            return False
+        wanted, others = row.archived, set(ADDRESSES) - {row.holder}
+        deadline = time.monotonic() + 5
+        while time.monotonic() < deadline:
+            look = self._referee.everything()
+            if {each.keeper for each in look.standbys_of(row.id) if each.reached >= wanted} >= others:
+                return True
+            time.sleep(0.2)
+        return False
+
+    def archive(self) -> list[bytes]:
+        """All blocks of the database, in order; they have been compared with the digest of them."""
+        row = self.row()
+        assert row is not None
+        found = [block for piece in self._referee.blocks(row.id, 1, row.archived) for block in piece]
+        if digest(b"", found) != row.chain:
+            raise SystemExit("trial: the digest of the archived blocks is another one")
+        return found

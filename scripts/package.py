@@ -1,0 +1,151 @@
+"""Packs the program, its clients and their tools for Debian: pagelog, pagelog-sqlite and pagelog-tools.
+
+Usage: scripts/package [--quick PROGRAM] [--out FOLDER]
+
+The program is the one that rt has proved and built, crates/pagelog/out/pagelog, byte for byte. It is refused where a source is newer.
+With --quick it is PROGRAM, and version and description say that it is not proved. All else is what git has of this checkout, with
+changes that are not committed yet, and then the version says so. The packages and SHA256SUMS go into FOLDER, by default
+packaging/out/VERSION. The same commit and program give the same bytes.
+"""
+
+import argparse
+import hashlib
+import os
+import pathlib
+import shutil
+import subprocess
+import sys
+import tempfile
+
+from version import ROOT, version_and_kit
+
+PROVED = ROOT / "crates" / "pagelog" / "out" / "pagelog"
+# The folders of a crate of which rt proves it anew where a file has changed.
+PARTS = "src", "specs", "proofs"
+MAINTAINER = "Kayakugli maintainers <maintainers@users.noreply.kayakugli.example>"
+CHANGELOG = """pagelog ({version}) unstable; urgency=medium
+
+  * Commit {commit}.
+  * The program {words}, with {kit}.
+
+ -- {maintainer}  {date}
+"""
+
+
+def fail(text):
+    sys.exit(f"package: {text}")
+
+
+def output(words, **how):
+    """What a command prints, without the last line feed."""
+    try:
+        return subprocess.run(words, check=True, stdout=subprocess.PIPE, text=True, cwd=ROOT, **how).stdout.strip()
+    except OSError as error:
+        fail(error)
+    except subprocess.CalledProcessError as error:
+        fail(f"{' '.join(map(str, words))} failed with status {error.returncode}")
+
+
+class Checkout:
+    """What git has of this checkout: its commit, and a tree with the changes that are not committed."""
+
+    def __init__(self):
+        self.commit, self.minute, self.date = output(["git", "log", "-1", "--format=%H%n%cd%n%cD", "--date=format:%Y%m%d%H%M"]).split("\n")
+        changed = output(["git", "-c", "user.name=package", "-c", "user.email=", "stash", "create"])
+        self.tree, self.is_changed = changed or self.commit, bool(changed)
+
+    def version(self, release, is_proved):
+        """A later commit has a later version, and what is not proved an earlier one than the same that is."""
+        changed, proved = ".changed" if self.is_changed else "", "" if is_proved else "~not.proved"
+        return f"{release}+git{self.minute}.{self.commit[:8]}{changed}{proved}"
+
+    def unpack(self, folder):
+        with subprocess.Popen(["git", "archive", self.tree], cwd=ROOT, stdout=subprocess.PIPE) as archive:
+            subprocess.run(["tar", "-x", "-C", folder], stdin=archive.stdout, check=True)
+        if archive.returncode:
+            fail("git archive failed")
+
+
+def newer_source(program):
+    """A source that is newer than the program, or None."""
+    built = program.stat().st_mtime
+    files = [file for part in PARTS for file in (ROOT / "crates").glob(f"*/{part}/**/*")]
+    return next((file for file in [ROOT / "crates.txt", *files] if file.stat().st_mtime > built), None)
+
+
+def check_program(program, is_proved, release, kit):
+    """It runs, is of this version, and, if it was proved, of these sources."""
+    if not os.access(program, os.X_OK):
+        fail(f"there is no {program}: `rt ci` builds the proved program, and --quick takes another")
+    said, wanted = output([program, "--version"]), f"pagelog {release} ({kit})"
+    if said != wanted:
+        fail(f"{program} is {said}, not {wanted}")
+    newer = newer_source(program) if is_proved else None
+    if newer:
+        fail(f"{newer.relative_to(ROOT)} is newer than {program.relative_to(ROOT)}: prove it again")
+
+
+def identity(kit, is_proved):
+    """The kit, as it names itself where it is at hand."""
+    if not shutil.which("rt"):
+        return fail("who proved it is said by rt, which is not on the PATH") if is_proved else kit
+    said = output(["rt", "version"])
+    if said.split()[0] != kit:
+        fail(f"the program is of {kit}, and rt is {said}")
+    return said
+
+
+def build(folder, checkout, program, facts):
+    """Has dpkg-buildpackage build the packages beside this folder, in which all is that belongs to them."""
+    checkout.unpack(folder)
+    shutil.copytree(folder / "packaging" / "debian", folder / "debian")
+    rules = folder / "debian" / "rules"
+    rules.write_text(f"#!{shutil.which('make')} -f\n" + (folder / "packaging" / "rules.mk").read_text())
+    rules.chmod(0o755)
+    (folder / "debian" / "changelog").write_text(CHANGELOG.format(**facts, maintainer=MAINTAINER, date=checkout.date))
+    # No Python of the user's own, and nothing else of the user.
+    kept = {name: os.environ[name] for name in ("HOME", "TMPDIR") if name in os.environ}
+    said = {name.upper(): text for name, text in facts.items()}
+    environment = {**kept, **said, "PATH": os.defpath, "LC_ALL": "C.UTF-8", "PROGRAM": str(program)}
+    done = subprocess.run(["dpkg-buildpackage", "--build=binary", "--no-sign", "--no-pre-clean"], cwd=folder, env=environment,
+                          stdout=subprocess.PIPE, stderr=subprocess.STDOUT, text=True)
+    if done.returncode:
+        fail("".join(done.stdout.splitlines(True)[-30:]) + "package: not built: the last lines are above")
+
+
+def put(packages, folder):
+    """The packages and their checksums, as the only ones in the folder."""
+    folder.mkdir(parents=True, exist_ok=True)
+    for old in [*folder.glob("*.deb"), *folder.glob("SHA256SUMS")]:
+        old.unlink()
+    for package in packages:
+        shutil.copy(package, folder)
+    sums = [f"{hashlib.sha256(package.read_bytes()).hexdigest()}  {package.name}\n" for package in packages]
+    (folder / "SHA256SUMS").write_text("".join(sums))
+
+
+def main():
+    parser = argparse.ArgumentParser(description=__doc__, formatter_class=argparse.RawDescriptionHelpFormatter)
+    parser.add_argument("--quick", metavar="PROGRAM", type=pathlib.Path, help="a program that is not proved")
+    parser.add_argument("--out", metavar="FOLDER", type=pathlib.Path, help="where the packages go")
+    words = parser.parse_args()
+    program, is_proved = (words.quick or PROVED).resolve(), words.quick is None
+    release, kit = version_and_kit()
+    check_program(program, is_proved, release, kit)
+    checkout = Checkout()
+    facts = {
+        "version": checkout.version(release, is_proved), "release": release, "kit": identity(kit, is_proved),
+        "commit": checkout.commit + (" with changes" if checkout.is_changed else ""), "proved": "yes" if is_proved else "no",
+        "words": "is proved" if is_proved else "is NOT PROVED", "mark": "" if is_proved else ", not proved",
+        "sum": hashlib.sha256(program.read_bytes()).hexdigest(),
+    }  # fmt: skip
+    with tempfile.TemporaryDirectory() as name:
+        folder = pathlib.Path(name) / "pagelog"
+        folder.mkdir()
+        build(folder, checkout, program, facts)
+        out = words.out or ROOT / "packaging" / "out" / facts["version"]
+        put(sorted(folder.parent.glob("*.deb")), out)
+    print(out)
+
+
+main()

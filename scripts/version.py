@@ -1,0 +1,29 @@
+"""The version of the project. Its one place is VERSION of crates/pl_command, which the program prints; where else it has to be written,
+it is compared with that."""
+
+import pathlib
+import re
+import sys
+
+ROOT = pathlib.Path(__file__).resolve().parent.parent
+SOURCE = "crates/pl_command/src/options.rt", r'^const VERSION: &str = "(\S+) \((\S+)\)";$'
+# What says the same.
+ALSO = [("clients/python/src/pagelog/__init__.py", r'^__version__ = "(.*)"$'), ("CHANGELOG.md", r"^## (\d\S*)$")]
+
+
+def found_in(name, pattern):
+    """What the first line of the file has that is like the pattern."""
+    found = re.search(pattern, (ROOT / name).read_text(), flags=re.M)
+    if not found:
+        sys.exit(f"version: {name} has no line {pattern}")
+    return found.groups()
+
+
+def version_and_kit():
+    """The version, and the kit with which the program is proved and compiled. It ends the process where a place says another version."""
+    version, kit = found_in(*SOURCE)
+    for name, pattern in ALSO:
+        (other,) = found_in(name, pattern)
+        if other != version:
+            sys.exit(f"version: {name} says {other}, and {SOURCE[0]} says {version}")
+    return version, kit
