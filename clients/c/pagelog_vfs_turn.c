@@ -30,6 +30,7 @@ static bool waits_on(struct connection *connection) {
     bool goes_on = connection->busy(connection->busy_argument) != 0;
     sqlite3_mutex_enter(database->mutex);
     awaited = -1;
+    pagelog_file_set_waiting(database->file, pagelog_connection_waits_on, connection);
     return goes_on;
 }
 
