@@ -787,7 +787,7 @@ inline check_epoch() {
                     // ..
                     // if (ends_before) return PAGELOG_CONFLICT;
                     // if (outcome != PAGELOG_DONE) return outcome;
-                    // bool is_ours = pagelog_read_mark(page, &found) && found.lsn == mark->lsn &&
+                    // bool is_ours = pagelog_read_mark(file, page, &found) && found.lsn == mark->lsn &&
                     // found.session == mark->session && found.transaction == mark->transaction;
                     // return is_ours ? PAGELOG_DONE : PAGELOG_CONFLICT;
 #ifdef FINDS_ANY_MARK
@@ -838,7 +838,7 @@ inline settle_by_blocks() {
 
 // pagelog_commit.c: settle_doubt
                     // ..
-                    // if (!options->has_operator) return PAGELOG_IN_DOUBT;
+                    // if (!options->has_operator || is_named(file)) return PAGELOG_IN_DOUBT;
                     // file->doubted = mark->lsn;
                     // enum pagelog_outcome outcome = pagelog_take_over(
                     // file->log, options->operator_principal, options->operator_token, pagelog_writing_epoch(file->log));
@@ -893,7 +893,8 @@ inline settle_doubt() {
 // pagelog_commit.c: note_failure
                     // ..
                     // bool is_untouched = pagelog_end(file->log) == end && !pagelog_is_stuck(file->log);
-                    // if (outcome == PAGELOG_FENCED && !pagelog_is_anew(file->log))
+                    // if (is_named(file)) pagelog_become_follower(file);
+                    // else if (outcome == PAGELOG_FENCED && !pagelog_is_anew(file->log))
                     // pagelog_become_follower(file);
                     // else if (!is_untouched || outcome == PAGELOG_IN_DOUBT) file->is_broken = true;
 inline note_failure() {
@@ -912,7 +913,7 @@ inline note_failure() {
                     // ..
                     // file->on_their_way = 0;
                     // ..
-                    // if (file->is_fenced || (outcome == PAGELOG_FENCED && !pagelog_is_anew(file->log)))
+                    // if (is_named(file) || file->is_fenced || (outcome == PAGELOG_FENCED && !pagelog_is_anew(file->log)))
                     // pagelog_become_follower(file); else file->is_broken = true;
                     // ..
 inline lose() {
@@ -939,7 +940,7 @@ inline lose() {
                     // ..
                     // enum pagelog_outcome outcome = pagelog_append_ended(file);
                     // if (outcome == PAGELOG_IN_DOUBT) outcome = settle_doubt(file, &file->mark);
-                    // if (outcome != PAGELOG_DONE) return lose(file, outcome);
+                    // if (outcome != PAGELOG_DONE) return file->is_over ? outcome : lose(file, outcome);
                     // ..
 inline tell() {
     if
@@ -975,6 +976,7 @@ inline end_commit() {
                     // ..
                     // if (outcome == PAGELOG_DONE) outcome = pagelog_append_ended(file);
                     // if (outcome != PAGELOG_DONE) return outcome;
+                    // ..
                     // file->mark = mark;
                     // ..
 #if PARTS > 1

@@ -161,6 +161,10 @@ enum pagelog_outcome pagelog_file_commit(struct pagelog_file *file);
  * has gone on since the begin. Else as of a begin. A commit does so by itself. */
 enum pagelog_outcome pagelog_file_reserve(struct pagelog_file *file);
 
+/* Of a named database: another process may have written since the last begin, so that the next begin and the
+ * next reserve ask. */
+void pagelog_file_doubt(struct pagelog_file *file);
+
 /* A position whose durability is waited for, and who knows of it. */
 struct pagelog_awaited {
     uint64_t position, generation;

@@ -42,6 +42,7 @@ struct named {
     uint64_t glanced;         /* when the keepers were asked last whether the generation goes on */
     uint32_t epoch;           /* the last one whose primary was asked for */
     bool is_closing;          /* that was the keeper, which closes the generation */
+    bool is_doubted;          /* another process may have written since the last begin */
     bool is_gone; /* the transaction that was read is not to be had here: nothing but a begin goes on */
     uint64_t moves, resent;
 };

@@ -142,12 +142,32 @@ static enum pagelog_outcome become_writer(struct pagelog_file *file) {
     return pagelog_end(file->log) > file->mark.lsn ? pagelog_repair(file) : PAGELOG_DONE;
 }
 
+void pagelog_file_doubt(struct pagelog_file *file) {
+    file->named.is_doubted = true;
+    file->is_checked = false;
+}
+
+/* Whether a writer still is one, and nobody has gone on from what it read. */
+static enum pagelog_outcome confirm_writer(struct pagelog_file *file) {
+    struct pagelog_reply status;
+    enum pagelog_outcome outcome = pagelog_status(file->log, PAGELOG_PRIMARY, &status);
+    if (outcome == PAGELOG_DONE && status.hard == file->mark.lsn) return PAGELOG_DONE;
+    if (outcome == PAGELOG_DONE)
+        return pagelog_file_fail(file, PAGELOG_FENCED, "another writer has gone on since: begin again");
+    if (outcome == PAGELOG_FENCED) pagelog_become_follower(file);
+    return outcome;
+}
+
 enum pagelog_outcome pagelog_file_reserve(struct pagelog_file *file) {
     file->reason = NULL;
     if (!is_named(file)) return PAGELOG_DONE;
     if (file->is_over) return pagelog_refuse_until_begin(file);
     if (file->named.is_gone) return pagelog_refuse_gone(file);
     if (file->options.reads_only) return pagelog_file_fail(file, PAGELOG_FENCED, "this file only reads");
+    bool is_doubted = file->named.is_doubted;
+    file->named.is_doubted = false;
+    if (is_writer(file) && is_doubted && confirm_writer(file) == PAGELOG_FENCED && file->reason)
+        return PAGELOG_FENCED;
     if (is_writer(file)) return PAGELOG_DONE;
     enum pagelog_outcome outcome = become_writer(file);
     for (unsigned moves = 0; !file->reason && pagelog_may_move(file, outcome) && moves < MOST_MOVES;

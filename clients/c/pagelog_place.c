@@ -2,7 +2,8 @@
  */
 #include "pagelog_place.h"
 
-#include "pagelog_connection.h"
+#include "pagelog_inside.h"
+#include "pagelog_line.h"
 #include "pagelog_sha256.h"
 
 #include <ctype.h>
@@ -16,7 +17,6 @@
 #include <unistd.h>
 
 enum {
-    LINE_BYTES = 1024,
     ANSWER_MS = 1000,  /* for a connect and an answer that comes at once */
     LATER_MS = 20,     /* for the others, once one has said where the database is */
     SILENCE_MS = 3000, /* for what becomes durable; then another may know more */
@@ -24,47 +24,19 @@ enum {
     MOST_WORDS = 10,
 };
 
-/* A connection to a keeper. */
-struct keeper {
-    char host[PAGELOG_PLACE_BYTES], port[16];
-    int socket;         /* -1: none */
-    bool is_connecting; /* it is not open yet */
-    bool is_asked;      /* its answer is awaited */
-    unsigned refused;   /* addresses of its host that have refused the connect that is being made */
-    unsigned unheard;   /* answers before that, which nobody waits for any more */
-    size_t sent;        /* bytes of the line that have left */
-    char input[LINE_BYTES];
-    size_t length;
-};
-
 struct pagelog_keepers {
     struct pagelog_waiter waiter;
     char name[PAGELOG_PLACE_BYTES];
-    struct keeper keepers[PAGELOG_MOST_KEEPERS + 1]; /* the last one: of the lines that a place has named */
+    struct pagelog_line
+        keepers[PAGELOG_MOST_KEEPERS + 1]; /* the last one: of the lines that a place has named */
     size_t count;
 };
-
-/* ---- Addresses ---- */
-
-/* Splits "HOST:PORT" or "[HOST]:PORT". */
-static bool set_address(struct keeper *keeper, const char *text, size_t length) {
-    const char *colon = memrchr(text, ':', length);
-    size_t host = colon ? (size_t)(colon - text) : 0, port = colon ? length - host - 1 : 0;
-    if (host > 2 && text[0] == '[' && text[host - 1] == ']') {
-        text++;
-        host -= 2;
-    }
-    if (host == 0 || host >= sizeof keeper->host || port == 0 || port >= sizeof keeper->port) return false;
-    snprintf(keeper->host, sizeof keeper->host, "%.*s", (int)host, text);
-    snprintf(keeper->port, sizeof keeper->port, "%.*s", (int)port, colon + 1);
-    return true;
-}
 
 static bool set_addresses(struct pagelog_keepers *keepers, const char *addresses) {
     for (const char *at = addresses; *at;) {
         size_t length = strcspn(at, ",");
         if (keepers->count == PAGELOG_MOST_KEEPERS) return false;
-        if (!set_address(&keepers->keepers[keepers->count++], at, length)) return false;
+        if (!pagelog_line_set_address(&keepers->keepers[keepers->count++], at, length)) return false;
         at += length + (at[length] == ',');
     }
     return keepers->count > 0;
@@ -88,19 +60,9 @@ struct pagelog_keepers *pagelog_keepers_new(const char *addresses, const char *n
     return NULL;
 }
 
-/* Closes a connection; what it has not answered is answered by nobody. */
-static void leave(struct keeper *keeper) {
-    int socket = keeper->socket;
-    keeper->socket = -1; /* first: a fork() between the two must not leave the child a number that is free */
-    if (socket >= 0) close(socket);
-    keeper->is_asked = keeper->is_connecting = false;
-    keeper->unheard = 0;
-    keeper->length = 0;
-}
-
 void pagelog_keepers_abandon(struct pagelog_keepers *keepers) {
     for (size_t i = 0; i <= PAGELOG_MOST_KEEPERS; i++)
-        leave(&keepers->keepers[i]);
+        pagelog_line_leave(&keepers->keepers[i]);
 }
 
 void pagelog_keepers_free(struct pagelog_keepers *keepers) {
@@ -116,98 +78,15 @@ void pagelog_keepers_set_waiting(struct pagelog_keepers *keepers, bool (*goes_on
 
 /* ---- A question ---- */
 
-/* Begins to connect, to the first address of its host that has not refused yet. */
-static void begin_connect(struct keeper *keeper) {
-    struct addrinfo hints = {.ai_family = AF_UNSPEC, .ai_socktype = SOCK_STREAM}, *found = NULL;
-    unsigned number = 0;
-    int one = 1;
-    if (getaddrinfo(keeper->host, keeper->port, &hints, &found) != 0) return;
-    for (struct addrinfo *at = found; at && keeper->socket < 0; at = at->ai_next) {
-        if (number++ < keeper->refused) continue;
-        keeper->socket =
-            socket(at->ai_family, at->ai_socktype | SOCK_NONBLOCK | SOCK_CLOEXEC, at->ai_protocol);
-        if (keeper->socket < 0) continue;
-        setsockopt(keeper->socket, IPPROTO_TCP, TCP_NODELAY, &one, sizeof one);
-        keeper->is_connecting = connect(keeper->socket, at->ai_addr, at->ai_addrlen) != 0;
-        if (keeper->is_connecting && errno != EINPROGRESS) leave(keeper);
-    }
-    freeaddrinfo(found);
-}
-
-/* A connection is gone: it was refused, and the next address is tried, or the question goes unanswered. */
-static void lose(struct keeper *keeper) {
-    bool was_refused = keeper->is_connecting;
-    leave(keeper);
-    if (!was_refused) return;
-    keeper->refused++;
-    begin_connect(keeper);
-    keeper->is_asked = keeper->socket >= 0;
-}
-
-/* Whether an open connection was ended by the keeper, which a question would find out too late. */
-static bool has_ended(const struct keeper *keeper) {
-    char byte;
-    ssize_t count = recv(keeper->socket, &byte, 1, MSG_PEEK | MSG_DONTWAIT);
-    return count == 0 || (count < 0 && errno != EAGAIN && errno != EWOULDBLOCK && errno != EINTR);
-}
-
-static void ask(struct keeper *keeper) {
-    if (keeper->socket >= 0 && has_ended(keeper)) leave(keeper);
-    keeper->refused = 0;
-    if (keeper->socket < 0) begin_connect(keeper);
-    keeper->is_asked = keeper->socket >= 0;
-    keeper->sent = 0;
-}
-
-/* Sends what has not left of the line. False where the connection is gone. */
-static bool send_line(struct keeper *keeper, const char *line, size_t length) {
-    int error = 0;
-    socklen_t size = sizeof error;
-    if (keeper->is_connecting &&
-        (getsockopt(keeper->socket, SOL_SOCKET, SO_ERROR, &error, &size) != 0 || error != 0))
-        return false;
-    keeper->is_connecting = false;
-    ssize_t count =
-        send(keeper->socket, line + keeper->sent, length - keeper->sent, MSG_NOSIGNAL | MSG_DONTWAIT);
-    if (count < 0) return errno == EAGAIN || errno == EWOULDBLOCK || errno == EINTR;
-    keeper->sent += (size_t)count;
-    return true;
-}
-
-/* Reads what has come. False where the connection is gone, or what came is no line. */
-static bool read_input(struct keeper *keeper) {
-    ssize_t count = recv(keeper->socket, keeper->input + keeper->length,
-                         sizeof keeper->input - keeper->length, MSG_DONTWAIT);
-    if (count < 0) return errno == EAGAIN || errno == EWOULDBLOCK || errno == EINTR;
-    keeper->length += (size_t)count;
-    return count > 0 &&
-           (keeper->length < sizeof keeper->input || memchr(keeper->input, '\n', keeper->length));
-}
-
-/* Takes the next answer, without its end; false where it has not come. */
-static bool take_line(struct keeper *keeper, char line[LINE_BYTES]) {
-    char *end;
-    while ((end = memchr(keeper->input, '\n', keeper->length))) {
-        size_t length = (size_t)(end - keeper->input);
-        memcpy(line, keeper->input, length);
-        line[length] = 0;
-        keeper->length -= length + 1;
-        memmove(keeper->input, end + 1, keeper->length);
-        if (keeper->unheard == 0) return true;
-        keeper->unheard--;
-    }
-    return false;
-}
-
 /* One round of a poll: those that are asked send and read. False where nobody is asked, or the wait is over.
  */
 static bool wait_once(struct pagelog_keepers *keepers, const char *line, uint64_t deadline) {
     struct pollfd polled[PAGELOG_MOST_KEEPERS + 1];
-    struct keeper *of[PAGELOG_MOST_KEEPERS + 1];
+    struct pagelog_line *of[PAGELOG_MOST_KEEPERS + 1];
     size_t count = 0, length = strlen(line);
     uint64_t now = pagelog_now();
     for (size_t i = 0; i <= PAGELOG_MOST_KEEPERS; i++) {
-        struct keeper *keeper = &keepers->keepers[i];
+        struct pagelog_line *keeper = &keepers->keepers[i];
         if (!keeper->is_asked) continue;
         bool has_more = keeper->is_connecting || keeper->sent < length;
         polled[count] = (struct pollfd){.fd = keeper->socket, .events = has_more ? POLLOUT : POLLIN};
@@ -219,21 +98,21 @@ static bool wait_once(struct pagelog_keepers *keepers, const char *line, uint64_
     for (size_t i = 0; i < count; i++) {
         bool is_good = true;
         if (polled[i].revents && of[i]->is_connecting | (of[i]->sent < length))
-            is_good = send_line(of[i], line, length);
+            is_good = pagelog_line_send(of[i], line, length);
         else if (polled[i].revents)
-            is_good = read_input(of[i]);
-        if (!is_good) lose(of[i]);
+            is_good = pagelog_line_read(of[i]);
+        if (!is_good) pagelog_line_lose(of[i]);
     }
     return true;
 }
 
 /* The next answer, and from whom; false once all have answered or are gone, or at the deadline. */
 static bool next_answer(struct pagelog_keepers *keepers, const char *line, uint64_t deadline,
-                        char answer[LINE_BYTES]) {
+                        char answer[PAGELOG_LINE_BYTES]) {
     do {
         for (size_t i = 0; i <= PAGELOG_MOST_KEEPERS; i++) {
-            struct keeper *keeper = &keepers->keepers[i];
-            if (!keeper->is_asked || !take_line(keeper, answer)) continue;
+            struct pagelog_line *keeper = &keepers->keepers[i];
+            if (!keeper->is_asked || !pagelog_line_take(keeper, answer)) continue;
             keeper->is_asked = false;
             return true;
         }
@@ -244,13 +123,13 @@ static bool next_answer(struct pagelog_keepers *keepers, const char *line, uint6
 /* Nobody waits for the answers any more. One that has the whole question gives its answer all the same. */
 static void stop_asking(struct pagelog_keepers *keepers, const char *line, bool is_answered_at_once) {
     for (size_t i = 0; i <= PAGELOG_MOST_KEEPERS; i++) {
-        struct keeper *keeper = &keepers->keepers[i];
+        struct pagelog_line *keeper = &keepers->keepers[i];
         if (!keeper->is_asked) continue;
         keeper->is_asked = false;
         if (is_answered_at_once && !keeper->is_connecting && keeper->sent == strlen(line))
             keeper->unheard++;
         else
-            leave(keeper);
+            pagelog_line_leave(keeper);
     }
 }
 
@@ -299,12 +178,12 @@ static bool read_place(char **words, size_t count, struct pagelog_place *place) 
 
 enum pagelog_outcome pagelog_where(struct pagelog_keepers *keepers, uint64_t least,
                                    struct pagelog_place *place) {
-    char line[PAGELOG_PLACE_BYTES + 16], answer[LINE_BYTES], *words[MOST_WORDS];
+    char line[PAGELOG_PLACE_BYTES + 16], answer[PAGELOG_LINE_BYTES], *words[MOST_WORDS];
     uint64_t deadline = pagelog_now() + ANSWER_MS;
     bool is_found = false, is_unknown = false, is_known = false;
     snprintf(line, sizeof line, "where %s\n", keepers->name);
     for (size_t i = 0; i < keepers->count; i++)
-        ask(&keepers->keepers[i]);
+        pagelog_line_ask(&keepers->keepers[i]);
     while (next_answer(keepers, line, deadline, answer)) {
         struct pagelog_place told;
         size_t count = split(answer, words);
@@ -329,25 +208,25 @@ static bool read_fate(char **words, size_t count, uint64_t position, struct page
 }
 
 /* The keeper of these lines, which is given a place of its own where it is none of those that were named. */
-static struct keeper *find_keeper(struct pagelog_keepers *keepers, const char *lines) {
-    struct keeper wanted = {.socket = -1}, *other = &keepers->keepers[PAGELOG_MOST_KEEPERS];
-    if (!lines || !set_address(&wanted, lines, strlen(lines))) return NULL;
+static struct pagelog_line *find_keeper(struct pagelog_keepers *keepers, const char *lines) {
+    struct pagelog_line wanted = {.socket = -1}, *other = &keepers->keepers[PAGELOG_MOST_KEEPERS];
+    if (!lines || !pagelog_line_set_address(&wanted, lines, strlen(lines))) return NULL;
     for (size_t i = 0; i < keepers->count; i++)
         if (strcmp(keepers->keepers[i].host, wanted.host) == 0 &&
             strcmp(keepers->keepers[i].port, wanted.port) == 0)
             return &keepers->keepers[i];
     if (strcmp(other->host, wanted.host) == 0 && strcmp(other->port, wanted.port) == 0) return other;
-    leave(other);
+    pagelog_line_leave(other);
     *other = wanted;
     return other;
 }
 
 /* Asks one keeper. A `durable` that is not answered would be mixed with later answers: the connection is
  * left. */
-static bool ask_fate(struct pagelog_keepers *keepers, struct keeper *keeper, const char *line,
+static bool ask_fate(struct pagelog_keepers *keepers, struct pagelog_line *keeper, const char *line,
                      uint64_t position, struct pagelog_fate *fate) {
-    char answer[LINE_BYTES], *words[MOST_WORDS];
-    ask(keeper);
+    char answer[PAGELOG_LINE_BYTES], *words[MOST_WORDS];
+    pagelog_line_ask(keeper);
     bool is_told = next_answer(keepers, line, pagelog_now() + SILENCE_MS, answer) &&
                    read_fate(words, split(answer, words), position, fate);
     stop_asking(keepers, line, false);
@@ -357,12 +236,12 @@ static bool ask_fate(struct pagelog_keepers *keepers, struct keeper *keeper, con
 enum pagelog_outcome pagelog_fate_of(struct pagelog_keepers *keepers, const char *lines, uint64_t generation,
                                      uint64_t position, struct pagelog_fate *fate) {
     char line[PAGELOG_PLACE_BYTES + 64];
-    struct keeper *first = find_keeper(keepers, lines);
+    struct pagelog_line *first = find_keeper(keepers, lines);
     snprintf(line, sizeof line, "durable %s %llu %llu\n", keepers->name, (unsigned long long)generation,
              (unsigned long long)position);
     if (first && ask_fate(keepers, first, line, position, fate)) return PAGELOG_DONE;
     for (size_t i = 0; i < keepers->count; i++) {
-        struct keeper *keeper = &keepers->keepers[i];
+        struct pagelog_line *keeper = &keepers->keepers[i];
         if (keeper != first && ask_fate(keepers, keeper, line, position, fate)) return PAGELOG_DONE;
     }
     return PAGELOG_LOST;

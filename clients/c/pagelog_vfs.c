@@ -95,10 +95,12 @@
  *
  * Connections of one process that write as one principal to one database share a file, by whatever address
  * they reach it, with the settings of the one that opened it, and lock as SQLite expects. Between processes
- * there are no locks: there is the epoch. A connection that keeps the lock (locking_mode=exclusive) is in one
- * transaction of the file for as long. So after a commit that was in doubt or lost it neither sees what
- * became of it nor commits again, until `PRAGMA locking_mode = normal` and one statement more have given the
- * lock back; and after one that was refused it may be refused all else until then, that statement included.
+ * there are no locks: there is the epoch, and of a named database the turn that its keeper grants: who is
+ * refused SQLITE_LOCK_RESERVED waits for it as long as the busy handler says. A connection that keeps the
+ * lock (locking_mode=exclusive) is in one transaction of the file for as long. So after a commit that was in
+ * doubt or lost it neither sees what became of it nor commits again, until `PRAGMA locking_mode = normal` and
+ * one statement more have given the lock back; and after one that was refused it may be refused all else
+ * until then, that statement included.
  */
 #include "pagelog_vfs.h"
 #include "pagelog_vfs_inside.h"
@@ -189,6 +191,7 @@ static int vfs_randomness(sqlite3_vfs *vfs, int length, char *out) {
 
 static int vfs_sleep(sqlite3_vfs *vfs, int microseconds) {
     (void)vfs;
+    if (pagelog_sleep_for_turn(microseconds)) return microseconds;
     return pagelog_real_vfs->xSleep(pagelog_real_vfs, microseconds);
 }
 

@@ -76,6 +76,7 @@ int pagelog_result_of_begin(struct database *database, enum pagelog_outcome outc
 /* ---- Databases ---- */
 
 static void free_database(struct database *database) {
+    pagelog_turn_leave(&database->turn);
     pagelog_file_free(database->file);
     sqlite3_free(database->room);
     sqlite3_mutex_free(database->mutex);
@@ -115,6 +116,7 @@ static struct database *make_database(const struct pagelog_file_options *options
     database->name = sqlite3_mprintf("%s", options->name);
     database->mutex = sqlite3_mutex_alloc(SQLITE_MUTEX_FAST);
     database->file = pagelog_file_new(options);
+    pagelog_turn_begin(&database->turn, database->is_named ? options->database_name : "");
     take_operator(database, options);
     if (database->key && database->address && database->name && database->kept_name && database->mutex &&
         database->file)
@@ -197,15 +199,6 @@ static int join(struct database *database, const struct pagelog_file_options *op
     take_operator(database, options);
     database->is_take_over_wanted = true;
     return pagelog_take_over_if_wanted(database);
-}
-
-/* SQLite begins again where it is busy, if the transaction has read nothing yet. */
-int pagelog_reserve_database(struct database *database) {
-    enum pagelog_outcome outcome = pagelog_file_reserve(database->file);
-    if (outcome == PAGELOG_DONE) return SQLITE_OK;
-    struct pagelog_file_state state = pagelog_file_state_of(database->file);
-    if (outcome == PAGELOG_FENCED && !state.is_over && !state.is_gone) return SQLITE_BUSY;
-    return pagelog_result_of_begin(database, outcome);
 }
 
 /* One request when a writer opens, and one for each 64th of the list that it has filled itself. */
@@ -296,6 +289,7 @@ static void after_fork_in_child(void) {
         pagelog_file_abandon(database->file);
     for (struct connection *connection = connections; connection; connection = connection->next) {
         connection->database->is_inherited = true;
+        pagelog_turn_leave(&connection->database->turn);
         pagelog_file_abandon(connection->database->file);
         pagelog_disown_connection(connection);
     }

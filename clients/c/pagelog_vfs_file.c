@@ -150,6 +150,7 @@ static int file_write(sqlite3_file *file, const void *bytes, int length, sqlite3
     struct database *database = enter(file);
     int decided = drop_write((struct connection *)file);
     if (decided != SQLITE_NOTFOUND) return leave(database, decided);
+    pagelog_hold_turn((struct connection *)file);
     ((struct connection *)file)->is_committed = false;
     forget_wal((struct connection *)file, bytes, length, offset);
     int code =
@@ -277,6 +278,7 @@ void pagelog_open_connection(struct connection *connection, sqlite3_filename nam
     connection->busy = NULL;
     connection->sqlite = NULL;
     connection->keepers = NULL;
+    connection->wants_turn = false;
     connection->decision = DECIDED;
     connection->synchronous = SYNCHRONOUS_FULL; /* as SQLite begins */
     connection->journal_mode = "delete";

@@ -5,6 +5,7 @@
 
 #include "pagelog_file.h"
 #include "pagelog_place.h"
+#include "pagelog_turn.h"
 
 #ifdef PAGELOG_STATIC
 #include <sqlite3.h>
@@ -43,9 +44,12 @@ struct database {
     bool has_operator;           /* in whose name it is taken over */
     uint32_t operator_principal;
     uint8_t operator_token[PAGELOG_TOKEN_BYTES];
-    bool is_inherited; /* this process is a child of the one that has opened it */
-    bool is_named;     /* by keepers, the addresses of which are `address` then */
-    char *kept_name;   /* the name that they know it by, or NULL */
+    bool is_inherited;          /* this process is a child of the one that has opened it */
+    bool is_named;              /* by keepers, the addresses of which are `address` then */
+    char *kept_name;            /* the name that they know it by, or NULL */
+    struct pagelog_turn turn;   /* to write, among processes */
+    struct connection *turn_of; /* who has it, or waits for it; NULL: nobody */
+    uint64_t turn_since;        /* when it was last looked whether it is wanted back */
     unsigned
         durable_waits;   /* commits that are in the log, and wait until they are durable; others may read */
     bool is_loss_untold; /* the file has lost commits, and no statement has told it */
@@ -82,6 +86,7 @@ struct connection {
     /* Of a named database: who is asked what is durable, while others use the file. */
     struct pagelog_keepers *keepers;
     enum decision decision;
+    bool wants_turn; /* it was refused the turn: the next begin waits for it */
     /* What was set by `PRAGMA synchronous`, `locking_mode` and `journal_mode`. */
     int synchronous;
     bool is_exclusive;
@@ -161,10 +166,6 @@ int pagelog_take_over_if_wanted(struct database *database);
 int pagelog_find_or_open(const struct pagelog_file_options *options, uint64_t entries,
                          struct database **found);
 
-/* Makes the database's file the writer, of a named one: SQLITE_BUSY where another has written since the
- * begin. */
-int pagelog_reserve_database(struct database *database);
-
 /* Gives a reference back; the last one frees the database. */
 void pagelog_release(struct database *database);
 
@@ -190,6 +191,24 @@ void pagelog_open_connection(struct connection *connection, sqlite3_filename nam
 /* After a commit: waits until it is durable, where `synchronous` asks for that. Others may use the database
  * meanwhile. */
 int pagelog_wait_until_durable(struct connection *connection);
+
+/* ---- pagelog_vfs_turn.c: of a named database; of others they do nothing ---- */
+
+/* Before a begin: waits for the turn, where the last try was refused it. SQLITE_BUSY once the busy handler
+ * says so. */
+int pagelog_wait_for_turn(struct connection *connection);
+
+/* Takes the turn, if it is to be had now, and makes the file the writer. SQLITE_BUSY where another has it, or
+ * has written since the begin. */
+int pagelog_reserve_database(struct connection *connection);
+
+/* Gives the turn back, if this connection has it; says that it is in use, if it is wanted back. */
+void pagelog_give_turn(struct connection *connection);
+void pagelog_hold_turn(struct connection *connection);
+
+/* Sleeps until a turn comes that this thread waits for, or the time is over; false where it waits for none.
+ */
+bool pagelog_sleep_for_turn(int microseconds);
 
 /* ---- pagelog_vfs_fork.c ---- */
 

@@ -10,7 +10,9 @@ void pagelog_lower_lock(struct database *database, struct connection *connection
         if (connection->lock == SQLITE_LOCK_EXCLUSIVE) pagelog_file_undo(database->file);
         database->reserved = NULL;
         database->is_pending = false;
+        pagelog_give_turn(connection);
     }
+    if (lock == SQLITE_LOCK_NONE) pagelog_give_turn(connection);
     if (lock == SQLITE_LOCK_NONE) database->sharing--;
     connection->lock = lock;
     connection->decision = DECIDED;
@@ -53,7 +55,7 @@ static int refuse_commit(struct database *database) {
 static int lock_reserved(struct database *database, struct connection *connection) {
     if (database->reserved && database->reserved != connection) return SQLITE_BUSY;
     int code = pagelog_file_may_commit(database->file) ? SQLITE_OK : refuse_commit(database);
-    if (code == SQLITE_OK && !database->reserved) code = pagelog_reserve_database(database);
+    if (code == SQLITE_OK && !database->reserved) code = pagelog_reserve_database(connection);
     if (code == SQLITE_OK) database->reserved = connection;
     return code;
 }
@@ -72,7 +74,9 @@ int pagelog_lock(sqlite3_file *file, int lock) {
     struct database *database = enter(file);
     int code = SQLITE_OK;
     if (lock <= connection->lock) return leave(database, SQLITE_OK);
-    if (connection->lock == SQLITE_LOCK_NONE) code = lock_shared(database);
+    if (connection->lock == SQLITE_LOCK_NONE) code = pagelog_wait_for_turn(connection);
+    if (code == SQLITE_OK && connection->lock == SQLITE_LOCK_NONE) code = lock_shared(database);
+    if (code != SQLITE_OK && connection->lock == SQLITE_LOCK_NONE) pagelog_give_turn(connection);
     if (code == SQLITE_OK && connection->lock == SQLITE_LOCK_NONE) connection->lock = SQLITE_LOCK_SHARED;
     if (code == SQLITE_OK && lock == SQLITE_LOCK_RESERVED) code = lock_reserved(database, connection);
     if (code == SQLITE_OK && lock == SQLITE_LOCK_EXCLUSIVE) code = lock_exclusive(database, connection);

@@ -38,16 +38,20 @@ def named(keeper, principal=2, **more):
     return sqlite_of(keeper.address, more.pop("name", keeper.name), principal, **more)
 
 
-def sqlite_of(keepers, name, principal, **more):
+def sqlite_of(keepers, database, principal, **more):
     """A connection to a database that keepers know by name."""
-    parts = {"vfs": "pagelog", "where": keepers, "name": name, "id": principal, "token": TOKENS[principal], "timeout": 300000,
+    timeout = more.pop("busy", 300.0)
+    return sqlite3.connect(uri_of(keepers, database, principal, **more), uri=True, isolation_level=None, timeout=timeout,
+                           check_same_thread=False)
+
+
+def uri_of(keepers, database, principal, **more):
+    parts = {"vfs": "pagelog", "where": keepers, "name": database, "id": principal, "token": TOKENS[principal], "timeout": 300000,
              "move": 300000}
     if "mode" not in more and "at" not in more:
         parts.update(op=1, optoken=TOKENS[1])
-    timeout = more.pop("busy", 300.0)
     parts.update(more)
-    text = "file:test?" + "&".join(f"{key}={value}" for key, value in parts.items())
-    return sqlite3.connect(text, uri=True, isolation_level=None, timeout=timeout, check_same_thread=False)
+    return "file:test?" + "&".join(f"{key}={value}" for key, value in parts.items())
 
 
 def numbers(connection, *names):

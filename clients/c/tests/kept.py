@@ -1,7 +1,7 @@
 """The torture of databases of real keepers: a writer and four readers, each a process, while services and keepers are killed and stand
 still, databases change hands and PostgreSQL is started anew. What was acknowledged is in the end compared with the ledger.
 
-Usage: kept.py SECONDS [SEED] [full|normal]
+Usage: kept.py SECONDS [SEED] [full|normal] [teller|write ..]     (writers beside the first one, in C or in Python)
 """
 
 import json
@@ -26,13 +26,17 @@ READERS = (("read", "plain"), ("read", "plain"), ("read", "durable"), ("read", "
 
 
 class Client:
-    """A process of kept_client.py; its lines go to a file."""
+    """A process of kept_client.py, or the program in C; its lines go to a file."""
 
     def __init__(self, keeping, number, kind, principal, level):
         self.kind, self.level = kind, level
         self.file = keeping.folder / f"client{number}"
         environment = {**os.environ, "PYTHONDONTWRITEBYTECODE": "1"}
-        words = [sys.executable, "-B", str(HERE / "kept_client.py"), kind, ",".join(keeping.addresses), NAME, str(principal), level]
+        addresses = ",".join(keeping.addresses)
+        words = [sys.executable, "-B", str(HERE / "kept_client.py"), kind, addresses, NAME, str(principal), level]
+        if kind == "teller":
+            uri = f"file:test?where={addresses}&name={NAME}&id={principal}&token={str(principal) * 32}&op=1&optoken={'1' * 32}&check=50&move=300000"
+            words = [str(HERE.parent / "out" / "teller"), uri, level]
         self.process = subprocess.Popen(words, stdin=subprocess.PIPE, stdout=self.file.open("w"), stderr=subprocess.STDOUT, text=True,
                                         env=environment)
 
@@ -54,8 +58,8 @@ class Client:
 
 
 class Torture:
-    def __init__(self, seconds, seed, level):
-        self.seconds, self.chance, self.level = seconds, random.Random(seed), level
+    def __init__(self, seconds, seed, level, writers):
+        self.seconds, self.chance, self.level, self.writers = seconds, random.Random(seed), level, writers
         self.keeping = Keeping(ttl=1.5)
         self.done = Counter()
 
@@ -136,12 +140,13 @@ class Torture:
             keeping.referee.create(NAME, (HERE.parent / "table.toml").read_text(), b"s" * 16)
             keeping.start("a", "b", "c")
             keeping.place(NAME)
-            writer = Client(keeping, 0, "write", 2, self.level)
-            eventually(lambda: any("done" in line for line in writer.lines()) or writer.process.poll() is not None, "a first transaction")
+            first = Client(keeping, 0, "write", 2, self.level)
+            eventually(lambda: any("done" in line for line in first.lines()) or first.process.poll() is not None, "a first transaction")
+            writers = [first] + [Client(keeping, 50 + number, kind, 2, self.level) for number, kind in enumerate(self.writers)]
             readers = [Client(keeping, number, *what[:1], 3, what[1]) for number, what in enumerate(READERS, 1)]
             try:
                 self.happens()
-                lines = writer.end()
+                lines = [line for writer in writers for line in writer.end()]
                 looks = [reader.end() for reader in readers]
                 self.compare(keeping, lines, looks)
             except BaseException:
@@ -154,9 +159,9 @@ class Torture:
         last = Client(keeping, 99, "ledger", 3, "durable")
         found = {line["number"]: line["hash"] for line in last.end() if "number" in line}
         lost = sorted(number for number, hash in acknowledged.items() if found.get(number) != hash)
-        [end] = [line for line in lines if "end" in line]
+        ends = [line for line in lines if "end" in line]
         print(f"kept: {self.level}: {len(acknowledged)} acknowledged, {len(lost)} lost {lost[:5]}, told {dict(told)}; the longest statement "
-              f"{end['longest']:.2f} s, {end['moves']} moves, {end['resent']} blocks sent again")
+              f"{max(end['longest'] for end in ends):.2f} s, {ends[0]['moves']} moves, {ends[0]['resent']} blocks sent again")
         for line in [line for line in lines if "told" in line][:5]:
             print("kept:   ", line)
         print(f"kept: {dict(self.done)}")
@@ -166,4 +171,4 @@ class Torture:
 
 if __name__ == "__main__":
     words = sys.argv[1:] + ["", "", ""]
-    Torture(float(words[0] or 30), int(words[1] or 1), words[2] or "full").run()
+    Torture(float(words[0] or 30), int(words[1] or 1), words[2] or "full", [word for word in words[3:] if word]).run()

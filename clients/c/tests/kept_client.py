@@ -6,7 +6,6 @@ Usage: kept_client.py write|read|ledger KEEPERS NAME PRINCIPAL LEVEL
 A writer moves money between two tables, and enters each transfer into a ledger, the rows of which have a hash of the row before.
 """
 
-import hashlib
 import json
 import random
 import sqlite3
@@ -76,10 +75,9 @@ def write(connection, seed):
         count += 1
         try:
             number, text = transfer(execute, count, chance)
-            say(done=number, hash=hashlib.sha256(text.encode()).hexdigest())
+            say(done=number, hash=hash_of("", text))
         except sqlite3.Error as error:
-            say(told=getattr(error, "sqlite_errorname", str(error)), why=code_of(lambda: None) or one(connection, "pragma pagelog_error"),
-                losses=one(connection, "pragma pagelog_losses"))
+            say(told=getattr(error, "sqlite_errorname", str(error)), why=one(connection, "pragma pagelog_error"))
             if connection.in_transaction:
                 code_of(lambda: connection.execute("rollback"))
     say(end=True, longest=execute.longest, resent=one(connection, "pragma pagelog_resent"), moves=one(connection, "pragma pagelog_moves"))
@@ -124,7 +122,7 @@ def read(connection, is_durable):
 
 def ledger(connection):
     for number, text in connection.execute("select number, text from ledger order by number"):
-        say(number=number, hash=hashlib.sha256(text.encode()).hexdigest())
+        say(number=number, hash=hash_of("", text))
     look(connection, True)
 
 

@@ -55,6 +55,7 @@ PARTS = {
     "test_quick": "few blocks, pulled and kept without a thread",
     "test_runs": "a run of a service, its tokens and its process",
     "test_machine": "what a keeper decides",
+    "test_turns": "whose turn it is to write",
     "test_disks": "what durable means without a standby of PostgreSQL",
     "test_soak": "named databases that live on for a while",
     "test_images": "images of pages, and blocks of them",

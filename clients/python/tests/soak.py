@@ -170,16 +170,16 @@ class Soak:
         for name in NAMES:
             keeping.place(name)
         clients = [self.client(what, name) for name in NAMES for what in ("write", "read")]
-        ends, due = time.monotonic() + self.seconds, time.monotonic() + 5
+        ends, before, due = time.monotonic() + self.seconds, 0, time.monotonic() + 30
         with psycopg.connect(keeping.url, autocommit=True) as probe:
             probe.execute("CREATE TABLE IF NOT EXISTS probe (n integer)")
             while time.monotonic() < ends or self.successions() < self.least:
                 self.measure(probe)
-                if time.monotonic() >= due:
+                if self.successions() > before or time.monotonic() >= due:  # a death begins a list anew
                     fault = self.chance.choice(self.faults)
                     self.kills[fault.__name__] += 1
                     fault()
-                    due = time.monotonic() + self.chance.uniform(4, 10)
+                    before, due = self.successions() + self.chance.randrange(3), time.monotonic() + 30
                 time.sleep(0.5)
         (keeping.folder / STOP).touch()
         violations = [f"a client ended with status {status}" for status in [client.wait(180) for client in clients] if status != 0]
@@ -223,12 +223,13 @@ class Soak:
         return [f"{name}: {cell} has {texts[cell]!r} and not {text!r}" for cell, text in wanted.items() if texts[cell] != text]
 
     def unbounded(self) -> list[str]:
-        """Which curves go on rising."""
+        """Which curves go on rising, where all of them had the time to come to rest."""
         found = []
         for what, curve in list(self.curves.items())[:4]:
-            half = len(curve) // 2
-            if half > 20 and max(curve[half:]) > 2 * max(curve[:half]):
-                found.append(f"{what} rose from {max(curve[:half]):.0f} to {max(curve[half:]):.0f}")
+            third = len(curve) // 3
+            middle, end = max(curve[third : 2 * third], default=0.0), max(curve[2 * third :], default=0.0)
+            if self.successions() >= 30 and end > 1.5 * middle:
+                found.append(f"{what} rose from {middle:.0f} to {end:.0f}")
         return found
 
     # What is said of it.

@@ -9,6 +9,6 @@ from soak import Soak
 
 class Short(unittest.TestCase):
     def test_databases_live_on_over_successions_and_kills(self) -> None:
-        soak = Soak(10, 1, least=3, audit=4000)
+        soak = Soak(5, 1, 100.0, least=3, audit=2000)
         self.addCleanup(soak.stop)
         self.assertEqual(soak.run(), 0)

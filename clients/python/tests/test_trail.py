@@ -12,6 +12,7 @@ from pathlib import Path
 
 import pagelog
 from pagelog import Address, Operator
+from pagelog.archive import Archive
 from pagelog.errors import AuditListFull
 from pagelog.reply import LINE_SIZE, Entry, encode_entry
 from pagelog.request import AUDIT_MAX
@@ -183,6 +184,8 @@ class Kept(Folder):
         for zombie in (old, TrailKeeper(self.operator, self.trail, generation=3)):
             self.assertRaises(OtherKeeper, zombie.step)
         self.assertEqual([one.ended for one in self.trail.lists()][1:], [None])
+        with Archive(self.url, "shop", create=True) as archive:  # which is no named database's
+            self.assertTrue(archive.begins_with_blocks(3))
 
     def test_a_full_list_ends_and_says_so(self) -> None:
         with Service(audit=50) as service, service.operator() as operator, service.primary() as primary:

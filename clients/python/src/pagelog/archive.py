@@ -114,6 +114,7 @@ class Archive:
             raise NoArchive("there is no archive at this URL") from error
         if row is None:
             raise NoArchive(f"the archive has no log {self.log!r}: it has {', '.join(self._names()) or 'none'}")
+        self._is_kept = row.format in KEPT_FORMATS
         if row.format not in self._formats:
             raise ArchiveError(f"the log has format {row.format}, and this program reads {FORMAT}")
         return int(row.id)
@@ -132,9 +133,9 @@ class Archive:
 
     def begins_with_blocks(self, generation: int) -> bool:
         """Whether a service of this generation began with block 1, and all blocks since are kept. Else it began with images of pages,
-        or what was below a base of them is pruned. A log that is no named database has generation 0, and begins so.
+        or what was below a base of them is pruned. A log that is no named database begins so.
         """
-        if generation == 0:
+        if not self._is_kept:
             return True
         images = sql.text("SELECT images FROM pagelog_generation WHERE log = :log AND generation = :generation")
         with self.engine.begin() as connection:

@@ -289,8 +289,7 @@ class Database:
     async def _close(self) -> bool:
         """Fence, the rest into the archive, release: nothing is lost, not even what nobody has asked durable."""
         served = self.own
-        if self.work.archiver is not None:
-            await self.work.archiver.reached(served.hard)  # before, so that less is to be done while nobody may write
+        await self.work.catch_up(served.hard)
         try:
             await self.succession.give_up()
             end = await asyncio.to_thread(served.close)

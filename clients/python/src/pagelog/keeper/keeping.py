@@ -26,6 +26,7 @@ from pagelog.keeper.served import seconds
 from pagelog.keeper.session import Session
 from pagelog.keeper.settings import Settings
 from pagelog.keeper.shared import Shared
+from pagelog.keeper.turns import AllTurns
 
 if TYPE_CHECKING:
     from pagelog.keeper.recorder import Trails
@@ -55,6 +56,7 @@ class Keeper:
                               self._changed, self._trails())  # fmt: skip
         self._server = Server(self)
         self._places = Places(self.where)
+        self._turns = AllTurns()
         self._lives: dict[str, Stillness] = {}
         self._living: set[str] = set()
         self.synchronous = Synchronous()
@@ -212,6 +214,7 @@ class Keeper:
         for id in self.databases.keys() - {row.id for row in self.look.rows}:
             self.databases[id].lose()
         self._may_have = False
+        self._turns.look(self._held)
 
     def _see_lives(self) -> None:
         now = seconds()
@@ -298,9 +301,19 @@ class Keeper:
         """Answers from the archive, once PostgreSQL has."""
         self._shared.spawn(tell_block(self._session, line, name, position), name)
 
+    def _held(self, name: str) -> int | None:
+        """The generation of it that is held here."""
+        database = self._named(name)
+        return database.served.generation if database is not None and database.holds and database.served is not None else None
+
+    def turn(self, line: Line, words: list[str]) -> None:
+        """Answers now or later."""
+        self._turns.take(line, words, self._held(words[1]))
+
     def gone(self, line: Line) -> None:
         """Nobody waits over it any more."""
         self._places.gone(line)
+        self._turns.gone(line)
         for database in self.databases.values():
             database.waits.gone(line)
 

@@ -10,6 +10,7 @@ they answer.
                                     above NAME GENERATION M: there is no N; the service ends at M
                                     elsewhere NAME GENERATION: ask `where` again
     block NAME N                    block NAME N DIGEST: the SHA-256 of the archived block at position N | block NAME N -: none is there
+    turn NAME ..                    whose turn it is to write: turns.py
 
 All numbers are positions: an LSN of the service is a position less SHIFT. BASE is the position whose images the service began
 with: below it nothing can be read there. It is 0 where the service has the log from its first block. KEPT is where the
@@ -60,6 +61,9 @@ class Answers(Protocol):
 
     def block(self, line: Line, name: str, position: int) -> None:
         """Writes the answer to `block`."""
+
+    def turn(self, line: Line, words: list[str]) -> None:
+        """Answers the lines of turns, at once or later."""
 
     def gone(self, line: Line) -> None:
         """The client is gone, and waits for nothing."""
@@ -114,5 +118,7 @@ class Server:
                 self._answers.durable(line, name, int(generation), int(position))
             case ["block", name, position]:
                 self._answers.block(line, name, int(position))
+            case ["turn" | "back" | "hold", _, *_]:
+                self._answers.turn(line, words)
             case _:
                 line.say("what", *words[:1])

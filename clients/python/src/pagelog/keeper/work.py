@@ -76,6 +76,13 @@ class Work:
         if self.archiver is not None:
             self.archiver.stir()
 
+    async def catch_up(self, end: int) -> None:
+        """Archives up to this position, if that takes no longer than a look: less is left for when nobody may write."""
+        if self.archiver is not None:
+            reached = asyncio.ensure_future(self.archiver.reached(end))
+            await asyncio.wait({reached}, timeout=self._shared.settings.ttl / 4)
+            reached.cancel()
+
     async def recorded(self, recorder: Recorder | None) -> None:
         """What the audit list has is kept too, if that can be had soon."""
         if recorder is not None:

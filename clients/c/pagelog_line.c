@@ -1,0 +1,114 @@
+/* One connection to a keeper: how it is opened, asked and read. */
+#include "pagelog_line.h"
+
+#include <errno.h>
+#include <netdb.h>
+#include <netinet/tcp.h>
+#include <stdio.h>
+#include <string.h>
+#include <sys/socket.h>
+#include <unistd.h>
+
+/* Splits "HOST:PORT" or "[HOST]:PORT". */
+bool pagelog_line_set_address(struct pagelog_line *line, const char *text, size_t length) {
+    const char *colon = memrchr(text, ':', length);
+    size_t host = colon ? (size_t)(colon - text) : 0, port = colon ? length - host - 1 : 0;
+    if (host > 2 && text[0] == '[' && text[host - 1] == ']') {
+        text++;
+        host -= 2;
+    }
+    if (host == 0 || host >= sizeof line->host || port == 0 || port >= sizeof line->port) return false;
+    snprintf(line->host, sizeof line->host, "%.*s", (int)host, text);
+    snprintf(line->port, sizeof line->port, "%.*s", (int)port, colon + 1);
+    return true;
+}
+
+/* Closes a connection; what it has not answered is answered by nobody. */
+void pagelog_line_leave(struct pagelog_line *line) {
+    int socket = line->socket;
+    line->socket = -1; /* first: a fork() between the two must not leave the child a number that is free */
+    if (socket >= 0) close(socket);
+    line->is_asked = line->is_connecting = false;
+    line->unheard = 0;
+    line->length = 0;
+}
+
+/* Begins to connect, to the first address of its host that has not refused yet. */
+static void begin_connect(struct pagelog_line *line) {
+    struct addrinfo hints = {.ai_family = AF_UNSPEC, .ai_socktype = SOCK_STREAM}, *found = NULL;
+    unsigned number = 0;
+    int one = 1;
+    if (getaddrinfo(line->host, line->port, &hints, &found) != 0) return;
+    for (struct addrinfo *at = found; at && line->socket < 0; at = at->ai_next) {
+        if (number++ < line->refused) continue;
+        line->socket = socket(at->ai_family, at->ai_socktype | SOCK_NONBLOCK | SOCK_CLOEXEC, at->ai_protocol);
+        if (line->socket < 0) continue;
+        setsockopt(line->socket, IPPROTO_TCP, TCP_NODELAY, &one, sizeof one);
+        line->is_connecting = connect(line->socket, at->ai_addr, at->ai_addrlen) != 0;
+        if (line->is_connecting && errno != EINPROGRESS) pagelog_line_leave(line);
+    }
+    freeaddrinfo(found);
+}
+
+/* A connection is gone: it was refused, and the next address is tried, or the question goes unanswered. */
+void pagelog_line_lose(struct pagelog_line *line) {
+    bool was_refused = line->is_connecting;
+    pagelog_line_leave(line);
+    if (!was_refused) return;
+    line->refused++;
+    begin_connect(line);
+    line->is_asked = line->socket >= 0;
+}
+
+/* Whether an open connection was ended by the keeper, which a question would find out too late. */
+static bool has_ended(const struct pagelog_line *line) {
+    char byte;
+    ssize_t count = recv(line->socket, &byte, 1, MSG_PEEK | MSG_DONTWAIT);
+    return count == 0 || (count < 0 && errno != EAGAIN && errno != EWOULDBLOCK && errno != EINTR);
+}
+
+void pagelog_line_ask(struct pagelog_line *line) {
+    if (line->socket >= 0 && has_ended(line)) pagelog_line_leave(line);
+    line->refused = 0;
+    if (line->socket < 0) begin_connect(line);
+    line->is_asked = line->socket >= 0;
+    line->sent = 0;
+}
+
+/* Sends what has not left of the line. False where the connection is gone. */
+bool pagelog_line_send(struct pagelog_line *line, const char *text, size_t length) {
+    int error = 0;
+    socklen_t size = sizeof error;
+    if (line->is_connecting &&
+        (getsockopt(line->socket, SOL_SOCKET, SO_ERROR, &error, &size) != 0 || error != 0))
+        return false;
+    line->is_connecting = false;
+    ssize_t count = send(line->socket, text + line->sent, length - line->sent, MSG_NOSIGNAL | MSG_DONTWAIT);
+    if (count < 0) return errno == EAGAIN || errno == EWOULDBLOCK || errno == EINTR;
+    line->sent += (size_t)count;
+    return true;
+}
+
+/* Reads what has come. False where the connection is gone, or what came is no line. */
+bool pagelog_line_read(struct pagelog_line *line) {
+    ssize_t count =
+        recv(line->socket, line->input + line->length, sizeof line->input - line->length, MSG_DONTWAIT);
+    if (count < 0) return errno == EAGAIN || errno == EWOULDBLOCK || errno == EINTR;
+    line->length += (size_t)count;
+    return count > 0 && (line->length < sizeof line->input || memchr(line->input, '\n', line->length));
+}
+
+/* Takes the next answer, without its end; false where it has not come. */
+bool pagelog_line_take(struct pagelog_line *line, char text[PAGELOG_LINE_BYTES]) {
+    char *end;
+    while ((end = memchr(line->input, '\n', line->length))) {
+        size_t length = (size_t)(end - line->input);
+        memcpy(text, line->input, length);
+        text[length] = 0;
+        line->length -= length + 1;
+        memmove(line->input, end + 1, line->length);
+        if (line->unheard == 0) return true;
+        line->unheard--;
+    }
+    return false;
+}

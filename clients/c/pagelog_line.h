@@ -1,0 +1,42 @@
+/* A line to a keeper: one connection, over which lines of text go both ways. It knows what no line means. */
+#ifndef PAGELOG_LINE_H
+#define PAGELOG_LINE_H
+
+#include "pagelog_place.h"
+
+enum { PAGELOG_LINE_BYTES = 1024 };
+
+struct pagelog_line {
+    char host[PAGELOG_PLACE_BYTES], port[16];
+    int socket;         /* -1: none */
+    bool is_connecting; /* it is not open yet */
+    bool is_asked;      /* its answer is awaited */
+    unsigned refused;   /* addresses of its host that have refused the connect that is being made */
+    unsigned unheard;   /* answers before that, which nobody waits for any more */
+    size_t sent;        /* bytes of the question that have left */
+    char input[PAGELOG_LINE_BYTES];
+    size_t length;
+};
+
+/* Splits "HOST:PORT" or "[HOST]:PORT"; false where it is none. */
+bool pagelog_line_set_address(struct pagelog_line *line, const char *text, size_t length);
+
+/* Closes it; what it has not answered is answered by nobody. */
+void pagelog_line_leave(struct pagelog_line *line);
+
+/* Begins a question: connects where it is not connected, or no longer. */
+void pagelog_line_ask(struct pagelog_line *line);
+
+/* The connection is gone: it was refused, and the next address is tried, or the question goes unanswered. */
+void pagelog_line_lose(struct pagelog_line *line);
+
+/* Sends what has not left of the question. False where the connection is gone. */
+bool pagelog_line_send(struct pagelog_line *line, const char *text, size_t length);
+
+/* Reads what has come, without waiting. False where the connection is gone, or what came is no line. */
+bool pagelog_line_read(struct pagelog_line *line);
+
+/* Takes the next answer, without its end; false where it has not come. */
+bool pagelog_line_take(struct pagelog_line *line, char text[PAGELOG_LINE_BYTES]);
+
+#endif

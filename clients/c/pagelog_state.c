@@ -1,0 +1,110 @@
+/* What is known of a file, and what is asked for it beside its transactions. */
+#include "pagelog_move.h"
+
+#include <stdio.h>
+#include <string.h>
+
+/* ---- The audit list ---- */
+
+/* Learns whether there is an operator to ask for, and settles what is on its way. */
+static enum pagelog_outcome prepare_to_ask(struct pagelog_file *file, struct pagelog_operator *who) {
+    const struct pagelog_file_options *options = &file->options;
+    if (!options->has_operator)
+        return pagelog_file_fail(file, PAGELOG_DENIED, "there is no operator to ask for");
+    who->principal = options->operator_principal;
+    memcpy(who->token, options->operator_token, PAGELOG_TOKEN_BYTES);
+    return pagelog_file_settle(file);
+}
+
+enum pagelog_outcome pagelog_file_has_entry(struct pagelog_file *file, uint64_t number, bool *has) {
+    struct pagelog_operator who;
+    enum pagelog_outcome outcome = prepare_to_ask(file, &who);
+    *has = false;
+    return outcome == PAGELOG_DONE ? pagelog_has_entry(file->log, &who, number, has) : outcome;
+}
+
+enum pagelog_outcome pagelog_file_count_entries(struct pagelog_file *file, uint64_t *count) {
+    struct pagelog_operator who;
+    enum pagelog_outcome outcome = prepare_to_ask(file, &who);
+    return outcome == PAGELOG_DONE ? pagelog_count_entries(file->log, &who, count) : outcome;
+}
+
+/* ---- What is known ---- */
+
+const struct pagelog_reply *pagelog_file_refused(const struct pagelog_file *file) {
+    return pagelog_refused(file->log);
+}
+
+bool pagelog_file_may_commit(const struct pagelog_file *file) {
+    return is_named(file) ? !file->options.reads_only : is_writer(file) && !file->is_broken;
+}
+
+bool pagelog_file_is_named(const struct pagelog_file *file) {
+    return is_named(file);
+}
+
+uint64_t pagelog_file_losses(const struct pagelog_file *file) {
+    return file->losses;
+}
+
+uint64_t pagelog_file_lsn(const struct pagelog_file *file) {
+    return file->mark.lsn;
+}
+
+void pagelog_file_set_check(struct pagelog_file *file, unsigned check_ms) {
+    file->options.check_ms = check_ms;
+}
+
+void pagelog_file_set_unwaited(struct pagelog_file *file, unsigned unwaited) {
+    file->options.unwaited = unwaited;
+}
+
+void pagelog_file_set_spin(struct pagelog_file *file, unsigned spin_us) {
+    pagelog_set_spin(file->log, spin_us);
+}
+
+struct pagelog_file_state pagelog_file_state_of(const struct pagelog_file *file) {
+    return (struct pagelog_file_state){
+        .is_writer = is_writer(file),
+        .is_fenced = file->is_fenced,
+        .is_broken = file->is_broken,
+        .is_stale = file->is_stale,
+        .is_anew = pagelog_is_anew(file->log),
+        .is_foreign = file->is_foreign,
+        .is_misnamed = file->is_misnamed,
+        .is_over = file->is_over,
+        .is_named = is_named(file),
+        .is_gone = file->named.is_gone,
+        .generation = file->named.place.generation,
+        .position = file->mark.lsn > 0 ? position_of(file, file->mark.lsn) : 0,
+        .durable = file->named.durable,
+        .committed = file->named.own,
+        .moves = file->named.moves,
+        .resent = file->named.resent,
+        .lsn = file->mark.lsn,
+        .end = pagelog_end(file->log),
+        .size = file->mark.size,
+        .transaction = file->mark.transaction,
+        .epoch = pagelog_epoch(file->log),
+        .writing_epoch = pagelog_writing_epoch(file->log),
+        .zone = pagelog_zone_of(file->log),
+        .cached_pages = pagelog_cache_count(file->cache),
+        .check_ms = file->options.check_ms,
+        .spin_us = pagelog_spin(file->log),
+        .unwaited = file->options.unwaited,
+        .on_their_way = file->on_their_way,
+        .losses = file->losses,
+        .commits = file->commits,
+        .repairs = file->repairs,
+        .pages_fetched = file->pages_fetched,
+        .blocks_written = file->blocks_written,
+        .wire = pagelog_counts_of(file->log),
+    };
+}
+
+void pagelog_file_explain(const struct pagelog_file *file, char *text, size_t room) {
+    if (file->reason)
+        snprintf(text, room, "%s: %s", pagelog_outcome_name(file->failed), file->reason);
+    else
+        pagelog_explain(file->log, text, room);
+}

@@ -1,0 +1,129 @@
+/* The lines of a turn. */
+#include "pagelog_turn.h"
+
+#include "pagelog_common.h"
+
+#include <poll.h>
+#include <stdio.h>
+#include <string.h>
+
+enum { ANSWER_MS = 1000, SHUNNED_MS = 1000 };
+
+void pagelog_turn_begin(struct pagelog_turn *turn, const char *name) {
+    *turn = (struct pagelog_turn){.line = {.socket = -1}};
+    snprintf(turn->name, sizeof turn->name, "%s", name);
+}
+
+void pagelog_turn_leave(struct pagelog_turn *turn) {
+    pagelog_line_leave(&turn->line);
+    turn->is_asked = turn->is_held = turn->is_same = turn->is_kept = turn->is_wanted = false;
+}
+
+/* The keeper does not answer: it is asked again later, and meanwhile nobody. */
+static enum pagelog_outcome lose(struct pagelog_turn *turn) {
+    pagelog_turn_leave(turn);
+    turn->shunned = pagelog_now() + SHUNNED_MS;
+    return PAGELOG_LOST;
+}
+
+/* Takes a line: false where it is none of a turn. */
+static bool take(struct pagelog_turn *turn, char *text) {
+    char word[16], name[PAGELOG_PLACE_BYTES], how[16] = "", kept[16] = "";
+    if (sscanf(text, "%15s %255s %15s %15s", word, name, how, kept) < 2) return false;
+    if (strcmp(word, "wanted") == 0) {
+        turn->is_wanted = true;
+    } else if (strcmp(word, "turn") == 0) {
+        turn->is_asked = turn->is_wanted = false;
+        turn->is_held = true;
+        turn->is_same = strcmp(how, "same") == 0;
+        turn->is_kept = strcmp(kept, "kept") == 0;
+    } else if (strcmp(word, "busy") == 0) {
+        turn->is_asked = false;
+    } else {
+        return false;
+    }
+    return true;
+}
+
+enum pagelog_outcome pagelog_turn_look(struct pagelog_turn *turn) {
+    char text[PAGELOG_LINE_BYTES];
+    if (turn->line.socket < 0) return PAGELOG_LOST;
+    bool is_good = pagelog_line_read(&turn->line);
+    while (pagelog_line_take(&turn->line, text))
+        if (!take(turn, text)) return lose(turn);
+    if (!is_good) return lose(turn);
+    return turn->is_held ? PAGELOG_DONE : PAGELOG_CONFLICT;
+}
+
+/* Sends a whole line, over a connection that may not be open yet. */
+static bool say(struct pagelog_turn *turn, const char *word, const char *more) {
+    char text[PAGELOG_PLACE_BYTES + 16];
+    int length = snprintf(text, sizeof text, "%s %s%s\n", word, turn->name, more);
+    uint64_t until = pagelog_now() + ANSWER_MS;
+    turn->line.sent = 0;
+    while (turn->line.socket >= 0 && turn->line.sent < (size_t)length) {
+        struct pollfd fd = {.fd = turn->line.socket, .events = POLLOUT};
+        uint64_t now = pagelog_now();
+        if (turn->line.is_connecting && poll(&fd, 1, now < until ? (int)(until - now) : 0) == 0) return false;
+        if (pagelog_line_send(&turn->line, text, (size_t)length)) continue;
+        pagelog_line_lose(&turn->line);
+        turn->line.sent = 0;
+        if (now >= until) return false;
+    }
+    return turn->line.socket >= 0;
+}
+
+/* Waits for the answer to a question that is answered at once. */
+static enum pagelog_outcome answer(struct pagelog_turn *turn) {
+    uint64_t until = pagelog_now() + ANSWER_MS;
+    for (;;) {
+        struct pollfd fd = {.fd = turn->line.socket, .events = POLLIN};
+        uint64_t now = pagelog_now();
+        enum pagelog_outcome outcome = pagelog_turn_look(turn);
+        if (outcome != PAGELOG_CONFLICT || !turn->is_asked) return outcome;
+        if (now >= until) return lose(turn);
+        poll(&fd, 1, (int)(until - now));
+    }
+}
+
+/* Has the line lead to this keeper. */
+static bool lead_to(struct pagelog_turn *turn, const char *lines, uint64_t generation) {
+    struct pagelog_line wanted = {.socket = -1};
+    if (!pagelog_line_set_address(&wanted, lines, strlen(lines))) return false;
+    bool is_there = turn->generation == generation && strcmp(turn->line.host, wanted.host) == 0 &&
+                    strcmp(turn->line.port, wanted.port) == 0;
+    if (is_there) return true;
+    pagelog_turn_leave(turn);
+    turn->line = wanted;
+    turn->generation = generation;
+    turn->shunned = 0;
+    return true;
+}
+
+enum pagelog_outcome pagelog_turn_ask(struct pagelog_turn *turn, const char *lines, uint64_t generation,
+                                      bool now) {
+    if (!lead_to(turn, lines, generation) || pagelog_now() < turn->shunned) return PAGELOG_LOST;
+    if (turn->line.socket >= 0 && pagelog_turn_look(turn) == PAGELOG_LOST) turn->shunned = 0;
+    if (turn->is_held && turn->is_wanted) pagelog_turn_give(turn);
+    if (turn->is_held) {
+        turn->is_same = true;
+        return PAGELOG_DONE;
+    }
+    pagelog_line_ask(&turn->line);
+    turn->is_asked = true;
+    if (!say(turn, "turn", now ? " now" : "")) return lose(turn);
+    return now ? answer(turn) : pagelog_turn_look(turn);
+}
+
+void pagelog_turn_hold(struct pagelog_turn *turn) {
+    bool was_wanted = turn->is_wanted;
+    if (!turn->is_kept || !turn->is_held || pagelog_turn_look(turn) != PAGELOG_DONE) return;
+    if (turn->is_wanted && !was_wanted && !say(turn, "hold", "")) lose(turn);
+}
+
+void pagelog_turn_give(struct pagelog_turn *turn) {
+    if (turn->line.socket < 0 || (!turn->is_held && !turn->is_asked)) return;
+    if (turn->is_kept && pagelog_turn_look(turn) == PAGELOG_DONE && !turn->is_wanted) return;
+    turn->is_held = turn->is_asked = turn->is_kept = turn->is_wanted = false;
+    if (turn->line.socket >= 0 && !say(turn, "back", "")) lose(turn);
+}

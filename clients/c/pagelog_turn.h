@@ -1,0 +1,45 @@
+/* Whose turn it is to write a named database: what a keeper says of it, over a connection of its own
+ * (clients/python/src/pagelog/keeper/turns.py). Turns keep writers out of each other's way, and no more: what
+ * is written is kept whole by epochs. So whoever cannot ask may go on without one.
+ *
+ * A turn ends with its connection. One that is kept may be used again and again without a word, until it is
+ * wanted back, which its holder has to look for. */
+#ifndef PAGELOG_TURN_H
+#define PAGELOG_TURN_H
+
+#include "pagelog_line.h"
+
+struct pagelog_turn {
+    struct pagelog_line line;
+    char name[PAGELOG_PLACE_BYTES];
+    uint64_t generation; /* in which it is asked for */
+    bool is_asked;       /* no answer has come yet */
+    bool is_held;
+    bool is_same;     /* the turn before was this one's too: nobody has written since */
+    bool is_kept;     /* it may be used again */
+    bool is_wanted;   /* another waits for the turn that is kept */
+    uint64_t shunned; /* until when a keeper that has not answered is left alone */
+};
+
+/* A turn that was not asked for yet. */
+void pagelog_turn_begin(struct pagelog_turn *turn, const char *name);
+
+/* For the end of it, and for a child of fork(): closes the connection. */
+void pagelog_turn_leave(struct pagelog_turn *turn);
+
+/* Asks the keeper of these lines. DONE: the turn is held, as one that was kept is. CONFLICT: another has it;
+ * this one waits in the queue, unless it was to be `now`. LOST: nobody answers, or that keeper has not the
+ * database. */
+enum pagelog_outcome pagelog_turn_ask(struct pagelog_turn *turn, const char *lines, uint64_t generation,
+                                      bool now);
+
+/* What has come of it since, without waiting: as above. */
+enum pagelog_outcome pagelog_turn_look(struct pagelog_turn *turn);
+
+/* Says that a turn which is kept is in use, if it was wanted back: then it is waited for. */
+void pagelog_turn_hold(struct pagelog_turn *turn);
+
+/* Gives it back, or waits for it no more. One that is kept stays, unless it is wanted. */
+void pagelog_turn_give(struct pagelog_turn *turn);
+
+#endif

@@ -1,0 +1,93 @@
+"""Writers of several processes that take turns, at real keepers: two and eight forked processes, each with a hundred requests of three
+statements, as a web server's workers have them. No error, and no update is lost.
+
+Usage: kept_turns.py [REQUESTS] [LEVEL]
+"""
+
+import json
+import os
+import sys
+import time
+
+from database import one, sqlite_of
+
+del sys.modules["service"]  # the tests of the keepers have one of their own
+import kept  # noqa: E402
+from keepers import Keeping  # noqa: E402
+
+NAME = "shop"
+
+
+def request(connection, who, number):
+    """What a request does: counts a visit, notes it, and looks at the count."""
+    connection.execute("begin immediate")
+    connection.execute("update counter set visits = visits + 1")
+    connection.execute("insert into visit values (?, ?)", (who, number))
+    found = one(connection, "select visits from counter")
+    connection.execute("commit")
+    return found
+
+
+def worker(addresses, who, requests, level):
+    """Opens for each request, as a web framework does, or once."""
+    seen, connection = [], None
+    for number in range(requests):
+        if connection is None or who % 2:
+            connection = sqlite_of(addresses, NAME, 2, busy=120)
+            connection.execute(f"pragma synchronous = {level}")
+        seen.append(request(connection, who, number))
+    return seen
+
+
+def in_child(action):
+    reading, writing = os.pipe()
+    if (child := os.fork()) == 0:
+        try:
+            said = json.dumps(action())
+        except BaseException as error:  # noqa: BLE001
+            said = json.dumps(f"{getattr(error, 'sqlite_errorname', '')} {error!r}")
+        os.write(writing, said.encode())
+        os._exit(0)
+    os.close(writing)
+
+    def ended():
+        with os.fdopen(reading) as file:
+            said = json.loads(file.read() or '"it died"')
+        os.waitpid(child, 0)
+        return said
+
+    return ended
+
+
+def main(requests, level):
+    with Keeping(ttl=3.0) as keeping:
+        keeping.referee.create(NAME, (kept.HERE.parent / "table.toml").read_text(), b"s" * 16)
+        keeping.start("a", "b")
+        addresses = ",".join(keeping.addresses)
+        keeping.place(NAME)
+        first = sqlite_of(addresses, NAME, 2)
+        first.execute("create table counter(visits)")
+        first.execute("insert into counter values (0)")
+        first.execute("create table visit(who, number)")
+        first.close()
+        for count in (1, 2, 8):
+            since = time.monotonic()
+            ends = [in_child(lambda who=who: worker(addresses, who, requests, level)) for who in range(count)]
+            said = [end() for end in ends]
+            took = time.monotonic() - since
+            errors = [each for each in said if isinstance(each, str)]
+            reader = sqlite_of(addresses, NAME, 3, mode="ro")
+            visits, rows = one(reader, "select visits from counter"), one(reader, "select count(*) from visit")
+            print(f"turns: {level}: {count} processes, {requests} requests each: {count * requests / took:.0f} a second, errors {errors}, "
+                  f"{visits} visits, {rows} rows, {one(reader, 'pragma integrity_check')}")
+            assert not errors and (visits, rows) == (count * requests, count * requests), keeping.said()[-3000:]
+            seen = sorted(number for each in said for number in each)
+            assert seen == list(range(1, count * requests + 1)), "an update was lost"
+            clean = sqlite_of(addresses, NAME, 2)
+            clean.execute("update counter set visits = 0")
+            clean.execute("delete from visit")
+            clean.close()
+
+
+if __name__ == "__main__":
+    main(int((sys.argv[1:] or [100])[0]), (sys.argv[2:] or ["full"])[0])
