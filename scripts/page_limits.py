@@ -2,23 +2,23 @@
 
 # How many words a page may have, one of a crate that is not named, and all pages together. These limits only fall.
 WORDS = {
-    "CHANGELOG.md": 1460, "README.md": 1300, "bench/RESULTS.md": 2150, "clients/c/README.md": 1750,
-    "clients/python/README.md": 2300, "crates/pl_conn/README.md": 2100, "crates/pl_core/README.md": 1750,
-    "crates/pl_decide/README.md": 1700, "crates/pl_desk/README.md": 1450, "crates/pl_log/README.md": 2200,
-    "crates/pl_wire/README.md": 1600, "docs/ARCHITECTURE.md": 1800, "docs/CLIENT.md": 3400, "docs/CONTRACTS.md": 1350,
-    "docs/CONTRIBUTING.md": 3300, "docs/DECISIONS.md": 5100, "docs/DEFINITIONS.md": 750, "docs/FORMATS.md": 2350,
-    "docs/GUARANTEES.md": 2350, "docs/KEEPERS.md": 1700, "docs/OPERATIONS.md": 2900, "docs/PAGELOG.md": 2600, "docs/RULES.md": 2150,
-    "docs/RUNBOOK.md": 2350, "docs/SQLITE.md": 1250, "docs/TABLES.md": 1050, "docs/WORKED_ROWS.md": 1250,
+    "CHANGELOG.md": 1460, "README.md": 1300, "bench/RESULTS.md": 1800, "clients/c/README.md": 1750,
+    "clients/python/README.md": 2300, "crates/pl_conn/README.md": 1950, "crates/pl_core/README.md": 1250,
+    "crates/pl_decide/README.md": 1100, "crates/pl_desk/README.md": 1100, "crates/pl_log/README.md": 2000,
+    "crates/pl_wire/README.md": 1600, "docs/ARCHITECTURE.md": 1600, "docs/CLIENT.md": 3200, "docs/CONTRACTS.md": 1250,
+    "docs/CONTRIBUTING.md": 2950, "docs/DECISIONS.md": 2800, "docs/DEFINITIONS.md": 750, "docs/FORMATS.md": 2200,
+    "docs/GUARANTEES.md": 2050, "docs/KEEPERS.md": 1700, "docs/OPERATIONS.md": 2600, "docs/PAGELOG.md": 2250, "docs/RULES.md": 1950,
+    "docs/RUNBOOK.md": 2200, "docs/SQLITE.md": 1250, "docs/TABLES.md": 950, "docs/WORKED_ROWS.md": 1250,
 }
-CRATE_WORDS, ALL_WORDS = 1300, 64000
+CRATE_WORDS, ALL_WORDS = 1200, 61250
 # How many rows of a page's tables may have more characters than WIDTH. Tables that are printed are not counted. They only fall too.
 WIDTH = 200
 WIDE_ROWS = {
     "bench/RESULTS.md": 1, "clients/c/README.md": 5, "crates/pl_arena/README.md": 1, "crates/pl_conn/README.md": 11,
-    "crates/pl_core/README.md": 4, "crates/pl_decide/README.md": 4, "crates/pl_log/README.md": 8,
-    "crates/pl_table/README.md": 1, "crates/pl_wire/README.md": 5, "crates/rows_connections/README.md": 3,
-    "crates/rows_database/README.md": 3, "crates/rows_log/README.md": 5, "crates/rows_service/README.md": 5,
-    "crates/rows_table/README.md": 3, "docs/CLIENT.md": 4, "docs/GUARANTEES.md": 8, "docs/PAGELOG.md": 4, "docs/SQLITE.md": 2,
+    "crates/pl_core/README.md": 1, "crates/pl_decide/README.md": 1, "crates/pl_log/README.md": 8,
+    "crates/pl_table/README.md": 1, "crates/pl_wire/README.md": 5, "crates/rows_connections/README.md": 1,
+    "crates/rows_database/README.md": 1, "crates/rows_log/README.md": 3, "crates/rows_service/README.md": 3,
+    "crates/rows_table/README.md": 1, "docs/CLIENT.md": 4, "docs/GUARANTEES.md": 8, "docs/SQLITE.md": 1,
 }
 # The tables that scripts/pages prints from the source.
 PRINTED_TABLES = "Calls", "Laws"
