@@ -6,9 +6,9 @@ WORDS = {
     "clients/python/README.md": 2300, "crates/pl_conn/README.md": 1950, "crates/pl_core/README.md": 1250,
     "crates/pl_decide/README.md": 1100, "crates/pl_desk/README.md": 1100, "crates/pl_log/README.md": 2000,
     "crates/pl_wire/README.md": 1600, "docs/ARCHITECTURE.md": 1600, "docs/CLIENT.md": 3200, "docs/CONTRACTS.md": 1250,
-    "docs/CONTRIBUTING.md": 2950, "docs/DECISIONS.md": 2800, "docs/DEFINITIONS.md": 750, "docs/FORMATS.md": 2200,
+    "docs/CONTRIBUTING.md": 3000, "docs/DECISIONS.md": 2800, "docs/DEFINITIONS.md": 750, "docs/FORMATS.md": 2200,
     "docs/GUARANTEES.md": 2050, "docs/KEEPERS.md": 1700, "docs/OPERATIONS.md": 2600, "docs/PAGELOG.md": 2250, "docs/RULES.md": 1950,
-    "docs/RUNBOOK.md": 2200, "docs/SQLITE.md": 1250, "docs/TABLES.md": 950, "docs/WORKED_ROWS.md": 1250,
+    "docs/RUNBOOK.md": 2250, "docs/SQLITE.md": 1450, "docs/TABLES.md": 950, "docs/WORKED_ROWS.md": 1250,
 }
 CRATE_WORDS, ALL_WORDS = 1200, 61250
 # How many rows of a page's tables may have more characters than WIDTH. Tables that are printed are not counted. They only fall too.
