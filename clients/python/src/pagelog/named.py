@@ -231,14 +231,13 @@ class NamedPrimary(Following):
                     known = hard + place.shift
                     self._settle_tail(place, witness, 0, known)
                 self._begin_epoch(place, credentials)
-            self._primary = Primary(self._connection(place, 3), credentials, epoch=self._epoch, alone=True, quorum=self._quorum,
-                                    witness=witness)  # fmt: skip
-            self._primary.begin()
+            self._primary = self._begun(place, credentials, witness)
             self._settle_tail(place, witness, known, self._primary.durable + place.shift)
         except _NotToBeKnown:
             raise
         except (OlderEpoch, OtherPrimary) as error:
             self._ended = error
+            witness.close()
             self._count_at(place)
             self._end_for(error)
             return True
@@ -291,6 +290,16 @@ class NamedPrimary(Following):
                     if operator.status().primary not in (KEEPER, credentials.id):
                         raise
                     known = error.epoch
+
+    def _begun(self, place: Place, credentials: Credentials, witness: Reader) -> Primary:
+        """The primary of the epoch that was begun, if it is that still: a writer without one begins none in another's way."""
+        primary = Primary(self._connection(place, 3), credentials, epoch=self._epoch, alone=True, quorum=self._quorum, witness=witness)
+        try:
+            primary.begin()
+        except BaseException:
+            primary.close()
+            raise
+        return primary
 
     def _settle_tail(self, place: Place, witness: Reader, known: int, hard: int) -> None:
         """Compares what the log has of the tail above what is `known`. The rest is to be written again, if the log ends where it begins.

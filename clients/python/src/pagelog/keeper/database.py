@@ -338,15 +338,18 @@ class Database:
         self.row = replace(self.row, generation=generation, run=successor.run, address=switch.address, base=switch.end,
                            archived=switch.end, shift=switch.shift, images=switch.images, chain=switch.chain, succeed=False)  # fmt: skip
         self._watch(successor)
-        self.work.begin(self.row, successor)
+        self.work.begin(self.row, successor, records=False)
         self.moves.tell()
         self.shared.changed(name)
         for line in self.waits.taken():
             line.say("over", name, before.generation, switch.end)
-        await self.work.recorded(recorder)
-        await self._end_process(before)
-        if recorder is not None:
-            await recorder.end(f"generation {generation} has begun: {self.why}")
+        try:
+            await self.work.recorded(recorder)
+            await self._end_process(before)
+            if recorder is not None:
+                await recorder.end(f"generation {generation} has begun: {self.why}")
+        finally:
+            self.work.record(successor)  # not before: it would end the list that is open
 
     @property
     def own(self) -> Served:

@@ -53,12 +53,17 @@ class Work:
         if served.hard > served.reached and served is self._served:
             self.ring()
 
-    def begin(self, row: Row, served: Served) -> None:
-        """From now on it is held: archived, and recorded."""
+    def begin(self, row: Row, served: Served, *, records: bool = True) -> None:
+        """From now on it is held: archived, and recorded, unless `record` is called later."""
         self._served = served
         self.archiver = Archiver(row, served, self._waits, self._shared.committer, self._shared.say, self._news)
         self._archiving = self._shared.spawn(self.archiver.run(), self._name)
-        if self._shared.trails is not None and self.recorder is None:
+        if records:
+            self.record(served)
+
+    def record(self, served: Served) -> None:
+        """From now on its audit list is kept, if lists are, and if it is held still. It ends the list that the trail has open."""
+        if self._shared.trails is not None and self.recorder is None and served is self._served:
             self.recorder = self._shared.trails.recorder(served, self._shared.say)
             self._recording = self._shared.spawn(self.recorder.run(), self._name)
 
