@@ -25,10 +25,14 @@ class Succeeding(Kept):
     keepers = "a"
 
     def succeed(self, *, waits: bool = True) -> Place:
-        """A succession by hand."""
+        """A succession by hand. With `waits` it is over: the service before is ended, too."""
         before = self.keeping.place()
         self.keeping.word("succeed", "shop")
-        return self.keeping.place(least=before.generation + 1) if waits else before
+        if not waits:
+            return before
+        after = self.keeping.place(least=before.generation + 1)
+        eventually(lambda: not [*self.keeping.folder.glob(f"*/shop.{before.run}.json")], "the end of the service before")
+        return after
 
 
 class Writer:
