@@ -218,10 +218,10 @@ class OnePage(Browsed):
 
     def test_a_hostile_name_is_text(self) -> None:
         with Rows(1, HOSTILE) as rows:
-            console = self.console(rows.url)
             rows.session.execute("UPDATE pagelog_keeper SET name = %s", (HOSTILE,))
             for table in ("log", "generation"):
                 rows.session.execute(f"UPDATE pagelog_{table} SET holder = %s", (HOSTILE,))
+            console = self.console(rows.url)  # not before: it asks once how a generation began
             self.open(console)
             self.assertEqual(self.names(), [HOSTILE, "db001"])
             self.js("document.querySelector('#rows a').click()")

@@ -32,10 +32,11 @@ class NamedTop(Kept):
         self.holder = str(self.keeping.row().holder)
         self.other = "b" if self.holder == "a" else "a"
 
-    def told(self) -> tuple[object, object]:
+    def told(self) -> tuple[object, object, bool]:
+        """What the holder tells, and whether it has looked at the audit list."""
         look = self.keeping.referee.everything()
         facts = facts_of(look, self.keeping.row())
-        return facts["state"], facts["standbys"]
+        return facts["state"], facts["standbys"], facts["entries_left"] not in (None, 1_000_000)
 
     def page(self, *options: object, file: object = None, columns: int = 150, status: int = 0) -> str:
         """What `top` prints of one look, or of as many as the options say."""
@@ -64,7 +65,7 @@ class NamedTop(Kept):
         self.assertIn(whole["memory"] + whole["memory_left"], (LIMIT >> 20, (LIMIT >> 20) - 1))
 
     def test_pages(self) -> None:
-        eventually(lambda: self.told() == ("serving", {self.other: 3}), "a holder that tells of its service, and a standby")
+        eventually(lambda: self.told() == ("serving", {self.other: 3}, True), "a holder that tells of its service, and a standby")
         alone = self.page("--named", "--count", 2)
         row = rf"shop +1 +{self.holder} +3 +0/s +0 +{self.other} -0 +999,\d+ +\d+ MiB +7,\d+ MiB +serving"
         self.assertEqual(len(re.findall(row, alone)), 1, alone)  # the first look knows no rate
