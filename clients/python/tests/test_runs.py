@@ -17,7 +17,7 @@ from pagelog import (
     Connection, Credentials, HardenedAlready, OlderEpoch, Operator, OtherPrimary, Primary, Put, Reader, TableRow, UnknownPrincipal,
 )  # fmt: skip
 from pagelog.keeper.loading import Loader
-from pagelog.keeper.run import NotStarted, Program, Run, end_orphans, new_run
+from pagelog.keeper.run import NotStarted, Program, Run, _facts_of, end_orphans, new_run
 from pagelog.keeper.served import Served
 from pagelog.keeper.table import KEEPER, Form, TableError, keeper_of, quorum_of, read_table, table_of_run, token_of
 from service import PATIENCE, PROGRAM, TABLE, WIDE_TABLE, token
@@ -156,11 +156,18 @@ class Runs(unittest.TestCase):
         self.assertIsNone(Run.adopt(self.folder, "shop", run.name))
         self.assertEqual(list(self.folder.iterdir()), [])
 
+    def later(self, run: Run) -> subprocess.Popen[bytes]:
+        """A process that was started later than the run, by the system's clock of 10 ms: a number is not used again so soon."""
+        while True:
+            other = subprocess.Popen(["sleep", "600"])
+            self.addCleanup(other.wait)
+            self.addCleanup(other.kill)
+            if _facts_of("shop", run.name, other.pid).started > run.facts.started:
+                return other
+
     def test_another_process_with_its_number_is_not_adopted_and_not_ended(self) -> None:
         run = self.start()
-        other = subprocess.Popen(["sleep", "600"])
-        self.addCleanup(other.wait)
-        self.addCleanup(other.kill)
+        other = self.later(run)
         file = self.folder / run.facts.file_name
         for facts in (replace(run.facts, pid=other.pid), replace(run.facts, started=1), replace(run.facts, boot="x")):
             file.write_text(json.dumps(vars(facts)))
