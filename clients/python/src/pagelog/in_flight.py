@@ -11,7 +11,7 @@ from pagelog.block import PAGE_SIZE, Block, Put
 from pagelog.errors import InDoubt, Refusal
 from pagelog.reader import Reader
 from pagelog.reply import Page, Reply
-from pagelog.request import COPIES_OF_QUORUM, QUORUM, Get
+from pagelog.request import COPIES_OF_QUORUM, Get
 from pagelog.rules import AboveTheEnd
 
 
