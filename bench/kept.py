@@ -1,6 +1,6 @@
 """Named databases under keepers, beside PostgreSQL's own commits and plain archiving: needs Debian's packages of clients/python/test.
 
-Usage: python3 -B bench/kept.py [--share SHARE] [PART ..]      (parts: commits, archiving, kills, switchover, idle; by default all)
+Usage: python3 -B bench/kept.py [--share SHARE] [--alone] [PART ..]     (parts: commits, archiving, kills, switchover, idle; by default all)
 """
 
 import argparse
@@ -24,9 +24,9 @@ import psycopg  # noqa: E402
 
 import service  # noqa: E402
 from keepers import Keeping, eventually  # noqa: E402
-from pagelog import Block, Put  # noqa: E402
+from pagelog import Block, Group, Put  # noqa: E402
 from pagelog.place import Keepers  # noqa: E402
-from replicated import Pair  # noqa: E402
+from replicated import Pair, Server  # noqa: E402
 
 NAME = "shop"
 TTL = 2.0
@@ -76,6 +76,18 @@ def fill(primary, count):
         count -= some
 
 
+class Alone:
+    """One PostgreSQL, without a standby, in the place of a pair."""
+
+    def __init__(self):
+        self.leader = Server()
+        self.leader.url("kept")
+        self.url = f"postgresql://pagelog@/kept?host={self.leader.folder}"
+
+    def stop(self):
+        self.leader.stop()
+
+
 # A commit.
 
 
@@ -122,30 +134,35 @@ def commits(pair, share):
 
 
 def many_writers(kept, primary, one, count):
-    """Threads of one process share a writer's commits, and each waits for its own position over a line of its own."""
-    turn, place, times = threading.Lock(), primary.place, []
+    """Threads of one process share a writer, as a group; then each waits for its own position over a line of its own."""
+    group, turn, place = Group(primary), threading.Lock(), primary.place
+    lines = threading.local()
 
-    def write():
-        line = Keepers(NAME, kept.addresses, service.PATIENCE)
-        for _ in range(count):
-            began = time.perf_counter()
-            with turn:
-                primary.append(RECORD)
-                position = primary.commit()
-            assert line.fate(place.generation, position, place.lines).end >= position
-            times.append(time.perf_counter() - began)
-        line.close()
+    def apart():
+        if not hasattr(lines, "own"):
+            lines.own = Keepers(NAME, kept.addresses, service.PATIENCE)
+        with turn:
+            primary.append(RECORD)
+            position = primary.commit()
+        assert lines.own.fate(place.generation, position, place.lines).end >= position
 
-    threads = [threading.Thread(target=write) for _ in range(WRITERS)]
+    for what, commit, some in ("in a group", lambda: group.commit(RECORD), 5 * count), ("each with a line", apart, count):
+        rate, times = rate_of_threads(commit, some)
+        print(f"{WRITERS} writers {what}: {rate:,.0f} durable commits a second, {rate / one:.1f} times one writer's {one:,.0f}; "
+              f"p50 {at(50, times):.2f} ms, p99 {at(99, times):.2f} ms")  # fmt: skip
+
+
+def rate_of_threads(commit, count):
+    """How many commits a second all threads make, and how long each took."""
+    times = []
+    threads = [threading.Thread(target=lambda: times.extend(timed(commit, count))) for _ in range(WRITERS)]
     began = time.perf_counter()
     for thread in threads:
         thread.start()
     for thread in threads:
         thread.join()
-    rate = len(times) / (time.perf_counter() - began)
     assert len(times) == WRITERS * count, "a writer broke off"
-    print(f"{WRITERS} writers: {rate:,.0f} durable commits a second, {rate / one:.1f} times one writer's {one:,.0f}; "
-          f"p50 {at(50, times):.2f} ms, p99 {at(99, times):.2f} ms")  # fmt: skip
+    return len(times) / (time.perf_counter() - began), times
 
 
 # Archiving.
@@ -219,23 +236,37 @@ def kills(pair, share):
 
 
 def switchover(pair, share):
-    """The longest time between two commits of a writer while its database goes to the other keeper."""
+    """The longest commit of a writer while its database goes to the other keeper, and PostgreSQL's own commit in between."""
+    plain, own = PlainCommits(pair.url), []
     with keeping(pair, "ab", standby=True) as kept, kept.primary() as primary:
         fill(primary, round(10_000 * share))
         primary.durable(primary.end)
-        longest, usual = [], []
-        for _ in range(max(3, round(5 * share))):
-            eventually(lambda: primary.end in kept.standbys().values(), "a standby with all of it")
-            before, times = primary.place.generation, []
-            kept.referee.wish(NAME, "*")
-            while primary.place.generation == before:
-                primary.append(RECORD)
-                times += timed(primary.commit, 1)
-            primary.durable(primary.end)
-            longest.append(1000 * max(times))
-            usual += times
-    print(f"switchover: the longest commit took {', '.join(f'{each:.0f}' for each in longest)} ms, where p50 of all is "
-          f"{at(50, usual):.2f} ms")  # fmt: skip
+        for durable in (False, True):
+            longest, usual = [], []
+            for _ in range(max(3, round(15 * share))):
+                eventually(lambda: primary.end in kept.standbys().values(), "a standby with all of it")
+                own += timed(plain.commit, 20)
+                times = commits_until_elsewhere(kept, primary, durable)
+                longest.append(1000 * max(times))
+                usual += times
+            print(f"switchover, commits {'durable' if durable else 'not durable'}: the longest took {at(50, longest) / 1000:.0f} ms at the median, "
+                  f"{max(longest):.0f} at worst, of {len(longest)}: {', '.join(f'{each:.0f}' for each in sorted(longest))}; p50 of all commits "
+                  f"{at(50, usual):.2f} ms, of PostgreSQL's own {at(50, own):.2f}, load {os.getloadavg()[0]:.1f}")  # fmt: skip
+
+
+def commits_until_elsewhere(kept, primary, durable):
+    """How long each commit takes, until the database is at another keeper."""
+
+    def commit():
+        primary.append(RECORD)
+        primary.commit(durable=durable)
+
+    before, times = primary.place.generation, []
+    kept.referee.wish(NAME, "*")
+    while primary.place.generation == before:
+        times += timed(commit, 1)
+    primary.durable(primary.end)
+    return times
 
 
 def idle(pair, share):
@@ -264,13 +295,14 @@ def main():
     parser = argparse.ArgumentParser()
     parser.add_argument("parts", nargs="*", metavar="PART", help=", ".join(PARTS))
     parser.add_argument("--share", type=float, default=1.0, help="of the work of a whole run")
+    parser.add_argument("--alone", action="store_true", help="one PostgreSQL, without a standby")
     words = parser.parse_args()
     unknown = set(words.parts) - set(PARTS)
     if unknown:
         parser.error(f"there is no part {', '.join(unknown)}")
-    pair = Pair()
+    pair = Alone() if words.alone else Pair()
     try:
-        print(f"PostgreSQL with a synchronous standby on this machine; load {os.getloadavg()[0]:.1f} of {os.cpu_count()} processors")
+        print(f"PostgreSQL {'without' if words.alone else 'with'} a synchronous standby on this machine; load {os.getloadavg()[0]:.1f} of {os.cpu_count()} processors")
         for name in words.parts or PARTS:
             PARTS[name](pair, words.share)
         print(f"load {os.getloadavg()[0]:.1f}")

@@ -1,7 +1,7 @@
 """Times SQLite over the service beside plain SQLite in WAL, with synchronous=full and off, on a file.
 
-Usage: python3 bench/sqlite.py [SHARE | --short] [--idle-polls N]     (1; a tenth of the work with 0.1; --short is 0.3, a
-minute or two)
+Usage: python3 bench/sqlite.py [SHARE | --short | --keepers | --pairs] [--idle-polls N]     (1; a tenth of the work with 0.1; --short is
+0.3, a minute or two; --keepers is what bench/sqlite_keepers.py says, --pairs what bench/sqlite_pairs.py does, and nothing else)
 
 The service is crates/pagelog/out/pagelog, or the program that PAGELOG names; where --idle-polls is given, it is given that
 option. The client is built by `make -C clients/c`.
@@ -59,6 +59,8 @@ def words():
     parser = argparse.ArgumentParser()
     parser.add_argument("share", nargs="?", type=float, default=1.0, metavar="SHARE", help="of the work of a whole run")
     parser.add_argument("--short", action="store_true", help="0.3 of it")
+    parser.add_argument("--keepers", action="store_true", help="databases of keepers")
+    parser.add_argument("--pairs", action="store_true", help="what keepers cost a commit that does not wait for the archive")
     parser.add_argument("--idle-polls", type=int, metavar="N", help="the option of pagelog serve, which has a default")
     return parser.parse_args()
 
@@ -360,6 +362,22 @@ def measure_speedtest(aims):
         aims.lacks(what, "not run: SPEEDTEST1 names no program")
 
 
+def measure_keepers():
+    import database  # noqa: F401
+    import stub_keeper  # noqa: F401
+    from service import Service
+
+    del sys.modules["service"]  # the tests of the keepers have one of their own
+    if words().pairs:
+        import sqlite_pairs
+
+        return sqlite_pairs.measure()
+    import sqlite_keepers
+
+    with Service(idle_polls=0) as service:  # as keepers start theirs
+        sqlite_keepers.measure(WORK, service)
+
+
 def main():
     subprocess.run(["make", "-s", "-C", CLIENT], check=True)
     from database import reader
@@ -368,6 +386,8 @@ def main():
     aims = Aims()
     shutil.rmtree(WORK, ignore_errors=True)
     WORK.mkdir(parents=True)
+    if words().keepers or words().pairs:
+        return measure_keepers()
     print(f"{os.cpu_count()} processors, load {os.getloadavg()[0]:.1f}, SQLite {sqlite3.sqlite_version}, share {SHARE}, "
           f"{'default' if IDLE_POLLS is None else IDLE_POLLS} idle polls, {ROUNDS} rounds")
     with (Service(idle_polls=IDLE_POLLS) as first, Service(idle_polls=IDLE_POLLS) as second,

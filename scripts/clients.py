@@ -45,7 +45,7 @@ class Service:
 
 
 def exactly(client, count):
-    """`count` bytes, or fewer at the end of what comes."""
+    """`count` bytes, or fewer at the end of the input."""
     parts = b""
     while len(parts) < count:
         part = client.recv(count - len(parts))

@@ -32,7 +32,7 @@ Not found:
     that it does not need                                   either takes some hundreds
     the verdict of row 16 is cached                         a lookup costs as much as sixteen rows
     1,024 versions of pages at most, whatever the limit     `play` has no more
-    bytes that stay in a segment where memory was refused   nothing is refused here
+    bytes that stay in a segment if memory was refused   nothing is refused here
 """
 
 import tables
@@ -127,7 +127,7 @@ def log_of(block, first, last):
 
 
 def hardened(block):
-    """A log of so many of these blocks."""
+    """A log of this many of these blocks."""
     return lambda size: log_of(block, 1, size)
 
 
@@ -180,7 +180,7 @@ def times(count, *bodies):
 
 
 def after(block, *, then):
-    """A log of these blocks with more requests behind it."""
+    """A log of these blocks with more requests after it."""
     return lambda size: hardened(block)(size) + then(size)
 
 
@@ -189,7 +189,7 @@ def writes(block=small, copy=0, count=WINDOW):
 
 
 def reports(step):
-    """Blocks in two copies, hardened so many at a time; only the reports are counted, since the writes come before."""
+    """Blocks in two copies, hardened this many at a time; only the reports are counted, since the writes are before them."""
     return lambda size: [report(lsn) for lsn in range(size + step, size + WINDOW + 1, step)]
 
 

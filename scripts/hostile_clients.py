@@ -13,7 +13,7 @@ from hostile_service import (DENIED_A1, DONE, EMPTY, NO_REQUEST, STATUS, WRITE, 
 from wire import frame
 
 # How many replies a flood may get while another client waits for one. Sockets hold some hundred thousand of them, and on a busy
-# machine that client is told late.
+# machine that client hears of it late.
 MOST_REPLIES = 20000000
 # The replies of pages are 8 KiB long. A turn writes four times those that may wait together, and a connection has two turns in a
 # round at most.

@@ -7,7 +7,7 @@ from hostile_service import EMPTY, NO_REQUEST, SPINNING, STATUS, Serve, at_most,
 from wire import frame
 
 # How many KiB more a service may hold with the parts of a second hundred connections than with those of a first, which are silent
-# by then. It keeps no buffer of these, and most often it holds some 10 or 70 KiB more. Where a part is read in two pieces its
+# by then. It keeps no buffer of these, and most often it holds some 10 or 70 KiB more. If a part is read in two pieces its
 # buffer grows, and leaves a hole in the heap: up to 440 KiB in 200 runs. A hundred buffers that are kept have 3,000 or 6,000.
 KEPT = 1024
 # A worker that polled awake this often has run for four milliseconds and more; one that answered a request, for a tenth of that.
@@ -24,7 +24,7 @@ def with_parts(service, honest, count, data, part):
     before = service.memory()
     for client in clients:
         client.sendall(data[:part])
-    # One worker reads what came before it replies to what comes after it.
+    # One worker reads what was sent before it replies to what was sent after it.
     for _ in range(2):
         same("the honest client's", EMPTY, asked(honest, STATUS))
     held = service.memory()
@@ -86,7 +86,7 @@ def silent(count):
 
 
 def idle(workers, rounds):
-    """Of the workers that have nothing to do any more one polls awake, and the others sleep. Where one ends late, it may do so too."""
+    """Of the workers that have nothing to do any more one polls awake, and the others sleep. If one ends late, it may do so too."""
     service = Serve(workers, workers, "--idle-polls", IDLE_POLLS)
     clients = [service.connect() for _ in range(workers)]
     for client in clients:

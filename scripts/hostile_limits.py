@@ -45,7 +45,7 @@ def many_at_once(connections, workers):
     for client in reversed(speaking):
         for _ in range(3):
             same("one of many at once", EMPTY, read_reply(client))
-    # Half a frame waits for its rest, and holds up nobody.
+    # Half a frame waits for its rest, and holds up no other.
     data = frame(STATUS)
     for client in clients:
         client.sendall(data[:9])
@@ -196,7 +196,7 @@ def threads_of(user):
 
 
 def fewer_workers(asked_for, lacking):
-    """Where the system starts no more threads, the service says how many workers there are. With as many connections at once as
+    """If the system starts no more threads, the service says how many workers there are. With as many connections at once as
     workers were asked for, each is answered: none is given to a worker that did not start. The system never refuses a thread to
     root, so the service is another user's then, which has a copy of the program."""
     with tempfile.TemporaryDirectory() as folder:
@@ -248,7 +248,7 @@ def filled(client):
         bodies.append(wire.head(2, wire.PRIMARY, wire.REPORT) + wire.report(lsn + 15))
         client.sendall(b"".join(map(frame, bodies)))
         replies = [one_of(f"block {lsn}", (DONE, NO_MEMORY), read_reply(client)) for _ in bodies[1:]]
-        # Where a copy is missing the report is denied.
+        # If a copy is missing the report is denied.
         last = read_reply(client)
         if NO_MEMORY in replies + [last]:
             return lsn
@@ -293,14 +293,14 @@ def out_of_memory():
         client = service.connect()
         asks_without_memory(f"new connection {turn}", client, tally)
         client.close()
-    # A frame that comes in pieces, and many at once.
+    # A frame in pieces, and many at once.
     data = frame(WRITE)
     for cut in (1, 4, 30, len(data) - 1):
         old.sendall(data[:cut])
         time.sleep(0.02)
         old.sendall(data[cut:])
         reply = read_reply(old)
-        # Its block is in the log by now, or another one is; where nothing was hardened, it may be written.
+        # Its block is in the log by now, or another one is; if nothing was hardened, it may be written.
         if reply not in (DONE, NO_MEMORY) and reply[:4] not in (b"\x05\x03\x00\x02", b"\x05\x03\x00\x04"):
             raise SystemExit(f"a frame in pieces: found {reply!r}")
     older.sendall(frame(b"") * 10000)
@@ -316,7 +316,7 @@ def out_of_memory():
 def is_refused(honest, client, part):
     """Whether a connection that sends a part of a frame is closed, since there is no memory for it."""
     client.sendall(part)
-    # One worker reads what came before it replies to what comes after it.
+    # One worker reads what was sent before it replies to what was sent after it.
     for _ in range(2):
         same("the honest client's", NO_REQUEST, asked(honest, b""))
     client.setblocking(False)

@@ -84,7 +84,7 @@ def at_most(what, most, found):
 
 
 def until(what, holds):
-    """Waits for it. It comes soon, whatever the machine does besides."""
+    """Waits for it. It is soon, whatever the machine does besides."""
     end = time.monotonic() + PATIENCE
     while not holds():
         if time.monotonic() > end:
@@ -112,7 +112,7 @@ def asked_beside(what, honest, client, body):
 
 
 def sent_and_closed(service, data):
-    """What comes back for these bytes, after which nothing comes."""
+    """What is received for these bytes, after which nothing is sent."""
     client = service.connect()
     try:
         client.sendall(data)

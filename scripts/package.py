@@ -2,7 +2,7 @@
 
 Usage: scripts/package [--quick PROGRAM] [--out FOLDER]
 
-The program is the one that rt has proved and built, crates/pagelog/out/pagelog, byte for byte. It is refused where a source is newer.
+The program is the one that rt has proved and built, crates/pagelog/out/pagelog, byte for byte. It is refused if a source is newer.
 With --quick it is PROGRAM, and version and description say that it is not proved. All else is what git has of this checkout, with
 changes that are not committed yet, and then the version says so. The packages and SHA256SUMS go into FOLDER, by default
 packaging/out/VERSION. The same commit and program give the same bytes.
@@ -86,7 +86,7 @@ def check_program(program, is_proved, release, kit):
 
 
 def identity(kit, is_proved):
-    """The kit, as it names itself where it is at hand."""
+    """The kit, as it names itself if it is at hand."""
     if not shutil.which("rt"):
         return fail("who proved it is said by rt, which is not on the PATH") if is_proved else kit
     said = output(["rt", "version"])

@@ -2,23 +2,23 @@
 
 # How many words a page may have, one of a crate that is not named, and all pages together. These limits only fall.
 WORDS = {
-    "CHANGELOG.md": 1460, "README.md": 1300, "bench/RESULTS.md": 1800, "clients/c/README.md": 1750,
-    "clients/python/README.md": 2300, "crates/pl_conn/README.md": 1950, "crates/pl_core/README.md": 1250,
-    "crates/pl_decide/README.md": 1100, "crates/pl_desk/README.md": 1100, "crates/pl_log/README.md": 2000,
-    "crates/pl_wire/README.md": 1600, "docs/ARCHITECTURE.md": 1600, "docs/CLIENT.md": 3200, "docs/CONTRACTS.md": 1250,
-    "docs/CONTRIBUTING.md": 3000, "docs/DECISIONS.md": 2800, "docs/DEFINITIONS.md": 750, "docs/FORMATS.md": 2200,
-    "docs/GUARANTEES.md": 2050, "docs/KEEPERS.md": 1700, "docs/OPERATIONS.md": 2600, "docs/PAGELOG.md": 2250, "docs/RULES.md": 1950,
-    "docs/RUNBOOK.md": 2250, "docs/SQLITE.md": 1450, "docs/TABLES.md": 950, "docs/WORKED_ROWS.md": 1250,
+    "CHANGELOG.md": 1050, "README.md": 1250, "bench/RESULTS.md": 1150, "clients/c/README.md": 1750,
+    "clients/python/README.md": 2300, "crates/pl_conn/README.md": 1600, "crates/pl_core/README.md": 1250,
+    "crates/pl_decide/README.md": 1050, "crates/pl_desk/README.md": 1100, "crates/pl_log/README.md": 1600,
+    "crates/pl_wire/README.md": 1600, "docs/ARCHITECTURE.md": 1450, "docs/CLIENT.md": 3050, "docs/CONTRACTS.md": 1050,
+    "docs/CONTRIBUTING.md": 2650, "docs/DECISIONS.md": 2050, "docs/DEFINITIONS.md": 700, "docs/FORMATS.md": 2050,
+    "docs/GUARANTEES.md": 1950, "docs/KEEPERS.md": 1700, "docs/OPERATIONS.md": 2500, "docs/PAGELOG.md": 2050, "docs/RULES.md": 1900,
+    "docs/RUNBOOK.md": 2150, "docs/SQLITE.md": 1450, "docs/TABLES.md": 950, "docs/WORKED_ROWS.md": 850,
 }
-CRATE_WORDS, ALL_WORDS = 1200, 61250
+CRATE_WORDS, ALL_WORDS = 1200, 55000
 # How many rows of a page's tables may have more characters than WIDTH. Tables that are printed are not counted. They only fall too.
 WIDTH = 200
 WIDE_ROWS = {
-    "bench/RESULTS.md": 1, "clients/c/README.md": 5, "crates/pl_arena/README.md": 1, "crates/pl_conn/README.md": 11,
-    "crates/pl_core/README.md": 1, "crates/pl_decide/README.md": 1, "crates/pl_log/README.md": 8,
+    "clients/c/README.md": 5, "crates/pl_arena/README.md": 1, "crates/pl_conn/README.md": 4,
+    "crates/pl_core/README.md": 1, "crates/pl_decide/README.md": 1, "crates/pl_log/README.md": 4,
     "crates/pl_table/README.md": 1, "crates/pl_wire/README.md": 5, "crates/rows_connections/README.md": 1,
     "crates/rows_database/README.md": 1, "crates/rows_log/README.md": 3, "crates/rows_service/README.md": 3,
-    "crates/rows_table/README.md": 1, "docs/CLIENT.md": 4, "docs/GUARANTEES.md": 8, "docs/SQLITE.md": 1,
+    "crates/rows_table/README.md": 1, "docs/CLIENT.md": 4, "docs/GUARANTEES.md": 5, "docs/SQLITE.md": 1,
 }
 # The tables that scripts/pages prints from the source.
 PRINTED_TABLES = "Calls", "Laws"

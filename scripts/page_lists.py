@@ -7,12 +7,12 @@ from crate_source import ROOT
 
 
 def rows_of_file(file):
-    """The tests of a module of a crate of rows, with what the module says of itself first; nothing if it has none."""
+    """The tests of a module of a crate of rows, after the first words that it says of itself; nothing if it has none."""
     text = file.read_text()
     tests = re.findall(r"^#\[test\]\nfn (\w+)", text, flags=re.M)
-    about = " ".join(line[3:].strip() for line in text.splitlines() if line.startswith("//!")).partition(". ")[0]
+    about = " ".join(line[3:].strip() for line in text.splitlines() if line.startswith("//!"))
     names = ", ".join(f"`{name}`" for name in tests)
-    row = f"- [{file.stem}](../{file.relative_to(ROOT)}): {about.rstrip('.')}: {names}"
+    row = f"- [{file.stem}](../{file.relative_to(ROOT)}), {re.split('[.,:]', about)[0]}: {names}"
     return textwrap.fill(row, 132, subsequent_indent="  ", break_long_words=False, break_on_hyphens=False) if tests else ""
 
 

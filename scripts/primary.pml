@@ -11,27 +11,27 @@
  * What holds:
  *   - A commit that was reported done is in the log at its LSN, with each of its blocks. No step changes what is in the log. So two
  *     writers never have done for one LSN, and what an old primary sends after a failover is never done.
- *   - A commit that was reported as failed is not in the log, and never comes into it. What is in doubt may be there or not.
+ *   - A commit that was reported as failed is not in the log, and never gets into it. What is in doubt may be there or not.
  *   - A commit is built where the log is known to end, upon what was read up to there, its own last commit included.
- *   - Of a commit of two blocks the second one comes right after the first, and only a repair comes after a first one without it.
- *     Where another's may be between them (SHORT_WHERE_JOINED), a writer that has seen that undoes its own before it goes on.
- *   - Who names the epoch that it ends never ends one of another principal.
- *   - Nobody asks in an epoch that has not begun.
+ *   - Of a commit of two blocks the second one is right after the first, and only a repair is after a first one without it.
+ *     If another's may be between them (SHORT_WHERE_JOINED), a writer that has seen that undoes its own before it goes on.
+ *   - A failover that names the epoch that it ends never ends one of another principal.
+ *   - No request is made in an epoch that has not begun.
  *
  * Under the name of a function of clients/c come its decisive lines, conditions and calls, in their order; two dots stand for what
- * is left out. scripts/waiting compares these lines with the source, so that whoever changes such a function has to look at
+ * is left out. scripts/waiting compares these lines with the source, so that a change of such a function needs a look at
  * this model. They are not quoted line by line, as the model has no bytes, memory or time.
  *
  * Left out: commits of more than two blocks; a repair of two, and a second one of the same writer; more than one commit on its way, and
- * any of the second writer; six copies, and a third one, which nobody writes; an object that does not know the zone: so a block that
+ * any of the second writer; six copies, and a third one, which is never written; an object that does not know the zone: so a block that
  * both copies have taken may be looked for or not. NoMemory, but for one that ends a commit before it is sent; AuditFull; rows of the
- * table, but for a pull's; a service that was started anew; the follower, since it writes nothing; two blocks that have the same bytes.
+ * table, but for a pull's; a service that was restarted; the follower, since it writes nothing; two blocks that have the same bytes.
  * Of several lost connections in one epoch the requests come once.
  *
  * Known, and not so:
  *   - Two writers in one epoch may mix commits of two blocks, as docs/CLIENT.md says. So where writers of one principal join, they have
  *     one block each, or with SHORT_WHERE_JOINED the one that joins has, and the other one has two.
- *   - Whoever else reads the end of a commit that came in part takes it for a whole one, until its writer has undone it.
+ *   - Another reader of the end of a commit that is there in part takes it for a whole one, until its writer has undone it.
  */
 
 #ifndef WRITERS
@@ -41,7 +41,7 @@
 #define EPOCHS 4 /* the last one, in which the service allows no failover */
 #endif
 #ifndef LSNS
-#define LSNS 2 /* a writer stops where the log has as many blocks */
+#define LSNS 2 /* a writer stops if the log has as many blocks */
 #endif
 #ifndef COMMITS
 #define COMMITS 2 /* how many a writer tries */
@@ -49,7 +49,7 @@
 #ifndef PARTS
 #define PARTS 1 /* how many blocks a commit has, 1 or 2; the last one has the end mark */
 #endif
-#define TRIES (COMMITS + PARTS - 1) /* of a writer: with two blocks it may repair once, and stops where it has to repair more */
+#define TRIES (COMMITS + PARTS - 1) /* of a writer: with two blocks it may repair once, and stops if it has to repair more */
 #define COPIES 2                    /* to how many copies a block is written: a quorum */
 
 #define BIT(place) (1 << (place))
@@ -315,7 +315,7 @@ inline look(are_there) {
 #define ALL_COUNTED(writes) ((!IS_COUNTED(0) || ((writes) & BITS(0, 1)) != 0) && (!IS_COUNTED(1) || ((writes) & BITS(1, 2)) != 0))
 #define ARE_THERE ((!IS_COUNTED(0) || IS_AT(0)) && (!IS_COUNTED(1) || IS_AT(1)))
 
-/* The same for who may not pull, by the pages. The bytes of each block are its own, so that they say which blocks are there. */
+/* The same for a writer that may not pull, by the pages. The bytes of each block are its own, so that they say which blocks are there. */
 // pagelog_append.c: look_at_pages
                     // ..
                     // if (outcome != PAGELOG_DONE) return outcome;
@@ -401,7 +401,7 @@ inline give_up(cause) {
                     // if (copies_of_last(append) < least_quorum(append)) return give_up(append, PAGELOG_FENCED);
                     // if (!are_done(append, left, most_quorum(append))) {
                     // outcome = look(append, append->count - 1, 1);
-                    // if (outcome == PAGELOG_CONFLICT || append->log->anew) return give_up(append, PAGELOG_FENCED);
+                    // if (outcome == PAGELOG_CONFLICT || append->log->is_restarted) return give_up(append, PAGELOG_FENCED);
                     // if (outcome == PAGELOG_DONE) outcome = look(append, append->first, left);
                     // if (outcome != PAGELOG_CONFLICT && are_done(append, left, append->log->zone.quorum))
                     // outcome = PAGELOG_DONE; }
@@ -447,7 +447,7 @@ inline conclude() {
 #define IS_IN_LOG (is_reported && (first > 0 || (done & BITS(0, 1)) != 0) && (last < 1 || (done & BITS(1, 2)) != 0))
 #endif
 
-/* What a group has come to: GOES_ON before it is looked for. */
+/* What has become of a group: GOES_ON before it is looked for. */
 // pagelog_append.c: run
                     // ..
                     // enum pagelog_outcome outcome = exchange_group(append, count);
@@ -520,7 +520,7 @@ inline run_append() {
 
 /* Epochs. */
 
-/* One of an older epoch is denied, and changes nothing. So who takes over whatever the epoch is names the present one. */
+/* One of an older epoch is denied, and changes nothing. So a take-over of any epoch names the present one. */
 // pagelog_calls.c: fail_over
                     // ..
                     // if (outcome == PAGELOG_LOST && log->counts.bytes_sent > sent) log->lost_failovers++;
@@ -569,7 +569,7 @@ inline begin_after_failover() {
     from = 0
 }
 
-/* Where it names one it is the epoch in which it writes. */
+/* If it names one it is the epoch in which it writes. */
 // pagelog_calls.c: pagelog_take_over
                     // ..
                     // uint32_t epoch = expected ? expected : log->epoch ? log->epoch : 1;
@@ -631,7 +631,7 @@ inline take_over() {
     begin_after_failover()
 }
 
-/* Where it names none. */
+/* If it names none. */
 inline take_over_any() {
     outcome = GOES_ON;
     do
@@ -655,7 +655,7 @@ inline take_over_any() {
 
 /* The file. */
 
-/* Whether a commit of this writer that came to be half is the last one: its second block comes after another's. */
+/* Whether a commit of this writer that is there by half is the last one: its second block comes after another's. */
 #define IS_TORN (KIND_OF(content[end]) == SECOND && WRITER_OF(content[end]) == _pid && content[end - 1] != content[end] - SECOND)
 #if PARTS > 1
 #define STAYS_TORN (end > 0 && IS_TORN)
@@ -760,7 +760,7 @@ inline renew() {
     fi
 }
 
-/* Who gets no answer goes on only where the log is not known to have. */
+/* Without an answer it goes on only if the log is not known to have it. */
 // pagelog_file.c: check_epoch
                     // ..
                     // enum pagelog_outcome outcome = pagelog_status(file->log, PAGELOG_PRIMARY, &status);
@@ -842,7 +842,7 @@ inline settle_by_blocks() {
                     // file->doubted = mark->lsn;
                     // enum pagelog_outcome outcome = pagelog_take_over(
                     // file->log, options->operator_principal, options->operator_token, pagelog_writing_epoch(file->log));
-                    // bool is_fenced = outcome == PAGELOG_FENCED && !pagelog_is_anew(file->log);
+                    // bool is_fenced = outcome == PAGELOG_FENCED && !pagelog_is_restarted(file->log);
                     // if (outcome != PAGELOG_DONE && !is_fenced)
                     // return pagelog_restore(file->log, PAGELOG_IN_DOUBT, &refused);
                     // if (is_fenced) pagelog_become_follower(file);
@@ -894,7 +894,7 @@ inline settle_doubt() {
                     // ..
                     // bool is_untouched = pagelog_end(file->log) == end && !pagelog_is_stuck(file->log);
                     // if (is_named(file)) pagelog_become_follower(file);
-                    // else if (outcome == PAGELOG_FENCED && !pagelog_is_anew(file->log))
+                    // else if (outcome == PAGELOG_FENCED && !pagelog_is_restarted(file->log))
                     // pagelog_become_follower(file);
                     // else if (!is_untouched || outcome == PAGELOG_IN_DOUBT) file->is_broken = true;
 inline note_failure() {
@@ -905,7 +905,7 @@ inline note_failure() {
     fi
 }
 
-/* A commit that nobody waited for may be in the log: it was reported neither as done nor as failed. */
+/* An asynchronous commit may be in the log: it was reported neither as done nor as failed. */
 // pagelog_commit.c: lose
                     // pagelog_disconnect(file->log);
                     // ..
@@ -913,7 +913,7 @@ inline note_failure() {
                     // ..
                     // file->on_their_way = 0;
                     // ..
-                    // if (is_named(file) || file->is_fenced || (outcome == PAGELOG_FENCED && !pagelog_is_anew(file->log)))
+                    // if (is_named(file) || file->is_fenced || (outcome == PAGELOG_FENCED && !pagelog_is_restarted(file->log)))
                     // pagelog_become_follower(file); else file->is_broken = true;
                     // ..
 inline lose() {
@@ -927,7 +927,7 @@ inline lose() {
     fi
 }
 
-/* What the commit has come to. */
+/* What has become of the commit. */
 // pagelog_commit.c: commit_changes
                     // ..
                     // if (outcome == PAGELOG_IN_DOUBT) outcome = settle_doubt(file, &mark);
@@ -967,10 +967,10 @@ inline end_commit() {
     lsn = 0; on_its_way = false; is_stuck = false; outcome = DONE
 }
 
-/* Undoes the block that has no end mark after it. Where a begin has failed it begins again; where an open has, it stops. */
+/* Undoes the block that has no end mark after it. If a begin has failed it begins again; if an open has, it stops. */
 // pagelog_repair.c: pagelog_repair
                     // ..
-                    // uint64_t end = pagelog_end(file->log);
+                    // uint64_t end = pagelog_end(file->log), position = position_of(file, end);
                     // ..
                     // pagelog_blocks_restart(file->blocks, end + 1);
                     // ..

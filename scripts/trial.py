@@ -1,12 +1,12 @@
 """Sends request bodies to databases of pagelog, and compares each reply, byte for byte, with that of a model.
 
 Usage: python3 scripts/trial.py                  plays the parts of trial_parts.py and 2,600 random lines
-       python3 scripts/trial.py LINES [SEED]     plays this many random lines (seed 1); where the seed is a multiple of three, the
+       python3 scripts/trial.py LINES [SEED]     plays this many random lines (seed 1); if the seed is a multiple of three, the
                                                  database begins with six copies
 
 The model (model.py) is written from docs/RULES.md and docs/FORMATS.md alone. Nothing is stored: bodies and replies are made each
 time. They depend on the seed alone, and the first N lines of a longer run are those of a run of N lines. A database is played by
-`play`, each line under pass 1. Where its audit list has another limit than that of `play`, it is asked over one connection to a
+`play`, each line under pass 1. If its audit list has another limit than that of `play`, it is asked over one connection to a
 `serve` of one worker, which has pass 1 too. With PAGELOG=PROGRAM that program is asked. At the first reply that differs the bodies
 up to that one are left in crates/pagelog/out, in a file trial-failed-NAME, with the table of their database beside it.
 """
@@ -169,7 +169,7 @@ def lines_of(bodies):
 
 
 def played(database, table):
-    """What `play` answers, line by line, and where it does not end well a line that says how."""
+    """What `play` answers, line by line, and if it does not end well a line that says how."""
     words = [PAGELOG, "play", "--table", table, "--primary", str(database.primary)]
     run = subprocess.run(words, input=lines_of(database.asked), capture_output=True, text=True)
     ending = [f"status {run.returncode}: {run.stderr.strip()}"] if run.returncode or run.stderr else []
@@ -188,7 +188,7 @@ def served(database, table):
 
 
 def check(database):
-    """Each reply is the model's, and no more come."""
+    """Each reply is the model's, and there are no more."""
     with tempfile.NamedTemporaryFile(suffix=".toml") as table:
         table.write(database.table.text)
         table.flush()

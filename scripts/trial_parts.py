@@ -304,7 +304,7 @@ def ask_each(trial):
 
 
 def faults_of_bodies(trial):
-    """Each code of a malformed body, and which comes first: the least of those that hold."""
+    """Each code of a malformed body, and which is first: the least of those that hold."""
     trial.open()
     status, report = trial.body(1, OPERATOR, STATUS), trial.body(2, PRIMARY, REPORT, wire.report(1))
     pull = trial.body(3, SECONDARY, PULL, wire.pull(0, 1, 1, 1))

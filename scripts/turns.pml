@@ -8,16 +8,16 @@
  * room to write only after a write that found none, and only once there is enough. Each read, each write and each poll is a
  * step by itself. What a turn does besides concerns the worker alone.
  *
- * Once nobody can go on, each whole request has its reply, which the peer has, unless it is gone; a connection whose peer
+ * Once none can go on, each whole request has its reply, which the peer has, unless it is gone; a connection whose peer
  * sends no more is closed; and no turn is due. In each state, the places that are due are those of the connections which say
- * so, once each; no more than GATHERS replies wait; a connection is closed only where its peer sends no more, and not before
+ * so, once each; no more than GATHERS replies wait; a connection is closed only if its peer sends no more, and not before
  * its last reply is written; and a turn that found nothing to do leaves none due, so that no worker runs in circles.
  *
- * After each step comes the line of the code that it is for, under the name of its function; two dots stand for lines that
+ * After each step is the line of the code that it is for, under the name of its function; two dots stand for lines that
  * the model leaves out. scripts/waiting compares these lines with the source.
  *
- * Left out: memory that is refused, and frames that are too long. New sockets come last in a round, so no event and no due
- * place is of an earlier connection of the same place. worker.pml has how they come.
+ * Left out: memory that is refused, and frames that are too long. New sockets are last in a round, so no event and no due
+ * place is of an earlier connection of the same place. worker.pml has how they arrive.
  */
 
 #ifndef LINES
@@ -83,7 +83,7 @@ bit moved;
 mtype = { begins, ends };
 chan turns = [0] of { mtype };
 
-/* What a turn comes to, and what a read brings. */
+/* What a turn ends in, and what a read gives. */
 #define INPUT 1
 #define OUTPUT 2
 #define AGAIN 3
@@ -177,8 +177,7 @@ inline write_ready(count) {
     do                                                     // while count < bytes.len() {
                                                            // match writer.write(&bytes[count..]) {
     :: atomic { count > 0 && gone[at] -> failed = true; break }
-                                                           // Ok(0) => return (count, Err(io::Error::from(
-                                                           // ErrorKind::WriteZero))),
+                                                           // Ok(0) => return (count, Err(Cause::Write)),
     :: atomic {
            count > 0 && !gone[at] && out[at] < OUTS ->     // Ok(more) => count += more,
            out[at]++; count--; moved = true
@@ -189,7 +188,7 @@ inline write_ready(count) {
     :: atomic { count > 0 && !gone[at] && out[at] == OUTS -> no_room[at] = true; break }
                                                            // Err(error) if error.kind() == ErrorKind::WouldBlock
                                                            // => return (count, Ok(())),
-                                                           // Err(error) => return (count, Err(error)), } }
+                                                           // Err(_) => return (count, Err(Cause::Write)), } }
     :: count == 0 -> break                                 // (count, Ok(()))
     od
 }
@@ -239,7 +238,7 @@ inline hear() {
            :: taken == 0 && !gone[at] && !shut[at] -> heard = ALL
                                                            // Err(error) if error.kind() == ErrorKind::WouldBlock
                                                            // => Ok(Heard::All),
-                                                           // Err(error) => Err(error), }
+                                                           // Err(_) => Err(Cause::Read), }
            fi;
            taken = 0
        }
@@ -249,7 +248,7 @@ inline hear() {
 // answering.rt: answer_first
 inline answer_first() {
                                                            // let body = body_in(bytes)?;
-                                                           // let read = outbox.request_of(alloc, body);
+                                                           // let read = outbox.request_of(body);
     replies++;                                             // outbox.put_answer(read, gate, pass);
     held = held - PARTS;                                   // Some(LENGTH_BYTES + body.len())
     moved = true
@@ -262,8 +261,8 @@ inline answer_whole() {
                                                            // let mut taken = 0;
         do                                                 // for _ in 0..most {
         :: !MAY_GATHER -> break                            // if !outbox.may_gather() { break; }
-        :: MAY_GATHER && held < PARTS -> break             // let Some(count) = answer_first(alloc,
-                                                           // &bytes[taken..], gate, pass, outbox) else { break; };
+        :: MAY_GATHER && held < PARTS -> break             // let Some(count) = answer_first(&bytes[taken..],
+                                                           // gate, pass, outbox) else { break; };
         :: MAY_GATHER && held >= PARTS -> answer_first()
                                                            // taken += count; }
         od                                                 // taken
@@ -277,11 +276,11 @@ inline speak() {
     :: writes < WRITES ->
                                                            // outbox.restart();
        if
-       :: held < PARTS -> break                            // let Some(first) = answer_first(alloc, &bytes[taken..],
+       :: held < PARTS -> break                            // let Some(first) = answer_first(&bytes[taken..],
                                                            // gate, pass, outbox) else { return (taken, 0, Ok(())); };
        :: held >= PARTS -> d_step { answer_first() }
        fi;
-       answer_whole();                                     // let more = answer_whole(alloc, &bytes[taken + first..],
+       answer_whole();                                     // let more = answer_whole(&bytes[taken + first..],
                                                            // MOST_FRAMES, gate, pass, outbox);
 #ifndef ANSWERS_ARE_KEPT
        write_ready(replies);                               // let (sent, end) = write_ready(writer, outbox.text());
@@ -296,7 +295,7 @@ inline speak() {
     od                                                     // (taken, outbox.text().len(), Ok(()))
 }
 
-/* Where memory is refused, all frames are answered. */
+/* If memory is refused, all frames are answered. */
 // resuming.rt: end_of
 // ..
 
@@ -357,8 +356,8 @@ inline rest_after() {
 
 // resuming.rt: Conversation::resume
 inline resume() {
-    tell();                                                // if self.tell(alloc, writer).is_err() {
-    if                                                     // return Err(Cause::Write); }
+    tell();                                                // self.tell(room.alloc, writer)?;
+    if
     :: failed -> rest = FAILED
 #ifndef READS_WHILE_REPLIES_WAIT
     :: !failed && waiting[at] > 0 -> rest = OUTPUT         // if self.left() > 0 { return Ok(Rest::Output); }
@@ -366,21 +365,22 @@ inline resume() {
 #else
     :: !failed ->
 #endif
-                                                           // let Room { inbox, outbox, spare } = room;
-       LOAD(unread[at]);                                   // inbox.load(self.unread());
-       hear();                                             // let Ok(heard) = hear(reader, inbox) else {
-       if                                                  // return Err(Cause::Read); };
+       LOAD(unread[at]);                                   // room.inbox.load(self.unread());
+       hear();                                             // let heard = hear(reader, &mut room.inbox)?;
+       if
        :: failed -> rest = FAILED
        :: !failed ->
-                                                           // let bytes = inbox.as_slice();
-          speak();                                         // let (taken, sent, end) = speak(alloc, bytes,
+                                                           // let (bytes, outbox) =
+                                                           // (room.inbox.as_slice(), &mut room.outbox);
+          speak();                                         // let (taken, sent, end) = speak(bytes,
                                                            // WRITES_A_TURN, writer, gate, pass, outbox);
           if                                               // if end.is_err() {
           :: failed -> rest = FAILED                       // return Err(Cause::Write); }
           :: !failed ->
                                                            // let (unread, left) =
                                                            // (&bytes[taken..], &outbox.text()[sent..]);
-             keep();                                       // if self.keep(alloc, left, unread, spare).is_ok() {
+             keep();                                       // if self.keep(room.alloc, left, unread,
+                                                           // &mut room.spare).is_ok() {
              rest_after()                                  // return rest_after(heard, self.unread(), self.left()); }
           fi                                               // ..
        fi
@@ -405,41 +405,48 @@ end_rests:
 inline turn() {
                                                            // let mut reader = &line.socket;
                                                            // let mut writer = &line.socket;
-    turns!begins; turns?ends                               // line.talk.resume(alloc, &mut reader, &mut writer,
+    turns!begins; turns?ends                               // line.talk.resume(&mut reader, &mut writer,
                                                            // gate, pass, room)
 }
 
-#define IS_RIGHTLY_OVER(at) (gone[at] || shut[at] && in[at] == 0 && waiting[at] == 0 && unread[at] < PARTS)
+// lines.rt: turn_of
+#define TURN_OF turn()                                     // let Some(line) = items.get_mut(place)
+                                                           // else { return Ok(Rest::Over); };
+                                                           // turn(line, gate, pass, room)
 
-inline push(at) {
+// lines.rt: mark
+#define MARK(at, value) is_due[at] = value                 // if let Some(line) = items.get_mut(place) {
+                                                           // line.is_due = is_due; }
+
+// lines.rt: Lines::list
+inline list(at) {
     assert(dues < 2 * LINES);
-    due[dues] = at; dues++
+    due[dues] = at; dues++;                                // if self.due.push_back(place).is_err() { return false; }
+    MARK(at, true)                                         // mark(&mut self.items, place, true); true
 }
+
+// lines.rt: Lines::close
+#define CLOSE is_open[at] = false                          // self.items.try_remove(place);
+
+// lines.rt: Lines::is_closing
+#define IS_CLOSING is_closing[at]                          // match self.items.get(place) {
+                                                           // Some(line) => line.is_closing, None => false, }
+
+#define IS_RIGHTLY_OVER(at) (gone[at] || shut[at] && in[at] == 0 && waiting[at] == 0 && unread[at] < PARTS)
 
 // lines.rt: Lines::settle
 inline settle() {
     d_step {
-                                                           // let Some(line) = self.items.get_mut(place)
-                                                           // else { return; };
-        if                                                 // let is_over = match end {
-#ifdef OUTPUT_IS_DUE
-        :: rest == OUTPUT -> is_due[at] = true; push(at)
-#else
-        :: rest == OUTPUT                                  // Ok(Rest::Output) => false,
-#endif
-#ifdef CLOSING_IS_FORGOTTEN
-        :: rest == INPUT
-#else
-        :: rest == INPUT && !is_closing[at]                // Ok(Rest::Input) if !line.is_closing => false,
-        :: rest == INPUT && is_closing[at] -> is_due[at] = true; push(at)
-#endif
+        if                                                 // match end {
+        :: rest == OUTPUT                                  // Ok(Rest::Output) => {}
+        :: rest == INPUT && !IS_CLOSING                    // Ok(Rest::Input) if !self.is_closing(place) => {}
+        :: rest == INPUT && IS_CLOSING -> list(at)
                                                            // Ok(Rest::Input) | Ok(Rest::Again) => {
-        :: rest == AGAIN -> is_due[at] = true; push(at)    // line.is_due = true; self.due.push(place).is_err() }
-        :: rest == OVER || rest == FAILED -> is_open[at] = false
-                                                           // Ok(Rest::Over) => true, Err(_) => {
-                                                           // self.faults = self.faults.saturating_add(1); true } };
-        fi;                                                // if is_over { self.items.try_remove(place);
-                                                           // post.closes(); }
+        :: rest == AGAIN -> list(at)                       // if !self.list(place) { self.close(place); } }
+        :: rest == OVER || rest == FAILED -> CLOSE         // Ok(Rest::Over) => self.close(place), Err(_) => {
+                                                           // self.faults = self.faults.saturating_add(1);
+                                                           // self.close(place); } }
+        fi;
         assert(moved || !is_due[at]);
         assert(is_open[at] || IS_RIGHTLY_OVER(at));
         rest = 0; moved = false
@@ -448,83 +455,76 @@ inline settle() {
 
 // lines.rt: Lines::turn_at
 inline turn_at() {
-    if
-    :: !is_open[at]                                        // let Some(line) = self.items.get_mut(place)
-                                                           // else { return; };
-    :: is_open[at] ->
-#ifndef DUE_FOR_EVER
-       is_due[at] = false;                                 // line.is_due = false;
-#endif
-       turn();                                             // let end = turn(alloc, line, gate, pass, room);
-       settle()                                            // self.settle(post, place, end);
-    fi
+    TURN_OF;                                               // let end = turn_of(&mut self.items, place,
+                                                           // gate, pass, room);
+    settle()                                               // self.settle(place, end);
 }
 
-// lines.rt: Lines::is_for_turn
+// lines.rt: is_for_turn
 inline is_for_turn() {
     d_step {
-                                                           // let Some(line) = self.items.get_mut(event.token().0)
+                                                           // let Some(line) = items.get_mut(place)
                                                            // else { return false; };
-#ifdef DUE_HIDES_THE_END
-        is_closing[at] = is_closing[at] || says_closed[at] && !is_due[at];
+#ifdef CLOSING_IS_NOT_TOLD
+        skip;
 #else
-        is_closing[at] = is_closing[at] || says_closed[at]; // line.is_closing = line.is_closing || event.is_read_closed();
+        is_closing[at] = is_closing[at] || says_closed[at]; // line.is_closing |= is_closed;
 #endif
         event[at] = false; says_closed[at] = false;
-#ifdef DUE_IS_TURNED_TWICE
-        is_for_now = true
-#else
-        is_for_now = !is_due[at]                           // !line.is_due
-#endif
+        is_for_now = is_open[at] && !is_due[at]            // !line.is_due
     }
 }
 
-// lines.rt: turn_ready
+// lines.rt: Lines::turn_event
+inline turn_event() {
+                                                           // let place = event.token().0;
+    is_for_turn();                                         // if is_for_turn(&mut self.items, place,
+                                                           // event.is_read_closed()) {
+    if
+    :: is_for_now -> is_for_now = false; turn_at()         // self.turn_at(place, gate, pass, room); }
+    :: !is_for_now
+    fi
+}
+
+// lines.rt: Lines::turn_ready
 inline turn_ready() {
     do                                                     // for event in events.iter() {
     :: atomic {
            place < LINES && event[place] ->
            at = place;
-           is_for_turn();                                  // if lines.is_for_turn(event) {
-           if
-           :: is_for_now -> is_for_now = false; turn_at()  // lines.turn_at(alloc, post, event.token().0, gate, pass, room);
-           :: !is_for_now
-           fi;
+           turn_event();                                   // self.turn_event(event, gate, pass, room); }
            at = 0
        }
     :: atomic { place < LINES && !event[place] -> place++ }
-    :: atomic { place == LINES -> place = 0; break }       // } }
+    :: atomic { place == LINES -> place = 0; break }
     od
+}
+
+// lines.rt: Lines::next_due
+inline next_due() {
+    d_step {
+        at = due[0];                                       // let place = self.due.pop_front()?;
+        dues--;
+        do
+        :: place < dues -> due[place] = due[place + 1]; place++
+        :: else -> due[place] = 0; place = 0; break
+        od;
+        MARK(at, false)                                    // mark(&mut self.items, place, false); Some(place)
+    }
 }
 
 // lines.rt: Lines::turn_due
 inline turn_due() {
-    count = dues;                                          // let count = self.due.len();
-    do                                                     // for at in 0..count {
+    count = dues;                                          // for _ in 0..self.due.len() {
+    do
     :: atomic {
-           place < count ->
-           at = due[place];                                // let Some(place) = self.due.get(at).copied() else { continue; };
-           turn_at();                                      // self.turn_at(alloc, post, place, gate, pass, room); }
-           at = 0; place++
+           count > 0 -> count--;
+           next_due();                                     // let Some(place) = self.next_due() else { return; };
+           turn_at();                                      // self.turn_at(place, gate, pass, room); }
+           at = 0
        }
-    :: atomic { place == count -> break }
-    od;
-    atomic {
-#ifdef FORGETS_WHO_CAME_BACK
-        count = dues;
-#endif
-        place = 0;
-        do                                                 // self.due.drain(..count.min(self.due.len()));
-        :: count + place < dues -> due[place] = due[count + place]; place++
-        :: else -> break
-        od;
-        dues = place;
-        do
-        :: place < 2 * LINES -> due[place] = 0; place++
-        :: else -> break
-        od;
-        place = 0; count = 0
-    }
+    :: atomic { count == 0 -> break }
+    od
 }
 
 /* The places that are due are those of the connections that say so, each once. */
@@ -552,7 +552,7 @@ end_works:
 
 #define IS_SERVED(at) ((gone[at] || got[at] == sent[at] / PARTS) && (is_open[at] == !(shut[at] || gone[at])) && !is_due[at])
 
-/* Nobody can go on. */
+/* None can go on. */
 active proctype Watch() {
     timeout;
     assert(IS_SERVED(0));

@@ -20,7 +20,7 @@ def found_in(name, pattern):
 
 
 def version_and_kit():
-    """The version, and the kit with which the program is proved and compiled. It ends the process where a place says another version."""
+    """The version, and the kit with which the program is proved and compiled. It ends the process if a place says another version."""
     version, kit = found_in(*SOURCE)
     for name, pattern in ALSO:
         (other,) = found_in(name, pattern)

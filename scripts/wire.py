@@ -21,7 +21,7 @@ def partitions(records):
 
 
 def record(page, *put):
-    """A Put of (offset, bytes), or a Zero where there is none."""
+    """A Put of (offset, bytes), or a Zero if there is none."""
     if not put:
         return b"\2" + number(page, 4)
     offset, data = put

@@ -1,17 +1,17 @@
 /*
- * How accepted sockets come to the workers, how the workers end, and which one polls awake, in every interleaving: the
- * channels, the bells, the lookout and the rounds of crates/pl_conn as a model for the checker spin. scripts/waiting runs it.
+ * How accepted sockets reach the workers, how the workers end, and which one polls awake, in every interleaving: the
+ * channels, the wakers, the lookout and the rounds of crates/pl_conn as a model for the checker spin. scripts/waiting runs it.
  *
  * The accepting thread hands over as many sockets as it likes, and rests for ever when it likes, as a listener does at which
- * nobody comes, or ends. The peers of a worker's connections act as often as they like, and may be silent for ever. A turn of
- * a connection leaves it at rest, or due, or closed: turns.pml has what happens in one. Each step of a channel, of a bell and
+ * none arrives, or ends. The peers of a worker's connections act as often as they like, and may be silent for ever. A turn of
+ * a connection leaves it at rest, or due, or closed: turns.pml has what happens in one. Each step of a channel, of a waker and
  * of a poll is a step by itself. A poll with no time returns at once, and another one sleeps until there is something to report.
  * Before a worker sleeps it polls with no time, up to IDLE_POLLS times, until one reports something, unless another worker does
- * so: that one has the lookout's place. No two workers ever do so at the same time. Once nobody can go on, nobody is there, no
+ * so: that one has the lookout's place. No two workers ever do so at the same time. Once none can go on, none is there, no
  * socket lies in a channel, and no connection has an event, not even a reported one, or a turn due; a worker whose channel is
- * closed, and that has no connection, has ended; and what a worker counts are its connections.
+ * closed, and that has no connection, has ended; and as many connections count as open as a worker has.
  *
- * After each step comes the line of the code that it is for, under the name of its function. scripts/waiting compares these
+ * After each step is the line of the code that it is for, under the name of its function. scripts/waiting compares these
  * lines with the source.
  *
  * Left out: which worker has the fewest connections, since any of them is taken; memory that is refused; an error of a poll,
@@ -34,10 +34,12 @@
 #define IDLE_POLLS 1 /* how often a worker polls with no time before it sleeps, idle_polls */
 #endif
 
-byte counted[WORKERS]; /* the connections that it was given and has not closed, as it counts them */
+byte given[WORKERS];   /* the connections that a worker was given */
+byte took[WORKERS];    /* those that it took from its channel */
+byte closed[WORKERS];  /* those that it has closed, as it says */
 byte lying[WORKERS];   /* the sockets in the channel of a worker */
 bit dropped[WORKERS];  /* whether its sender is dropped */
-bit rung[WORKERS];     /* whether its bell has rung since a poll reported it */
+bit woken[WORKERS];    /* whether it was woken since a poll reported it */
 byte resting[WORKERS]; /* its connections that have nothing to report */
 byte ready[WORKERS];   /* those that the next poll reports */
 byte due[WORKERS];     /* those whose turn is due */
@@ -47,10 +49,11 @@ bit taken;             /* whether a worker has the lookout's place */
 byte awake;            /* how many workers poll awake */
 
 #define IS_EMPTY (resting[me] == 0 && ready[me] == 0 && due[me] == 0)
+#define OPEN_LINES (resting[me] + ready[me] + due[me] + events[me])
 
 /* Constants without a step: how long a listener rests does not matter, nor how much room there is from the start. */
-// worker.rt: BELL
-                                                           // const BELL: Token = Token(usize::MAX);
+// worker.rt: WAKE
+                                                           // const WAKE: Token = Token(usize::MAX);
 // lines.rt: LINES
                                                            // const LINES: usize = 1_024;
 // polling.rt: AT_ONCE
@@ -63,63 +66,82 @@ byte awake;            /* how many workers poll awake */
 /* EVENTS and ROOM are smaller here. */
 // worker.rt: EVENTS
                                                            // const EVENTS: usize = 256;
-// staff.rt: WAITING
+// worker.rt: WAITING
                                                            // const WAITING: usize = 64;
 
-/* The count of a worker's connections. */
+/* How many connections a worker has. What it was given and has in its channel is one step: nobody else sees the first. */
 
+// post.rt: LEFT
+                                                           // const LEFT: u64 = u64::MAX;
+// post.rt: open_of
+#define OPEN_OF(given, closed) (given - closed)            // if closed == LEFT { return u64::MAX; }
+                                                           // given.saturating_sub(closed)
 // post.rt: Post::open
-#define OPEN(post) counted[post]                           // self.open.load(SeqCst)
+#define OPEN(post) OPEN_OF(given[post], closed[post])      // open_of(self.given, self.shared.closed.load(SeqCst))
 
-// post.rt: Post::opens
-inline opens(post) {
-    counted[post]++                                        // self.open.fetch_add(1, SeqCst);
-}
+// lines.rt: Lines::closed
+#define CLOSED (took[me] - OPEN_LINES)                          // self.taken.saturating_sub(self.items.len() as u64)
 
-// post.rt: Post::closes
-inline closes(post) {
+// post.rt: Shared::closes
+inline closes() {
 #ifdef NEVER_CLOSES
     skip
 #else
-    counted[post]--                                        // self.open.fetch_sub(1, SeqCst);
+    closed[me] = CLOSED                                    // self.closed.store(count, SeqCst);
 #endif
 }
 
 /* An error of a poll. */
-// post.rt: Post::leaves
-                                                           // self.open.store(1 << 62, SeqCst);
+// post.rt: Shared::leaves
+                                                           // self.closed.store(LEFT, SeqCst);
 
 /* The accepting thread. */
 
-// post.rt: Post::ring
-inline ring(post) {
-    rung[post] = true // let _rung = self.bell.wake();
+// post.rt: Shared::wake
+inline wake(post) {
+    woken[post] = true // let _woken = self.waker.wake();
 }
 
+// post.rt: Post::gives
+#define GIVES given[post]++                                // self.given = self.given.saturating_add(1);
+                                                           // self.shared.wake();
+
 /* A channel may say that it is full while its worker takes a socket. */
-// accepting.rt: offer
+// post.rt: Post::offer
 inline offer(post) {
-#ifdef RINGS_FIRST
-    ring(post);
+#ifdef WAKES_FIRST
+    wake(post);
 #endif
-    opens(post);                                           // post.opens();
     if
-    :: atomic { lying[post] < ROOM -> lying[post]++ };     // match channel.try_send(rt, socket) { Ok(()) => {
-#ifndef RINGS_FIRST
-       ring(post);                                         // post.ring();
+    :: atomic { lying[post] < ROOM -> lying[post]++; GIVES }; // match self.channel.try_send(rt, socket) { Ok(()) => {
+#ifndef WAKES_FIRST
+       wake(post);                                         // self.gives();
 #endif
        is_left = false                                     // None }
-    ::
-#ifdef FULL_STAYS_COUNTED
-       skip
-#else
-                                                           // Err(TrySendError::Full(socket))
+    ::                                                     // Err(TrySendError::Full(socket))
                                                            // | Err(TrySendError::Disconnected(socket))
-                                                           // | Err(TrySendError::OutOfMemory(socket)) => {
-       closes(post)                                        // post.closes(); Some(socket) } }
+                                                           // | Err(TrySendError::OutOfMemory(socket)) =>
+                                                           // Some(socket), }
+#ifdef FULL_IS_COUNTED
+       GIVES
+#else
+       skip
 #endif
     fi
 }
+
+// post.rt: Post::send
+inline send(post) {
+    atomic { lying[post] < ROOM -> lying[post]++; GIVES }  // if self.channel.send(rt, socket).is_ok() {
+#ifndef SENDS_SILENTLY
+    ; wake(post)                                           // self.gives(); }
+#endif
+}
+
+// accepting.rt: offer
+                                                           // match posts.get_mut(place) {
+                                                           // Some(post) => post.offer(rt, socket),
+                                                           // None => Some(socket), }
 
 /* Any worker may be the one. */
 // accepting.rt: fewest
@@ -134,23 +156,17 @@ inline hand_over() {
     :: place = 0
     :: place = WORKERS - 1
     fi;
-                                                           // let (Some(post), Some(channel)) =
-                                                           // (posts.get(place), channels.get(place)) else { return; };
     is_left = true;
-    offer(place);                                          // let mut left = offer(rt, post, channel, socket);
-    do                                                     // for (other, its) in posts.iter().zip(channels) {
+    offer(place);                                          // let mut left = offer(rt, posts, place, socket);
+    do                                                     // for other in 0..posts.len() {
     :: is_left && other < WORKERS ->                       // left = match left {
-       offer(other); other++                               // Some(socket) => offer(rt, other, its, socket),
+       offer(other); other++                               // Some(socket) => offer(rt, posts, other, socket),
     :: else -> break                                       // None => None, }; }
     od;
     other = 0;
-    if
-    :: is_left ->                                          // if let Some(socket) = left {
-       opens(place);                                       // post.opens();
-       atomic { lying[place] < ROOM -> lying[place]++ }    // if channel.send(rt, socket).is_err() { post.closes(); }
-#ifndef SENDS_SILENTLY
-       ring(place)                                         // post.ring();
-#endif
+    if                                                     // if let (Some(socket), Some(post)) =
+                                                           // (left, posts.get_mut(place)) {
+    :: is_left -> send(place)                              // post.send(rt, socket);
     :: !is_left                                            // }
     fi
 }
@@ -160,59 +176,67 @@ inline hand_over() {
                                                            // match error.raw_os_error() {
                                                            // Some(code) => PASSING.contains(&code), None => false, }
 // accepting.rt: accept
-                                                           // let bell = AtomicU64::new(0); for _ in rt.forever() {
-                                                           // match listener.accept() {
+                                                           // let rest = AtomicU64::new(0); for _ in rt.forever() {
+                                                           // match terms.listener.accept() {
                                                            // Ok((socket, _)) => return Ok(socket),
                                                            // Err(error) if passes(&error) => { if !*is_reported {
-                                                           // watch.accept_rests(&error); *is_reported = true; }
-                                                           // bell.park_timeout(rt, 0, Duration::from_millis(REST)); }
+                                                           // terms.watch.accept_rests(&error); *is_reported = true; }
+                                                           // rest.park_timeout(rt, 0, Duration::from_millis(REST)); }
                                                            // Err(error) => return Err(error), } } unreachable!()
 
 // accepting.rt: accept_all
 inline accept_all() {
                                                            // let mut is_reported = false;
-    do                                                     // for accepted in 0..connections {
-    :: accepted < SOCKETS -> accepted++;                   // let Ok(socket) = accept(rt, listener, watch, &mut is_reported)
+    do                                                     // for accepted in 0..terms.connections {
+    :: accepted < SOCKETS -> accepted++;                   // let Ok(socket) = accept(rt, terms, &mut is_reported)
        hand_over()
     :: break                                               // else { return (accepted, Stop::Accept); };
     :: goto rests                                          /* nobody comes any more */
-                                                           // hand_over(rt, posts, channels, socket); }
-    od                                                     // (connections, Stop::Limit)
+                                                           // hand_over(rt, posts, socket); }
+    od                                                     // (terms.connections, Stop::Limit)
+}
+
+// post.rt: Post::close
+inline close(post) {
+#ifdef WAKES_BEFORE_IT_DROPS
+    wake(post);
+#endif
+                                                           // let Post { channel, shared, .. } = self;
+    dropped[post] = true                                   // drop(channel);
+#if !defined WAKES_BEFORE_IT_DROPS && !defined DROPS_SILENTLY
+    ; wake(post)                                           // shared.wake();
+#endif
+}
+
+// serving.rt: accept_for
+inline accept_for() {
+                                                           // let mut posts = posts;
+    accept_all();                                          // let accepted = accept_all(rt, terms, posts.as_mut_slice());
+    do                                                     // for post in posts {
+    :: other < WORKERS -> close(other); other++            // post.close();
+    :: else -> other = 0; break                            // }
+    od                                                     // accepted
 }
 
 /* Each worker has a thread here. */
 // serving.rt: started_of
-                                                           // &posts[..workers.min(posts.len())]
+                                                           // let mut posts = posts; posts.truncate(workers); posts
 
 // serving.rt: serve_in
 inline serve_in() {
-                                                           // let (Ok(workers), Ok(ended)) = (
-                                                           // Vec::with_capacity(alloc, passes.len()),
-                                                           // Vec::with_capacity(alloc, passes.len()),) else {
-                                                           // return stopped(alloc, Stop::NoMemory); };
                                                            // let asked = passes.len();
-                                                           // let workers = start_all(scope, rt, alloc, hired, posts, gate,
+                                                           // let (Ok(workers), Ok(ended)) = (
+                                                           // Vec::with_capacity(terms.alloc, asked),
+                                                           // Vec::with_capacity(terms.alloc, asked),) else {
+                                                           // return stopped(terms.alloc, Stop::NoMemory); };
+                                                           // let workers = start_all(scope, rt, staff.workers, gate,
                                                            // passes, workers);
                                                            // if workers.is_empty() {
-                                                           // return stopped(alloc, Stop::Start); }
+                                                           // return stopped(terms.alloc, Stop::Start); }
                                                            // if workers.len() < asked {
-                                                           // watch.few_workers(workers.len(), asked); }
-                                                           // let posts = started_of(posts, workers.len());
-    accept_all();                                          // let (accepted, stop) = accept_all(rt, listener, posts,
-                                                           // &channels, connections, watch);
-#ifdef RINGS_BEFORE_IT_DROPS
-    ring(0); ring(WORKERS - 1);
-#endif
-    do                                                     // drop(channels);
-    :: other < WORKERS -> dropped[other] = true; other++
-    :: else -> other = 0; break
-    od;
-#if !defined RINGS_BEFORE_IT_DROPS && !defined DROPS_SILENTLY
-    do                                                     // for post in posts {
-    :: other < WORKERS -> ring(other); other++             // post.ring();
-    :: else -> other = 0; break                            // }
-    od;
-#endif
+                                                           // terms.watch.few_workers(workers.len(), asked); }
+                                                           // let posts = started_of(staff.posts, workers.len());
+    accept_for();                                          // let (accepted, stop) = accept_for(rt, terms, posts);
 end_joins:
     (ended[0] && ended[WORKERS - 1])                       // let (passes, faults) = join_all(rt, gate, workers, ended);
                                                            // Served { accepted, faults, stop, passes, }
@@ -242,12 +266,7 @@ inline turn() {
     if
     :: resting[me]++
     :: due[me]++
-    :: /* it is closed */
-#ifdef CLOSES_SILENTLY
-       skip
-#else
-       closes(me)
-#endif
+    :: skip /* it is closed */
     fi
 }
 
@@ -260,7 +279,7 @@ inline turn() {
 /* A poll with no time. */
 inline poll() {
     do
-    :: atomic { rung[me] && told < EVENTS -> rung[me] = false; told++ }
+    :: atomic { woken[me] && told < EVENTS -> woken[me] = false; told++ }
     :: atomic { ready[me] > 0 && told < EVENTS -> ready[me]--; events[me]++; told++ }
     :: else -> break
     od
@@ -268,7 +287,7 @@ inline poll() {
 
 #ifdef SLEEPS_ON_WHAT_WAS_TOLD
 #define NOTHING_WAS_TOLD true
-#elif defined SLEEPS_ON_ITS_BELL
+#elif defined SLEEPS_ON_ITS_WAKER
 #define NOTHING_WAS_TOLD (events[me] == 0)
 #else
 #define NOTHING_WAS_TOLD (told == 0)
@@ -323,7 +342,7 @@ inline wait() {
     :: !NOTHING_WAS_TOLD                                   // return polled; } }
     :: NOTHING_WAS_TOLD ->
 end_sleeps:
-       rung[me] || ready[me] > 0;
+       woken[me] || ready[me] > 0;
        poll()                                              // poll.poll(events, None)
     fi
 }
@@ -344,29 +363,30 @@ inline turn_due() {
 }
 
 /* A poll reports at once what is registered. */
-// lines.rt: Lines::open
-inline open() {
+// lines.rt: line_of
                                                            // let _is_set = socket.set_nodelay(true).is_ok();
                                                            // if socket.set_nonblocking(true).is_err() {
-                                                           // return false; }
-                                                           // let line = Line {
+                                                           // return None; }
+                                                           // Some(Line {
                                                            // socket: mio::net::TcpStream::from_std(socket),
                                                            // talk: Conversation::new(alloc),
-                                                           // is_due: false, is_closing: false, };
-                                                           // let Ok(place) = self.items.insert(line) else {
-                                                           // return false; };
-                                                           // let Some(line) = self.items.get_mut(place) else {
-                                                           // return false; };
+                                                           // is_due: false, is_closing: false, })
+// lines.rt: Lines::add
+                                                           // let Ok(place) = self.items.insert(line)
+                                                           // else { return None; }; Some(place)
+// lines.rt: register
+                                                           // let Some(line) = items.get_mut(place)
+                                                           // else { return false; };
                                                            // let interest = Interest::READABLE | Interest::WRITABLE;
-    if                                                     // let is_heard = poll.registry()
-    :: ready[me]++;                                        // .register(&mut line.socket, Token(place), interest).is_ok();
-#ifdef TAKES_UNCOUNTED
-       closes(me)
-#endif
-    :: skip;                                               // if !is_heard { self.items.try_remove(place); }
-       closes(me)
-    fi                                                     // is_heard
-}
+                                                           // poll.registry()
+                                                           // .register(&mut line.socket, Token(place), interest).is_ok()
+// lines.rt: Lines::take
+#define TAKES ready[me]++                                  // self.taken = self.taken.saturating_add(1);
+                                                           // let Some(line) = line_of(self.alloc, socket)
+                                                           // else { return; };
+                                                           // let Some(place) = self.add(line) else { return; };
+                                                           // if !register(&mut self.items, poll, place) {
+                                                           // self.close(place); }
 
 // worker.rt: take_new
 inline take_new() {
@@ -375,11 +395,11 @@ inline take_new() {
 #ifdef COUNTS_SENDERS_LAST
        skip
 #else
-       is_closed = dropped[me];                            // match post.sockets.try_recv(rt) {
+       is_closed = dropped[me];                            // match place.sockets.try_recv(rt) {
 #endif
        if
-       :: atomic { lying[me] > 0 -> lying[me]-- };         // Ok(socket) => {
-          open();                                          // if !lines.open(alloc, poll, socket) { post.closes(); } }
+       :: atomic { lying[me] > 0 -> lying[me]--; took[me]++; TAKES } // Ok(socket) => lines.take(poll, socket),
+       :: atomic { lying[me] > 0 -> lying[me]--; took[me]++ } /* it is closed at once */
 #ifdef LOOKS_ONCE
           more = true; break
 #endif
@@ -399,36 +419,44 @@ inline take_new() {
     is_closed = false
 }
 
+// lines.rt: Lines::has_due
+                                                           // !self.due.is_empty()
+
 // worker.rt: Worker::round
 inline round() {
-                                                           // let Worker { poll, events, lines, room, lookout, idle_polls }
-                                                           // = self;
+                                                           // let Worker { poll, events, lines, room, place } = self;
 #ifdef TAKES_BEFORE_IT_WAITS
     take_new();
 #endif
-    if                                                     // let polled = if lines.due.is_empty() {
-    :: NOTHING_IS_DUE -> wait()                            // wait(poll, events, lookout, *idle_polls) } else {
-    :: !NOTHING_IS_DUE -> poll()                           // poll.poll(events, Some(AT_ONCE)) };
+    if                                                     // let polled = if lines.has_due() {
+    :: !NOTHING_IS_DUE -> poll()                           // poll.poll(events, Some(AT_ONCE)) } else {
+    :: NOTHING_IS_DUE -> wait()                            // wait(poll, events, &place.lookout, place.idle_polls) };
     fi;
-    told = 0;                                              // if polled.is_err() { post.leaves(); return false; }
-    turn_ready();                                          // turn_ready(alloc, post, events, lines, gate, pass, room);
-    turn_due();                                            // lines.turn_due(alloc, post, gate, pass, room);
+    told = 0;                                              // if polled.is_err() { place.shared.leaves(); return false; }
+    turn_ready();                                          // lines.turn_ready(events, gate, pass, room);
+    turn_due();                                            // lines.turn_due(gate, pass, room);
+#ifdef CLOSES_TOO_SOON
+    closes();
+#endif
 #ifndef TAKES_BEFORE_IT_WAITS
-    take_new();                                            // take_new(rt, alloc, post, poll, lines)
+    take_new();                                            // let is_open = take_new(rt, place, poll, lines);
+#endif
+#ifndef CLOSES_TOO_SOON
+    closes();                                              // place.shared.closes(lines.closed());
 #endif
 #ifdef LEAVES_CONNECTIONS
     skip
 #elif defined LEAVES_ITS_CHANNEL
     more = !IS_EMPTY
 #else
-    more = more || !IS_EMPTY                               // || !lines.items.is_empty()
+    more = more || !IS_EMPTY                               // is_open || !lines.is_empty()
 #endif
 }
 
 // worker.rt: Worker::rounds
 inline rounds() {
     do                                                     // for _ in rt.forever() {
-    :: round();                                            // if !self.round(rt, alloc, post, gate, pass) {
+    :: round();                                            // if !self.round(rt, gate, pass) {
        if
        :: more
        :: !more -> break                                   // return; } }
@@ -448,7 +476,7 @@ active [WORKERS] proctype Worker() {
 #define SLEEPS_WELL(me) (OPEN(me) == resting[me] && lying[me] == 0 && ready[me] == 0 && events[me] == 0 && due[me] == 0 && \
     (ended[me] || !dropped[me] || resting[me] > 0))
 
-/* Nobody can go on. */
+/* None can go on. */
 active proctype Watch() {
     timeout;
     assert(SLEEPS_WELL(0) && SLEEPS_WELL(WORKERS - 1) && !taken)

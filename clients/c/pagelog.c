@@ -92,7 +92,7 @@ enum pagelog_outcome pagelog_enter(struct pagelog *log, const char *address,
     log->zone.is_seen = false;
     log->epoch = log->writing_epoch = log->lost_failovers = 0;
     log->end = log->witness.lsn = 0;
-    log->is_tidying_refused = log->owns_epoch = log->anew = log->stuck = false;
+    log->is_tidying_refused = log->owns_epoch = log->is_restarted = log->stuck = false;
     return PAGELOG_DONE;
 }
 
@@ -118,8 +118,8 @@ bool pagelog_is_stuck(const struct pagelog *log) {
     return log->stuck;
 }
 
-bool pagelog_is_anew(const struct pagelog *log) {
-    return log->anew;
+bool pagelog_is_restarted(const struct pagelog *log) {
+    return log->is_restarted;
 }
 
 struct pagelog_counts pagelog_counts_of(const struct pagelog *log) {
@@ -163,8 +163,8 @@ void pagelog_explain(const struct pagelog *log, char *text, size_t room) {
     const char *name = pagelog_outcome_name(log->last);
     if (!pagelog_is_own(log))
         snprintf(text, room, "%s: made before a fork, by another process", name);
-    else if (log->anew)
-        snprintf(text, room, "%s: the service was started anew, and what was in the log may be gone", name);
+    else if (log->is_restarted)
+        snprintf(text, room, "%s: the service was restarted, and what was in the log may be gone", name);
     else if (reply->kind == PAGELOG_REPLY_DENIED)
         snprintf(text, room, "%s: denied %c%u, value %llu", name, "?ABC"[reply->section], reply -> row,
                  (unsigned long long)reply -> value);
@@ -185,12 +185,12 @@ void pagelog_explain(const struct pagelog *log, char *text, size_t room) {
 /* Learns from a reply where the log ends now. An end that has fallen is that of another run of the service.
  */
 static void notice_end(struct pagelog *log, uint64_t end) {
-    if (end < log->end) log->anew = true;
+    if (end < log->end) log->is_restarted = true;
     if (end > log->end) log->end = end;
 }
 
 static void notice_epoch(struct pagelog *log, uint32_t epoch) {
-    if (epoch < log->epoch) log->anew = true;
+    if (epoch < log->epoch) log->is_restarted = true;
     if (epoch > log->epoch) log->epoch = epoch;
 }
 
@@ -213,6 +213,6 @@ enum pagelog_outcome pagelog_notice(struct pagelog *log, const struct pagelog_re
     } else if (reply->kind == PAGELOG_REPLY_DENIED) {
         notice_denial(log, reply);
     }
-    enum pagelog_outcome outcome = log->anew ? PAGELOG_FENCED : pagelog_outcome_of(reply);
+    enum pagelog_outcome outcome = log->is_restarted ? PAGELOG_FENCED : pagelog_outcome_of(reply);
     return outcome == PAGELOG_DONE ? outcome : pagelog_restore(log, outcome, reply);
 }

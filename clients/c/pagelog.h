@@ -59,7 +59,7 @@ enum {
 enum pagelog_outcome {
     PAGELOG_DONE,       /* it is done; of an append: all blocks are in the log */
     PAGELOG_LOST,       /* no connection, or it was lost, or a time-out; asked again it may be done */
-    PAGELOG_FENCED,     /* A2, A3, A4: another epoch or another primary, or a service that was started anew */
+    PAGELOG_FENCED,     /* A2, A3, A4: another epoch or another primary, or a service that was restarted */
     PAGELOG_IN_DOUBT,   /* of an append only: whether it is in the log cannot be learned now */
     PAGELOG_CONFLICT,   /* C2, C3, C4, C6: the window holds something else than this object believed */
     PAGELOG_DENIED,     /* any other row; no such database; no turns left (Spent) */
@@ -327,7 +327,7 @@ enum pagelog_outcome pagelog_restore(struct pagelog *log, enum pagelog_outcome o
 
 /* Whether the service was restarted while this object was in use: its epoch or the end of its log fell, or a
  * reconnect has found another history. What was in the log may be gone then. Each later call is FENCED. */
-bool pagelog_is_anew(const struct pagelog *log);
+bool pagelog_is_restarted(const struct pagelog *log);
 
 /* Whether an append has left something in the window, so that nothing else can be appended in this epoch. */
 bool pagelog_is_stuck(const struct pagelog *log);

@@ -345,7 +345,7 @@ static enum pagelog_outcome conclude_after_epoch(struct append *append) {
     if (copies_of_last(append) < least_quorum(append)) return give_up(append, PAGELOG_FENCED);
     if (!are_done(append, left, most_quorum(append))) {
         outcome = look(append, append->count - 1, 1);
-        if (outcome == PAGELOG_CONFLICT || append->log->anew) return give_up(append, PAGELOG_FENCED);
+        if (outcome == PAGELOG_CONFLICT || append->log->is_restarted) return give_up(append, PAGELOG_FENCED);
         if (outcome == PAGELOG_DONE) outcome = look(append, append->first, left);
         /* Who may not look goes by the zone that it was given. */
         if (outcome != PAGELOG_CONFLICT && are_done(append, left, append->log->zone.quorum))
@@ -362,7 +362,7 @@ static bool is_dead(const struct pagelog_reply *refused) {
 
 /* What an append has come to that cannot go on, by the last refusal. */
 static enum pagelog_outcome conclude(struct append *append, enum pagelog_outcome cause) {
-    if (append->log->anew) return give_up(append, PAGELOG_FENCED);
+    if (append->log->is_restarted) return give_up(append, PAGELOG_FENCED);
     if (is_epoch_over(&append->refused)) return conclude_after_epoch(append);
     if (is_dead(&append->refused) && !append->is_report_unsure) return give_up(append, cause);
     return give_up(append, copies_of_last(append) < least_quorum(append) ? cause : PAGELOG_IN_DOUBT);
@@ -414,7 +414,7 @@ static enum pagelog_outcome may_append(struct append *append) {
     const struct ahead *ahead = &log->ahead;
     size_t length, sent = ahead->blocks * copies_of(append) + (size_t)__builtin_popcountll(ahead->reports);
     if (!pagelog_is_own(log)) return PAGELOG_MALFORMED;
-    if (log->anew) return PAGELOG_FENCED;
+    if (log->is_restarted) return PAGELOG_FENCED;
     if (log->stuck && ahead->blocks == 0) return PAGELOG_CONFLICT;
     if (log->writing_epoch == 0 || log->asked_count + ahead->done != sent || append->count < ahead->blocks ||
         append->wanted == 1 || append->wanted > PAGELOG_MOST_COPIES)

@@ -22,7 +22,7 @@ static enum pagelog_outcome ask(struct pagelog *log, const struct pagelog_operat
         enum pagelog_outcome outcome = pagelog_send_as(log, &request);
         if (outcome == PAGELOG_DONE) outcome = pagelog_receive(log, reply);
         if (outcome == PAGELOG_LOST && pagelog_may_try_again(&patience)) continue;
-        bool is_epoch_told = outcome == PAGELOG_FENCED && !log->anew && log->epoch != request.epoch;
+        bool is_epoch_told = outcome == PAGELOG_FENCED && !log->is_restarted && log->epoch != request.epoch;
         if (!is_epoch_told || !pagelog_may_change_epoch(&patience)) return outcome;
     }
 }

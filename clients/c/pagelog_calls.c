@@ -13,7 +13,7 @@ static bool takes_over_epoch(const struct pagelog *log, uint8_t role, uint32_t a
     const struct pagelog_reply *reply = &log->refused;
     bool tells = reply->kind == PAGELOG_REPLY_DENIED && reply->section == SECTION_A &&
                  (reply->row == 2 || reply->row == 3);
-    return tells && !log->anew && role != PAGELOG_PRIMARY && log->epoch != asked_epoch;
+    return tells && !log->is_restarted && role != PAGELOG_PRIMARY && log->epoch != asked_epoch;
 }
 
 struct pagelog_patience pagelog_patience_of(struct pagelog *log) {
@@ -117,7 +117,7 @@ enum pagelog_outcome pagelog_get(struct pagelog *log, enum pagelog_role role, ui
 /* Whether the last denial says that the log ends just before `from`. */
 static bool is_at_the_end(const struct pagelog *log, uint64_t from) {
     const struct pagelog_reply *reply = &log->refused;
-    return !log->anew && reply->kind == PAGELOG_REPLY_DENIED && reply->section == SECTION_C &&
+    return !log->is_restarted && reply->kind == PAGELOG_REPLY_DENIED && reply->section == SECTION_C &&
            reply->row == 1 && reply->value + 1 == from;
 }
 
@@ -210,7 +210,7 @@ static enum pagelog_outcome ask_as_primary(struct pagelog *log) {
 /* Whether the last denial reports which epoch is the current one. */
 static bool is_epoch_told(const struct pagelog *log) {
     const struct pagelog_reply *reply = &log->refused;
-    return !log->anew && reply->kind == PAGELOG_REPLY_DENIED && reply->section == SECTION_A &&
+    return !log->is_restarted && reply->kind == PAGELOG_REPLY_DENIED && reply->section == SECTION_A &&
            (reply->row == 2 || reply->row == 3);
 }
 
@@ -267,7 +267,8 @@ void pagelog_tidy_up(struct pagelog *log, uint32_t operator_principal, const uin
                                    .epoch = log->writing_epoch,
                                    .operation = PAGELOG_TIDY};
     bool is_busy = log->socket < 0 || log->asked_count > 0 || log->unheard > 0;
-    if (is_busy || log->writing_epoch == 0 || log->stuck || log->anew || log->is_tidying_refused) return;
+    if (is_busy || log->writing_epoch == 0 || log->stuck || log->is_restarted || log->is_tidying_refused)
+        return;
     pagelog_send(log, &report);
     if (operator_token) {
         memcpy(tidy.token, operator_token, PAGELOG_TOKEN_BYTES);

@@ -177,7 +177,7 @@ static enum pagelog_outcome find_mark(struct pagelog_file *file, enum pagelog_ro
     struct mark found;
     enum pagelog_outcome outcome = pagelog_get(file->log, role, mark->lsn, &number, 1, page);
     bool ends_before = outcome == PAGELOG_DENIED && pagelog_refused(file->log)->section == 3 &&
-                       pagelog_refused(file->log)->row == 1 && !pagelog_is_anew(file->log);
+                       pagelog_refused(file->log)->row == 1 && !pagelog_is_restarted(file->log);
     if (ends_before) return PAGELOG_CONFLICT;
     if (outcome != PAGELOG_DONE) return outcome;
     bool is_ours = pagelog_read_mark(file, page, &found) && found.lsn == mark->lsn &&
@@ -208,7 +208,7 @@ static enum pagelog_outcome settle_doubt(struct pagelog_file *file, const struct
     file->doubted = mark->lsn;
     enum pagelog_outcome outcome = pagelog_take_over(
         file->log, options->operator_principal, options->operator_token, pagelog_writing_epoch(file->log));
-    bool is_fenced = outcome == PAGELOG_FENCED && !pagelog_is_anew(file->log);
+    bool is_fenced = outcome == PAGELOG_FENCED && !pagelog_is_restarted(file->log);
     if (outcome != PAGELOG_DONE && !is_fenced) return pagelog_restore(file->log, PAGELOG_IN_DOUBT, &refused);
     if (is_fenced) pagelog_become_follower(file);
     outcome = find_mark(file, role_of(file), mark);
@@ -229,7 +229,7 @@ static void note_failure(struct pagelog_file *file, enum pagelog_outcome outcome
     bool is_untouched = pagelog_end(file->log) == end && !pagelog_is_stuck(file->log);
     if (is_named(file))
         pagelog_become_follower(file);
-    else if (outcome == PAGELOG_FENCED && !pagelog_is_anew(file->log))
+    else if (outcome == PAGELOG_FENCED && !pagelog_is_restarted(file->log))
         pagelog_become_follower(file);
     else if (!is_untouched || outcome == PAGELOG_IN_DOUBT)
         file->is_broken = true;
@@ -245,7 +245,7 @@ static enum pagelog_outcome lose(struct pagelog_file *file, enum pagelog_outcome
     file->is_over = true;
     file->named.is_gone = is_named(file);
     file->losses++;
-    if (is_named(file) || file->is_fenced || (outcome == PAGELOG_FENCED && !pagelog_is_anew(file->log)))
+    if (is_named(file) || file->is_fenced || (outcome == PAGELOG_FENCED && !pagelog_is_restarted(file->log)))
         pagelog_become_follower(file);
     else
         file->is_broken = true;

@@ -62,7 +62,7 @@ bool pagelog_wait_for(struct pagelog *log, int socket, short events, uint64_t de
     for (;;) {
         uint64_t now = pagelog_now(), most = log->waiter.goes_on ? SLICE_MS : 1000000;
         struct pollfd fd = {.fd = socket, .events = events};
-        if (now >= deadline || !pagelog_waits_on(&log->waiter)) return false;
+        if (now >= deadline || log->waiter.is_given_up) return false;
         uint64_t left = deadline - now;
         int count = poll(&fd, 1, (int)(left < most ? left : most));
         if (count < 0 && errno != EINTR) return false;
@@ -70,6 +70,7 @@ bool pagelog_wait_for(struct pagelog *log, int socket, short events, uint64_t de
             *ready = fd.revents;
             return true;
         }
+        if (!pagelog_waits_on(&log->waiter)) return false;
     }
 }
 

@@ -4,7 +4,7 @@
 #include <string.h>
 #include <time.h>
 
-enum { MOST_TAIL = 16 << 20, GLANCE_MS = 1000, PAUSE_MS = 20 };
+enum { MOST_TAIL = 16 << 20, A_PART = MOST_TAIL / 8, GLANCE_MS = 1000, PAUSE_MS = 20 };
 
 /* A block without records. */
 enum { HEAD_BYTES = 12 };
@@ -40,6 +40,7 @@ enum pagelog_outcome pagelog_file_take_fate(struct pagelog_file *file, const str
     file->reason = NULL;
     if (named->told < awaited->position && named->durable < awaited->position)
         return pagelog_file_fail(file, PAGELOG_CONFLICT, "it was lost before it was durable");
+    if (named->is_between) return pagelog_arrive(file); /* till then nothing here is known to be its own */
     if (outcome == PAGELOG_DONE) return pagelog_note_fate(file, awaited->generation, fate, awaited->position);
     outcome = pagelog_where(named->keepers, named->place.generation, &place);
     if (outcome == PAGELOG_DONE && place.generation > named->place.generation) return pagelog_move_on(file);
@@ -52,7 +53,7 @@ uint64_t pagelog_file_patience(const struct pagelog_file *file) {
 
 bool pagelog_file_may_wait(struct pagelog_file *file, uint64_t until) {
     const struct timespec pause = {.tv_nsec = 1000000L * PAUSE_MS};
-    if (pagelog_now() >= until || !pagelog_goes_on(file->log)) return false;
+    if (pagelog_now() >= until || !pagelog_may_pause(file)) return false;
     nanosleep(&pause, NULL);
     return true;
 }
@@ -82,12 +83,19 @@ static size_t bytes_of(const struct pagelog_blocks *blocks) {
     return bytes;
 }
 
+/* What was to be appended is in the tail no more. */
+static enum pagelog_outcome let_go(struct pagelog_file *file, enum pagelog_outcome outcome) {
+    pagelog_tail_cut(&file->named.tail, file->named.told + 1);
+    pagelog_begin_session(file);
+    return outcome;
+}
+
 enum pagelog_outcome pagelog_hold_blocks(struct pagelog_file *file) {
     struct named *named = &file->named;
     enum pagelog_outcome outcome = PAGELOG_DONE;
-    size_t length;
-    if (pagelog_tail_bytes(&named->tail) + bytes_of(file->blocks) > MOST_TAIL)
-        outcome = wait_until_durable(file, named->told);
+    size_t length, more = bytes_of(file->blocks), part = more > A_PART ? more : A_PART;
+    if (pagelog_tail_bytes(&named->tail) + more > MOST_TAIL)
+        outcome = wait_until_durable(file, pagelog_tail_after(&named->tail, part));
     if (outcome == PAGELOG_DONE && !is_writer(file)) outcome = pagelog_write_on(file);
     for (size_t i = 0; i < pagelog_blocks_count(file->blocks) && outcome == PAGELOG_DONE; i++) {
         const uint8_t *block = pagelog_blocks_at(file->blocks, i, &length);
@@ -95,7 +103,7 @@ enum pagelog_outcome pagelog_hold_blocks(struct pagelog_file *file) {
         if (!pagelog_tail_add(&named->tail, position, block, length))
             outcome = pagelog_file_fail(file, PAGELOG_NO_MEMORY, "this process has no memory left");
     }
-    return outcome;
+    return outcome == PAGELOG_DONE ? outcome : let_go(file, outcome);
 }
 
 /* Takes a block that is in the log; false where memory runs out, or where the tail is as long as it may be.
@@ -129,10 +137,7 @@ void pagelog_hold_pulled(struct pagelog_file *file, uint64_t from, const struct 
 enum pagelog_outcome pagelog_end_append(struct pagelog_file *file, enum pagelog_outcome outcome) {
     struct named *named = &file->named;
     if (outcome != PAGELOG_DONE && pagelog_may_move(file, outcome)) outcome = pagelog_move(file, outcome);
-    if (outcome != PAGELOG_DONE) {
-        pagelog_tail_cut(&named->tail, named->told + 1);
-        return outcome;
-    }
+    if (outcome != PAGELOG_DONE) return let_go(file, outcome);
     named->settled = named->place.generation;
     if (!pagelog_tail_is_empty(&named->tail)) named->told = named->own = named->tail.next - 1;
     return PAGELOG_DONE;

@@ -18,6 +18,10 @@ enum pagelog_outcome pagelog_file_fail(struct pagelog_file *file, enum pagelog_o
     return outcome;
 }
 
+bool pagelog_begin_session(struct pagelog_file *file) {
+    return getrandom(&file->session, sizeof file->session, 0) == sizeof file->session;
+}
+
 enum pagelog_outcome pagelog_refuse_until_begin(struct pagelog_file *file) {
     return pagelog_file_fail(file, PAGELOG_CONFLICT, "commits that nobody waited for were lost: begin again");
 }
@@ -57,11 +61,6 @@ enum pagelog_outcome pagelog_file_connect(struct pagelog_file *file, char *peer,
     enum pagelog_outcome outcome = pagelog_connect(file->log);
     pagelog_peer(file->log, peer, room);
     return outcome;
-}
-
-void pagelog_file_set_waiting(struct pagelog_file *file, bool (*goes_on)(void *argument), void *argument) {
-    pagelog_set_waiting(file->log, goes_on, argument);
-    if (is_named(file)) pagelog_keepers_set_waiting(file->named.keepers, goes_on, argument);
 }
 
 void pagelog_file_abandon(struct pagelog_file *file) {
@@ -128,13 +127,13 @@ static enum pagelog_outcome open_writer(struct pagelog_file *file) {
     enum pagelog_outcome outcome = look_at_name(file);
     if (outcome == PAGELOG_DONE) outcome = begin_to_write(file);
     bool is_overtaken =
-        outcome == PAGELOG_FENCED && file->options.has_operator && !pagelog_is_anew(file->log);
+        outcome == PAGELOG_FENCED && file->options.has_operator && !pagelog_is_restarted(file->log);
     return is_overtaken ? open_fenced(file) : outcome;
 }
 
 enum pagelog_outcome pagelog_file_open(struct pagelog_file *file) {
     file->reason = NULL;
-    if (getrandom(&file->session, sizeof file->session, 0) != sizeof file->session)
+    if (!pagelog_begin_session(file))
         return pagelog_file_fail(file, PAGELOG_NO_MEMORY, "the system has no random number");
     enum pagelog_outcome outcome = is_named(file)             ? pagelog_open_named(file)
                                    : file->options.reads_only ? open_reader(file)
@@ -208,7 +207,7 @@ static enum pagelog_outcome begin_writer(struct pagelog_file *file, uint64_t now
         outcome = renew(file);
     else if (is_due(file, now) || pagelog_has_gone_on(file))
         outcome = check_epoch(file);
-    if (outcome == PAGELOG_FENCED && !pagelog_is_anew(file->log)) pagelog_become_follower(file);
+    if (outcome == PAGELOG_FENCED && !pagelog_is_restarted(file->log)) pagelog_become_follower(file);
     return outcome;
 }
 
@@ -266,7 +265,7 @@ enum pagelog_outcome pagelog_fetch(struct pagelog_file *file, uint64_t lsn, cons
 enum pagelog_outcome pagelog_fetch_here(struct pagelog_file *file, uint64_t lsn, const uint32_t *pages,
                                         size_t count, uint8_t *out) {
     enum pagelog_outcome outcome = pagelog_get(file->log, role_of(file), lsn, pages, count, out);
-    if (outcome == PAGELOG_FENCED && is_writer(file) && !pagelog_is_anew(file->log)) {
+    if (outcome == PAGELOG_FENCED && is_writer(file) && !pagelog_is_restarted(file->log)) {
         pagelog_become_follower(file);
         outcome = pagelog_get(file->log, role_of(file), lsn, pages, count, out);
     }

@@ -63,10 +63,10 @@ struct pagelog_file_state {
     bool
         is_broken; /* a commit did not come to its end; the next begin takes an epoch of its own, and looks */
     bool is_stale; /* the last begin got no answer */
-    bool is_anew;  /* the service was started anew, and all is gone */
-    bool is_foreign;  /* page 0 has something that is no end mark */
-    bool is_misnamed; /* the database has another name */
-    bool is_over;     /* commits that were not waited for were lost: nothing but a begin goes on from here */
+    bool is_restarted; /* the service was restarted, and all is gone */
+    bool is_foreign;   /* page 0 has something that is no end mark */
+    bool is_misnamed;  /* the database has another name */
+    bool is_over;      /* commits that were not waited for were lost: nothing but a begin goes on from here */
     bool is_named, is_gone; /* of a named database; what was read is not in this generation, until a begin */
     uint64_t generation, position, durable; /* of such a one: where `lsn` is in all generations, and up to
                                              * where it is known to be durable */
@@ -94,6 +94,12 @@ struct pagelog_file *pagelog_file_new(const struct pagelog_file_options *options
  * may be lost. */
 void pagelog_file_free(struct pagelog_file *file);
 
+/* The generation that a named database is in; 0 before the first one. */
+uint64_t pagelog_file_generation(const struct pagelog_file *file);
+
+/* Whether the keepers know of a later generation than the one that the file is in: asked once a second. */
+bool pagelog_file_is_overtaken(struct pagelog_file *file);
+
 /* As pagelog_set_waiting. */
 void pagelog_file_set_waiting(struct pagelog_file *file, bool (*goes_on)(void *argument), void *argument);
 
@@ -120,7 +126,7 @@ enum pagelog_outcome pagelog_file_take_over(struct pagelog_file *file, uint32_t 
 
 /* Begins a transaction: what is read is what was committed last, until the next begin. A writer whose epoch
  * is over follows from now on as a reader, and is not FENCED here but at its commit. FENCED: the service was
- * started anew. */
+ * restarted. */
 enum pagelog_outcome pagelog_file_begin(struct pagelog_file *file);
 
 /* Bytes of the file as the transaction has it; `*count` of them are in the file, and the others zeros. */
@@ -206,6 +212,9 @@ bool pagelog_file_may_commit(const struct pagelog_file *file);
 
 /* Whether it is a named database's. */
 bool pagelog_file_is_named(const struct pagelog_file *file);
+
+/* Rises where what was read may be another by now, at the same LSN: so a cache of it is old. */
+uint64_t pagelog_file_history(const struct pagelog_file *file);
 
 /* As `losses` and `lsn` of the state. */
 uint64_t pagelog_file_losses(const struct pagelog_file *file);

@@ -40,10 +40,18 @@ struct named {
     uint64_t own;             /* position: of the last commit of this file that was acknowledged */
     uint64_t durable;         /* position: all up to it is durable */
     uint64_t glanced;         /* when the keepers were asked last whether the generation goes on */
-    uint32_t epoch;           /* the last one whose primary was asked for */
-    bool is_closing;          /* that was the keeper, which closes the generation */
-    bool is_doubted;          /* another process may have written since the last begin */
-    bool is_gone; /* the transaction that was read is not to be had here: nothing but a begin goes on */
+    uint64_t waited;          /* the same, amid a wait for the service */
+    bool (*goes_on)(void *argument); /* by whom waits are ended; NULL: by nobody */
+    void *argument;
+    bool is_overtaken;  /* the last wait was ended because it does not */
+    bool is_pausing;    /* who waits is asked, and no service is waited for */
+    uint32_t epoch;     /* the last one whose primary was asked for */
+    bool is_closing;    /* that was the keeper, which closes the generation */
+    bool is_between;    /* it has come to this generation, and not looked yet what is there of it */
+    bool is_sent_again; /* blocks of the tail were sent in this move */
+    bool is_doubted;    /* another process may have written since the last begin */
+    bool is_gone;       /* the transaction that was read is not to be had here: nothing but a begin goes on */
+    uint64_t given_up;  /* how often that was so */
     uint64_t moves, resent;
 };
 
@@ -85,6 +93,10 @@ struct pagelog_file {
 /* Enters an outcome that the wire did not give, and returns it. */
 enum pagelog_outcome pagelog_file_fail(struct pagelog_file *file, enum pagelog_outcome outcome,
                                        const char *reason);
+
+/* A session that no end mark has yet, so that what has failed is never taken for what is made in its place.
+ * False where the system has no random number. */
+bool pagelog_begin_session(struct pagelog_file *file);
 
 /* What every call but a begin returns once commits that nobody waited for were lost: CONFLICT. */
 enum pagelog_outcome pagelog_refuse_until_begin(struct pagelog_file *file);

@@ -97,7 +97,7 @@ struct pagelog {
     struct pagelog_zone zone;     /* of the writing epoch, as far as is known */
     bool owns_epoch;              /* it was begun by this object; another may join it */
     uint32_t lost_failovers;      /* sent since the writing epoch began, whose replies were lost */
-    bool anew;                    /* the service was started anew */
+    bool is_restarted;            /* the service was restarted */
     bool stuck;                   /* the window may hold blocks of an append that is not DONE */
     struct ahead ahead;           /* of the append to come */
     struct pagelog_waiter waiter; /* who may end a wait */

@@ -53,7 +53,8 @@ enum pagelog_outcome pagelog_append_ended(struct pagelog_file *file) {
     size_t count = pagelog_blocks_count(file->blocks);
     uint64_t asked = pagelog_now();
     enum pagelog_outcome outcome = is_named(file) ? pagelog_hold_blocks(file) : PAGELOG_DONE;
-    if (outcome == PAGELOG_DONE) outcome = pagelog_append(file->log, file->blocks, file->options.written);
+    if (outcome != PAGELOG_DONE) return outcome; /* nothing was sent: no move would make it done */
+    outcome = pagelog_append(file->log, file->blocks, file->options.written);
     if (is_named(file)) outcome = pagelog_end_append(file, outcome);
     if (outcome != PAGELOG_DONE) return outcome;
     pagelog_blocks_drop(file->blocks, count);
@@ -115,7 +116,13 @@ enum pagelog_outcome pagelog_take_mark(struct pagelog_file *file, uint64_t lsn) 
     uint8_t page[PAGELOG_PAGE_BYTES];
     const uint32_t number = MARK_PAGE;
     struct mark mark;
+    uint64_t position = position_of(file, lsn); /* the fetch may move the file */
+    bool was_gone = file->named.is_gone;
     enum pagelog_outcome outcome = pagelog_fetch(file, lsn, &number, 1, page);
+    bool is_gone_now = file->named.is_gone && !was_gone;
+    lsn = lsn_of(file, position);
+    /* What was read before is not there, and is not asked for: another look may be had. */
+    if (outcome == PAGELOG_LOST && is_gone_now) file->reason = NULL;
     if (outcome != PAGELOG_DONE) return outcome;
     file->is_foreign =
         !pagelog_read_mark(file, page, &mark) || mark.lsn > lsn || (mark.lsn == 0 && !is_untouched(page));

@@ -56,6 +56,7 @@ bool pagelog_may_move(const struct pagelog_file *file, enum pagelog_outcome outc
 static void give_up_transaction(struct pagelog_file *file) {
     pagelog_cache_clear(file->cache);
     file->named.is_gone = true;
+    file->named.given_up++;
 }
 
 static uint64_t carried(uint64_t lsn, int64_t by) {
@@ -83,7 +84,7 @@ static enum pagelog_outcome enter(struct pagelog_file *file, const struct pagelo
     carry(file, named->place.shift - place->shift);
     if (named->has_place) named->moves++;
     named->place = *place;
-    named->has_place = true;
+    named->has_place = named->is_between = true;
     if (file->options.durable_only && place->archived > named->durable) named->durable = place->archived;
     pagelog_become_follower(file);
     file->is_broken = file->is_far = false;
@@ -202,6 +203,7 @@ static enum pagelog_outcome lose_from(struct pagelog_file *file, uint64_t positi
     bool was_told = position <= named->own;
     pagelog_tail_cut(&named->tail, position);
     named->settled = named->place.generation;
+    named->is_between = false;
     if (named->told >= position) named->told = position - 1;
     pagelog_become_follower(file);
     give_up_transaction(file);
@@ -222,6 +224,7 @@ static enum pagelog_outcome send_rest(struct pagelog_file *file) {
         pagelog_tail_at(&named->tail, position_of(file, pagelog_end(file->log)) + 1);
     struct pagelog_blocks *blocks = pagelog_blocks_new();
     enum pagelog_outcome outcome = blocks ? PAGELOG_DONE : PAGELOG_NO_MEMORY;
+    named->is_sent_again = true;
     while (outcome == PAGELOG_DONE && walk.position < named->tail.next) {
         const uint8_t *block;
         size_t length;
@@ -311,7 +314,9 @@ static enum pagelog_outcome go_on(struct pagelog_file *file) {
     named->settled = named->place.generation;
     named->epoch = status.epoch;
     named->is_closing = status.primary == PAGELOG_KEEPER && status.epoch > 1;
-    return find_transaction(file, pagelog_end(file->log));
+    outcome = find_transaction(file, pagelog_end(file->log));
+    if (outcome == PAGELOG_DONE) named->is_between = false;
+    return outcome;
 }
 
 /* Whether another try may help: the service has gone, or is closed by its keeper. */
@@ -325,7 +330,7 @@ static bool is_passing(const struct pagelog_file *file, enum pagelog_outcome out
 /* Waits a little before the next try. False once the time is over. */
 static bool pause_until(struct pagelog_file *file, uint64_t until, unsigned *ms) {
     struct timespec pause = {.tv_nsec = 1000000L * *ms};
-    if (pagelog_now() >= until || !pagelog_goes_on(file->log)) return false;
+    if (pagelog_now() >= until || !pagelog_may_pause(file)) return false;
     nanosleep(&pause, NULL);
     *ms = 2 * *ms < SLOWEST_MS ? 2 * *ms : SLOWEST_MS;
     return true;
@@ -336,26 +341,35 @@ static enum pagelog_outcome try_to_move(struct pagelog_file *file, bool is_over)
     struct named *named = &file->named;
     struct pagelog_place place;
     uint64_t least = named->has_place ? named->place.generation : 0;
+    pagelog_wait_again(file);
     enum pagelog_outcome outcome = pagelog_where(named->keepers, least, &place);
     bool is_other = !named->has_place || place.generation > least;
     if (outcome == PAGELOG_DENIED)
         return pagelog_file_fail(file, outcome, "the keepers know of no database of this name");
     if (outcome != PAGELOG_DONE) return outcome;
-    if (!is_other && (is_over || pagelog_is_anew(file->log))) return PAGELOG_LOST;
+    if (!is_other && (is_over || pagelog_is_restarted(file->log))) return PAGELOG_LOST;
     if (is_other) outcome = enter(file, &place);
     return outcome == PAGELOG_DONE ? go_on(file) : outcome;
+}
+
+/* Whether a commit that is not acknowledged may have come into a log by this move, which did not get to its
+ * end. */
+static bool may_be_there(const struct named *named) {
+    return named->is_sent_again && !pagelog_tail_is_empty(&named->tail) && named->tail.next - 1 > named->told;
 }
 
 static enum pagelog_outcome move(struct pagelog_file *file, bool is_over, enum pagelog_outcome cause) {
     uint64_t until = pagelog_now() + file->options.move_ms, left = file->named.place.generation;
     unsigned ms = QUICKEST_MS;
     file->reason = NULL;
+    file->named.is_sent_again = false;
     for (;;) {
         enum pagelog_outcome outcome = try_to_move(file, is_over && file->named.place.generation == left);
         if (outcome == PAGELOG_DONE || !is_passing(file, outcome)) return outcome;
         pagelog_disconnect(file->log);
         if (!pause_until(file, until, &ms))
-            return pagelog_file_fail(file, cause, "no generation could be used in time");
+            return pagelog_file_fail(file, may_be_there(&file->named) ? PAGELOG_IN_DOUBT : cause,
+                                     "no generation could be used in time");
     }
 }
 
@@ -363,6 +377,15 @@ enum pagelog_outcome pagelog_move(struct pagelog_file *file, enum pagelog_outcom
     return move(file, false, cause == PAGELOG_IN_DOUBT || cause == PAGELOG_AUDIT_FULL ? cause : PAGELOG_LOST);
 }
 
+enum pagelog_outcome pagelog_arrive(struct pagelog_file *file) {
+    return file->named.is_between ? pagelog_move(file, PAGELOG_LOST) : PAGELOG_DONE;
+}
+
+/* Commits on their way are settled before, while it is known to whom they were sent. That may move the file
+ * already. */
 enum pagelog_outcome pagelog_move_on(struct pagelog_file *file) {
-    return move(file, true, PAGELOG_LOST);
+    uint64_t left = file->named.place.generation;
+    enum pagelog_outcome outcome = file->on_their_way > 0 ? pagelog_file_settle(file) : PAGELOG_DONE;
+    bool is_left = outcome == PAGELOG_DONE && file->named.place.generation == left;
+    return is_left ? move(file, true, PAGELOG_LOST) : outcome;
 }

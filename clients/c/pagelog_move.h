@@ -36,16 +36,23 @@ enum pagelog_outcome pagelog_fetch_wherever(struct pagelog_file *file, uint64_t 
 /* What every call but a begin returns where `is_gone`: LOST. */
 enum pagelog_outcome pagelog_refuse_gone(struct pagelog_file *file);
 
-/* Begins an epoch for a transaction that is under way; FENCED where the log has gone on from what this file
- * knows. */
+/* Begins an epoch for the blocks of a transaction that is under way; FENCED where the log has gone on from
+ * what comes before them. */
 enum pagelog_outcome pagelog_write_on(struct pagelog_file *file);
+
+/* A wait that was ended because the generation is over may be followed by others. */
+void pagelog_wait_again(struct pagelog_file *file);
+
+/* Whether who waits for a generation, or for what becomes durable, goes on with it. */
+bool pagelog_may_pause(struct pagelog_file *file);
 
 /* After a call that was not DONE: goes to where the database is now, which may be where it was, as soon as it
  * can be used there, for `move_ms` at most.
  *
  * DONE: the log there has all blocks of the tail. The transaction that is read is there too, at the same
  * position, or `is_gone` says that it is not: then nothing but a begin, which takes the newest one, goes on.
- * LOST: no place was found. Nothing was decided, and a later call may find one.
+ * LOST: no place was found. Nothing was decided, and a later call may find one. IN_DOUBT: the same, but a
+ * commit that is not acknowledged yet was sent again.
  * FENCED: another writer has gone on where a block of the tail was to be. What was not acknowledged is
  * forgotten, and never will be in the database. Where commits that were acknowledged are gone, `is_over` says
  * so, as of a loss. IN_DOUBT: the same, but what became of them cannot be learned: the service has only
@@ -53,11 +60,15 @@ enum pagelog_outcome pagelog_write_on(struct pagelog_file *file);
  * secondary. NO_MEMORY, AUDIT_FULL, MALFORMED: as of an append, of what was to be sent again. */
 enum pagelog_outcome pagelog_move(struct pagelog_file *file, enum pagelog_outcome cause);
 
-/* The same, where the keepers have said that the generation which the file is in is over. */
+/* Ends a move that did not come to its end, before anything is read or written in the generation that it has
+ * come to. */
+enum pagelog_outcome pagelog_arrive(struct pagelog_file *file);
+
+/* As pagelog_move, where the keepers have said that the generation which the file is in is over. */
 enum pagelog_outcome pagelog_move_on(struct pagelog_file *file);
 
 /* Takes the blocks that were ended into the tail. Where that is full it waits until a part is durable; LOST
- * where that cannot be had. */
+ * where that cannot be had. After any outcome but DONE they are not in the tail, and must not be sent. */
 enum pagelog_outcome pagelog_hold_blocks(struct pagelog_file *file);
 
 /* Takes blocks of other writers that were pulled from an LSN on: this file may be the one that is left to

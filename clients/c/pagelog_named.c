@@ -5,13 +5,37 @@
 #include <string.h>
 
 /* Of one call: each move ends where the database can be used, and a peer that says so and refuses is left in
- * the end. */
+ * the end. One that its keeper closes is waited for. */
 enum { MOST_MOVES = 16 };
+
+static bool may_try(struct pagelog_file *file, unsigned moves, uint64_t until) {
+    return moves < MOST_MOVES || (file->named.is_closing && pagelog_file_may_wait(file, until));
+}
+
+/* Blocks that are pulled when a file opens, so that their loss is not this file's too. */
+enum { MOST_HELD = 1024 };
 
 /* ---- What is read ---- */
 
 uint64_t pagelog_limit_of(const struct pagelog_file *file) {
     return file->options.durable_only ? lsn_of(file, file->named.durable) : UINT64_MAX;
+}
+
+/* Holds what is in the log before the transaction that is read, and is not known to be archived. What is too
+ * much is left to its writers. */
+static enum pagelog_outcome hold_newest(struct pagelog_file *file) {
+    const struct named *named = &file->named;
+    uint64_t known = named->durable > named->place.archived ? named->durable : named->place.archived;
+    uint64_t from = lsn_of(file, known > named->place.base ? known : named->place.base) + 1;
+    bool is_wanted = !file->options.reads_only && file->mark.lsn < from + MOST_HELD;
+    while (is_wanted && from <= file->mark.lsn) {
+        struct pagelog_reply pulled;
+        enum pagelog_outcome outcome = pagelog_pull(file->log, from, PAGELOG_PULL_BLOCKS, &pulled);
+        if (outcome != PAGELOG_DONE || pulled.next == from) return outcome;
+        pagelog_hold_pulled(file, from, &pulled);
+        from = pulled.next;
+    }
+    return PAGELOG_DONE;
 }
 
 /* Takes the newest transaction that may be read, or the one of `at`. */
@@ -26,13 +50,16 @@ static enum pagelog_outcome take_newest(struct pagelog_file *file) {
         return pagelog_file_fail(file, PAGELOG_MALFORMED,
                                  "this position is before the base of the generation");
     pagelog_cache_clear(file->cache);
-    return pagelog_take_mark(file, lsn);
+    outcome = pagelog_take_mark(file, lsn);
+    return outcome == PAGELOG_DONE ? hold_newest(file) : outcome;
 }
 
 /* Asks until it is done, wherever the database is by then. */
 static enum pagelog_outcome ask_wherever(struct pagelog_file *file, enum pagelog_outcome outcome,
                                          enum pagelog_outcome (*call)(struct pagelog_file *file)) {
-    for (unsigned moves = 0; !file->reason && pagelog_may_move(file, outcome) && moves < MOST_MOVES;
+    if (outcome == PAGELOG_DONE) return outcome;
+    uint64_t until = pagelog_file_patience(file);
+    for (unsigned moves = 0; !file->reason && pagelog_may_move(file, outcome) && may_try(file, moves, until);
          moves++) {
         outcome = pagelog_move(file, outcome);
         if (outcome != PAGELOG_DONE) return outcome;
@@ -72,10 +99,11 @@ enum pagelog_outcome pagelog_begin_named(struct pagelog_file *file,
     enum pagelog_outcome outcome;
     do {
         generation = file->named.place.generation;
-        outcome = pagelog_glance(file);
+        outcome = pagelog_arrive(file);
+        if (outcome == PAGELOG_DONE) outcome = pagelog_glance(file);
         if (outcome == PAGELOG_DONE) outcome = file->named.is_gone ? take_newest(file) : refresh(file);
         if (!file->is_over) outcome = ask_wherever(file, outcome, refresh);
-        if (outcome == PAGELOG_DONE) outcome = look_at_epoch(file);
+        if (outcome == PAGELOG_DONE) outcome = ask_wherever(file, look_at_epoch(file), look_at_epoch);
         if (outcome == PAGELOG_DONE && file->named.is_closing) outcome = pagelog_glance(file);
     } while (outcome == PAGELOG_DONE && file->named.place.generation != generation);
     return outcome;
@@ -84,11 +112,17 @@ enum pagelog_outcome pagelog_begin_named(struct pagelog_file *file,
 enum pagelog_outcome pagelog_fetch_wherever(struct pagelog_file *file, uint64_t position,
                                             const uint32_t *pages, size_t count, uint8_t *out) {
     file->reason = NULL;
-    enum pagelog_outcome outcome = pagelog_fetch_here(file, lsn_of(file, position), pages, count, out);
-    for (unsigned moves = 0; pagelog_may_move(file, outcome) && moves < MOST_MOVES; moves++) {
+    bool was_gone = file->named.is_gone; /* a begin asks for the newest one then */
+    enum pagelog_outcome outcome = pagelog_arrive(file);
+    if (outcome != PAGELOG_DONE) return outcome;
+    if (file->named.is_gone && !was_gone) return pagelog_refuse_gone(file);
+    outcome = pagelog_fetch_here(file, lsn_of(file, position), pages, count, out);
+    if (outcome == PAGELOG_DONE) return outcome;
+    uint64_t until = pagelog_file_patience(file);
+    for (unsigned moves = 0; pagelog_may_move(file, outcome) && may_try(file, moves, until); moves++) {
         outcome = pagelog_move(file, outcome);
         if (outcome != PAGELOG_DONE) return outcome;
-        if (file->named.is_gone) return pagelog_refuse_gone(file);
+        if (file->named.is_gone) return was_gone ? PAGELOG_LOST : pagelog_refuse_gone(file);
         outcome = pagelog_fetch_here(file, lsn_of(file, position), pages, count, out);
     }
     return outcome;
@@ -103,9 +137,11 @@ enum pagelog_outcome pagelog_refuse_gone(struct pagelog_file *file) {
 
 enum pagelog_outcome pagelog_write_on(struct pagelog_file *file) {
     const struct pagelog_file_options *options = &file->options;
-    uint64_t end = pagelog_end(file->log);
-    enum pagelog_outcome outcome =
-        pagelog_take_over(file->log, options->operator_principal, options->operator_token, 0);
+    size_t length;
+    uint64_t end = pagelog_read_number(pagelog_blocks_at(file->blocks, 0, &length), 8) - 1;
+    enum pagelog_outcome outcome = PAGELOG_DONE;
+    if (pagelog_end(file->log) == end) /* else it fences nobody */
+        outcome = pagelog_take_over(file->log, options->operator_principal, options->operator_token, 0);
     if (outcome != PAGELOG_DONE) return outcome;
     if (pagelog_end(file->log) != end)
         return pagelog_file_fail(file, PAGELOG_FENCED, "another writer has gone on meanwhile");
@@ -164,13 +200,19 @@ enum pagelog_outcome pagelog_file_reserve(struct pagelog_file *file) {
     if (file->is_over) return pagelog_refuse_until_begin(file);
     if (file->named.is_gone) return pagelog_refuse_gone(file);
     if (file->options.reads_only) return pagelog_file_fail(file, PAGELOG_FENCED, "this file only reads");
+    enum pagelog_outcome outcome = pagelog_arrive(file);
+    if (outcome == PAGELOG_DONE && file->named.is_gone) return pagelog_refuse_gone(file);
+    if (outcome != PAGELOG_DONE) return outcome;
     bool is_doubted = file->named.is_doubted;
     file->named.is_doubted = false;
+    if (is_doubted && file->on_their_way > 0) outcome = pagelog_file_settle(file); /* to ask */
+    if (outcome != PAGELOG_DONE) return outcome;
     if (is_writer(file) && is_doubted && confirm_writer(file) == PAGELOG_FENCED && file->reason)
         return PAGELOG_FENCED;
     if (is_writer(file)) return PAGELOG_DONE;
-    enum pagelog_outcome outcome = become_writer(file);
-    for (unsigned moves = 0; !file->reason && pagelog_may_move(file, outcome) && moves < MOST_MOVES;
+    outcome = become_writer(file);
+    uint64_t until = pagelog_file_patience(file);
+    for (unsigned moves = 0; !file->reason && pagelog_may_move(file, outcome) && may_try(file, moves, until);
          moves++) {
         outcome = pagelog_move(file, outcome);
         if (outcome != PAGELOG_DONE) return outcome;

@@ -18,7 +18,8 @@
 
 enum {
     ANSWER_MS = 1000,  /* for a connect and an answer that comes at once */
-    LATER_MS = 20,     /* for the others, once one has said where the database is */
+    LATER_MS = 20,     /* for the others, once one has said where the database is, */
+    SOON_MS = 200,     /* and once one has said that it is nowhere */
     SILENCE_MS = 3000, /* for what becomes durable; then another may know more */
     SLICE_MS = 10,
     MOST_WORDS = 10,
@@ -76,6 +77,10 @@ void pagelog_keepers_set_waiting(struct pagelog_keepers *keepers, bool (*goes_on
     keepers->waiter = (struct pagelog_waiter){.goes_on = goes_on, .argument = argument};
 }
 
+bool pagelog_keepers_wait_on(struct pagelog_keepers *keepers) {
+    return pagelog_waits_on(&keepers->waiter);
+}
+
 /* ---- A question ---- */
 
 /* One round of a poll: those that are asked send and read. False where nobody is asked, or the wait is over.
@@ -92,9 +97,10 @@ static bool wait_once(struct pagelog_keepers *keepers, const char *line, uint64_
         polled[count] = (struct pollfd){.fd = keeper->socket, .events = has_more ? POLLOUT : POLLIN};
         of[count++] = keeper;
     }
-    if (count == 0 || now >= deadline || !pagelog_waits_on(&keepers->waiter)) return false;
+    if (count == 0 || now >= deadline || keepers->waiter.is_given_up) return false;
     uint64_t left = deadline - now;
-    poll(polled, count, (int)(left < SLICE_MS ? left : SLICE_MS));
+    if (poll(polled, count, (int)(left < SLICE_MS ? left : SLICE_MS)) == 0)
+        return pagelog_waits_on(&keepers->waiter);
     for (size_t i = 0; i < count; i++) {
         bool is_good = true;
         if (polled[i].revents && of[i]->is_connecting | (of[i]->sent < length))
@@ -166,9 +172,9 @@ static bool copy_word(char *to, size_t room, const char *word) {
     return true;
 }
 
-/* at NAME GENERATION RUN ADDRESS ARCHIVED LINES BASE SHIFT */
+/* at NAME GENERATION RUN ADDRESS ARCHIVED LINES BASE SHIFT .. */
 static bool read_place(char **words, size_t count, struct pagelog_place *place) {
-    return count == 9 && strcmp(words[0], "at") == 0 && read_number(words[2], &place->generation) &&
+    return count >= 9 && strcmp(words[0], "at") == 0 && read_number(words[2], &place->generation) &&
            copy_word(place->run, sizeof place->run, words[3]) &&
            copy_word(place->address, sizeof place->address, words[4]) &&
            read_number(words[5], &place->archived) &&
@@ -190,8 +196,10 @@ enum pagelog_outcome pagelog_where(struct pagelog_keepers *keepers, uint64_t lea
         bool is_unknown_here = count > 0 && strcmp(words[0], "unknown") == 0;
         is_unknown |= is_unknown_here;
         is_known |= !is_unknown_here;
-        if (!read_place(words, count, &told) || told.generation < least) continue;
-        if (!is_found && pagelog_now() + LATER_MS < deadline) deadline = pagelog_now() + LATER_MS;
+        bool is_here = read_place(words, count, &told) && told.generation >= least;
+        uint64_t soon = pagelog_now() + (is_here ? LATER_MS : SOON_MS);
+        if (!is_unknown_here && soon < deadline) deadline = soon;
+        if (!is_here) continue;
         if (!is_found || told.generation > place->generation) *place = told;
         is_found = true;
     }

@@ -53,6 +53,9 @@ void pagelog_keepers_free(struct pagelog_keepers *keepers);
 void pagelog_keepers_set_waiting(struct pagelog_keepers *keepers, bool (*goes_on)(void *argument),
                                  void *argument);
 
+/* Whether who waits goes on with it: as of a wait that began when the first one did since that was set. */
+bool pagelog_keepers_wait_on(struct pagelog_keepers *keepers);
+
 /* For a child of fork(): closes the descriptors there, and nothing else. */
 void pagelog_keepers_abandon(struct pagelog_keepers *keepers);
 

@@ -105,14 +105,16 @@ static enum pagelog_outcome touched_pages(struct pagelog_file *file, uint64_t en
     return PAGELOG_DONE;
 }
 
-/* Adds what makes up to 64 pages again what they were at the end mark. */
+/* Adds what makes up to 64 pages again what they were at the end mark. `end` is a position: each append may
+ * move the file. */
 static enum pagelog_outcome add_repairs(struct pagelog_file *file, uint64_t end, const uint32_t *pages,
                                         size_t count) {
     uint8_t *old = malloc(2 * GROUP * PAGELOG_PAGE_BYTES);
     if (!old) return out_of_memory(file);
     uint8_t *now = old + GROUP * PAGELOG_PAGE_BYTES;
     enum pagelog_outcome outcome = pagelog_get(file->log, PAGELOG_PRIMARY, file->mark.lsn, pages, count, old);
-    if (outcome == PAGELOG_DONE) outcome = pagelog_get(file->log, PAGELOG_PRIMARY, end, pages, count, now);
+    if (outcome == PAGELOG_DONE)
+        outcome = pagelog_get(file->log, PAGELOG_PRIMARY, lsn_of(file, end), pages, count, now);
     for (size_t i = 0; i < count && outcome == PAGELOG_DONE; i++) {
         size_t at = i * PAGELOG_PAGE_BYTES;
         outcome = pagelog_blocks_difference(file->blocks, pages[i], now + at, old + at);
@@ -124,7 +126,7 @@ static enum pagelog_outcome add_repairs(struct pagelog_file *file, uint64_t end,
 
 enum pagelog_outcome pagelog_repair(struct pagelog_file *file) {
     struct pages pages = {0};
-    uint64_t end = pagelog_end(file->log);
+    uint64_t end = pagelog_end(file->log), position = position_of(file, end);
     struct mark mark = {
         .size = file->mark.size, .session = file->session, .transaction = file->mark.transaction + 1};
     enum pagelog_outcome outcome = touched_pages(file, end, &pages);
@@ -132,11 +134,11 @@ enum pagelog_outcome pagelog_repair(struct pagelog_file *file) {
     for (size_t i = 0; i < pages.count && outcome == PAGELOG_DONE; i += GROUP) {
         uint32_t group[GROUP];
         size_t count = group_of(&pages, i, group);
-        outcome = add_repairs(file, end, group, count);
+        outcome = add_repairs(file, position, group, count);
     }
     free(pages.numbers);
     if (outcome == PAGELOG_DONE) outcome = pagelog_add_mark(file, &mark);
-    uint64_t position = position_of(file, mark.lsn); /* the append may move the file */
+    position = position_of(file, mark.lsn); /* the append may move the file */
     if (outcome == PAGELOG_DONE) outcome = pagelog_append_ended(file);
     if (outcome != PAGELOG_DONE) return outcome;
     mark.lsn = lsn_of(file, position);

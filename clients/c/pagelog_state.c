@@ -43,8 +43,16 @@ bool pagelog_file_is_named(const struct pagelog_file *file) {
     return is_named(file);
 }
 
+uint64_t pagelog_file_history(const struct pagelog_file *file) {
+    return file->losses + file->named.given_up;
+}
+
 uint64_t pagelog_file_losses(const struct pagelog_file *file) {
     return file->losses;
+}
+
+uint64_t pagelog_file_generation(const struct pagelog_file *file) {
+    return file->named.place.generation;
 }
 
 uint64_t pagelog_file_lsn(const struct pagelog_file *file) {
@@ -69,7 +77,7 @@ struct pagelog_file_state pagelog_file_state_of(const struct pagelog_file *file)
         .is_fenced = file->is_fenced,
         .is_broken = file->is_broken,
         .is_stale = file->is_stale,
-        .is_anew = pagelog_is_anew(file->log),
+        .is_restarted = pagelog_is_restarted(file->log),
         .is_foreign = file->is_foreign,
         .is_misnamed = file->is_misnamed,
         .is_over = file->is_over,

@@ -68,6 +68,14 @@ const uint8_t *pagelog_tail_next(const struct pagelog_tail *tail, struct pagelog
     return block;
 }
 
+uint64_t pagelog_tail_after(const struct pagelog_tail *tail, size_t bytes) {
+    struct pagelog_tail_walk walk = {tail->start, tail->first};
+    size_t length;
+    while (walk.at - tail->start < bytes && pagelog_tail_next(tail, &walk, &length))
+        ;
+    return walk.position - 1;
+}
+
 void pagelog_tail_drop(struct pagelog_tail *tail, uint64_t until) {
     struct pagelog_tail_walk walk = pagelog_tail_at(tail, until + 1);
     tail->start = walk.at;

@@ -29,6 +29,9 @@ static inline size_t pagelog_tail_bytes(const struct pagelog_tail *tail) {
     return tail->end - tail->start;
 }
 
+/* The position of the block with which the first ones are so many bytes, or of the last one. */
+uint64_t pagelog_tail_after(const struct pagelog_tail *tail, size_t bytes);
+
 /* Adds a block at the next position. Where its position is another one, the blocks before are of no use any
  * more, and are forgotten. False where memory runs out. */
 bool pagelog_tail_add(struct pagelog_tail *tail, uint64_t position, const uint8_t *block, size_t length);

@@ -7,7 +7,7 @@
 #include <stdio.h>
 #include <string.h>
 
-enum { ANSWER_MS = 1000, SHUNNED_MS = 1000 };
+enum { ANSWER_MS = 1000, SHUNNED_MS = 1000, PATIENT_MS = 3000, FRESH_MS = 10 };
 
 void pagelog_turn_begin(struct pagelog_turn *turn, const char *name) {
     *turn = (struct pagelog_turn){.line = {.socket = -1}};
@@ -16,6 +16,7 @@ void pagelog_turn_begin(struct pagelog_turn *turn, const char *name) {
 
 void pagelog_turn_leave(struct pagelog_turn *turn) {
     pagelog_line_leave(&turn->line);
+    turn->is_mine = turn->is_mine || turn->is_held;
     turn->is_asked = turn->is_held = turn->is_same = turn->is_kept = turn->is_wanted = false;
 }
 
@@ -23,6 +24,7 @@ void pagelog_turn_leave(struct pagelog_turn *turn) {
 static enum pagelog_outcome lose(struct pagelog_turn *turn) {
     pagelog_turn_leave(turn);
     turn->shunned = pagelog_now() + SHUNNED_MS;
+    if (turn->lost == 0) turn->lost = pagelog_now();
     return PAGELOG_LOST;
 }
 
@@ -33,8 +35,9 @@ static bool take(struct pagelog_turn *turn, char *text) {
     if (strcmp(word, "wanted") == 0) {
         turn->is_wanted = true;
     } else if (strcmp(word, "turn") == 0) {
-        turn->is_asked = turn->is_wanted = false;
+        turn->is_asked = turn->is_wanted = turn->is_mine = false;
         turn->is_held = true;
+        turn->lost = 0;
         turn->is_same = strcmp(how, "same") == 0;
         turn->is_kept = strcmp(kept, "kept") == 0;
     } else if (strcmp(word, "busy") == 0) {
@@ -48,6 +51,7 @@ static bool take(struct pagelog_turn *turn, char *text) {
 enum pagelog_outcome pagelog_turn_look(struct pagelog_turn *turn) {
     char text[PAGELOG_LINE_BYTES];
     if (turn->line.socket < 0) return PAGELOG_LOST;
+    turn->looked = pagelog_now();
     bool is_good = pagelog_line_read(&turn->line);
     while (pagelog_line_take(&turn->line, text))
         if (!take(turn, text)) return lose(turn);
@@ -64,7 +68,9 @@ static bool say(struct pagelog_turn *turn, const char *word, const char *more) {
     while (turn->line.socket >= 0 && turn->line.sent < (size_t)length) {
         struct pollfd fd = {.fd = turn->line.socket, .events = POLLOUT};
         uint64_t now = pagelog_now();
-        if (turn->line.is_connecting && poll(&fd, 1, now < until ? (int)(until - now) : 0) == 0) return false;
+        int ready = poll(&fd, 1, now < until ? (int)(until - now) : 0);
+        if (ready == 0 || (ready < 0 && now >= until)) return false;
+        if (ready < 0) continue; /* a signal: it may not be open yet */
         if (pagelog_line_send(&turn->line, text, (size_t)length)) continue;
         pagelog_line_lose(&turn->line);
         turn->line.sent = 0;
@@ -88,22 +94,28 @@ static enum pagelog_outcome answer(struct pagelog_turn *turn) {
 
 /* Has the line lead to this keeper. */
 static bool lead_to(struct pagelog_turn *turn, const char *lines, uint64_t generation) {
+    if (turn->generation == generation && strcmp(turn->lines, lines) == 0) return true;
     struct pagelog_line wanted = {.socket = -1};
     if (!pagelog_line_set_address(&wanted, lines, strlen(lines))) return false;
-    bool is_there = turn->generation == generation && strcmp(turn->line.host, wanted.host) == 0 &&
-                    strcmp(turn->line.port, wanted.port) == 0;
-    if (is_there) return true;
     pagelog_turn_leave(turn);
     turn->line = wanted;
+    snprintf(turn->lines, sizeof turn->lines, "%s", lines);
     turn->generation = generation;
-    turn->shunned = 0;
+    turn->shunned = turn->lost = 0;
     return true;
+}
+
+/* Whether a turn is kept, and was looked after so short a time ago that nobody else can have it. */
+static bool is_fresh(const struct pagelog_turn *turn, uint64_t now) {
+    return turn->is_held && turn->is_kept && !turn->is_wanted && now - turn->looked < FRESH_MS;
 }
 
 enum pagelog_outcome pagelog_turn_ask(struct pagelog_turn *turn, const char *lines, uint64_t generation,
                                       bool now) {
-    if (!lead_to(turn, lines, generation) || pagelog_now() < turn->shunned) return PAGELOG_LOST;
-    if (turn->line.socket >= 0 && pagelog_turn_look(turn) == PAGELOG_LOST) turn->shunned = 0;
+    uint64_t time = pagelog_now();
+    if (!lead_to(turn, lines, generation) || time < turn->shunned) return PAGELOG_LOST;
+    if (!is_fresh(turn, time) && turn->line.socket >= 0 && pagelog_turn_look(turn) == PAGELOG_LOST)
+        turn->shunned = 0;
     if (turn->is_held && turn->is_wanted) pagelog_turn_give(turn);
     if (turn->is_held) {
         turn->is_same = true;
@@ -111,18 +123,25 @@ enum pagelog_outcome pagelog_turn_ask(struct pagelog_turn *turn, const char *lin
     }
     pagelog_line_ask(&turn->line);
     turn->is_asked = true;
-    if (!say(turn, "turn", now ? " now" : "")) return lose(turn);
+    const char *how = now && turn->is_mine ? " now mine" : turn->is_mine ? " mine" : now ? " now" : "";
+    if (!say(turn, "turn", how)) return lose(turn);
     return now ? answer(turn) : pagelog_turn_look(turn);
+}
+
+bool pagelog_turn_may_come(const struct pagelog_turn *turn) {
+    return !turn->is_mine && turn->lost > 0 && pagelog_now() - turn->lost < PATIENT_MS;
 }
 
 void pagelog_turn_hold(struct pagelog_turn *turn) {
     bool was_wanted = turn->is_wanted;
-    if (!turn->is_kept || !turn->is_held || pagelog_turn_look(turn) != PAGELOG_DONE) return;
+    if (!turn->is_kept || !turn->is_held || is_fresh(turn, pagelog_now())) return;
+    if (pagelog_turn_look(turn) != PAGELOG_DONE) return;
     if (turn->is_wanted && !was_wanted && !say(turn, "hold", "")) lose(turn);
 }
 
 void pagelog_turn_give(struct pagelog_turn *turn) {
     if (turn->line.socket < 0 || (!turn->is_held && !turn->is_asked)) return;
+    if (is_fresh(turn, pagelog_now())) return;
     if (turn->is_kept && pagelog_turn_look(turn) == PAGELOG_DONE && !turn->is_wanted) return;
     turn->is_held = turn->is_asked = turn->is_kept = turn->is_wanted = false;
     if (turn->line.socket >= 0 && !say(turn, "back", "")) lose(turn);

@@ -1,6 +1,6 @@
 /* Whose turn it is to write a named database: what a keeper says of it, over a connection of its own
  * (clients/python/src/pagelog/keeper/turns.py). Turns keep writers out of each other's way, and no more: what
- * is written is kept whole by epochs. So whoever cannot ask may go on without one.
+ * is written is kept whole by epochs. So whoever cannot ask may go on without one, in the end.
  *
  * A turn ends with its connection. One that is kept may be used again and again without a word, until it is
  * wanted back, which its holder has to look for. */
@@ -11,14 +11,17 @@
 
 struct pagelog_turn {
     struct pagelog_line line;
-    char name[PAGELOG_PLACE_BYTES];
-    uint64_t generation; /* in which it is asked for */
-    bool is_asked;       /* no answer has come yet */
+    char name[PAGELOG_PLACE_BYTES], lines[PAGELOG_PLACE_BYTES]; /* of the database; of the keeper */
+    uint64_t generation;                                        /* in which it is asked for */
+    uint64_t looked; /* when what the keeper has said was read last */
+    bool is_asked;   /* no answer has come yet */
     bool is_held;
+    bool is_mine;     /* it was held when its line or its generation ended: whoever had it comes first */
     bool is_same;     /* the turn before was this one's too: nobody has written since */
     bool is_kept;     /* it may be used again */
     bool is_wanted;   /* another waits for the turn that is kept */
     uint64_t shunned; /* until when a keeper that has not answered is left alone */
+    uint64_t lost;    /* when it first was lost in this generation; 0: it was not */
 };
 
 /* A turn that was not asked for yet. */
@@ -35,6 +38,10 @@ enum pagelog_outcome pagelog_turn_ask(struct pagelog_turn *turn, const char *lin
 
 /* What has come of it since, without waiting: as above. */
 enum pagelog_outcome pagelog_turn_look(struct pagelog_turn *turn);
+
+/* Whether a turn that is LOST may soon be had of another keeper, in the next generation. Not for who had it:
+ * nobody else has. */
+bool pagelog_turn_may_come(const struct pagelog_turn *turn);
 
 /* Says that a turn which is kept is in use, if it was wanted back: then it is waited for. */
 void pagelog_turn_hold(struct pagelog_turn *turn);

@@ -46,9 +46,10 @@
  *   durable=1        a secondary that sees nothing that could still be lost
  *
  * There `at` is a position, and synchronous=full and extra say that a COMMIT waits until the archive has it;
- * normal, until the service has. What was acknowledged and is not durable yet a writer keeps, and sends again
- * where a service has died, if nobody else has written there. So no statement fails for a succession, nor for
- * a death by which nothing was lost. pagelog_move.h says what a move leaves.
+ * normal, until the service has, and a close waits for the archive. What was acknowledged and is not durable
+ * yet a writer keeps, and sends again where a service has died, if nobody else has written there. So no
+ * statement fails for a succession, nor for a death by which nothing was lost. pagelog_move.h says what a
+ * move leaves.
  *
  * A transaction is committed by SQLITE_FCNTL_SYNC, which SQLite sends once for each, whatever `synchronous`
  * and `journal_mode` are: what was written since then becomes one transaction of the file. It waits until
@@ -71,7 +72,8 @@
  *   SQLITE_BUSY_SNAPSHOT of a named database: another writer has gone on; nothing of the transaction is there
  *   SQLITE_FULL          the service's memory is full; with the extended code 269 the audit list is
  *   SQLITE_PERM          the table denies it, or there is no such database
- *   SQLITE_PROTOCOL      another session writes in this epoch, or what answers is no such service
+ *   SQLITE_PROTOCOL      another session writes in this epoch, or what answers is no such service; of a named
+ *                        database: `at` is a position below the base of the generation
  *   SQLITE_NOTADB        page 0 of the database has something else
  *   SQLITE_MISUSE        the URI lacks a parameter, or has one that is unknown or cannot be read; a pragma
  *                        has a number out of its range; the connection was opened before a fork, and

@@ -26,7 +26,7 @@ static int code_of(const struct pagelog_file *file, enum pagelog_outcome outcome
         return SQLITE_IOERR;
     case PAGELOG_FENCED:
         if (pagelog_file_is_named(file)) return SQLITE_BUSY_SNAPSHOT;
-        return pagelog_file_state_of(file).is_anew ? SQLITE_IOERR : SQLITE_READONLY;
+        return pagelog_file_state_of(file).is_restarted ? SQLITE_IOERR : SQLITE_READONLY;
     case PAGELOG_IN_DOUBT:
         return SQLITE_IOERR_FSYNC;
     case PAGELOG_CONFLICT:
@@ -57,7 +57,7 @@ static void unlist_database(struct database *database) {
 /* Notes an outcome by its code. */
 static int note(struct database *database, int code) {
     if (code == SQLITE_IOERR_FSYNC) database->is_loss_untold = false;
-    if (pagelog_file_state_of(database->file).is_anew && !database->is_named) unlist_database(database);
+    if (pagelog_file_state_of(database->file).is_restarted && !database->is_named) unlist_database(database);
     pagelog_file_explain(database->file, database->error, sizeof database->error);
     sqlite3_log(code, "pagelog: %s", database->error);
     return code;

@@ -1,4 +1,5 @@
-/* synchronous=full and extra of a named database: a COMMIT waits until the archive has it. */
+/* Of a named database: with synchronous=full and extra a COMMIT waits until the archive has it, with normal
+ * the close of its connection does. */
 #include "pagelog_vfs_inside.h"
 
 #include <string.h>
@@ -11,18 +12,18 @@ static struct pagelog_keepers *keepers_of(struct connection *connection) {
     return connection->keepers;
 }
 
-/* One question, without the mutex: readers of this process wait for nobody's durability. */
+/* One question, without the mutex: readers of this process wait for nobody's durability. Who closes has no
+ * lock, so that it lets nobody in where another is amid a commit. */
 static enum pagelog_outcome ask(struct connection *connection, const struct pagelog_awaited *awaited,
                                 struct pagelog_fate *fate) {
     struct database *database = connection->database;
-    database->durable_waits++;
+    bool is_commit = database->reserved == connection;
+    database->durable_waits += is_commit;
     sqlite3_mutex_leave(database->mutex);
-    connection->has_waited = false;
-    pagelog_keepers_set_waiting(connection->keepers, pagelog_connection_waits_on, connection);
     enum pagelog_outcome outcome =
         pagelog_fate_of(connection->keepers, awaited->lines, awaited->generation, awaited->position, fate);
     sqlite3_mutex_enter(database->mutex);
-    database->durable_waits--;
+    database->durable_waits -= is_commit;
     pagelog_file_set_waiting(database->file, pagelog_connection_waits_on, connection);
     return outcome;
 }
@@ -37,20 +38,50 @@ static int doubt(struct connection *connection) {
     return SQLITE_IOERR_FSYNC;
 }
 
-int pagelog_wait_until_durable(struct connection *connection) {
+/* Waits until a position is durable. LOST: no keeper has said it in time. What is lost meanwhile the next
+ * statement tells, where this call does not. */
+static enum pagelog_outcome wait_for(struct connection *connection, uint64_t position) {
     struct database *database = connection->database;
-    struct pagelog_file_state state = pagelog_file_state_of(database->file);
-    struct pagelog_awaited awaited = {.position = state.committed};
-    uint64_t until = pagelog_file_patience(database->file);
-    if (!database->is_named || connection->synchronous < SYNCHRONOUS_FULL) return SQLITE_OK;
-    if (!keepers_of(connection)) return doubt(connection);
-    while (!pagelog_file_is_durable(database->file, &awaited)) {
+    struct pagelog_file *file = database->file;
+    struct pagelog_awaited awaited = {.position = position};
+    uint64_t until = pagelog_file_patience(file);
+    if (!keepers_of(connection)) return PAGELOG_LOST;
+    pagelog_keepers_set_waiting(connection->keepers, pagelog_connection_waits_on, connection);
+    while (!pagelog_file_is_durable(file, &awaited)) {
         struct pagelog_fate fate;
         enum pagelog_outcome outcome = ask(connection, &awaited, &fate);
-        outcome = pagelog_file_take_fate(database->file, &awaited, outcome, &fate);
+        uint64_t losses = pagelog_file_losses(file);
+        outcome = pagelog_file_take_fate(file, &awaited, outcome, &fate);
+        if (pagelog_file_losses(file) > losses) database->is_loss_untold = true;
         if (outcome == PAGELOG_DONE) continue;
-        if (outcome != PAGELOG_LOST) return pagelog_result(database, outcome);
-        if (!pagelog_file_may_wait(database->file, until)) return doubt(connection);
+        bool goes_on = outcome == PAGELOG_LOST && pagelog_keepers_wait_on(connection->keepers);
+        if (!goes_on || !pagelog_file_may_wait(file, until)) return outcome;
     }
-    return SQLITE_OK;
+    return PAGELOG_DONE;
+}
+
+int pagelog_wait_until_durable(struct connection *connection) {
+    struct database *database = connection->database;
+    if (!database->is_named || connection->synchronous < SYNCHRONOUS_FULL) return SQLITE_OK;
+    enum pagelog_outcome outcome = wait_for(connection, pagelog_file_state_of(database->file).committed);
+    return outcome == PAGELOG_LOST ? doubt(connection) : pagelog_result(database, outcome);
+}
+
+void pagelog_note_commit(struct connection *connection) {
+    struct database *database = connection->database;
+    if (database->is_named && connection->synchronous == SYNCHRONOUS_NORMAL)
+        connection->committed = pagelog_file_state_of(database->file).position;
+}
+
+void pagelog_wait_before_close(struct connection *connection) {
+    struct database *database = connection->database;
+    char text[ERROR_BYTES];
+    bool is_there = connection->committed <= pagelog_file_state_of(database->file).committed;
+    if (connection->committed == 0 || !is_there) return; /* a loss that was told */
+    if (wait_for(connection, connection->committed) == PAGELOG_DONE) return;
+    pagelog_file_explain(database->file, text, sizeof text);
+    sqlite3_log(SQLITE_IOERR_FSYNC,
+                "pagelog: closed, and its last commits are not known to be durable: they are lost if the "
+                "service dies now: %s",
+                text);
 }

@@ -38,12 +38,14 @@ static int note_handler(struct connection *connection, void **handler) {
     return SQLITE_OK;
 }
 
-/* Commits that nobody waited for are waited for by who closes. */
+/* Commits that nobody waited for are waited for by who closes, and those with synchronous=normal until they
+ * are durable. */
 static int file_close(sqlite3_file *file) {
     struct connection *connection = (struct connection *)file;
     struct database *database = enter(file);
     pagelog_lower_lock(database, connection, SQLITE_LOCK_NONE);
     pagelog_call_untold(database, pagelog_file_settle);
+    pagelog_wait_before_close(connection);
     pagelog_file_set_waiting(database->file, NULL, NULL);
     leave(database, SQLITE_OK);
     pagelog_unlist_connection(connection);
@@ -54,7 +56,7 @@ static int file_close(sqlite3_file *file) {
 
 /* SQLite's own cache has what the file has now. */
 static void note_cache(struct connection *connection) {
-    connection->losses = pagelog_file_losses(connection->database->file);
+    connection->history = pagelog_file_history(connection->database->file);
     connection->lsn = pagelog_file_lsn(connection->database->file);
 }
 
@@ -65,7 +67,7 @@ static void note_cache(struct connection *connection) {
 static bool is_cache_old(struct connection *connection, int length, sqlite3_int64 offset) {
     const struct pagelog_file *file = connection->database->file;
     if (length != VERSION_BYTES || offset != VERSION_OFFSET) return false;
-    if (connection->losses == pagelog_file_losses(file) && connection->lsn == pagelog_file_lsn(file))
+    if (connection->history == pagelog_file_history(file) && connection->lsn == pagelog_file_lsn(file))
         return false;
     note_cache(connection);
     return true;
@@ -89,7 +91,7 @@ static void read_as_with_journal(unsigned char *bytes, int length, sqlite3_int64
 static void forget_wal(struct connection *connection, const unsigned char *bytes, int length,
                        sqlite3_int64 offset) {
     if (has_ways(length, offset) && bytes[WAYS_OFFSET - offset + WAYS_BYTES - 1] == BY_WAL)
-        connection->losses = ~pagelog_file_losses(connection->database->file);
+        connection->history = ~pagelog_file_history(connection->database->file);
 }
 
 /* When it opens a database SQLite looks for the size of its pages, without a lock, and again with one. Where
@@ -126,7 +128,7 @@ static int file_read(sqlite3_file *file, void *bytes, int length, sqlite3_int64 
  * half of it was not rolled back: it has to read all of it again. */
 static int note_error(sqlite3_file *file, int code) {
     struct connection *connection = (struct connection *)file;
-    if (code != SQLITE_OK) connection->losses = ~pagelog_file_losses(connection->database->file);
+    if (code != SQLITE_OK) connection->history = ~pagelog_file_history(connection->database->file);
     return code;
 }
 
@@ -212,9 +214,11 @@ static int commit(struct connection *connection) {
     }
     char error[ERROR_BYTES];
     bool is_rollback = connection->is_refused;
+    uint64_t lsn = pagelog_file_lsn(database->file);
     memcpy(error, database->error, sizeof error);
     int code = note_refusal(connection, pagelog_result(database, pagelog_file_commit(database->file)));
     if (is_rollback) memcpy(database->error, error, sizeof error);
+    if (code == SQLITE_OK && pagelog_file_lsn(database->file) != lsn) pagelog_note_commit(connection);
     return code;
 }
 
@@ -279,6 +283,7 @@ void pagelog_open_connection(struct connection *connection, sqlite3_filename nam
     connection->sqlite = NULL;
     connection->keepers = NULL;
     connection->wants_turn = false;
+    connection->committed = 0;
     connection->decision = DECIDED;
     connection->synchronous = SYNCHRONOUS_FULL; /* as SQLite begins */
     connection->journal_mode = "delete";

@@ -49,7 +49,7 @@ struct database {
     char *kept_name;            /* the name that they know it by, or NULL */
     struct pagelog_turn turn;   /* to write, among processes */
     struct connection *turn_of; /* who has it, or waits for it; NULL: nobody */
-    uint64_t turn_since;        /* when it was last looked whether it is wanted back */
+    unsigned turn_writes;       /* in the transaction that has it */
     unsigned
         durable_waits;   /* commits that are in the log, and wait until they are durable; others may read */
     bool is_loss_untold; /* the file has lost commits, and no statement has told it */
@@ -73,8 +73,8 @@ struct connection {
     const char *journal; /* its name, where SQLite keeps it */
     struct database *database;
     int lock;
-    /* Of the file, as SQLite's own cache has it: commits that were lost, and the transaction. */
-    uint64_t losses, lsn;
+    /* Of the file, as SQLite's own cache has it: the history, and the transaction. */
+    uint64_t history, lsn;
     bool is_sized;     /* SQLite has asked for the size of a sector */
     bool is_refused;   /* the last commit or end of a rollback was, and the lock was kept since */
     bool is_committed; /* the last commit was done, the lock was kept since, and nothing was written */
@@ -87,6 +87,8 @@ struct connection {
     struct pagelog_keepers *keepers;
     enum decision decision;
     bool wants_turn; /* it was refused the turn: the next begin waits for it */
+    uint64_t
+        committed; /* position: of its last commit that was not waited for until it is durable; 0: none */
     /* What was set by `PRAGMA synchronous`, `locking_mode` and `journal_mode`. */
     int synchronous;
     bool is_exclusive;
@@ -191,6 +193,13 @@ void pagelog_open_connection(struct connection *connection, sqlite3_filename nam
 /* After a commit: waits until it is durable, where `synchronous` asks for that. Others may use the database
  * meanwhile. */
 int pagelog_wait_until_durable(struct connection *connection);
+
+/* After a commit that has changed something: where that does not wait until it is durable, the close will. */
+void pagelog_note_commit(struct connection *connection);
+
+/* Waits until the commits of a connection that closes are durable, as a commit does. Where that cannot be had
+ * SQLite's log says so. */
+void pagelog_wait_before_close(struct connection *connection);
 
 /* ---- pagelog_vfs_turn.c: of a named database; of others they do nothing ---- */
 

@@ -9,7 +9,7 @@
 #include <poll.h>
 #include <string.h>
 
-enum { HOLD_MS = 50 }; /* for so long a transaction need not look whether its turn is wanted */
+enum { MANY_WRITES = 16 }; /* of a transaction, after which it looks whether its turn is wanted */
 
 /* What a sleep of SQLite's in this thread waits for too. */
 static _Thread_local int awaited = -1;
@@ -46,7 +46,7 @@ static void take(struct connection *connection, enum pagelog_outcome outcome) {
     struct database *database = connection->database;
     if (outcome != PAGELOG_DONE || !database->turn.is_same) pagelog_file_doubt(database->file);
     database->turn_of = connection;
-    database->turn_since = pagelog_file_patience(database->file);
+    database->turn_writes = 0;
 }
 
 void pagelog_give_turn(struct connection *connection) {
@@ -59,8 +59,7 @@ void pagelog_give_turn(struct connection *connection) {
 void pagelog_hold_turn(struct connection *connection) {
     struct database *database = connection->database;
     if (database->turn_of != connection || !database->turn.is_kept) return;
-    if (pagelog_file_patience(database->file) - database->turn_since < HOLD_MS) return;
-    database->turn_since = pagelog_file_patience(database->file);
+    if (++database->turn_writes % MANY_WRITES != 0) return;
     pagelog_turn_hold(&database->turn);
 }
 
@@ -72,7 +71,8 @@ int pagelog_wait_for_turn(struct connection *connection) {
     database->turn_of = connection;
     enum pagelog_outcome outcome = ask(database, false);
     while (outcome == PAGELOG_CONFLICT && waits_on(connection))
-        outcome = pagelog_turn_look(&database->turn);
+        outcome =
+            pagelog_file_is_overtaken(database->file) ? PAGELOG_LOST : pagelog_turn_look(&database->turn);
     if (outcome == PAGELOG_CONFLICT) {
         pagelog_give_turn(connection);
         return SQLITE_BUSY;
@@ -81,17 +81,37 @@ int pagelog_wait_for_turn(struct connection *connection) {
     return SQLITE_OK;
 }
 
+/* Has the turn of the generation that the file is in. One that was waited for may be of a generation that is
+ * over, or of none where its keeper was gone. */
+static int have_turn(struct connection *connection) {
+    struct database *database = connection->database;
+    const struct pagelog_turn *turn = &database->turn;
+    if (database->turn_of == connection && turn->is_held &&
+        turn->generation == pagelog_file_generation(database->file))
+        return SQLITE_OK;
+    enum pagelog_outcome outcome = ask(database, true);
+    bool may_come = outcome == PAGELOG_LOST && connection->busy && pagelog_turn_may_come(&database->turn);
+    connection->wants_turn = outcome == PAGELOG_CONFLICT;
+    if (connection->wants_turn || may_come) {
+        pagelog_give_turn(connection);
+        return SQLITE_BUSY;
+    }
+    take(connection, outcome);
+    return SQLITE_OK;
+}
+
+/* A file that has moved meanwhile needs a turn there. */
 int pagelog_reserve_database(struct connection *connection) {
     struct database *database = connection->database;
+    enum pagelog_outcome outcome;
+    uint64_t generation;
     if (!database->is_named) return SQLITE_OK;
     if (database->turn_of && database->turn_of != connection) return SQLITE_BUSY;
-    if (!database->turn_of) {
-        enum pagelog_outcome turn = ask(database, true);
-        connection->wants_turn = turn == PAGELOG_CONFLICT;
-        if (connection->wants_turn) return SQLITE_BUSY;
-        take(connection, turn);
-    }
-    enum pagelog_outcome outcome = pagelog_file_reserve(database->file);
+    do {
+        generation = pagelog_file_generation(database->file);
+        if (have_turn(connection) != SQLITE_OK) return SQLITE_BUSY;
+        outcome = pagelog_file_reserve(database->file);
+    } while (outcome == PAGELOG_DONE && pagelog_file_generation(database->file) != generation);
     if (outcome == PAGELOG_DONE) return SQLITE_OK;
     pagelog_give_turn(connection);
     struct pagelog_file_state state = pagelog_file_state_of(database->file);

@@ -1,5 +1,5 @@
 /* Whether a service that was connected to again has the history that this object has seen. No reply names the
- * service, and one that was started anew and restored from an archive may have the same epoch, and a log that
+ * service, and one that was restarted and restored from an archive may have the same epoch, and a log that
  * is as long. So what the object saw last in the log is read again over each new connection, before anything
  * else is believed. */
 #include "pagelog_inside.h"
@@ -81,8 +81,8 @@ static bool is_same(const struct witness *witness, const struct pagelog_reply *r
 static enum pagelog_outcome judge(struct pagelog *log, const struct pagelog_reply *reply) {
     bool is_there = reply->kind == PAGELOG_REPLY_PAGE || reply->kind == PAGELOG_REPLY_BLOCKS;
     bool ends_before = is_denied(reply, SECTION_C, 1, 1) && reply->value < log->witness.lsn;
-    if ((is_there && !is_same(&log->witness, reply)) || ends_before) log->anew = true;
-    if (log->anew) return pagelog_fail(log, PAGELOG_FENCED);
+    if ((is_there && !is_same(&log->witness, reply)) || ends_before) log->is_restarted = true;
+    if (log->is_restarted) return pagelog_fail(log, PAGELOG_FENCED);
     if (is_there) return PAGELOG_DONE;
     if (reply->kind == PAGELOG_REPLY_NO_MEMORY) return pagelog_fail(log, PAGELOG_LOST);
     return pagelog_restore(log, pagelog_outcome_of(reply), reply);
@@ -103,7 +103,7 @@ enum pagelog_outcome pagelog_confirm(struct pagelog *log) {
         if (is_denied(&reply, SECTION_A, 2, 3)) pagelog_notice(log, &reply);
         outcome = judge(log, &reply);
         bool may_pull = is_denied(&reply, SECTION_B, 0, UINT16_MAX) && operation == PAGELOG_GET;
-        bool is_fenced = outcome == PAGELOG_FENCED && !log->anew;
+        bool is_fenced = outcome == PAGELOG_FENCED && !log->is_restarted;
         if (!may_pull && !is_fenced) return is_over && outcome == PAGELOG_DENIED ? PAGELOG_DONE : outcome;
         is_over = is_over || (is_fenced && role == PAGELOG_PRIMARY);
         if (may_pull) operation = PAGELOG_PULL;

@@ -97,7 +97,7 @@ declare("pagelog_end", c_uint64, c_void_p)
 declare("pagelog_zone_of", Zone, c_void_p)
 declare("pagelog_epoch", c_uint32, c_void_p)
 declare("pagelog_writing_epoch", c_uint32, c_void_p)
-declare("pagelog_is_anew", c_bool, c_void_p)
+declare("pagelog_is_restarted", c_bool, c_void_p)
 declare("pagelog_refused", POINTER(Reply), c_void_p)
 declare("pagelog_explain", None, c_void_p, c_char_p, c_size_t)
 declare("pagelog_counts_of", Counts, c_void_p)
@@ -307,7 +307,7 @@ class Log:
     end = property(lambda self: lib.pagelog_end(self.made))
     epoch = property(lambda self: lib.pagelog_epoch(self.made))
     writing_epoch = property(lambda self: lib.pagelog_writing_epoch(self.made))
-    is_anew = property(lambda self: lib.pagelog_is_anew(self.made))
+    is_restarted = property(lambda self: lib.pagelog_is_restarted(self.made))
     counts = property(lambda self: lib.pagelog_counts_of(self.made))
     refused = property(lambda self: lib.pagelog_refused(self.made).contents)
 
@@ -373,7 +373,7 @@ class FileOptions(Structure):
 
 class State(Structure):
     _fields_ = [("is_writer", c_bool), ("is_fenced", c_bool), ("is_broken", c_bool), ("is_stale", c_bool),
-                ("is_anew", c_bool), ("is_foreign", c_bool), ("is_misnamed", c_bool), ("is_over", c_bool),
+                ("is_restarted", c_bool), ("is_foreign", c_bool), ("is_misnamed", c_bool), ("is_over", c_bool),
                 ("is_named", c_bool), ("is_gone", c_bool), ("generation", c_uint64), ("position", c_uint64), ("durable", c_uint64),
                 ("committed", c_uint64), ("moves", c_uint64), ("resent", c_uint64), ("lsn", c_uint64), ("end", c_uint64), ("size", c_uint64), ("transaction", c_uint64),
                 ("epoch", c_uint32), ("writing_epoch", c_uint32), ("zone", Zone), ("cached_pages", c_size_t),

@@ -94,7 +94,7 @@ def test_epochs_that_rise_for_ever():
 
 def test_epochs_that_rise_while_the_history_is_compared():
     """After a reconnect: by 64 tries, or by the time of one reply."""
-    for pause, reply_ms, most in ((0, 600000, 64), (0.05, 200, 10)):
+    for pause, reply_ms, most in ((0, 600000, 64), (0.25, 1000, 10)):
         rule = Rising(pause)
         rule.is_on = False
         with Service() as service, Proxy(service.address, between=rule) as proxy, \

@@ -33,16 +33,22 @@ def connect(address, principal=2, operator=1, **more):
                            check_same_thread=False)
 
 
+class Connection(sqlite3.Connection):
+    """One that may be referred to without being held."""
+
+
 def named(keeper, principal=2, **more):
-    """A connection to the database of a stub."""
-    return sqlite_of(keeper.address, more.pop("name", keeper.name), principal, **more)
+    """A connection to the database of a stub, which closes it before it ends itself: a close waits for the archive."""
+    connection = sqlite_of(keeper.address, more.pop("name", keeper.name), principal, **more)
+    keeper.clients.add(connection)
+    return connection
 
 
 def sqlite_of(keepers, database, principal, **more):
     """A connection to a database that keepers know by name."""
     timeout = more.pop("busy", 300.0)
     return sqlite3.connect(uri_of(keepers, database, principal, **more), uri=True, isolation_level=None, timeout=timeout,
-                           check_same_thread=False)
+                           check_same_thread=False, factory=Connection)
 
 
 def uri_of(keepers, database, principal, **more):

@@ -671,15 +671,15 @@ def test_stale_readers():
             same("its pages", b"a" * 20000, lenient.whole())
 
 
-def test_a_service_that_was_started_anew():
+def test_a_service_that_was_restarted():
     with Service() as service, opened(service.address, 2) as file, opened(service.address, 3, reads_only=True) as reader:
         file.begin(), file.write(0, b"a" * 20000)
         same("commit", DONE, file.commit())
         same("begin", DONE, reader.begin())
         service.end()
         with Service(listen=service.address):
-            same("writer", (FENCED, True), (file.begin(), "anew" in file.words))
-            same("reader", (FENCED, True), (reader.begin(), "anew" in reader.words))
+            same("writer", (FENCED, True), (file.begin(), "restarted" in file.words))
+            same("reader", (FENCED, True), (reader.begin(), "restarted" in reader.words))
 
 
 def test_cut_connections():
@@ -756,7 +756,7 @@ def test_faults_from_seeds():
                                                                      patience_ms=1) as file:
                 outcome = file.open()
                 outcome, changed = write_until_refused(file, model, numbers) if outcome == DONE else (LOST, model)
-                is_undone = file.state.is_anew
+                is_undone = file.state.is_restarted
             true(f"seed {seed}: {outcome}", outcome in (DONE, LOST, FENCED, IN_DOUBT) and not is_undone)
             outcomes[outcome] = outcomes.get(outcome, 0) + 1
             if outcome == IN_DOUBT:

@@ -2,17 +2,19 @@
 stub of these tests, which makes generations of any shift."""
 
 import contextlib
+import ctypes
 import hashlib
 import hmac
-import os
+import re
 import socket
 import threading
 import time
 
 from binding import DENIED, DONE, LOST, Keepers
 from check import LONG, run, same, true
-from database import TOKENS, code_of, connect, named, numbers, one
-from stub_keeper import Before, StubKeeper, token_of
+from database import TOKENS, code_of, connect, named, numbers, one, sqlite_of, uri_of
+from service import CLIENT, Asker, wire
+from stub_keeper import Before, StubKeeper, later, token_of
 from vfs_forks import in_child
 
 EVENTS = {
@@ -35,6 +37,13 @@ def rows(connection):
     return [number for number, in connection.execute("select a from t not indexed order by a")]
 
 
+def until(condition, what):
+    deadline = time.monotonic() + 60
+    while not condition():
+        true(what, time.monotonic() < deadline)
+        time.sleep(0.002)
+
+
 def work(connection):
     """Transactions of one block and of many, reads of pages that are in no cache, a rollback, and a change of the file's size."""
     connection.execute("create table t(a, b)")
@@ -54,10 +63,13 @@ def work(connection):
     connection.execute("pragma pagelog_async_commits = 0")
 
 
-def look_at_work(keeper, connection, moves=1):
+def look_at_work(keeper, connection):
+    """The event may come as late as here."""
     same("rows", list(range(63)), rows(connection))
     same("whole", "ok", one(connection, "pragma integrity_check"))
-    same("moves and losses", (moves, 0), numbers(connection, "moves", "losses"))
+    keeper.rule = None
+    same("rows", list(range(63)), rows(connection))
+    same("moves and losses", (int(keeper.now.number > 1), 0), numbers(connection, "moves", "losses"))
     other = named(keeper, 3, mode="ro")
     same("a reader", (list(range(63)), "ok"), (rows(other), one(other, "pragma integrity_check")))
 
@@ -90,7 +102,7 @@ def test_an_event_before_each_request_of_a_writer():
                     connection.execute(f"pragma synchronous = {level}")
                     try:
                         work(connection)
-                        look_at_work(keeper, connection, int(keeper.now.number > 1))
+                        look_at_work(keeper, connection)
                     except Exception as error:
                         raise AssertionError(f"{level}, {name}, before request {number}: {error!r}") from error
                     connection.close()
@@ -132,9 +144,24 @@ def test_where_a_database_is():
             since = time.monotonic()
             same("a keeper that is silent", LOST, keepers.where()[0])
             true("a second", time.monotonic() - since < 20)
+        keeper.is_published, took = False, []
+        with Keepers(f"{quiet},{keeper.address}") as keepers:
+            for _ in range(5):
+                since = time.monotonic()
+                same("it is nowhere", LOST, keepers.where()[0])
+                took.append(time.monotonic() - since)
+            true(f"one that is silent is not waited for: {took}", min(took) < 0.8)
     for addresses, name in (("", "a"), ("127.0.0.1", "a"), ("127.0.0.1:1,", "a b"), ("127.0.0.1:1", ""), ("a:1," * 17, "a")):
         with Keepers(addresses, name) as keepers:
             same(f"{addresses} {name}", None, keepers.made)
+
+
+def test_the_stub_says_what_keepers_say():
+    """As many words as they describe in their own lines."""
+    described = (CLIENT.parent / "python" / "src" / "pagelog" / "keeper" / "lines.py").read_text()
+    words = re.search(r"\bat NAME [A-Z ]+", described)[0].split()
+    with StubKeeper() as keeper:
+        same("where", len(words), len(keeper.answer(["where", "shop"])))
 
 
 def test_two_keepers_the_higher_generation_counts():
@@ -143,8 +170,10 @@ def test_two_keepers_the_higher_generation_counts():
         new.succeed(images=False)
         new.address, old.address = old.address, new.address  # neither minds
         with Keepers(f"{old.address},{new.address}") as keepers:
+            while keepers.where()[1].generation != 2:
+                pass  # the old one was quicker, by so much that nobody waits for
             for _ in range(20):
-                same("generation", 2, keepers.where()[1].generation)
+                same("generation", 2, keepers.where(2)[1].generation)
 
 
 def test_what_has_become_of_a_position():
@@ -217,7 +246,7 @@ def busy(connection):
 
 def test_readers_of_what_is_durable():
     """They see nothing that could still be lost, and never go back."""
-    level = "pragma synchronous = normal"
+    level = "pragma synchronous = off"  # of which a close leaves it so
     with StubKeeper() as keeper:
         connection, careful, other = named(keeper), named(keeper, 3, mode="ro", durable=1), named(keeper, 3, mode="ro")
         connection.execute("create table t(a, b)")
@@ -263,17 +292,17 @@ def test_a_transaction_that_reads_what_was_lost():
     with StubKeeper() as keeper:
         connection = named(keeper)
         connection.execute("create table t(a, b)")
-        connection.execute("pragma synchronous = normal")
+        connection.execute("pragma synchronous = off")
         fill(connection, 40, size=4000)
         reading = named(keeper, 3, mode="ro", pages=4)
         reading.execute("pragma cache_size = 2")
         reading.execute("begin")
         same("before", 0, one(reading, "select min(a) from t"))
         connection.close()
-        keeper.die(lost=20)
+        keeper.die(lost=20, others=lambda new: overtaking(new, 25))  # whose transactions stand at these positions
         same("told", "SQLITE_IOERR", code_of(lambda: rows(reading)))
-        code_of(lambda: reading.execute("rollback"))
-        same("and goes on", (20, "ok"), (len(rows(reading)), one(reading, "pragma integrity_check")))
+        same("it is over", False, reading.in_transaction)
+        same("and goes on", (45, "ok"), (len(rows(reading)), one(reading, "pragma integrity_check")))
 
 
 def test_the_past_at_a_position():
@@ -287,20 +316,81 @@ def test_the_past_at_a_position():
         same("block for block", [0, 1, 2], rows(past))
         keeper.succeed()
         fill(connection, 5, first=9)
-        same("it is before the base", "SQLITE_IOERR", code_of(lambda: rows(named(keeper, 3, at=4))) and "SQLITE_IOERR")
+        same("it is before the base", "SQLITE_PROTOCOL", code_of(lambda: rows(named(keeper, 3, at=4))))
         same("its cache is no database", True, code_of(lambda: one(past, "pragma integrity_check")) in (None, "SQLITE_IOERR"))
         same("at the base, and after it", [(9, "ok"), (11, "ok")],
              [(len(rows(then)), one(then, "pragma integrity_check")) for then in (named(keeper, 3, at=10), named(keeper, 3, at=12))])
 
 
+def test_an_event_before_each_request_of_a_reader():
+    """Two writers take turns, so that each of its transactions sees another epoch."""
+    for name in ("a death, all was archived", *(("images", "block for block") if LONG else ())):
+        for number in range(1, 14):
+            with StubKeeper() as keeper:
+                connection, other = named(keeper), named(keeper, 5)
+                connection.execute("create table t(a, b)")
+                fill(connection, 10, size=4000)
+                reading, asked = named(keeper, 3, mode="ro", pages=4), Before(number, lambda: EVENTS[name](keeper))
+                for turn, each in enumerate((other, connection, other)):
+                    fill(each, 1, first=10 + turn)
+                    keeper.rule = asked
+                    same(f"{name}, before request {number}", list(range(11 + turn)), rows(reading))
+                    keeper.rule = None
+
+
+def test_an_event_before_each_request_of_an_open():
+    """And of a reader that is far behind: what it had read before is not asked for."""
+    for name, event in EVENTS.items():
+        for number in range(1, 6):
+            for how in ({}, {"principal": 3, "mode": "ro"}):
+                with StubKeeper() as keeper:
+                    connection = named(keeper)
+                    connection.execute("create table t(a, b)")
+                    fill(connection, 3)
+                    keeper.rule = Before(number, lambda: event(keeper))
+                    same(f"{name}, before request {number}", [0, 1, 2], rows(named(keeper, **how)))
+    for name, event in list(EVENTS.items())[:2]:
+        with StubKeeper() as keeper:
+            connection, reading = named(keeper), named(keeper, 3, mode="ro")
+            connection.execute("create table t(a, b)")
+            same("before", [], rows(reading))
+            connection.execute("begin immediate")
+            fill(connection, 420, size=1 << 16)
+            connection.execute("commit")
+            happens_at(keeper, wire.GET, 1, event)
+            same(f"{name}, far behind", list(range(420)), rows(reading))
+
+
+def test_a_service_that_stands_still():
+    """Its client waits for no reply where the database is elsewhere."""
+    with StubKeeper() as keeper:
+        connection, reading, over = named(keeper), named(keeper, 3, mode="ro"), threading.Event()
+        connection.execute("create table t(a, b)")
+        fill(connection, 2)
+        same("before", [0, 1], rows(reading))
+        keeper.now.proxy.between = lambda frame: None if over.wait() else frame
+        keeper.succeed()
+        watch = later(60, over.set)
+        fill(connection, 1, first=2)
+        same("then", [0, 1, 2], rows(reading))
+        true("nobody has waited for it", not over.is_set())
+        watch.cancel()
+        over.set()
+
+
 # ---- Losses ----
 
 
-def overtaking(new):
-    """Another writer is the first one in a generation that no keeper has told of yet."""
+def opened_in(new):
+    """Another writer, in a generation that no keeper has told of yet."""
     keys = {what: token_of(bytes.fromhex(TOKENS[number]), new.keeper.name, new.run).hex() for what, number in (("token", 2), ("optoken", 1))}
-    connection = connect(new.service.address, **keys)
-    fill(connection, 1, first=100)
+    return connect(new.service.address, **keys)
+
+
+def overtaking(new, count=1):
+    """It is the first one there."""
+    connection = opened_in(new)
+    fill(connection, count, first=100)
     connection.close()
 
 
@@ -321,6 +411,132 @@ def test_another_writer_has_gone_on():
         same("and goes on", ("ok", [*wanted, 200]), (one(connection, "pragma integrity_check"), rows(named(keeper, 3, mode="ro"))))
 
 
+def test_a_reader_of_what_was_lost_where_a_position_comes_again():
+    """Another transaction stands there, with the same LSN and the same counter of changes: nothing of the lost one is read any more."""
+    for mode in ({"mode": "ro"}, {}):
+        with StubKeeper() as keeper:
+            connection = named(keeper)
+            connection.execute("create table t(a, b)")
+            connection.execute("pragma synchronous = off")
+            fill(connection, 3)
+            reading = named(keeper, 3, **mode)
+            fill(connection, 1, first=10)
+            same("before", [0, 1, 2, 10], rows(reading))
+            connection.close()
+            keeper.die(lost=1, others=overtaking)
+            same("then", ([0, 1, 2, 100], "ok"), (rows(reading), one(reading, "pragma integrity_check")))
+
+
+def test_a_reader_of_what_has_failed_and_came_otherwise():
+    """It has read a commit whose writer was told that it is in doubt, and which was lost with its service. Another one comes in its place,
+    by the same writer, at the same position and with the same number."""
+    with StubKeeper() as keeper:
+        connection, reading = named(keeper, move=300), named(keeper, 3, mode="ro")
+        connection.execute("create table t(a, b)")
+        connection.execute("pragma synchronous = normal")
+        fill(connection, 3)
+        old, seen = keeper.now, []
+
+        def rule(frame):
+            if frame[33] != wire.REPORT:
+                return frame
+            keeper.rule = None
+            with Asker(old.service.address, 2, wire.PRIMARY) as asker:
+                asker.carry(frame)
+            seen.append(rows(reading))
+            keeper.is_published, keeper.rule = False, lambda frame: None
+            return None
+
+        keeper.rule = rule
+        same("told", "SQLITE_IOERR_FSYNC", code_of(lambda: fill(connection, 1, first=10)))
+        same("seen", [[0, 1, 2, 10]], seen)
+        keeper.rule = None
+        keeper.die(lost=1)
+        fill(connection, 1, first=20)
+        same("then", ([0, 1, 2, 20], "ok"), (rows(reading), one(reading, "pragma integrity_check")))
+        same("at the writer", [0, 1, 2, 20], rows(connection))
+
+
+def test_what_another_has_left_is_sent_again():
+    """A writer opens upon commits that are not archived, and their writer goes, and then the service: nothing is lost."""
+    with StubKeeper() as keeper:
+        gone = named(keeper)
+        gone.execute("create table t(a, b)")
+        gone.execute("pragma synchronous = off")
+        fill(gone, 20)
+        connection = named(keeper, 5)
+        connection.execute("pragma synchronous = normal")
+        fill(connection, 1, first=20)
+        gone.close()
+        keeper.die(lost=21)
+        same("all of it", (list(range(21)), "ok"), (rows(connection), one(connection, "pragma integrity_check")))
+        same("sent again, and nothing lost", (21, 0), numbers(connection, "resent", "losses"))
+
+
+def test_a_move_that_is_cut_off():
+    """Once a reader has come to a generation, and before it has looked what is there of what it read: then it looks when it begins again."""
+    with StubKeeper() as keeper:
+        connection, reading = named(keeper), named(keeper, 3, mode="ro", move=300)
+        connection.execute("create table t(a, b)")
+        connection.execute("pragma synchronous = off")
+        fill(connection, 4)
+        same("before", [0, 1, 2, 3], rows(reading))
+        connection.close()
+        keeper.die(lost=1, others=lambda new: overtaking(new, 2))
+        keeper.rule = lambda frame: frame if frame[33] == wire.STATUS else None
+        same("told", "SQLITE_IOERR", code_of(lambda: rows(reading)))
+        keeper.rule = None
+        same("then", ([0, 1, 2, 100, 101], "ok"), (rows(reading), one(reading, "pragma integrity_check")))
+
+
+def at_the_takeover(keeper, event):
+    """A rule: an event comes right before the next failover."""
+
+    def rule(frame):
+        if frame[33] == wire.FAILOVER:
+            keeper.rule = None
+            event()
+        return frame
+
+    return rule
+
+
+def test_another_writes_before_blocks_are_sent_again():
+    """After the writer has looked where the log ends, in the epoch that it has seen there, and in a later one."""
+    for is_later in (False, True):
+        with StubKeeper() as keeper:
+            connection, others = named(keeper), []
+            connection.execute("create table t(a, b)")
+            connection.execute("pragma synchronous = normal")
+            fill(connection, 4)
+            keeper.die(lost=2, others=lambda new: None if is_later else others.append(opened_in(new)))
+            keeper.rule = at_the_takeover(keeper, lambda: fill(others[0] if others else opened_in(keeper.now), 1, first=100))
+            same("told", "SQLITE_IOERR_FSYNC", code_of(lambda: rows(connection)))
+            same("then", ([0, 1, 100], "ok"), (rows(connection), one(connection, "pragma integrity_check")))
+
+
+def test_a_writer_that_is_behind():
+    """It has read before another wrote: it is busy, and fences nobody; and where one writes at its takeover it undoes nothing."""
+    with StubKeeper() as keeper:
+        connection, behind = named(keeper), named(keeper, 5)
+        connection.execute("create table t(a, b)")
+        fill(connection, 1)
+        behind.execute("begin")
+        same("before", [0], rows(behind))
+        fill(connection, 1, first=1)
+        epoch = numbers(connection, "epoch")
+        true("it is behind", code_of(lambda: fill(behind, 1, first=2)) in ("SQLITE_BUSY", "SQLITE_BUSY_SNAPSHOT"))
+        behind.execute("rollback")
+        fill(connection, 1, first=2)
+        same("it has fenced nobody", epoch, numbers(connection, "epoch"))
+        behind.execute("begin")
+        same("before", [0, 1, 2], rows(behind))
+        keeper.rule = at_the_takeover(keeper, lambda: fill(opened_in(keeper.now), 1, first=3))  # who asks for no turn
+        true("it is behind", code_of(lambda: fill(behind, 1, first=4)) in ("SQLITE_BUSY", "SQLITE_BUSY_SNAPSHOT"))
+        behind.execute("rollback")
+        same("all of it", ([0, 1, 2, 3], "ok"), (rows(named(keeper, 3, mode="ro")), one(behind, "pragma integrity_check")))
+
+
 def test_a_commit_that_is_overtaken():
     """It is in flight when its service dies, and another writer is first in the next generation."""
     with StubKeeper() as keeper:
@@ -336,6 +552,52 @@ def test_a_commit_that_is_overtaken():
         same("nothing of it is there", ([0, 1, 2, 100], "ok"), (rows(connection), one(connection, "pragma integrity_check")))
         fill(connection, 1, first=200)
         same("and goes on", [0, 1, 2, 100, 200], rows(named(keeper, 3, mode="ro")))
+
+
+def test_a_commit_that_asks_for_pages_and_is_overtaken():
+    """Its service dies before it has the pages that its changes differ from. Nothing of it was sent."""
+    with StubKeeper() as keeper:
+        connection = named(keeper, pages=4)
+        connection.execute("create table t(a, b)")
+        fill(connection, 60, size=6000)
+        connection.execute("begin immediate")
+        connection.execute("update t set b = b || 'x'")
+        happens_at(keeper, wire.GET, 1, lambda keeper: keeper.die(others=overtaking))
+        same("told", "SQLITE_BUSY_SNAPSHOT", code_of(lambda: connection.execute("commit")))
+        same("nothing of it is there", ([*range(60), 100], 0), (rows(connection), one(connection, "select count(*) from t where b like '%x'")))
+        same("whole", "ok", one(connection, "pragma integrity_check"))
+
+
+def test_a_commit_that_was_sent_again_and_is_in_doubt():
+    """It is refused by a service that was closed, and the next one takes it, and is gone before it says so: no error says that it is
+    not there."""
+    with StubKeeper() as keeper:
+        connection = named(keeper, move=300)
+        connection.execute("create table t(a, b)")
+        connection.execute("pragma synchronous = normal")
+        fill(connection, 3)
+        taken_over = []
+
+        def is_sent_again(frame):
+            taken_over.append(frame[33] == wire.FAILOVER)
+            if frame[33] == wire.REPORT and any(taken_over):
+                with Asker(keeper.now.service.address, 2, wire.PRIMARY) as asker:
+                    asker.carry(frame)
+                keeper.is_published, keeper.rule = False, lambda frame: None
+            return frame
+
+        def is_sent(frame):
+            if frame[33] != wire.WRITE:
+                return frame
+            keeper.rule = None
+            keeper.succeed()
+            keeper.rule = is_sent_again
+            return frame
+
+        keeper.rule = is_sent
+        same("told", "SQLITE_IOERR_FSYNC", code_of(lambda: fill(connection, 1, first=10)))
+        keeper.is_published, keeper.rule = True, None
+        same("it is there", ([0, 1, 2, 10], "ok"), (rows(connection), one(connection, "pragma integrity_check")))
 
 
 def test_full_is_told_what_was_lost():
@@ -355,6 +617,289 @@ def test_full_is_told_what_was_lost():
         thread.join()
         same("told", ["SQLITE_IOERR_FSYNC"], told)
         same("not there", ([100], "ok"), (rows(connection), one(connection, "pragma integrity_check")))
+
+
+def test_a_wait_for_the_archive_goes_on_from_a_move_that_was_cut_off():
+    """Of another connection of its process: there another writer's transaction stands at the position, and that is durable."""
+    with StubKeeper() as keeper:
+        connection, beside = named(keeper, move=300, pages=4), named(keeper)
+        connection.execute("create table t(a, b)")
+        fill(connection, 40, size=4000)
+        beside.execute("pragma cache_size = 2")
+        durable, told, may_answer = keeper.durable, [], threading.Event()
+
+        def held(*words):
+            keeper.durable = durable  # of all questions the first
+            while not may_answer.is_set():
+                keeper.changed.wait(0.02)
+            return durable(*words)
+
+        keeper.durable = held
+        thread = threading.Thread(target=lambda: told.append(code_of(lambda: fill(connection, 1, first=40))), daemon=True)
+        thread.start()
+        until(lambda: keeper.now.blocks(41), "it is in the log")
+        keeper.die(lost=1, others=overtaking)
+        keeper.archive_now()
+        keeper.rule = lambda frame: frame if frame[33] == wire.STATUS else None
+        same("the move is cut off", "SQLITE_IOERR", code_of(lambda: rows(beside)))
+        keeper.rule = None
+        may_answer.set()
+        thread.join(60)
+        same("told", ["SQLITE_IOERR_FSYNC"], told)
+        same("then", ([*range(40), 100], "ok"), (rows(connection), one(connection, "pragma integrity_check")))
+
+
+def test_a_generation_that_is_closed_for_a_while():
+    """Nobody writes there, and nothing fails: a transaction waits for the next one."""
+    with StubKeeper() as keeper:
+        connection, other = named(keeper), named(keeper, 5)
+        connection.execute("create table t(a, b)")
+        for number, each in enumerate((connection, other, connection)):
+            keeper.now.close()
+            asked = keeper.asked
+
+            def succeed():
+                while keeper.asked < asked + 40:
+                    time.sleep(0.01)
+                keeper.archive_now()
+                keeper.switch(keeper.next())
+
+            thread = threading.Thread(target=succeed)
+            thread.start()
+            fill(each, 1, first=number)
+            thread.join()
+        same("all of it", ([0, 1, 2], "ok"), (rows(connection), one(connection, "pragma integrity_check")))
+
+
+def happens_at(keeper, operation, number, event):
+    """The event comes with this request of its kind, before that is answered."""
+    left = [number]
+
+    def rule(frame):
+        left[0] -= frame[33] == operation
+        if left[0] == 0:
+            keeper.rule = None
+            event(keeper)
+        return frame
+
+    keeper.rule = rule
+
+
+def test_commits_on_their_way():
+    """Nobody waits for them when the next generation comes, where their LSNs are others."""
+    for name, event in EVENTS.items():
+        for number in (1, 5):
+            with StubKeeper() as keeper:
+                connection = named(keeper, async_commits=64)
+                connection.execute("pragma synchronous = full")
+                connection.execute("create table t(a, b)")
+                fill(connection, 5)
+                connection.execute("pragma synchronous = off")
+                happens_at(keeper, wire.REPORT, number, event)
+                fill(connection, 20, first=5)
+                connection.execute("pragma pagelog_async_commits = 0")
+                same(f"{name}, report {number}", (list(range(25)), "ok"), (rows(connection), one(connection, "pragma integrity_check")))
+                same("losses", 0, numbers(connection, "losses")[0])
+                same("others see it", list(range(25)), rows(named(keeper, 3, mode="ro")))
+
+
+def test_commits_on_their_way_when_a_keeper_says_that_their_generation_is_over():
+    """All are in the log, and their replies were not looked for: nothing is lost."""
+    with StubKeeper() as keeper:
+        connection = named(keeper, async_commits=8, check=3600000)
+        connection.execute("create table t(a, b)")
+        connection.execute("pragma synchronous = normal")
+        fill(connection, 1)
+        connection.execute("pragma synchronous = off")
+        fill(connection, 3, first=1)
+        same("on their way", (3,), numbers(connection, "on_their_way"))
+        until(lambda: len(keeper.now.blocks(0)) == numbers(connection, "position")[0], "they are in the log")
+        keeper.succeed()
+        until(lambda: rows(connection) and numbers(connection, "generation") == (2,), "a keeper is asked once a second")
+        fill(connection, 1, first=4)
+        connection.execute("pragma pagelog_async_commits = 0")
+        same("all of it", (list(range(5)), (0,)), (rows(connection), numbers(connection, "losses")))
+
+
+def test_a_repair_of_many_blocks():
+    """It goes on from pages of the old generation in the new one, where their LSNs are others."""
+    for name, event in list(EVENTS.items())[:2]:
+        with StubKeeper() as keeper:
+            gone, connection = named(keeper, move=300), named(keeper, 5)
+            gone.execute("create table t(a, b)")
+            fill(gone, 80, size=1 << 17)
+            before = gone.execute("select sum(a), group_concat(b) from t").fetchone()
+            gone.execute("begin immediate")
+            gone.execute("update t set b = hex(randomblob(65536))")
+            happens_at(keeper, wire.WRITE, 300, lambda keeper: setattr(keeper, "rule", lambda frame: None))
+            code_of(lambda: gone.execute("commit"))
+            keeper.rule = None
+            happens_at(keeper, wire.WRITE, 100, event)
+            fill(connection, 1, first=1000)
+            same(f"{name}: a repair", (1, 1 + (keeper.now.number > 1)), (*numbers(connection, "repairs"), keeper.now.number))
+            same("nothing of it is there", before, connection.execute("select sum(a), group_concat(b) from t where a < 1000").fetchone())
+            same("whole", "ok", one(connection, "pragma integrity_check"))
+
+
+def test_a_transaction_of_many_blocks():
+    """It goes on with the blocks that were made before a move, where their LSNs are others."""
+    for name, event in EVENTS.items():
+        with StubKeeper() as keeper:
+            connection = named(keeper)
+            connection.execute("create table t(a, b)")
+            connection.execute("begin immediate")
+            fill(connection, 90, size=1 << 16)
+            happens_at(keeper, wire.WRITE, 150, event)  # amid the second 64 blocks, of two copies
+            connection.execute("commit")
+            true("there was an event", keeper.now.number > 1)
+            same(name, (list(range(90)), "ok"), (rows(connection), one(connection, "pragma integrity_check")))
+
+
+def test_a_reader_leaves_a_generation_that_is_over():
+    """Though its service is still there, and answers."""
+    with StubKeeper() as keeper:
+        connection, reading = named(keeper), named(keeper, 3, mode="ro")
+        connection.execute("create table t(a, b)")
+        fill(connection, 2)
+        same("before", [0, 1], rows(reading))
+        keeper.succeed()
+        fill(connection, 1, first=2)
+        same("then", [0, 1, 2], rows(reading))
+
+
+def test_nobody_goes_back():
+    """One keeper says where the database was, and the others are not there: then it is nowhere."""
+    with StubKeeper() as old, StubKeeper() as keeper:
+        keeper.succeed(images=False)
+        while True:
+            connection = sqlite_of(f"{old.address},{keeper.address}", "shop", 2, move=300)
+            if numbers(connection, "generation") == (2,):
+                break  # the old one was not the quicker one by far
+            connection.close()
+        connection.execute("create table t(a, b)")
+        fill(connection, 1)
+        keeper.is_published, keeper.rule = False, lambda frame: None
+        keeper.now.proxy.cut()
+        same("told", "SQLITE_IOERR", code_of(lambda: rows(connection)))
+        keeper.is_published, keeper.rule = True, None
+        same("then", ([0], (2,)), (rows(connection), numbers(connection, "generation")))
+
+
+# ---- Two databases, and a lock that is kept ----
+
+
+def test_a_commit_to_two_named_databases():
+    """What happens to one of them, or to both, is no error of it."""
+    for name, event in EVENTS.items():
+        for happens_to in ((0,), (1,), (0, 1)):
+            with StubKeeper() as one_keeper, StubKeeper("stock") as other:
+                keepers = one_keeper, other
+                connection = named(one_keeper)
+                connection.execute("attach ? as stock", (uri_of(other.address, "stock", 2),))
+                connection.execute("create table t(a, b)")
+                connection.execute("create table stock.u(a, b)")
+                for level in ("full", "normal"):
+                    connection.execute(f"pragma main.synchronous = {level}")
+                    connection.execute(f"pragma stock.synchronous = {level}")
+                    for number in range(3):
+                        connection.execute("begin immediate")
+                        fill(connection, 1, first=number)
+                        connection.execute("insert into stock.u values (?, 1)", (number,))
+                        for each in happens_to if number == 1 else ():
+                            event(keepers[each])
+                        connection.execute("commit")
+                counts = [one(connection, f"select count(*) from {table}") for table in ("t", "stock.u")]
+                same(f"{name} to {happens_to}", [6, 6], counts)
+                same("whole", ["ok", "ok"], [one(connection, f"pragma {which}.integrity_check") for which in ("main", "stock")])
+                same("others see it", [6, 6], [len(rows(named(one_keeper, 3, mode="ro"))),
+                                               one(named(other, 3, mode="ro"), "select count(*) from u")])
+                connection.close()
+
+
+def test_a_writer_that_keeps_the_lock():
+    """It begins no transaction of the file any more, and goes on through what is no loss; after a loss it has to give the lock back."""
+    for name, event in EVENTS.items():
+        with StubKeeper() as keeper:
+            connection = named(keeper)
+            connection.execute("create table t(a, b)")
+            connection.execute("pragma synchronous = normal")
+            connection.execute("pragma locking_mode = exclusive")
+            fill(connection, 3)
+            event(keeper)
+            fill(connection, 3, first=3)
+            same(name, (list(range(6)), "ok"), (rows(connection), one(connection, "pragma integrity_check")))
+            same("others see it", list(range(6)), rows(named(keeper, 3, mode="ro")))
+    with StubKeeper() as keeper:
+        connection = named(keeper)
+        connection.execute("create table t(a, b)")
+        connection.execute("pragma synchronous = normal")
+        connection.execute("pragma locking_mode = exclusive")
+        fill(connection, 3)
+        keeper.die(lost=1, others=overtaking)
+        same("told", "SQLITE_IOERR_FSYNC", code_of(lambda: fill(connection, 1, first=9)))
+        connection.execute("pragma locking_mode = normal")
+        code_of(lambda: rows(connection))
+        same("then", ([0, 1, 100], "ok"), (rows(connection), one(connection, "pragma integrity_check")))
+        fill(connection, 1, first=9)
+        same("others see it", [0, 1, 9, 100], rows(named(keeper, 3, mode="ro")))
+
+
+def test_a_writer_holds_so_much_and_no_more():
+    """Of what is not durable: then a commit waits for the archive, whatever the level."""
+    with StubKeeper() as keeper:
+        connection = named(keeper)
+        connection.execute("create table t(a, b)")
+        connection.execute("pragma synchronous = normal")
+        fill(connection, 1)
+        same("nobody has asked", 1, numbers(connection, "durable")[0])
+        fill(connection, 20, size=1 << 20, first=1)
+        true("sixteen MiB", numbers(connection, "durable")[0] > 1)
+        keeper.die(lost=20)
+        same("the rest was sent again", (list(range(21)), 0), (rows(connection), numbers(connection, "losses")[0]))
+
+
+def test_what_is_durable_is_not_lost():
+    """Others have written on before a succession, and its base is one of their transactions, which this writer has not seen."""
+    with StubKeeper() as keeper:
+        connection, other = named(keeper), named(keeper, 5)
+        connection.execute("create table t(a, b)")
+        for each in (connection, other):
+            each.execute("pragma synchronous = normal")
+        fill(connection, 3)
+        fill(other, 3, first=3)
+        keeper.succeed()
+        keeper.old[-1].end()
+        same("all of it", (list(range(6)), 0), (rows(connection), numbers(connection, "losses")[0]))
+
+
+def test_a_commit_that_finds_no_room_is_not_done():
+    """So much is held that it has to wait for the archive, which says nothing: it is refused, and nothing was sent."""
+    with StubKeeper() as keeper:
+        connection = named(keeper, move=300)
+        connection.execute("create table t(a, b)")
+        connection.execute("pragma synchronous = normal")
+        keeper.is_archiving = False
+        fill(connection, 62, size=1 << 18)
+        number = 62
+        while (code := code_of(lambda: fill(connection, 1, size=6000, first=number))) is None and number < 300:
+            number += 1
+            same("all of it", number, one(connection, "select count(*) from t"))
+        same("told", "SQLITE_IOERR", code)
+        same("it is not there", number, one(connection, "select count(*) from t"))
+        keeper.is_archiving = True
+        fill(connection, 1, size=6000, first=number)
+        same("all of it", ([*range(number + 1)], "ok"), (rows(named(keeper, 3, mode="ro")), one(connection, "pragma integrity_check")))
+
+
+def test_a_writer_waits_for_a_part_of_what_it_holds():
+    with StubKeeper() as keeper:
+        keeper.archives_what_is_asked = True
+        connection = named(keeper)
+        connection.execute("create table t(a, b)")
+        connection.execute("pragma synchronous = normal")
+        fill(connection, 20, size=1 << 20)
+        position, durable = numbers(connection, "position", "durable")
+        true(f"{durable} of {position}", 1 < durable < position // 2)
 
 
 # ---- Ends of waits ----
@@ -380,6 +925,31 @@ def test_waits_for_a_generation_end():
             connection.close()
 
 
+def asks_after_a_takeover(keeper):
+    """How often the busy handler is asked while 640 blocks are sent again, after a wait of more than a second."""
+    library, handle, asked, published = ctypes.CDLL("libsqlite3.so.0"), ctypes.c_void_p(), [], []
+    handler = ctypes.CFUNCTYPE(ctypes.c_int, ctypes.c_void_p, ctypes.c_int)(lambda *_: asked.append(time.sleep(0.1)) or 1)
+    done = lambda text: same(text, 0, library.sqlite3_exec(handle, text.encode(), None, None, None))
+    same("open", 0, library.sqlite3_open_v2(uri_of(keeper.address, "shop", 2).encode(), ctypes.byref(handle), 0x46, None))
+    library.sqlite3_busy_handler(handle, handler, None)
+    for text in ["create table if not exists t(a, b)", "pragma synchronous = normal", *["insert into t values (1, 1)"] * 640]:
+        done(text)
+    thread = threading.Thread(target=done, args=("insert into t values (2, 2)",))
+    keeper.die(lost=640, others=lambda _: (thread.start(), time.sleep(2.5), published.append(len(asked))))
+    thread.join()
+    library.sqlite3_close(handle)
+    return len(asked) - published[0]
+
+
+def test_a_busy_handler_is_asked_only_where_nothing_comes():
+    """It sleeps each time."""
+    with StubKeeper() as keeper:
+        found = []
+        while len(found) < 3 and (not found or found[-1] > 5):
+            found.append(asks_after_a_takeover(keeper))
+        true(f"ten replies were not waited for by it: {found}", found[-1] <= 5)
+
+
 def test_a_wait_for_the_archive_ends():
     """The commit is in the log, and in doubt: its rollback undoes nothing, and it is there once it is asked again."""
     with StubKeeper() as keeper:
@@ -392,6 +962,16 @@ def test_a_wait_for_the_archive_ends():
         fill(connection, 1, first=1)
         same("and durable", 0, int.__sub__(*numbers(connection, "position", "durable")))
         same("for others too", [0, 1], rows(named(keeper, 3, mode="ro", durable=1)))
+
+
+def test_a_busy_handler_ends_a_wait_for_the_archive():
+    with StubKeeper() as keeper:
+        connection = named(keeper, busy=1.2)
+        connection.execute("create table t(a, b)")
+        keeper.is_archiving = False
+        since = time.monotonic()
+        same("told", "SQLITE_IOERR_FSYNC", code_of(lambda: fill(connection, 1)))
+        true("it ended", time.monotonic() - since < 100)
 
 
 def test_a_fork_leaves_the_keepers_alone():
@@ -407,4 +987,5 @@ def test_a_fork_leaves_the_keepers_alone():
 
 
 if __name__ == "__main__":
-    run("generations", dict(globals()), ("test_an_event_before_each_request_of_a_writer",))
+    run("generations", dict(globals()), ("test_an_event_before_each_request_of_a_writer", "test_an_event_before_each_request_of_an_open",
+                                          "test_a_repair_of_many_blocks", "test_a_busy_handler_is_asked_only_where_nothing_comes"))

@@ -1,9 +1,11 @@
-"""The torture of databases of real keepers: a writer and four readers, each a process, while services and keepers are killed and stand
-still, databases change hands and PostgreSQL is started anew. What was acknowledged is in the end compared with the ledger.
+"""The torture of databases of real keepers: each has a writer or two and some readers, each a process, while services and keepers are
+killed and stand still, databases change hands and generations, and PostgreSQL is restarted. After each event readers look at all of
+it. What was acknowledged is in the end compared with the ledger.
 
-Usage: kept.py SECONDS [SEED] [full|normal] [teller|write ..]     (writers beside the first one, in C or in Python)
+Usage: kept.py SECONDS [--level full|normal] [--seed N] [--databases N] [--until N]     (so many acknowledged transactions)
 """
 
+import argparse
 import json
 import os
 import pathlib
@@ -18,58 +20,125 @@ HERE = pathlib.Path(__file__).resolve().parent
 sys.path[:0] = [str(HERE.parents[1] / "python" / "tests"), str(HERE.parents[1] / "python" / "src")]
 sys.dont_write_bytecode = True
 
-from keepers import Keeping, eventually  # noqa: E402
+from keepers import Keeping  # noqa: E402
 from postgres import postgres  # noqa: E402
 
-NAME = "shop"
-READERS = (("read", "plain"), ("read", "plain"), ("read", "durable"), ("read", "plain"))
+PATIENCE = 600
+SHOWN_EACH = 60  # seconds
+LOSSES = "SQLITE_IOERR_FSYNC", "1034"
 
 
 class Client:
     """A process of kept_client.py, or the program in C; its lines go to a file."""
 
-    def __init__(self, keeping, number, kind, principal, level):
-        self.kind, self.level = kind, level
-        self.file = keeping.folder / f"client{number}"
+    def __init__(self, keeping, database, number, kind, principal, level, *more):
+        self.kind, self.level, self.lines = kind, level, []
+        path = keeping.folder / f"{database}.client{number}"
         environment = {**os.environ, "PYTHONDONTWRITEBYTECODE": "1"}
         addresses = ",".join(keeping.addresses)
-        words = [sys.executable, "-B", str(HERE / "kept_client.py"), kind, addresses, NAME, str(principal), level]
+        words = [sys.executable, "-B", str(HERE / "kept_client.py"), kind, addresses, database, str(principal), level, *more]
         if kind == "teller":
-            uri = f"file:test?where={addresses}&name={NAME}&id={principal}&token={str(principal) * 32}&op=1&optoken={'1' * 32}&check=50&move=300000"
+            uri = (f"file:test?where={addresses}&name={database}&id={principal}&token={str(principal) * 32}&op=1&optoken={'1' * 32}"
+                   "&check=50&move=300000")
             words = [str(HERE.parent / "out" / "teller"), uri, level]
-        self.process = subprocess.Popen(words, stdin=subprocess.PIPE, stdout=self.file.open("w"), stderr=subprocess.STDOUT, text=True,
+        self.process = subprocess.Popen(words, stdin=subprocess.PIPE, stdout=path.open("w"), stderr=subprocess.STDOUT, text=True,
                                         env=environment)
+        self.file, self.rest = path.open(), ""
 
-    def lines(self):
-        found = []
-        for line in self.file.read_text().splitlines():
+    def read_on(self):
+        """Takes the whole lines that it has said since."""
+        *lines, self.rest = (self.rest + self.file.read()).split("\n")
+        for line in lines:
             try:
-                found.append(json.loads(line))
+                self.lines.append(json.loads(line))
             except ValueError:
-                raise AssertionError(f"{self.kind}: {self.file.read_text()[-2000:]}") from None
-        return found
+                raise AssertionError(f"{self.kind} {self.level}: {line} {self.rest} {self.file.read()[:2000]}") from None
+        return self.lines
+
+    def ask(self):
+        """Has a reader look at all of the database."""
+        try:
+            self.process.stdin.write("look\n")
+            self.process.stdin.flush()
+        except BrokenPipeError:
+            pass  # it has ended, and its end says how
 
     def end(self):
         """Has it end; its lines. It has to end well."""
-        self.process.stdin.close()
-        self.process.wait(300)
-        assert self.process.returncode == 0, f"{self.kind} {self.level}: {self.file.read_text()[-2000:]}"
-        return self.lines()
+        try:
+            self.process.stdin.close()
+        except BrokenPipeError:
+            pass
+        self.process.wait(PATIENCE)
+        assert self.process.returncode == 0, f"{self.kind} {self.level}: {self.process.returncode} {self.read_on()[-3:]} {self.rest}"
+        return self.read_on()
+
+    def done(self):
+        return sum("done" in line for line in self.read_on())
 
 
-class Torture:
-    def __init__(self, seconds, seed, level, writers):
-        self.seconds, self.chance, self.level, self.writers = seconds, random.Random(seed), level, writers
-        self.keeping = Keeping(ttl=1.5)
-        self.done = Counter()
+class Database:
+    """One that is tortured: its writers, who take turns, and its readers."""
+
+    def __init__(self, keeping, number, level):
+        self.keeping, self.name, self.level = keeping, f"shop{number}", level
+        keeping.referee.create(self.name, (HERE.parent / "table.toml").read_text(), b"s" * 16)
+        self.writers, self.readers = [], []
+
+    def begin(self, writers, readers, *more):
+        self.keeping.place(self.name)
+        Client(self.keeping, self.name, 0, "prepare", 2, self.level).end()
+        self.writers = [Client(self.keeping, self.name, 1 + number, kind, 2, self.level) for number, kind in enumerate(writers)]
+        self.readers = [Client(self.keeping, self.name, 10 + number, "read", 3, what, *more) for number, what in enumerate(readers)]
+
+    def done(self):
+        return sum(writer.done() for writer in self.writers)
+
+    def ask(self):
+        for reader in self.readers:
+            reader.ask()
 
     def service(self):
-        row = self.keeping.row(NAME)
-        files = list(self.keeping.folder.glob(f"*/{NAME}.{row.run}.json"))
+        row = self.keeping.row(self.name)
+        files = list(self.keeping.folder.glob(f"*/{self.name}.{row.run}.json"))
         try:
             return int(json.loads(files[0].read_text())["pid"]) if files else None
         except (OSError, ValueError):
             return None
+
+    def compare(self):
+        """Ends its clients. What was acknowledged is in the ledger. With synchronous=normal, where writers take turns, one may have lost
+        what another has gone on without, and was told so."""
+        ended = [writer.end() for writer in self.writers]
+        lines = [line for each in ended for line in each]
+        looks = [line for reader in self.readers for line in reader.end() if "end" in line]
+        told = Counter(line["told"] for line in lines if "told" in line)
+        last = Client(self.keeping, self.name, 99, "ledger", 3, "durable")
+        found = {line["number"]: line["hash"] for line in last.end() if "number" in line}
+        lost, excused = [], 0
+        for each in ended:
+            losses = [at for at, line in enumerate(each) if line.get("told") in LOSSES and self.level == "normal" and len(ended) > 1]
+            for at, line in enumerate(each):
+                if "done" in line and found.get(line["done"]) != line["hash"]:
+                    excused += bool(losses and at < losses[-1])
+                    lost += [] if losses and at < losses[-1] else [line["done"]]
+        count = sum("done" in line for line in lines)
+        ends = [line for line in lines if "end" in line]
+        print(f"kept: {self.name}, {self.level}: {count} acknowledged, {len(lost)} lost {lost[:5]}, {excused} more of which it was told, told {dict(told)}; the longest "
+              f"statement {max(end['longest'] for end in ends):.2f} s, {sum(end['moves'] for end in ends)} moves, "
+              f"{sum(end['resent'] for end in ends)} blocks sent again; "
+              f"{sum(look['looks'] for look in looks)} looks, {sum(look['wholes'] for look in looks)} of all of it, "
+              f"{sum(look['backwards'] for look in looks)} went back, told {dict(sum((Counter(look['told']) for look in looks), Counter()))}")
+        for line in {line["told"]: line for line in reversed(lines) if "told" in line}.values():
+            print("kept:   ", line)  # the first of each kind
+        return count, len(lost)
+
+
+class Torture:
+    def __init__(self, seconds, level, seed, databases, until):
+        self.seconds, self.chance, self.level, self.count, self.until = seconds, random.Random(seed), level, databases, until
+        self.keeping = Keeping(ttl=1.5)
+        self.happened = Counter()
 
     def signal(self, pid, number):
         try:
@@ -78,97 +147,100 @@ class Torture:
         except ProcessLookupError:
             pass
 
-    def stand_still(self, pid):
-        self.signal(pid, signal.SIGSTOP)
-        time.sleep(self.chance.choice((0.3, 1.0, 2.5, 4.0)))
-        self.signal(pid, signal.SIGCONT)
+    def stand_still(self, *pids, seconds=None):
+        for pid in pids:
+            self.signal(pid, signal.SIGSTOP)
+        time.sleep(seconds or self.chance.choice((0.3, 1.0, 2.5, 4.0)))
+        for pid in pids:
+            self.signal(pid, signal.SIGCONT)
 
     # What happens.
 
-    def kill_service(self):
-        self.signal(self.service(), signal.SIGKILL)
+    def kill_service(self, database):
+        self.signal(database.service(), signal.SIGKILL)
 
-    def stop_service(self):
-        self.stand_still(self.service())
+    def stop_service(self, database):
+        self.stand_still(database.service())
 
-    def kill_keeper(self):
+    def kill_keeper(self, _):
         name = self.chance.choice(list(self.keeping.processes))
         self.keeping.kill(name)
         time.sleep(self.chance.choice((0.0, 3.0)))
         self.keeping.start(name)
 
-    def stop_keeper(self):
+    def stop_keeper(self, _):
         self.stand_still(self.chance.choice(list(self.keeping.processes.values())).pid)
 
-    def stop_both(self):
+    def stop_both(self, database):
         """The service and its keeper, as a machine that stands still: a zombie for a while."""
-        pids = [self.service(), self.keeping.processes.get(self.keeping.row(NAME).holder or "", None)]
-        pids = [getattr(pid, "pid", pid) for pid in pids]
-        for pid in pids:
-            self.signal(pid, signal.SIGSTOP)
-        time.sleep(4.0)
-        for pid in pids:
-            self.signal(pid, signal.SIGCONT)
+        keeper = self.keeping.processes.get(self.keeping.row(database.name).holder or "", None)
+        self.stand_still(database.service(), getattr(keeper, "pid", None), seconds=4.0)
 
-    def switch_over(self):
-        self.keeping.word("switchover", NAME)
+    def switch_over(self, database):
+        self.keeping.word("switchover", database.name)
 
-    def restart_postgresql(self):
+    def succeed(self, database):
+        self.keeping.word("succeed", database.name)
+
+    def restart_postgresql(self, _):
         postgres().crash()
         time.sleep(self.chance.choice((0.0, 1.0)))
         postgres().start()
 
-    def happens(self):
-        events = [self.kill_service, self.kill_service, self.switch_over, self.switch_over, self.stop_service, self.kill_keeper,
-                  self.stop_keeper, self.stop_both, self.restart_postgresql]
-        until = time.monotonic() + self.seconds
-        while time.monotonic() < until:
+    def happens(self, databases):
+        events = [self.kill_service, self.kill_service, self.switch_over, self.switch_over, self.succeed, self.succeed, self.succeed,
+                  self.stop_service, self.kill_keeper, self.stop_keeper, self.stop_both, self.restart_postgresql]
+        began = shown = time.monotonic()
+        while time.monotonic() < began + self.seconds and all(writer.process.poll() is None for each in databases for writer in each.writers):
             time.sleep(self.chance.uniform(0.5, 4.0))
-            event = self.chance.choice(events)
-            self.done[event.__name__] += 1
+            event, database = self.chance.choice(events), self.chance.choice(databases)
+            self.happened[event.__name__] += 1
             try:
-                event()
-            except AssertionError as error:
-                if event is not self.switch_over:  # it waits for nobody, and a dead database has no holder to switch from
+                event(database)
+            except AssertionError:
+                if event not in (self.switch_over, self.succeed):  # they wait for nobody, and PostgreSQL may be away
                     raise
-                self.done["switch_over refused"] += 1
+                self.happened[f"{event.__name__} refused"] += 1
+            database.ask()
+            done = sum(each.done() for each in databases)
+            if time.monotonic() > shown + SHOWN_EACH:
+                shown = time.monotonic()
+                print(f"kept: after {shown - began:.0f} s {done} acknowledged, {sum(self.happened.values())} events", flush=True)
+            if self.until and done >= self.until:
+                break
 
     # The whole.
 
     def run(self):
         with self.keeping as keeping:
-            keeping.referee.create(NAME, (HERE.parent / "table.toml").read_text(), b"s" * 16)
+            databases = [Database(keeping, number, self.level) for number in range(self.count)]
             keeping.start("a", "b", "c")
-            keeping.place(NAME)
-            first = Client(keeping, 0, "write", 2, self.level)
-            eventually(lambda: any("done" in line for line in first.lines()) or first.process.poll() is not None, "a first transaction")
-            writers = [first] + [Client(keeping, 50 + number, kind, 2, self.level) for number, kind in enumerate(self.writers)]
-            readers = [Client(keeping, number, *what[:1], 3, what[1]) for number, what in enumerate(READERS, 1)]
+            for number, database in enumerate(databases):
+                if self.count == 1:
+                    database.begin(("write", "teller"), ("plain", "plain", "durable", "plain"))
+                else:
+                    database.begin(("write", "teller") if number == 0 else ("teller",), ("plain", "durable"), "many")
             try:
-                self.happens()
-                lines = [line for writer in writers for line in writer.end()]
-                looks = [reader.end() for reader in readers]
-                self.compare(keeping, lines, looks)
+                self.happens(databases)
+                ends = [database.compare() for database in databases]
             except BaseException:
                 print(keeping.said()[-8000:])
                 raise
+            print(f"kept: {dict(self.happened)}")
+            print(f"kept: {self.level}: {sum(done for done, _ in ends)} acknowledged, {sum(lost for _, lost in ends)} lost, load {os.getloadavg()[0]:.0f}")
+            assert not any(lost for _, lost in ends), "acknowledged transactions are lost"
 
-    def compare(self, keeping, lines, looks):
-        acknowledged = {line["done"]: line["hash"] for line in lines if "done" in line}
-        told = Counter(line["told"] for line in lines if "told" in line)
-        last = Client(keeping, 99, "ledger", 3, "durable")
-        found = {line["number"]: line["hash"] for line in last.end() if "number" in line}
-        lost = sorted(number for number, hash in acknowledged.items() if found.get(number) != hash)
-        ends = [line for line in lines if "end" in line]
-        print(f"kept: {self.level}: {len(acknowledged)} acknowledged, {len(lost)} lost {lost[:5]}, told {dict(told)}; the longest statement "
-              f"{max(end['longest'] for end in ends):.2f} s, {ends[0]['moves']} moves, {ends[0]['resent']} blocks sent again")
-        for line in [line for line in lines if "told" in line][:5]:
-            print("kept:   ", line)
-        print(f"kept: {dict(self.done)}")
-        print("kept: readers", [line for each in looks for line in each if "end" in line])
-        assert not lost, "acknowledged transactions are lost"
+
+def main():
+    parser = argparse.ArgumentParser()
+    parser.add_argument("seconds", type=float)
+    parser.add_argument("--level", choices=("full", "normal"), default="full")
+    parser.add_argument("--seed", type=int, default=1)
+    parser.add_argument("--databases", type=int, default=1)
+    parser.add_argument("--until", type=int, default=0)
+    words = parser.parse_args()
+    Torture(words.seconds, words.level, words.seed, words.databases, words.until).run()
 
 
 if __name__ == "__main__":
-    words = sys.argv[1:] + ["", "", ""]
-    Torture(float(words[0] or 30), int(words[1] or 1), words[2] or "full", [word for word in words[3:] if word]).run()
+    main()

@@ -1,7 +1,7 @@
 """A client of the torture (kept.py), in a process of its own: it goes on until its standard input ends, and says in lines of JSON what
-it was told.
+it was told. A reader that gets a line looks at all of the database.
 
-Usage: kept_client.py write|read|ledger KEEPERS NAME PRINCIPAL LEVEL
+Usage: kept_client.py prepare|write|read|ledger KEEPERS NAME PRINCIPAL LEVEL [many]     (of many databases it reads now and then)
 
 A writer moves money between two tables, and enters each transfer into a ledger, the rows of which have a hash of the row before.
 """
@@ -13,14 +13,17 @@ import sys
 import threading
 import time
 
-from database import code_of, one, sqlite_of
+from database import code_of, numbers, one, sqlite_of
 from kept_rules import ACCOUNTS, TOTAL, hash_of
 
-is_over = threading.Event()
+BETWEEN_COMMITS = 0.003  # seconds: else the archive is far behind, and nothing is handed over
+
+is_over, is_asked = threading.Event(), threading.Event()
 
 
-def wait_for_the_end():
-    sys.stdin.read()
+def listen():
+    for _ in sys.stdin:
+        is_asked.set()
     is_over.set()
 
 
@@ -57,22 +60,27 @@ def prepare(connection):
 def transfer(execute, number, chance):
     """One transaction; it says `done` once it was acknowledged."""
     execute("begin immediate")
-    for _ in range(chance.choice((1, 1, 1, 5, 40))):
+    for _ in range(chance.choice((1, 1, 1, 1, 5, 40))):
         amount, one_side, other = chance.randrange(1, 100), *chance.sample(("account", "saving"), 2)
         execute(f"update {one_side} set money = money - ? where id = ?", amount, chance.randrange(ACCOUNTS))
         execute(f"update {other} set money = money + ? where id = ?", amount, chance.randrange(ACCOUNTS))
     last = execute("select number, hash from ledger order by number desc limit 1").fetchone() or (0, "")
-    text = f"{number} " + "." * chance.choice((10, 200, 3000))
+    text = f"{number} " + "." * chance.choice((10, 10, 10, 200, 3000))
     execute("insert into ledger values (?, ?, ?)", last[0] + 1, text, hash_of(last[1], text))
     execute("commit")
     return last[0] + 1, text
 
 
-def write(connection, seed):
-    chance, execute, count = random.Random(seed), Timed(connection), 0
-    prepare(connection)
-    while not is_over.is_set():
+def write(connection, seed, level):
+    """The last transaction waits until all of them are durable."""
+    chance, execute, count, is_last = random.Random(seed), Timed(connection), 0, False
+    while not is_last:
         count += 1
+        is_last = is_over.is_set()
+        if is_last:
+            connection.execute("pragma synchronous = full")
+        elif level == "normal":
+            time.sleep(BETWEEN_COMMITS)
         try:
             number, text = transfer(execute, count, chance)
             say(done=number, hash=hash_of("", text))
@@ -80,7 +88,9 @@ def write(connection, seed):
             say(told=getattr(error, "sqlite_errorname", str(error)), why=one(connection, "pragma pagelog_error"))
             if connection.in_transaction:
                 code_of(lambda: connection.execute("rollback"))
-    say(end=True, longest=execute.longest, resent=one(connection, "pragma pagelog_resent"), moves=one(connection, "pragma pagelog_moves"))
+            is_last = False
+    moves, resent = numbers(connection, "moves", "resent")
+    say(end=True, longest=execute.longest, resent=resent, moves=moves)
 
 
 def look(connection, is_whole):
@@ -103,21 +113,26 @@ def look(connection, is_whole):
             code_of(lambda: connection.execute("commit"))
 
 
-def read(connection, is_durable):
-    looks = last = backwards = 0
+def read(connection, is_durable, is_alone):
+    looks = wholes = last = backwards = 0
     told = {}
     while not is_over.is_set():
+        is_whole = is_asked.is_set()
+        is_asked.clear()
+        time.sleep(0.02 if is_alone else 0.5)
         try:
-            number = look(connection, looks % 50 == 0)
+            number = look(connection, is_whole)
         except sqlite3.Error as error:
             name = getattr(error, "sqlite_errorname", str(error))
             told[name] = told.get(name, 0) + 1
+            if is_whole:
+                is_asked.set()
             continue
         if number < last and is_durable:
             sys.exit(f"backwards: {number} after {last}, though it was durable")
         backwards += number < last
-        looks, last = looks + 1, number
-    say(end=True, looks=looks, backwards=backwards, told=told)
+        looks, wholes, last = looks + 1, wholes + is_whole, number
+    say(end=True, looks=looks, wholes=wholes, backwards=backwards, told=told)
 
 
 def ledger(connection):
@@ -127,13 +142,15 @@ def ledger(connection):
 
 
 if __name__ == "__main__":
-    threading.Thread(target=wait_for_the_end, daemon=True).start()
-    kind, keepers, name, principal, level = sys.argv[1:]
+    threading.Thread(target=listen, daemon=True).start()
+    kind, keepers, name, principal, level, *many = sys.argv[1:]
     more = {"pages": 64} if kind == "read" else {}
-    if kind == "write":
+    if kind in ("write", "prepare"):
         connection = sqlite_of(keepers, name, int(principal), check=50)
         connection.execute(f"pragma synchronous = {level}")
-        write(connection, int(principal))
+        prepare(connection)
+        if kind == "write":
+            write(connection, int(principal), level)
     else:
         connection = sqlite_of(keepers, name, int(principal), mode="ro", durable=1 if level == "durable" else 0, **more)
         connection.execute("pragma cache_size = 20")
@@ -142,4 +159,4 @@ if __name__ == "__main__":
             sys.exit()
         while not is_over.is_set() and code_of(lambda: one(connection, "select count(*) from ledger")):
             time.sleep(0.05)
-        read(connection, level == "durable")
+        read(connection, level == "durable", not many)

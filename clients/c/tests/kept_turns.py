@@ -1,13 +1,16 @@
 """Writers of several processes that take turns, at real keepers: two and eight forked processes, each with a hundred requests of three
 statements, as a web server's workers have them. No error, and no update is lost.
 
-Usage: kept_turns.py [REQUESTS] [LEVEL]
+Usage: kept_turns.py [REQUESTS] [LEVEL] [faults]     (while services are killed, and the database changes hands and generations)
 """
 
 import json
 import os
+import signal
 import sys
+import threading
 import time
+from collections import Counter
 
 from database import one, sqlite_of
 
@@ -16,6 +19,7 @@ import kept  # noqa: E402
 from keepers import Keeping  # noqa: E402
 
 NAME = "shop"
+BETWEEN = 25  # commits between two faults
 
 
 def request(connection, who, number):
@@ -59,8 +63,64 @@ def in_child(action):
     return ended
 
 
-def main(requests, level):
-    with Keeping(ttl=3.0) as keeping:
+class Faults:
+    """What happens to the database while its writers work: one after the other, each once they have gone on for some commits."""
+
+    def __init__(self, keeping):
+        self.keeping, self.happened = keeping, Counter()
+
+    def happen(self, is_over):
+        events = [self.die, self.succeed, self.switch_over, self.take_over]
+        while not is_over():
+            event = events[self.happened.total() % len(events)]
+            generation, archived = self.keeping.place(NAME).generation, self.keeping.row(NAME).archived
+            while not is_over() and not (self.keeping.row(NAME).archived >= archived + BETWEEN and self.keeping.standbys(NAME)):
+                time.sleep(0.01)
+            if is_over():
+                return
+            try:
+                event()
+                self.keeping.place(NAME, generation + 1)
+                self.happened[event.__name__] += 1
+            except AssertionError:
+                self.happened[f"{event.__name__} refused"] += 1  # nobody is ready to take it
+
+    def die(self):
+        os.kill(self.keeping.pid(NAME), signal.SIGKILL)
+
+    def succeed(self):
+        self.keeping.word("succeed", NAME)
+
+    def switch_over(self):
+        self.keeping.word("switchover", NAME)
+
+    def take_over(self):
+        """Of a keeper that is killed with its service."""
+        holder, pid = self.keeping.row(NAME).holder, self.keeping.pid(NAME)
+        self.keeping.kill(holder)
+        os.kill(pid, signal.SIGKILL)
+        self.keeping.start(holder)
+
+
+def look(keeping, what, said, requests, took):
+    """No error, and each visit was counted once."""
+    addresses, count = ",".join(keeping.addresses), len(said)
+    errors = [each for each in said if isinstance(each, str)]
+    reader = sqlite_of(addresses, NAME, 3, mode="ro")
+    visits, rows = one(reader, "select visits from counter"), one(reader, "select count(*) from visit")
+    print(f"turns: {what}: {count} processes, {requests} requests each: {count * requests / took:.0f} a second, errors {errors}, "
+          f"{visits} visits, {rows} rows, {one(reader, 'pragma integrity_check')}")
+    assert not errors and (visits, rows) == (count * requests, count * requests), keeping.said()[-3000:]
+    seen = sorted(number for each in said for number in each)
+    assert seen == list(range(1, count * requests + 1)), "an update was lost"
+    clean = sqlite_of(addresses, NAME, 2)
+    clean.execute("update counter set visits = 0")
+    clean.execute("delete from visit")
+    clean.close()
+
+
+def main(requests, level, with_faults):
+    with Keeping(ttl=1.5 if with_faults else 3.0) as keeping:
         keeping.referee.create(NAME, (kept.HERE.parent / "table.toml").read_text(), b"s" * 16)
         keeping.start("a", "b")
         addresses = ",".join(keeping.addresses)
@@ -70,24 +130,18 @@ def main(requests, level):
         first.execute("insert into counter values (0)")
         first.execute("create table visit(who, number)")
         first.close()
-        for count in (1, 2, 8):
+        for count in (2, 8) if with_faults else (1, 2, 8):
             since = time.monotonic()
             ends = [in_child(lambda who=who: worker(addresses, who, requests, level)) for who in range(count)]
-            said = [end() for end in ends]
-            took = time.monotonic() - since
-            errors = [each for each in said if isinstance(each, str)]
-            reader = sqlite_of(addresses, NAME, 3, mode="ro")
-            visits, rows = one(reader, "select visits from counter"), one(reader, "select count(*) from visit")
-            print(f"turns: {level}: {count} processes, {requests} requests each: {count * requests / took:.0f} a second, errors {errors}, "
-                  f"{visits} visits, {rows} rows, {one(reader, 'pragma integrity_check')}")
-            assert not errors and (visits, rows) == (count * requests, count * requests), keeping.said()[-3000:]
-            seen = sorted(number for each in said for number in each)
-            assert seen == list(range(1, count * requests + 1)), "an update was lost"
-            clean = sqlite_of(addresses, NAME, 2)
-            clean.execute("update counter set visits = 0")
-            clean.execute("delete from visit")
-            clean.close()
+            said, faults = [], Faults(keeping)
+            waits = threading.Thread(target=lambda: said.extend(end() for end in ends))
+            waits.start()
+            if with_faults:
+                faults.happen(lambda: not waits.is_alive())
+                print(f"turns: {dict(faults.happened)}")
+            waits.join()
+            look(keeping, f"{level}, faults" if with_faults else level, said, requests, time.monotonic() - since)
 
 
 if __name__ == "__main__":
-    main(int((sys.argv[1:] or [100])[0]), (sys.argv[2:] or ["full"])[0])
+    main(int((sys.argv[1:] or [100])[0]), (sys.argv[2:] or ["full"])[0], sys.argv[3:] == ["faults"])

@@ -70,7 +70,7 @@ def test_a_follower_that_was_idle():
         with lost_history(after) as (_, follower, opened):
             for _ in range(2):
                 same("refused", "SQLITE_IOERR", code_of(lambda: rows(follower)))
-                true("why", "started anew" in one(follower, "pragma pagelog_error"))
+                true("why", "restarted" in one(follower, "pragma pagelog_error"))
             same("a new reader", "ok", one(opened(), "pragma integrity_check"))
 
 
@@ -101,7 +101,7 @@ def test_pages_of_another_history_are_not_read():
                     same("commit", (DONE, DONE, DONE), (other.begin(), other.write(8192 * number, b"other"), other.commit()))
                 for file in (follower, past):
                     same("read", FENCED, file.read(0, 8192 * 20)[0])
-                    true("why", "started anew" in file.words)
+                    true("why", "restarted" in file.words)
 
 
 def test_the_wire_compares_what_it_saw_last():
@@ -116,8 +116,8 @@ def test_the_wire_compares_what_it_saw_last():
                 if not is_same:
                     same("another history", DONE, other.append(numbered(6, 5, page=7)))
                 wanted = DONE if is_same else FENCED
-                same("pull", (wanted, not is_same), (looker.pull(10)[0], looker.is_anew))
-                same("append", (wanted, not is_same), (writer.append(numbered(11, 1)), writer.is_anew))
+                same("pull", (wanted, not is_same), (looker.pull(10)[0], looker.is_restarted))
+                same("append", (wanted, not is_same), (writer.append(numbered(11, 1)), writer.is_restarted))
                 same("the log", 11 if is_same else 10, len(blocks_of(new.address)))
 
 
@@ -135,7 +135,7 @@ def test_who_may_get_no_page_compares_the_block():
                 host, port = new.address.rsplit(":", 1)
                 proxy.target = host, int(port)
                 proxy.cut()
-                same("pull", (DONE if is_same else FENCED, not is_same), (looker.pull(10)[0], looker.is_anew))
+                same("pull", (DONE if is_same else FENCED, not is_same), (looker.pull(10)[0], looker.is_restarted))
 
 
 def test_a_write_that_the_old_service_took_is_no_proof():

@@ -1,14 +1,19 @@
 """A keeper in this process, with an archive in a list: it makes successions, with and without images, and lets services die.
-Its lines are those of docs/KEEPERS.md."""
+Its lines are those of docs/KEEPERS.md, and its turns are the keepers' own."""
 
+import contextlib
 import hashlib
 import hmac
 import json
+import socket
 import socketserver
 import threading
 import tomllib
+import weakref
 
 from service import Asker, Proxy, TABLE, Service, framed, wire
+
+from pagelog.keeper.turns import Turns  # its folder is where wire.py has found the model
 
 KEEPER = (1 << 32) - 1
 SECRET = b"s" * 16
@@ -113,6 +118,24 @@ class Before:
         return frame
 
 
+class Line:
+    """A connection of a client."""
+
+    def __init__(self, file):
+        self.file = file
+
+    def say(self, *words):
+        with contextlib.suppress(OSError, ValueError):
+            self.file.write(" ".join(map(str, words)).encode() + b"\n")
+
+
+def later(seconds, action):
+    timer = threading.Timer(seconds, action)
+    timer.daemon = True
+    timer.start()
+    return timer
+
+
 class StubKeeper:
     """Of one database. `watch` is called with each request that a client sends, before the service has it."""
 
@@ -120,16 +143,30 @@ class StubKeeper:
         self.name, self.archive, self.ends = name, [], {}
         self.changed = threading.Condition(threading.RLock())
         self.is_archiving, self.is_published, self.asked = True, True, 0
+        self.archives_what_is_asked = False  # and no more
         self.rule = None
+        self.clients = weakref.WeakSet()  # connections of this process
         self.now = Generation(self, 1)
-        self.old = []
+        self.turns = Turns(name, 1, self.after)
+        self.old, self.lines = [], []
         keeper = self
 
         class Lines(socketserver.StreamRequestHandler):
             def handle(self):
-                for line in self.rfile:
-                    answer = keeper.answer(line.decode().split())
-                    self.wfile.write(" ".join(map(str, answer)).encode() + b"\n")
+                line = Line(self.wfile)
+                keeper.lines.append(self.connection)
+                try:
+                    for text in self.rfile:
+                        words = text.decode().split()
+                        if words[0] in ("turn", "back", "hold"):
+                            keeper.turn(line, words)
+                        else:
+                            line.say(*keeper.answer(words))
+                except OSError:
+                    pass
+                finally:
+                    with keeper.changed:
+                        keeper.turns.gone(line)
 
         class Server(socketserver.ThreadingTCPServer):
             allow_reuse_address = daemon_threads = True
@@ -142,6 +179,9 @@ class StubKeeper:
         return self
 
     def __exit__(self, *_):
+        self.rule, self.is_archiving, self.is_published = None, True, True
+        for client in list(self.clients):
+            client.close()
         self.server.shutdown()
         self.server.server_close()
         for generation in [*self.old, self.now]:
@@ -153,6 +193,29 @@ class StubKeeper:
 
     # The lines.
 
+    def cut_lines(self):
+        """Ends the connections of all clients to this keeper."""
+        for each in self.lines:
+            with contextlib.suppress(OSError):
+                each.shutdown(socket.SHUT_RDWR)
+
+    def after(self, seconds, action):
+        def act():
+            with self.changed:
+                action()
+
+        return later(seconds, act)
+
+    def turn(self, line, words):
+        with self.changed:
+            match words:
+                case ["turn", _, *how]:
+                    self.turns.ask(line, now="now" in how, mine="mine" in how)
+                case ["back", _]:
+                    self.turns.back(line)
+                case ["hold", _]:
+                    self.turns.hold(line)
+
     def answer(self, words):
         with self.changed:
             self.asked += 1
@@ -163,7 +226,8 @@ class StubKeeper:
                     now = self.now
                     if not self.is_published:
                         return "nowhere", name
-                    return ("at", name, now.number, now.run, now.address, len(self.archive), self.address, now.base, now.shift)
+                    return ("at", name, now.number, now.run, now.address, len(self.archive), self.address, now.base, now.shift,
+                            self.ends.get(now.number - 1, 0))
                 case ["durable", name, generation, position]:
                     return self.durable(name, int(generation), int(position))
         return ("what",)
@@ -172,6 +236,8 @@ class StubKeeper:
         while generation == self.now.number and len(self.archive) < position:
             if self.is_archiving:
                 self.archive_now()
+                if self.archives_what_is_asked:
+                    del self.archive[position:]
             if len(self.archive) < position and generation == self.now.number:
                 self.changed.wait(0.05)
         if generation in self.ends:
@@ -211,6 +277,8 @@ class StubKeeper:
             self.ends[self.now.number] = len(self.archive)
             self.old.append(self.now)
             self.now, self.is_published = new, True
+            self.turns.end()
+            self.turns = Turns(self.name, new.number, self.after)
             self.changed.notify_all()
 
     def succeed(self, **how):

@@ -774,8 +774,8 @@ def test_at_the_limits():
         same("nor for a writer", "SQLITE_IOERR", code_of(lambda: connection.execute("insert into t values (2)")))
         with Service(listen=service.address):
             for other in (connection, follower):
-                same("started anew", "SQLITE_IOERR", code_of(lambda: one(other, "select count(*) from t")))
-                true("why", "started anew" in one(other, "pragma pagelog_error"))
+                same("restarted", "SQLITE_IOERR", code_of(lambda: one(other, "select count(*) from t")))
+                true("why", "restarted" in one(other, "pragma pagelog_error"))
 
 
 def test_a_commit_in_doubt():

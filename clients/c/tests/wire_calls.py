@@ -833,7 +833,7 @@ def test_a_full_audit_list():
         same("status", AUDIT_FULL, log.status()[0])
 
 
-def test_a_service_that_was_started_anew():
+def test_a_service_that_was_restarted():
     with Service() as service:
         address = service.address
         with Log(address, 2) as log, Log(address, 3) as reader:
@@ -842,13 +842,13 @@ def test_a_service_that_was_started_anew():
             same("pull", 4, reader.pull(1)[1].next)
             service.end()
             with Service(listen=address):
-                same("writer", (FENCED, True), (log.append(numbered(4, 1)), log.is_anew))
-                same("reader", (FENCED, True), (reader.pull(4)[0], reader.is_anew))
-                true("words", "started anew" in reader.words)
+                same("writer", (FENCED, True), (log.append(numbered(4, 1)), log.is_restarted))
+                same("reader", (FENCED, True), (reader.pull(4)[0], reader.is_restarted))
+                true("words", "restarted" in reader.words)
                 same("for good", FENCED, reader.status(SECONDARY)[0])
 
 
-def test_a_service_that_was_started_anew_in_the_same_epoch():
+def test_a_service_that_was_restarted_in_the_same_epoch():
     """Nothing but the end of the log, which is lower than before, shows it."""
     with Service() as service:
         address = service.address
@@ -858,9 +858,9 @@ def test_a_service_that_was_started_anew_in_the_same_epoch():
             same("readers", (4, DONE), (reader.pull(1)[1].next, other.status(SECONDARY)[0]))
             service.end()
             with Service(listen=address):
-                same("pull", (FENCED, True), (reader.pull(4)[0], reader.is_anew))
-                same("status", (FENCED, True), (other.status(SECONDARY)[0], other.is_anew))
-                same("append", (FENCED, True), (log.append(numbered(4, 1)), log.is_anew))
+                same("pull", (FENCED, True), (reader.pull(4)[0], reader.is_restarted))
+                same("status", (FENCED, True), (other.status(SECONDARY)[0], other.is_restarted))
+                same("append", (FENCED, True), (log.append(numbered(4, 1)), log.is_restarted))
 
 
 def test_every_wait_ends():

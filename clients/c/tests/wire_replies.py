@@ -102,11 +102,11 @@ def test_each_row_of_a_denial_has_its_outcome_and_its_value():
                          (reply.kind, reply.section, reply.row, reply.value))
                     same("in words", f"{outcome}: denied {row}, value {value}", log.words)
                 known = value if learns == "epoch" else 7, value if learns == "end" else 9
-                same(f"{row}: what is known", (known, False), ((log.epoch, log.end), log.is_anew))
+                same(f"{row}: what is known", (known, False), ((log.epoch, log.end), log.is_restarted))
                 same(f"{row}: one connection", 1, log.counts.connects)
 
 
-def test_a_denial_that_reports_less_than_before_is_of_a_service_that_was_started_anew():
+def test_a_denial_that_reports_less_than_before_is_of_a_service_that_was_restarted():
     """An epoch, or an end of the log, that has fallen. After it nothing is believed any more."""
     peer = Peer()
     with Service() as service, Proxy(service.address, between=peer) as proxy:
@@ -114,10 +114,10 @@ def test_a_denial_that_reports_less_than_before_is_of_a_service_that_was_started
             with Log(proxy.address, 3) as log:
                 learn(log, peer, 7, 9)
                 peer.body = denial(row, 6 if learns == "epoch" else 8)
-                same(row, learns is not None, log.ask(SECONDARY, wire.STATUS)[0] == FENCED and log.is_anew)
+                same(row, learns is not None, log.ask(SECONDARY, wire.STATUS)[0] == FENCED and log.is_restarted)
                 if learns:
                     peer.body = status(log.epoch, 10)
-                    same(f"{row}: for good", (FENCED, True), (log.status(SECONDARY)[0], "started anew" in log.words))
+                    same(f"{row}: for good", (FENCED, True), (log.status(SECONDARY)[0], "restarted" in log.words))
 
 
 def test_each_kind_of_reply_to_each_operation():
@@ -173,7 +173,7 @@ def test_a_status_in_another_epoch_than_was_asked_in_is_no_reply():
                 same(what, (MALFORMED, "malformed", 0, 0), (found, log.words, reply.epoch, log.in_flight()))
                 same(f"{what}: the call", MALFORMED, log.status(role)[0])
                 rule.differs = 0
-                same(f"{what}: what is known", known, (log.epoch, log.writing_epoch, log.end, log.is_anew))
+                same(f"{what}: what is known", known, (log.epoch, log.writing_epoch, log.end, log.is_restarted))
                 same(f"{what}: then", DONE, log.status()[0])
 
 
@@ -214,13 +214,13 @@ def test_no_writer_goes_by_a_status_in_another_epoch():
                     rule.differs = 0
                     same("the epoch", DONE, log.join())
                     rule.differs = differs
-                    same(f"{differs:+}, {call.__name__}", (MALFORMED, False), (call(log), log.is_anew))
+                    same(f"{differs:+}, {call.__name__}", (MALFORMED, False), (call(log), log.is_restarted))
                     same("no append", True, log.append(numbered(log.end + 1, 1)) in (MALFORMED, CONFLICT))
             with Log(proxy.address, 2) as log:
                 rule.differs = 0
                 same("take over", DONE, log.take_over())
                 rule.differs, cuts[0], blocks = differs, True, numbered(log.end + 1, 1)
-                same(f"{differs:+}, append", (IN_DOUBT, False), (log.append(blocks), log.is_anew))
+                same(f"{differs:+}, append", (IN_DOUBT, False), (log.append(blocks), log.is_restarted))
                 rule.differs = 0
                 same("take over, and look", (DONE, blocks.all()), (log.take_over(), blocks_of(log.pull(log.end)[1])))
 
@@ -409,10 +409,10 @@ def test_tidying_up_that_is_refused():
                 same("take over", DONE, log.take_over())
                 same("append", DONE, log.append(numbered(log.end + 1, 1)))
                 rule.begin(operation, body)
-                known = log.end, log.epoch, log.is_anew
+                known = log.end, log.epoch, log.is_restarted
                 log.tidy_up()
                 same(what, (DONE, 0, 0), (log.status()[0], log.in_flight(), log.refused.kind))
-                same(f"{what}: what is known", known, (log.end, log.epoch, log.is_anew))
+                same(f"{what}: what is known", known, (log.end, log.epoch, log.is_restarted))
                 requests = log.counts.requests
                 log.tidy_up()
                 same(f"{what}: not again", requests, log.counts.requests)

@@ -4,6 +4,7 @@ from __future__ import annotations
 
 import json
 import os
+import re
 import shutil
 import signal
 import subprocess
@@ -18,7 +19,7 @@ from urllib.parse import quote
 
 import psycopg
 
-from keepers import new_url
+from keepers import Keeping, new_url
 from pagelog.keeper.schema import FORMAT
 from service import PATIENCE, SOURCE
 
@@ -54,48 +55,11 @@ class Rows:
         self.session.close()
 
 
-class Console:
-    """A running `pagelogctl console`, which ends with the `with`."""
+class Page:
+    """What a console serves at a port of this machine."""
 
-    def __init__(self, url: str, *, ttl: float = 600, more: str = "", token: str | None = None) -> None:
-        self.folder = Path(tempfile.mkdtemp(prefix="pagelog-console-"))
-        file = self._private("credentials.toml", f'[archive]\nurl = "{url}"\n[keeper]\nttl = {ttl}\n{more}')
-        words: list[object] = [sys.executable, "-m", "pagelog", "console", "--listen", "127.0.0.1:0", "--credentials", file]
-        words += ["--token-file", self._private("token", token + "\n")] if token else []
-        self.log = (self.folder / "log").open("w+")
-        environment = {**os.environ, "PYTHONPATH": str(SOURCE), "PYTHONDONTWRITEBYTECODE": "1"}
-        self.process = subprocess.Popen(
-            list(map(str, words)), stdout=subprocess.PIPE, stderr=self.log, text=True, env=environment
-        )
-        assert self.process.stdout is not None
-        line = self.process.stdout.readline()
-        assert line.startswith("listening 127.0.0.1:"), self.said()
-        self.port = int(line.rpartition(":")[2])
-
-    def _private(self, name: str, text: str) -> Path:
-        file = self.folder / name
-        file.touch(mode=0o600)
-        file.write_text(text)
-        return file
-
-    def __enter__(self) -> Console:
-        return self
-
-    def __exit__(self, *_: object) -> None:
-        self.end(signal.SIGKILL)
-        self.log.close()
-        shutil.rmtree(self.folder)
-
-    def end(self, number: int = signal.SIGTERM) -> int:
-        if self.process.stdout is not None and not self.process.stdout.closed:
-            self.process.send_signal(number)
-            self.process.wait()
-            self.process.stdout.close()
-        return int(self.process.returncode)
-
-    def said(self) -> str:
-        """What it has written on standard error."""
-        return (self.folder / "log").read_text()
+    def __init__(self, port: int) -> None:
+        self.port = port
 
     @property
     def url(self) -> str:
@@ -131,6 +95,56 @@ class Console:
             yield Follower(connection.getresponse())
         finally:
             connection.close()
+
+
+def page_of(keeping: Keeping) -> Page:
+    """That of its one keeper."""
+    [port] = re.findall(r"console at 127\.0\.0\.1:(\d+)", keeping.said())
+    return Page(int(port))
+
+
+class Console(Page):
+    """A running `pagelogctl console`, which ends with the `with`."""
+
+    def __init__(self, url: str, *, ttl: float = 600, more: str = "", token: str | None = None) -> None:
+        self.folder = Path(tempfile.mkdtemp(prefix="pagelog-console-"))
+        file = self._private("credentials.toml", f'[archive]\nurl = "{url}"\n[keeper]\nttl = {ttl}\n{more}')
+        words: list[object] = [sys.executable, "-m", "pagelog", "console", "--listen", "127.0.0.1:0", "--credentials", file]
+        words += ["--token-file", self._private("token", token + "\n")] if token else []
+        self.log = (self.folder / "log").open("w+")
+        environment = {**os.environ, "PYTHONPATH": str(SOURCE), "PYTHONDONTWRITEBYTECODE": "1"}
+        self.process = subprocess.Popen(
+            list(map(str, words)), stdout=subprocess.PIPE, stderr=self.log, text=True, env=environment
+        )
+        assert self.process.stdout is not None
+        line = self.process.stdout.readline()
+        assert line.startswith("listening 127.0.0.1:"), self.said()
+        super().__init__(int(line.rpartition(":")[2]))
+
+    def _private(self, name: str, text: str) -> Path:
+        file = self.folder / name
+        file.touch(mode=0o600)
+        file.write_text(text)
+        return file
+
+    def __enter__(self) -> Console:
+        return self
+
+    def __exit__(self, *_: object) -> None:
+        self.end(signal.SIGKILL)
+        self.log.close()
+        shutil.rmtree(self.folder)
+
+    def end(self, number: int = signal.SIGTERM) -> int:
+        if self.process.stdout is not None and not self.process.stdout.closed:
+            self.process.send_signal(number)
+            self.process.wait()
+            self.process.stdout.close()
+        return int(self.process.returncode)
+
+    def said(self) -> str:
+        """What it has written on standard error."""
+        return (self.folder / "log").read_text()
 
 
 class Follower:

@@ -26,7 +26,7 @@ STEPS = {
     "opened": (Served, "open"),
     "fenced": (Served, "close"),
     "pulled": (succession, "_pulled"),
-    "loaded": (Succession, "_closed"),
+    "loaded": (succession, "_closed"),
     "switched": (succession, "succeed"),
 }
 DEEDS = ("keeper", "present", "next", "away")
@@ -50,8 +50,8 @@ def _do(deed: str, mark: Path) -> None:
         _kill(one._database.own.process)
     elif deed == "next" and one._successor is not None:
         _kill(one._successor.process)
-    elif deed == "away":  # the reply is lost, and so is the connection
-        one._shared.session.referee.cut()
+    elif deed == "away" and one._referee is not None:  # the reply is lost, and so is the connection
+        one._referee.cut()
 
 
 def cut(step: str, deed: str, mark: Path) -> None:

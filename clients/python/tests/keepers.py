@@ -32,7 +32,7 @@ from pagelog.keeper.rows import Batch, Row
 from pagelog.keeper.run import end_orphans
 from pagelog.place import Keepers, Place
 from postgres import postgres
-from service import PATIENCE, PROGRAM, SOURCE, TABLE, WIDE_TABLE, put, stand_still, token
+from service import PATIENCE, PROGRAM, SOURCE, TABLE, WIDE_TABLE, Port, put, stand_still, token
 
 _numbers = itertools.count(1)
 _shared: list[str] = []
@@ -158,6 +158,7 @@ class Keeping:
         """How a keeper is called, as arguments of Python."""
         self.processes: dict[str, subprocess.Popen[str]] = {}
         self.ports = dict.fromkeys("abcd", 0)
+        self.held: list[Port] = []
 
     def __enter__(self) -> Keeping:
         return self
@@ -168,6 +169,8 @@ class Keeping:
             process.wait()
             assert process.stdout is not None
             process.stdout.close()
+        for port in self.held:
+            port.close()
         for name in self.processes:
             end_orphans(self.folder / name, set())
         self.referee.close()
@@ -195,10 +198,13 @@ class Keeping:
         for name in names:
             line = self.processes[name].stdout.readline()  # type: ignore[union-attr]
             assert line.startswith("listening"), self.said()
-            self.ports[name] = int(line.rpartition(":")[2])  # one that the system gave, which it has again when it is started again
+            assert line.split()[1] == f"127.0.0.1:{self.ports[name]}"
 
     def launch(self, *names: str, program: str = PROGRAM) -> None:
         for name in names:
+            if self.ports[name] == 0:
+                self.held.append(Port())
+                self.ports[name] = self.held[-1].number  # which it has again when it is started again
             words = [sys.executable, *self.keeper, "keep", "--name", name, "--lines", f"127.0.0.1:{self.ports[name]}",
                      "--serve", "127.0.0.1", "--folder", self.folder / name, "--program", program, "--credentials", self.file]  # fmt: skip
             with (self.folder / f"{name}.log").open("a") as log:
@@ -229,8 +235,14 @@ class Keeping:
 
     def pid(self, name: str = "shop") -> int:
         """The process of the service that has the database now."""
-        [file] = self.folder.glob(f"*/{name}.{self.place(name).run}.json")
-        return int(json.loads(file.read_text())["pid"])
+        found: list[Path] = []
+
+        def is_noted() -> bool:  # a place may be told of a service that was killed just now
+            found[:] = self.folder.glob(f"*/{name}.{self.place(name).run}.json")
+            return len(found) == 1
+
+        eventually(is_noted, "what is noted of a service")
+        return int(json.loads(found[0].read_text())["pid"])
 
     @contextmanager
     def line(self, name: str = "a") -> Iterator[Any]:
@@ -295,8 +307,9 @@ class Kept(unittest.TestCase):
         self.keeping.start(*self.keepers)
 
     def say_if_failed(self) -> None:
-        outcome = getattr(self, "_outcome", None)
-        if outcome is not None and not outcome.success:
+        """What the keepers said, where the test has failed. While it is cleaned up its outcome is a success: its result has the failure."""
+        result = self._outcome.result  # type: ignore[attr-defined]
+        if any(test is self or getattr(test, "test_case", None) is self for test, _ in result.failures + result.errors):
             print(self.keeping.said())
 
     def texts(self) -> list[bytes]:
@@ -311,16 +324,17 @@ class Kept(unittest.TestCase):
 class Gate:
     """Statements of the referee wait at it, once they have changed a row so; another session's commit is held up thus."""
 
-    def __init__(self, url: str, when: str) -> None:
+    def __init__(self, url: str, when: str, table: str = "pagelog_log", lock: int = 42) -> None:
+        self._table, self._lock = table, lock
         self._session = psycopg.connect(url, autocommit=True)
-        self._session.execute("SELECT pg_advisory_lock(42)")
-        self._session.execute("CREATE OR REPLACE FUNCTION pagelog_gate() RETURNS trigger LANGUAGE plpgsql AS "
-                              "$$ BEGIN PERFORM pg_advisory_xact_lock_shared(42); RETURN NEW; END $$")  # fmt: skip
-        self._session.execute(f"CREATE TRIGGER pagelog_gate BEFORE UPDATE ON pagelog_log FOR EACH ROW WHEN ({when}) "
-                              "EXECUTE FUNCTION pagelog_gate()")  # fmt: skip
+        self._session.execute(f"SELECT pg_advisory_lock({lock})")
+        self._session.execute(f"CREATE OR REPLACE FUNCTION pagelog_gate_{lock}() RETURNS trigger LANGUAGE plpgsql AS "
+                              f"$$ BEGIN PERFORM pg_advisory_xact_lock_shared({lock}); RETURN NEW; END $$")  # fmt: skip
+        self._session.execute(f"CREATE TRIGGER pagelog_gate BEFORE UPDATE ON {table} FOR EACH ROW WHEN ({when}) "
+                              f"EXECUTE FUNCTION pagelog_gate_{lock}()")  # fmt: skip
 
     def somebody_waits(self) -> None:
-        waits = "SELECT 1 FROM pg_stat_activity WHERE wait_event_type = 'Lock' AND wait_event = 'advisory'"
+        waits = f"SELECT 1 FROM pg_locks WHERE locktype = 'advisory' AND objid = {self._lock} AND NOT granted"
         eventually(lambda: self._session.execute(waits).fetchone() is not None, "a statement at the gate")
 
     def open(self) -> None:
@@ -328,7 +342,7 @@ class Gate:
         while True:
             try:
                 self._session.execute("SET lock_timeout = '50ms'")
-                self._session.execute("DROP TRIGGER IF EXISTS pagelog_gate ON pagelog_log")
+                self._session.execute(f"DROP TRIGGER IF EXISTS pagelog_gate ON {self._table}")
                 break
             except psycopg.errors.LockNotAvailable:
                 continue

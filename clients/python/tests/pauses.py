@@ -5,85 +5,111 @@ Usage: PAGELOG=.. python3 -B clients/python/tests/pauses.py [MIB [SUCCESSIONS]]
 
 from __future__ import annotations
 
+import gc
+import json
 import os
 import random
 import re
 import sys
-import threading
 import time
 from pathlib import Path
 
 HERE = Path(__file__).resolve().parent
 sys.path[:0] = [str(HERE), str(HERE.parent / "src")]
 
+import psycopg  # noqa: E402
+
 from keepers import Keeping, new_url  # noqa: E402
-from pagelog import Put  # noqa: E402
+from long_runs import STOP, LongRun, is_client  # noqa: E402
+from pagelog import Primary, Put  # noqa: E402
+from service import PATIENCE, token  # noqa: E402
 from soak import percentiles  # noqa: E402
 
-
-class Pauses:
-    """One writer, which is waited for with every commit, or with none."""
-
-    def __init__(self, keeping: Keeping, *, durable: bool) -> None:
-        self.primary, self.durable = keeping.primary(), durable
-        self.pauses: list[float] = []
-        self.commits: list[float] = []
-        self.stops = threading.Event()
-        self.thread = threading.Thread(target=self.write)
-
-    def write(self) -> None:
-        generation, last = 0, time.monotonic()
-        while not self.stops.is_set():
-            self.primary.append(Put(0, 0, os.urandom(100)))
-            self.primary.commit(durable=self.durable)
-            now = time.monotonic()
-            self.commits.append(now - last)
-            if self.primary.place.generation != generation:  # type: ignore[union-attr]
-                if generation:
-                    self.pauses.append(now - last)
-                generation = self.primary.place.generation  # type: ignore[union-attr]
-            last = now
+WAYS = {"durable": True, "not durable": False}
 
 
-def fill(keeping: Keeping, mib: int) -> None:
-    """Full pages of bytes that no compression would make less."""
-    chance = random.Random(1)
-    with keeping.primary() as primary:
-        for page in range(1, mib * 128 + 1):
-            primary.append(Put(page, 0, chance.randbytes(8192)))
-            if page % 512 == 0:
-                primary.commit(durable=page % 2048 == 0)
-        primary.commit(durable=True)
+def write(folder: Path, way: str, addresses: list[str], _: float) -> None:
+    """One writer in a process of its own, which is waited for with every commit, or with none.
+
+    A pause is what it lacks between two acknowledgements: of its first commit in a generation, or of the last one in the
+    generation before, which may have waited for the switch; the longer of the two.
+    """
+    gc.freeze()  # what these tests import, a writer does not
+    primary = Primary.named("shop", keepers=addresses, principal=2, token=token(2), operator=(1, token(1)), patience=PATIENCE, timeout=PATIENCE)
+    pauses, commits = [], []
+    generation, last, before = 0, time.monotonic(), 0.0
+    while not (folder / STOP).exists():
+        primary.append(Put(0, 0, os.urandom(100)))
+        primary.commit(durable=WAYS[way])
+        now = time.monotonic()
+        took, reached = now - last, primary.place.generation  # type: ignore[union-attr]
+        (commits if reached == generation else pauses).append(took if reached == generation else max(took, before))
+        last, before, generation = now, took, reached
+    (folder / "writer").write_text(json.dumps([commits, pauses[1:]]))
 
 
-def main(mib: int = 10, successions: int = 20) -> None:
-    keeping = Keeping(ttl=2.0, standby=False, audit=1 << 24, url=new_url())
-    try:
-        keeping.word("create", "shop", "--table", keeping.table)
-        keeping.start("a")
-        began = time.monotonic()
-        fill(keeping, mib)
-        print(f"{mib} MiB filled in {time.monotonic() - began:.1f} s", flush=True)
-        for durable in (True, False):
-            pauses = Pauses(keeping, durable=durable)
-            pauses.thread.start()
-            for _ in range(successions):
-                before = keeping.place()
-                keeping.word("succeed", "shop")
-                keeping.place(least=before.generation + 1)
-                time.sleep(0.3)
-            pauses.stops.set()
-            pauses.thread.join()
-            print(f"{'durable' if durable else 'not durable'}: a commit, ms: {percentiles(sorted(pauses.commits))}; "
-                  f"the pause, ms: {percentiles(sorted(pauses.pauses))}", flush=True)  # fmt: skip
-        for what in re.findall(r"a base of .*|closed in .*", keeping.said())[:3] + re.findall("closed in .*", keeping.said())[-5:]:
-            print(what)
-        print(f"load {os.getloadavg()[0]:.0f}")
-    finally:
-        if os.environ.get("PAGELOG_TEST_SAYS"):
-            print(keeping.said())
-        keeping.__exit__()
+def probe(folder: Path, url: str, _: list[str], __: float) -> None:
+    """What a commit of PostgreSQL's takes meanwhile, by itself."""
+    gc.freeze()
+    commits = []
+    with psycopg.connect(url, autocommit=True) as connection:
+        connection.execute("CREATE TABLE IF NOT EXISTS probe (n integer)")
+        while not (folder / STOP).exists():
+            began = time.monotonic()
+            connection.execute("INSERT INTO probe VALUES (1)")
+            commits.append(time.monotonic() - began)
+            time.sleep(0.02)
+    (folder / "probe").write_text(json.dumps(commits))
+
+
+class Pauses(LongRun):
+    """So many successions with a writer that waits for each commit, and as many with one that does not."""
+
+    def __init__(self, mib: int, successions: int) -> None:
+        super().__init__(__file__, Keeping(ttl=1.0, standby=False, audit=1 << 24, url=new_url()))
+        self.mib, self.successions = mib, successions
+
+    def fill(self) -> None:
+        """Full pages of bytes that no compression would make less."""
+        chance, began = random.Random(1), time.monotonic()
+        with self.keeping.primary() as primary:
+            for page in range(1, self.mib * 128 + 1):
+                primary.append(Put(page, 0, chance.randbytes(8192)))
+                if page % 512 == 0:
+                    primary.commit(durable=page % 2048 == 0)
+            primary.commit(durable=True)
+        print(f"{self.mib} MiB filled in {time.monotonic() - began:.1f} s", flush=True)
+
+    def measure(self, way: str) -> None:
+        keeping, folder = self.keeping, self.keeping.folder
+        (folder / STOP).unlink(missing_ok=True)
+        clients = [self.client("write", way, 0), self.client("probe", keeping.url, 0)]
+        for _ in range(self.successions):
+            before = keeping.place()
+            keeping.word("succeed", "shop")
+            keeping.place(least=before.generation + 1)
+            time.sleep(0.3)
+        (folder / STOP).touch()
+        if any([self.ended(client, 60) for client in clients]):
+            sys.exit("a client failed")
+        commits, pauses = map(sorted, json.loads((folder / "writer").read_text()))
+        probed = sorted(json.loads((folder / "probe").read_text()))
+        print(f"{way}: the pause, ms: {percentiles(pauses)}; a commit of PostgreSQL's, ms: {percentiles(probed)}; "
+              f"a commit, ms: {percentiles(commits)}; load {os.getloadavg()[0]:.0f}", flush=True)  # fmt: skip
+
+    def run(self) -> int:
+        self.keeping.word("create", "shop", "--table", self.keeping.table)
+        self.keeping.start("a")
+        self.fill()
+        for way in WAYS:
+            self.measure(way)
+        said = self.keeping.said()
+        for what in ("closed", "switched"):
+            print(f"{what}, ms: {percentiles(sorted(float(took) / 1000 for took in re.findall(f'{what} in ([0-9.]+) ms', said)))}")
+        print(re.findall("a base of .*", said)[0])
+        return 0
 
 
 if __name__ == "__main__":
-    main(*map(int, sys.argv[1:]))
+    if not is_client(sys.argv[1:], {"write": write, "probe": probe}):
+        sys.exit(Pauses(*map(int, sys.argv[1:] or [10, 20])).whole())

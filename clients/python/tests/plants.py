@@ -6,6 +6,7 @@ Usage: python3 -B clients/python/tests/plants.py [NAME ..]
 from __future__ import annotations
 
 import os
+import re
 import shutil
 import subprocess
 import sys
@@ -30,6 +31,10 @@ PLANTS = {
     "fence": Plant("statements", "l.run = due.run AND l.generation = due.generation AND l.archived = due.old", "l.archived = due.old",
                    "referee", "keeps_nothing"),
     "position": Plant("statements", " AND l.archived = due.old", "", "referee", "under_run_generation_and_archived_position"),
+    "fence of one": Plant("statements", "run = %(run)s AND generation = %(generation)s AND archived = %(old)s RETURNING id),",
+                          "archived = %(old)s RETURNING id),", "referee", "keeps_nothing"),
+    "position of one": Plant("statements", " AND archived = %(old)s RETURNING id),", " RETURNING id),", "referee",
+                             "under_run_generation_and_archived_position"),
     "take": Plant("statements", "generation = %(generation)s AND archived = %(archived)s AND run IS NOT DISTINCT FROM %(seen_run)s::text\n"
                   "    AND", "", "referee", "eight_takes"),
     "select": Plant("statements", "UPDATE pagelog_keeper SET beat = beat + 1, report = COALESCE(%(report)s::jsonb, report)\n"
@@ -43,14 +48,25 @@ PLANTS = {
     "early": Plant("archiver", "            kept = await self._committer.keep(batch)",
                    "            self._waits.tell(served.generation, batch.new)\n            kept = await self._committer.keep(batch)",
                    "keepers", "before_its_commit"),
-    "published": Plant("database", "            await self._filled(served, row.base, row.chain)\n            await asyncio.to_thread("
-                       "served.check, row.base, row.chain)", "            await self._ask(self._referee.publish, row.id, served.run, "
-                       "served.process.address)\n            await self._filled(served, row.base, row.chain)", "keepers", "a_place_is_published"),
+    "published": Plant("database", "                await self._filled(served, row.base, row.chain)\n                await asyncio.to_thread("
+                       "served.check, row.base, row.chain)", "                await self._ask(self._referee.publish, row.id, served.run, "
+                       "served.where)\n                await self._filled(served, row.base, row.chain)", "keepers", "a_place_is_published"),
+    "told as it is taken": Plant("database", "        await self._filled(served, row.archived, row.chain)\n        await asyncio.to_thread("
+                                 "served.check, row.archived, row.chain)\n", "", "standbys", "told_as_it_is_taken"),
+    "chain of a take": Plant("statements", "(%(address)s::text IS NULL OR chain = %(chain)s) AND ", "", "referee", "tells_the_place"),
+    "confirmed": Plant("database", "min(self.served.reached, self._confirmed)", "self.served.reached", "standbys", "told_as_it_is_taken"),
+    "not open yet": Plant("keeping", "row.address is None or is_closed or", "row.address is None or", "standbys", "told_as_it_is_taken"),
+    "take in doubt": Plant("machine", " or not own.is_open:", ":", "standbys", "take_is_in_doubt"),
+    "warm": Plant("committer", "        self._is_warm = True  #", "        self._is_warm = False  #", "attacks", "made_beforehand"),
     "standby": Plant("served", "        if hard != archived:", "        if False:", "standbys", "ahead_of_the_archive"),
     "digest": Plant("served", "        if chain != wanted:", "        if False:", "standbys", "no_other_archive"),
     "orphan": Plant("keeping", "end_orphans, self._folder.path, wanted", "lambda *_: (), 0, 0", "standbys", "orphan"),
-    "table first": Plant("served", "        self._operator.set_table(self._table(Form.READING))\n", "", "runs", "cannot_be_opened_again"),
-    "the rest": Plant("database", "self.work.archiver.reached(end)", "asyncio.sleep(0, True)", "standbys", "told_to_end"),
+    "table of a fence": Plant("served", "fence(self._table(Form.READING), KEEPER)", "fence(self._table(Form.OPEN), KEEPER)",
+                              "runs", "cannot_be_opened_again"),
+    "table first": Plant("../operator", "(self._request(table), self._request(Failover(to)), self", "(self._request(Failover(to)), self._request(table), self",
+                         "reader", "failover_comes_between"),
+    "given number": Plant("statements", " AND next_generation > %(next)s", "", "bases", "under_the_fence"),
+    "the rest": Plant("archiver", "return await self._batch_of(blocks, recorder) if", "return await self._batch_of((), recorder) if", "runs", "was_not_archived"),
     "one disk": Plant("referee", "        if self._requires_standby:\n", "        if False:\n", "disks", "until_a_standby_has_it"),
     "one disk, taken": Plant("referee", "        if self._requires_standby:\n", "        if False:\n", "disks", "nobody_takes_over"),
     "standby is there": Plant("referee", "            if reached is None:\n", "            if reached is None:\n                return\n"
@@ -70,9 +86,9 @@ PLANTS = {
     "vanished": Plant("keeping", "            self.databases[id].lose()\n", "            pass\n", "lives", "has_lost"),
     "given up": Plant("committer", "            if due.future.cancelled():\n                continue\n", "", "attacks", "two_batches"),
     "one of a database": Plant("committer", "due.batch.log in taken or ", "", "attacks", "two_batches"),
-    "let go": Plant("database", "        self._let_go = row.generation  # first: whether it is released may be in doubt\n", "", "lives", "release_was"),
+    "let go": Plant("database", "            self._let_go = self.row.generation  # first: whether it is released may be in doubt\n", "", "lives", "release_was"),
     "left": Plant("run", "        file.unlink(missing_ok=True)\n    return ended", "        pass\n    return ended", "runs", "was_killed_while"),
-    "not listening": Plant("run", "facts.run in wanted and facts.address is not None:", "facts.run in wanted:", "runs", "was_killed_while"),
+    "not listening": Plant("run", "(facts.run in wanted and facts.address is not None):", "facts.run in wanted:", "runs", "was_killed_while"),
     "ended session": Plant("refusal", "not is_ended and ", "", "referee", "ends_a_session"),
     "unknown completion": Plant("refusal", ', "40003"', "", "referee", "ends_a_session"),
     "quick warning": Plant("quick", "        self._check_warnings()\n", "", "quick", "a_warning"),
@@ -81,34 +97,52 @@ PLANTS = {
     "late pull": Plant("puller", "            if not is_whole:\n", "            if False:\n", "quick", "hangs_or_is_gone"),
     "many pulls": Plant("puller", "len(reply.blocks) == PULL_MAX or ", "", "quick", "few_blocks"),
     "beginning of a list": Plant("../trail/store", "                if texts:\n", "                if False:\n", "kept_trails", "each_generation"),
+    "list of a release": Plant("recorder", "while self._served.is_after_release and ", "while False and ", "kept_trails", "who_takes_over"),
     "zombie's list": Plant("../trail/keeper", "last.generation > self.generation:", "False:", "trail", "another_generation"),
     "phantom": Plant("machine", "if own is None and facts.is_noted:", "if False:", "lives", "taken_back"),
-    "switch fence": Plant("statements", "id = %(id)s AND run = %(run)s AND generation = %(generation)s AND archived = %(old)s AND NOT dropped\n"
-                          "  RETURNING id, generation),", "id = %(id)s\n  RETURNING id, generation),", "bases", "under_the_fence"),
-    "rest of a switch": Plant("succession", "        end = served.close()\n", "        served.close()\n        end = served.reached\n",
-                              "successions", "nobody_asked"),
-    "fence of a switch": Plant("succession", "        end = served.close()\n", "        end = served._operator.status().hard + served.shift\n",
-                               "successions", "notice_nothing"),
+    "switch fence": Plant("statements", "run = %(run)s AND generation = %(generation)s AND archived = %(old)s AND next_generation", "next_generation",
+                          "bases", "under_the_fence"),
+    "rest of a switch": Plant("succession", "    end = served.close()\n", "    served.close()\n    end = served.reached\n",
+                              "runs", "was_not_archived"),
+    "fence of a switch": Plant("succession", "    end = served.close()\n", "    end = served._operator.status().hard + served.shift\n",
+                               "successions", "held_back"),
     "chain of a base": Plant("bases", "        if now != chain:\n", "        if False:\n", "bases", "not_archived"),
     "end mark": Plant("bases", "position = bases.end_mark(first, archived)", "position = None", "bases", "no_transaction"),
     "image": Plant("bases", "            if zlib.crc32(image.data) != crc:\n", "            if False:\n", "bases", "damage"),
     "images": Plant("bases", "heads.digest() != base.digest:", "False:", "bases", "damage"),
-    "pruned images": Plant("bases", "AND j.base <= %s) RETURNING range", "AND j.base <= %s + 1000) RETURNING range", "bases", "only_older"),
+    "pruned images": Plant("bases", "AND j.base <= %s) RETURNING range", "AND j.base <= %s + 1000) RETURNING range", "bases", "kept_base_needs"),
     "shift": Plant("served", "return labelled(blocks, position + 1) if self.shift else blocks", "return blocks", "successions", "same_positions"),
     "below a base": Plant("../named_reader", "            raise BelowBase(position, self.place.base)\n", "            pass\n",
                           "successions", "same_positions"),
     "doubt": Plant("../named", "            if digest != hashlib.sha256(block.data).hexdigest():\n", "            if False:\n",
                    "successions", "another_has"),
-    "opened again": Plant("succession", "            await asyncio.to_thread(served.open)\n", "            pass\n", "successions", "next_service_dies"),
+    "opened again": Plant("succession", "            await asyncio.to_thread(served.open)\n", "            pass\n", "successions", "after_the_fence"),
     "held back": Plant("keeping", "database is None or not database.is_moving:", "True:", "successions", "held_back"),
-    "switch in doubt": Plant("succession", "                return await self._looked_up(switch)\n", "                return None\n",
-                             "successions", "line_to_postgresql"),
+    "late look": Plant("database", "        if began <= self._switched_at:\n", "        if False:\n", "successions", "undo_it"),
+    "switch in doubt": Plant("switch", "        return True\n    kept = ", "        return False\n    kept = ", "successions", "line_to_postgresql"),
+    "only copy": Plant("machine", "    return own.went_back or went_back(row, own)\n", "    return False\n", "machine", "postgresql_has_lost"),
+    "only copy, ended": Plant("database", "if not served.went_back:", "if True:", "lives", "outlives"),
+    "only copy, an orphan": Plant("run", "        if facts.kept or ", "        if ", "lives", "outlives"),
+    "set aside, not said": Plant("keeping", "            self._shared.asides.begin()\n", "", "lives", "set_aside_is_shown"),
+    "ended, not saved": Plant("../desk/rescue_words", "    elif end is not None and alike < last:\n", "    elif False:\n", "lives",
+                              "set_aside_is_shown"),
+    "archived again": Plant("archiver", "self._served.has, kept.archived", "lambda *_: False, kept.archived", "lives", "archived_again_by"),
+    "published again": Plant("database", "if row.address is None and not served.is_open:", "if row.address is None:", "lives", "archived_again_by"),
+    "group, told early": Plant("../group", "self._primary.commit(durable=True)", "self._primary.commit()", "group", "goes_together"),
+    "group, split": Plant("../packing", "            self.close()\n            for record in records:", "            for record in records:", "group",
+                          "fits_into_a_block"),
+    "group, lost": Plant("../group", "isinstance(error, Lost) and each.position >= error.position", "False", "group", "as_the_service_died"),
+    "group, in the log": Plant("../group", "                error = self._waited(each) or error", "                each.settle(error)", "group", "the_rest_is_lost"),
+    "group, fenced": Plant("../named", "        if self._ended is not None:\n            raise self._ended\n        return self._pack(commits)",
+                           "        return self._pack(commits)", "group", "fenced_as_it_begins"),
+    "group, goes on": Plant("../group", "        if self._ended is not None:\n", "        if False:\n", "group", "interrupted"),
+    "group, interrupted": Plant("../group", "                if not each.is_settled:\n", "                if False:\n", "group", "interrupted"),
     "broken series": Plant("machine", " or now - self._last > self.ttl / 2", "", "machine", "broken"),
 }  # fmt: skip
 
 
-def fails(plant: Plant) -> bool:
-    """Whether the test fails with the edit. It has to pass a run without it, which is the tests' own business."""
+def failure(plant: Plant) -> str | None:
+    """By what the test fails with the edit; None where it passes. It has to pass a run without it, which is the tests' own business."""
     with tempfile.TemporaryDirectory(prefix="pagelog-plants-") as folder:
         copy = Path(folder) / "clients" / "python"
         shutil.copytree(PYTHON, copy, ignore=shutil.ignore_patterns("__pycache__", ".mypy_cache"))
@@ -125,15 +159,16 @@ def fails(plant: Plant) -> bool:
         done = subprocess.run(words, stdout=subprocess.PIPE, stderr=subprocess.STDOUT, text=True, env=environment)
         if "clients/python: 0 passed, 0 failed" in done.stdout:
             raise AssertionError(f"there is no test {plant.test} in {plant.part}")
-        return done.returncode != 0
+        errors = [line.strip() for line in done.stdout.splitlines() if re.match(r"\s*[\w.]+(Error|Exception|Base|Lost|Doubt)\b", line)]
+        return None if done.returncode == 0 else (errors or ["it did not come to its end"])[-1]
 
 
 def main(names: list[str]) -> int:
     missed = 0
     for name in names or PLANTS:
-        seen = fails(PLANTS[name])
-        print(f"{name}: {'seen by' if seen else 'NOT SEEN by'} {PLANTS[name].part} {PLANTS[name].test}", flush=True)
-        missed += not seen
+        why = failure(PLANTS[name])
+        print(f"{name}: {'seen by' if why else 'NOT SEEN by'} {PLANTS[name].part} {PLANTS[name].test}: {why}", flush=True)
+        missed += why is None
     print(f"plants: {len(names or PLANTS) - missed} seen, {missed} not seen")
     return 1 if missed else 0
 

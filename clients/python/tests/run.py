@@ -46,6 +46,7 @@ PARTS = {
     "test_looking": "status, top, audit and metrics",
     "test_explaining": "explain, and help",
     "test_keepers": "named databases under a keeper",
+    "test_group": "threads that share a writer of a named database",
     "test_successions": "successions, from images at the same positions",
     "test_top": "a live page of named databases",
     "test_standbys": "standbys, switchovers, and keepers that are gone",
@@ -55,6 +56,7 @@ PARTS = {
     "test_quick": "few blocks, pulled and kept without a thread",
     "test_runs": "a run of a service, its tokens and its process",
     "test_machine": "what a keeper decides",
+    "test_meanwhile": "what changes while a keeper waits for something",
     "test_turns": "whose turn it is to write",
     "test_disks": "what durable means without a standby of PostgreSQL",
     "test_soak": "named databases that live on for a while",
@@ -62,6 +64,8 @@ PARTS = {
     "test_bases": "bases in PostgreSQL, pruned, and begun again",
     "test_referee": "one writer of an archive, by statements of PostgreSQL",
 }
+END = 40
+"""So many lines of a part that failed are shown once more."""
 
 # What speaks to a service alone, and asks for nothing of its own processes, memory or workers.
 OF_ANY_SERVICE = ("test_replies", "test_primary", "test_doubts", "test_reader")
@@ -125,12 +129,33 @@ def side_by_side(names: list[str]) -> list[subprocess.Popen[str]]:
             time.sleep(0.05)
         command = [sys.executable, "-B", __file__, name[5:]]
         output = tempfile.TemporaryFile("w+")
-        running.append(subprocess.Popen(command, stdout=output, text=True))
+        running.append(subprocess.Popen(command, stdout=output, stderr=subprocess.STDOUT, text=True))
         running[-1].output = output  # type: ignore[attr-defined]
     return running
 
 
+def play_all(names: list[str]) -> tuple[int, int]:
+    """What each part said is shown at its end, and the end of what a failed one said once more behind all of them."""
+    passed = failed = 0
+    ends: list[str] = []
+    for process in side_by_side(names):
+        process.wait()
+        process.output.seek(0)  # type: ignore[attr-defined]
+        said = process.output.read()  # type: ignore[attr-defined]
+        counts = re.findall(r"^clients/python: (\d+) passed, (\d+) failed\n", said, re.MULTILINE)
+        good, bad = map(int, counts[-1]) if counts else (0, 1)
+        passed, failed = passed + good, failed + bad
+        lines = [line for line in said.splitlines() if not line.startswith("clients/python: ")]
+        print("\n".join(lines), flush=True)
+        ends += lines[-END:] if bad else []
+    for line in ends:
+        print(line)
+    return passed, failed
+
+
 def main(arguments: list[str]) -> int:
+    # A shell without job control starts what runs in its background with SIGINT ignored, which would go on to each program of a test.
+    signal.signal(signal.SIGINT, signal.default_int_handler)
     passed = failed = 0
     is_model = arguments == ["--model"]
     if arguments and not is_model:
@@ -138,14 +163,7 @@ def main(arguments: list[str]) -> int:
         passed, failed = play(f"test_{arguments[0]}", PARTS.get(f"test_{arguments[0]}", ""), only)
     else:
         # Those that take longest are begun first.
-        for process in side_by_side([name for name in reversed(PARTS) if name in OF_ANY_SERVICE or not is_model]):
-            process.wait()
-            process.output.seek(0)  # type: ignore[attr-defined]
-            *lines, last = process.output.read().splitlines() or [""]  # type: ignore[attr-defined]
-            print("\n".join(lines), flush=True)
-            counts = re.fullmatch(r"clients/python: (\d+) passed, (\d+) failed", last)
-            good, bad = map(int, counts.groups()) if counts else (0, 1)
-            passed, failed = passed + good, failed + bad
+        passed, failed = play_all([name for name in reversed(PARTS) if name in OF_ANY_SERVICE or not is_model])
     if not arguments and os.environ.get("PAGELOG_TEST_LONG") and shutil.which("mypy"):
         done = subprocess.run(["mypy"], cwd=Path(__file__).resolve().parent.parent, capture_output=True, text=True)
         print(f"mypy: {done.stdout.strip()}")

@@ -52,19 +52,35 @@ def _stands(task: Path) -> bool:
         return True  # it has ended
 
 
+class Port:
+    """A port of this machine that is given to nobody else while it is open, nor as the near end of a connection: a program that is told
+    to may listen at it, again and again, and between its lives connections are refused."""
+
+    def __init__(self) -> None:
+        self._socket = socket.socket()
+        self._socket.setsockopt(socket.SOL_SOCKET, socket.SO_REUSEADDR, 1)  # as a program that listens does
+        self._socket.bind(("127.0.0.1", 0))
+        self.number = int(self._socket.getsockname()[1])
+        self.address = f"127.0.0.1:{self.number}"
+
+    def close(self) -> None:
+        self._socket.close()
+
+
 class Service:
-    """A running `serve`. It ends with the `with`, or with `stop`."""
+    """A running `serve`. It ends with the `with`, or with `stop`; its port is held until then, or as long as there is this object."""
 
     def __init__(
-        self, *, table: str | None = None, dbs: int = 1, workers: int = 12, audit: int = 1_000_000, listen: str = "127.0.0.1:0",
-        connections: int = 4_000_000_000, primary: int = 2,
+        self, *, table: str | None = None, dbs: int = 1, workers: int = 12, audit: int = 1_000_000, connections: int = 4_000_000_000,
+        primary: int = 2,
     ) -> None:  # fmt: skip
+        self.port = Port()
         self.folder = Path(tempfile.mkdtemp(prefix="pagelog-test-"))
         self.table = TABLE
         if table is not None:
             self.table = self.folder / "table.toml"
             self.table.write_text(table)
-        words = [PROGRAM, "serve", "--listen", listen, "--table", self.table, "--primary", primary, "--dbs", dbs,
+        words = [PROGRAM, "serve", "--listen", self.port.address, "--table", self.table, "--primary", primary, "--dbs", dbs,
                  "--workers", workers, "--connections", connections, "--audit", audit]  # fmt: skip
         self.words = [str(word) for word in words]
         self.start()
@@ -80,7 +96,6 @@ class Service:
     def restart(self) -> None:
         """A new service, which knows nothing, at the same address."""
         self.stop()
-        self.words[3] = self.address
         self.start()
 
     def stop(self) -> None:
@@ -94,6 +109,7 @@ class Service:
 
     def __exit__(self, *_: object) -> None:
         self.stop()
+        self.port.close()
         shutil.rmtree(self.folder, ignore_errors=True)
 
     def limit_memory(self, more: int) -> None:

@@ -7,7 +7,6 @@ import os
 import random
 import re
 import signal
-import subprocess
 import sys
 import time
 from collections import Counter
@@ -20,6 +19,7 @@ sys.path[:0] = [str(HERE), str(HERE.parent / "src")]
 import psycopg  # noqa: E402
 
 from keepers import Keeping, new_url  # noqa: E402
+from long_runs import STOP, LongRun, is_client, text_of  # noqa: E402
 from pagelog import BelowBase, Block, PagelogError, Primary, Put, Reader  # noqa: E402
 from pagelog.keeper.bases import Bases  # noqa: E402
 from pagelog.keeper.referee import digest  # noqa: E402
@@ -30,7 +30,6 @@ LIST = 8000
 """Entries of an audit list: a succession comes every few seconds."""
 NAMES = ("shop", "ship")
 PAGES, CELL = 400, 64
-STOP = "stop"
 BARS = "▁▂▃▄▅▆▇█"
 
 
@@ -92,24 +91,21 @@ def read(folder: Path, name: str, addresses: list[str], _: float) -> None:
             reader.close()
 
 
-def text_of(block: Block) -> str:
-    return block.records[-1].data.decode().rstrip(".")  # type: ignore[union-attr]
-
-
 # The run.
 
 
-class Soak:
-    def __init__(self, seconds: float, seed: int, rate: float = 150.0, *, least: int = 0, audit: int = LIST) -> None:
-        """It goes on for so many seconds, and until there were at least so many successions."""
+class Soak(LongRun):
+    def __init__(self, seconds: float, seed: int, rate: float = 150.0, *, least: int = 0, audit: int = LIST, picture: str = "") -> None:
+        """It goes on for so many seconds, and until there were at least so many successions. `picture` is the file of one."""
+        self.picture = picture
         self.seconds, self.chance, self.rate, self.least, self.audit = seconds, random.Random(seed), rate, least, audit
-        self.keeping = Keeping(ttl=TTL, audit=audit, url=new_url())
+        super().__init__(__file__, Keeping(ttl=TTL, audit=audit, url=new_url()))
         self.keeping.file.write_text(self.keeping.file.read_text().replace("[keeper]", "keep = 2\n[keeper]"))
         self.kills: Counter[str] = Counter()
         self.curves: dict[str, list[float]] = {"memory of services, MiB": [], "memory of keepers, MiB": [], "archive, MiB": [],
                                                "archived blocks that are kept": [], "entries left, least": []}  # fmt: skip
         self.commits: list[float] = []
-        self.faults: list[Callable[[], None]] = [self.kill_service, self.kill_keeper, self.kill_next]
+        self.deeds: list[Callable[[], None]] = [self.kill_service, self.kill_keeper, self.kill_next]
 
     # Kills.
 
@@ -169,28 +165,23 @@ class Soak:
         keeping.start("a", "b")
         for name in NAMES:
             keeping.place(name)
-        clients = [self.client(what, name) for name in NAMES for what in ("write", "read")]
+        clients = [self.client(what, name, self.rate) for name in NAMES for what in ("write", "read")]
         ends, before, due = time.monotonic() + self.seconds, 0, time.monotonic() + 30
         with psycopg.connect(keeping.url, autocommit=True) as probe:
             probe.execute("CREATE TABLE IF NOT EXISTS probe (n integer)")
             while time.monotonic() < ends or self.successions() < self.least:
                 self.measure(probe)
                 if self.successions() > before or time.monotonic() >= due:  # a death begins a list anew
-                    fault = self.chance.choice(self.faults)
+                    fault = self.chance.choice(self.deeds)
                     self.kills[fault.__name__] += 1
                     fault()
                     before, due = self.successions() + self.chance.randrange(3), time.monotonic() + 30
                 time.sleep(0.5)
         (keeping.folder / STOP).touch()
-        violations = [f"a client ended with status {status}" for status in [client.wait(180) for client in clients] if status != 0]
-        violations += [line for line in keeping.said().splitlines() if "fault of the keeper" in line]
+        violations = self.faults([self.ended(client, 180) for client in clients])
         for name in NAMES:
             violations += self.violations(name)
         return self.report(violations + self.unbounded())
-
-    def client(self, what: str, name: str) -> subprocess.Popen[bytes]:
-        words = [sys.executable, "-B", __file__, what, self.keeping.folder, name, ",".join(self.keeping.addresses), self.rate]
-        return subprocess.Popen(list(map(str, words)))
 
     # What has to hold.
 
@@ -239,10 +230,9 @@ class Soak:
 
     def pauses(self) -> list[float]:
         """Of the writers, in planned successions."""
-        planned = set(re.findall(r" (\w+): generation (\d+) begins at position \d+, from images", self.keeping.said()))
+        planned = set(re.findall(r" (\w+): generation (\d+) begins at position \d+, from images.* blocks of generation (\d+)", self.keeping.said()))
         lines = [(name, line) for name in NAMES for line in self.books(f"writer-{name}") if line["what"] == "pause"]
-        return sorted(line["seconds"] for name, line in lines
-                      if (name, str(line["generation"])) in planned and line["generation"] == line["before"] + 1)  # fmt: skip
+        return sorted(line["seconds"] for name, line in lines if (name, str(line["generation"]), str(line["before"])) in planned)
 
     def report(self, violations: list[str]) -> int:
         for violation in violations[:20]:
@@ -251,16 +241,14 @@ class Soak:
         successions, pauses = self.successions(), self.pauses()
         for what, curve in self.curves.items():
             print(f"{what:32} {bars(curve)}  {min(curve):.0f} to {max(curve):.0f}, in the end {curve[-1]:.0f}")
+        if self.picture:
+            Path(self.picture).write_text(picture(self.curves, self.seconds))
         print(f"a writer's pause, ms: {percentiles(pauses)}; a commit of PostgreSQL's, ms: {percentiles(sorted(self.commits))}")
         print("kills: " + ", ".join(f"{name} {count}" for name, count in self.kills.most_common()))
         archived = sum(self.keeping.row(name).archived for name in NAMES)
         print(f"soak: {archived} durable commits over {sum(self.keeping.row(name).generation for name in NAMES)} generations, "
               f"{successions} successions, {len(re.findall('a base of', said))} bases, {len(violations)} violations")  # fmt: skip
         return 1 if violations or not successions or not archived else 0
-
-    def stop(self) -> None:
-        (self.keeping.folder / STOP).touch()
-        self.keeping.__exit__()
 
 
 def memory_of(pid: int) -> int:
@@ -277,6 +265,21 @@ def bars(curve: list[float], width: int = 60) -> str:
     return "".join(BARS[round((len(BARS) - 1) * max(part) / (max(curve) or 1))] for part in parts if part)
 
 
+def picture(curves: dict[str, list[float]], seconds: float) -> str:
+    """The curves as SVG, one below the other; of each part the greatest value."""
+    width, height, gap, parts = 560, 56, 34, 280
+    lines = [f'<svg xmlns="http://www.w3.org/2000/svg" viewBox="0 0 {width + 20} {len(curves) * (height + gap) + 10}" '
+             'font-family="sans-serif" font-size="12">', '<rect width="100%" height="100%" fill="#fff"/>']  # fmt: skip
+    for row, (what, curve) in enumerate(curves.items()):
+        top, most = row * (height + gap) + 22, max(curve) or 1
+        tops = [max(curve[at * len(curve) // parts : (at + 1) * len(curve) // parts], default=0.0) for at in range(parts)]
+        points = " ".join(f"{10 + at * width // parts},{top + height - height * value / most:.0f}" for at, value in enumerate(tops))
+        lines += [f'<text x="10" y="{top - 6}">{what}: at most {most:,.0f}, in {seconds:,.0f} s</text>',
+                  f'<path d="M10 {top}v{height}h{width}" fill="none" stroke="#999"/>',
+                  f'<polyline points="{points}" fill="none" stroke="#06c"/>']  # fmt: skip
+    return "\n".join([*lines, "</svg>"]) + "\n"
+
+
 def percentiles(values: list[float]) -> str:
     if not values:
         return "none"
@@ -285,17 +288,12 @@ def percentiles(values: list[float]) -> str:
 
 
 def main(words: list[str]) -> int:
-    if words and words[0] in ("write", "read"):
-        {"write": write, "read": read}[words[0]](Path(words[1]), words[2], words[3].split(","), float(words[4]))
+    if is_client(words, {"write": write, "read": read}):
         return 0
-    numbers = [float(word) for word in words]
-    soak = Soak(*(numbers[:1] or [60.0]), int(numbers[1]) if len(numbers) > 1 else 1, *numbers[2:3])
-    try:
-        return soak.run()
-    finally:
-        if os.environ.get("PAGELOG_TEST_SAYS"):
-            print(soak.keeping.said())
-        soak.stop()
+    numbers = [float(word) for word in words[:3]]
+    soak = Soak(*(numbers[:1] or [60.0]), int(numbers[1]) if len(numbers) > 1 else 1, *numbers[2:3],
+                audit=int(words[3]) if len(words) > 3 else LIST, picture="".join(words[4:5]))  # fmt: skip
+    return soak.whole()
 
 
 if __name__ == "__main__":

@@ -81,7 +81,6 @@ class Scrapes(unittest.TestCase):
         address = self.metrics("--within", "1", "--url", f"sqlite:///{self.folder}/not-made-yet.db")
         found = scrape(address)
         self.assertEqual((found['pagelog_up{db="0"}'], found['pagelog_archive_up{db="0"}']), (0, 0))
-        self.service.words[3] = self.service.address
         self.service.start()
         Archive(f"sqlite:///{self.folder}/not-made-yet.db", create=True).close()
         while (found := scrape(address))['pagelog_up{db="0"}'] == 0 or found['pagelog_archive_up{db="0"}'] == 0:

@@ -188,7 +188,7 @@ class Keeping(Folder):
 
 class OtherLogs(Folder):
     def test_an_archive_does_not_go_on_with_another_log(self) -> None:
-        """The service is started anew, and has more blocks than the archive before the archiver asks again."""
+        """The service is restarted, and has more blocks than the archive before the archiver asks again."""
         fill(self.primary, 60, seed=1)
         archive = self.archive()
         archiver = Archiver(self.reader, archive)
@@ -223,7 +223,7 @@ class OtherLogs(Folder):
             Archiver(self.enterContext(self.service.reader()), archive).run(follow=False)
 
     def test_a_batch_is_not_of_two_services(self) -> None:
-        """Between two pulls of a batch the service is started anew, restored, and written to."""
+        """Between two pulls of a batch the service is restarted, restored, and written to."""
         fill(self.primary, 40, seed=1)
         archive = self.archive()
         archiver = Archiver(self.reader, archive)

@@ -23,6 +23,7 @@ import psycopg
 from keepers import Gate, Kept, Keeping, Line, Trigger, batch_of, blocks, eventually, new_database, new_url
 from pagelog import Connection, ConnectionLost, OlderEpoch, OtherPrimary, Primary, Reader
 from pagelog.keeper import referee as referee_module
+from pagelog.keeper.bases import Base, Bases
 from pagelog.keeper.committer import Committer, Fenced
 from pagelog.keeper.referee import Doubt, Referee, digest
 from pagelog.keeper.rows import Batch, Kept as KeptBatch
@@ -130,6 +131,20 @@ class Standbys(Kept):
             self.assertEqual(self.commit(primary, "4", durable=True), 4)
             self.assertEqual(self.texts(), [b"1", b"2", b"3", b"4"])
 
+
+    def test_writers_go_on_where_a_switchover_is_taken_back_once_its_release_was_refused(self) -> None:
+        with self.keeping.primary() as primary:
+            self.commit(primary, "1", durable=True)
+            eventually(lambda: len(self.keeping.standbys()) == 1, "a standby")
+            before = self.keeping.place()
+            trigger = Trigger(self.keeping.url, "pagelog_log", "UPDATE ON pagelog_log FOR EACH ROW WHEN (NEW.run IS NULL AND OLD.run IS NOT NULL)",
+                              "RAISE EXCEPTION 'no room'")  # fmt: skip
+            self.addCleanup(trigger.close)
+            self.keeping.word("switchover", "shop")
+            eventually(lambda: "close: PostgreSQL: no room" in self.keeping.said(), "the refusal")
+            self.keeping.referee.wish("shop", None)
+            self.assertEqual(self.commit(primary, "2", durable=True), 2)
+            self.assertEqual(self.keeping.place().run, before.run)
 
     def test_a_durable_page_is_of_the_run_that_its_end_is_of(self) -> None:
         with self.keeping.primary() as primary, self.keeping.primary(id=5) as other:
@@ -302,6 +317,31 @@ class Committers(Referees):
         finally:
             running.cancel()
 
+    def test_a_connection_that_was_made_beforehand_waits_for_a_batch_and_is_closed_where_none_comes(self) -> None:
+        batch, referee = batch_of(self.row, self.taken(), "r1"), self.new("two")
+        referee.close()
+
+        async def keep() -> int:
+            committer = Committer(Session(referee, PATIENCE), 0.02)
+            running = asyncio.create_task(committer.run())
+            for _ in range(2):
+                await committer.warm()
+                while referee.descriptor is not None:
+                    await asyncio.sleep(0.01)
+            running.cancel()
+            committer = Committer(Session(referee, PATIENCE), PATIENCE)
+            running = asyncio.create_task(committer.run())
+            await committer.warm()
+            for _ in range(20):
+                await asyncio.sleep(0)  # whoever would close it has done so
+            self.assertIsNotNone(referee.descriptor)
+            try:
+                return (await committer.keep(batch)).archived
+            finally:
+                running.cancel()
+
+        self.assertEqual(asyncio.run(asyncio.wait_for(keep(), PATIENCE)), 3)
+
     def test_a_batch_of_a_run_that_is_over_is_fenced(self) -> None:
         kept = self.taken()
 
@@ -325,11 +365,15 @@ class Away(unittest.TestCase):
         referee = Referee(line.url(url), "one")
         self.addCleanup(referee.close)
         row = new_database(referee, "shop")
-        line.count_from_now(to=0)
+        bases = Bases(referee, row.id)
         referee_module.LONGEST = 0.2
         self.addCleanup(setattr, referee_module, "LONGEST", longest)
-        with self.assertRaises(Doubt):
-            list(referee.blocks(row.id, 1, 3))
+        for read in (lambda: list(referee.blocks(row.id, 1, 3)), lambda: bases.newest(3), lambda: list(bases.images(Base(3, b"", b"", 1)))):
+            line.count_from_now()
+            referee.everything()
+            line.count_from_now(to=0)
+            with self.assertRaises(Doubt):
+                read()
 
     def test_a_row_that_is_locked_holds_up_no_other_database(self) -> None:
         url = new_url()

@@ -16,7 +16,7 @@ from pagelog.keeper.images import MARK
 from pagelog.keeper.referee import BrokenArchive, Referee, digest
 from pagelog.keeper.rows import Batch, Kept
 from pagelog.keeper.schema import script
-from pagelog.keeper.switch import Switch, succeed
+from pagelog.keeper.switch import Switch, number, release, succeed
 from test_images import pages
 from test_referee import Referees
 
@@ -132,27 +132,49 @@ class Pruning(Made):
         self.write(5)
         self.assertEqual(self.pages_of(self.base()), pages(self.blocks))
 
+    def test_an_image_that_a_kept_base_needs_is_not_pruned_for_a_later_one(self) -> None:
+        for page in (70_000, 5, 70_000):
+            self.keep([Block.of(self.kept.archived + 1, [Put(page, self.kept.archived, b"x")]).data])
+            self.base()
+        self.bases.prune(2)
+        self.assertEqual(self.rows(), [(0, 2), (1093, 1), (1093, 3)])
+        self.assertEqual(self.pages_of(self.bases.newest(2)), pages(self.blocks[:2]))
+
 
 class Switches(Made):
     def switch(self, **other: object) -> Switch:
         rest = blocks(self.kept.archived + 1, 2)
-        made = Switch(self.row.id, "r1", self.kept.generation, self.kept.archived, rest, digest(self.kept.chain, rest), "r2", "x:1", -3, 5)
+        made = Switch(self.row.id, "r1", self.kept.generation, self.kept.archived, rest, digest(self.kept.chain, rest), 2, "r2", "x:1", -3, 5)
         return replace(made, **other)  # type: ignore[arg-type]
 
     def test_a_switch_is_under_the_fence_of_its_run_and_archives_the_rest(self) -> None:
         self.write(5)
-        for wrong in (self.switch(run="r9"), self.switch(generation=9), self.switch(old=4), self.switch(log=99)):
-            self.assertIsNone(succeed(self.referee, wrong))
+        self.assertFalse(succeed(self.referee, self.switch()))  # a server that went back has not given its number
+        self.assertIsNone(number(self.referee, self.row.id, "r9", 1))
+        self.assertEqual([number(self.referee, self.row.id, "r1", 1) for _ in range(2)], [2, 3])
+        for wrong in (self.switch(run="r9"), self.switch(generation=9), self.switch(old=4), self.switch(log=99), self.switch(next=4)):
+            self.assertFalse(succeed(self.referee, wrong))
         self.assertEqual((self.seen().run, self.seen().archived, len(self.rows("block"))), ("r1", 5, 5))
-        self.assertEqual(succeed(self.referee, self.switch()), 2)
+        self.assertTrue(succeed(self.referee, self.switch()))
         seen = self.seen()
         self.assertEqual((seen.run, seen.generation, seen.address, seen.shift, seen.images), ("r2", 2, "x:1", -3, 5))
         self.assertEqual((seen.archived, seen.base, seen.chain), (7, 7, digest(self.kept.chain, blocks(6, 2))))
         self.assertEqual((self.referee.fate("shop", 1), len(self.rows("block"))), (7, 7))
-        self.assertIsNone(succeed(self.referee, self.switch()))
+        self.assertFalse(succeed(self.referee, self.switch()))
         # The old run archives nothing any more, and a take of what was seen before it fails.
         late = Batch(self.row.id, "r1", 1, 7, b"", blocks(8, 1))
         self.assertEqual(self.referee.keep([late]), frozenset())
+
+
+    def test_a_release_archives_the_rest_under_the_fence_of_its_run(self) -> None:
+        self.write(5)
+        rest = tuple(blocks(6, 2))
+        last = Batch(self.row.id, "r1", self.kept.generation, 5, digest(self.kept.chain, rest), rest)
+        for wrong in (replace(last, run="r9"), replace(last, generation=9), replace(last, old=4)):
+            self.assertIsNone(release(self.referee, wrong))
+        self.assertEqual(release(self.referee, last), 7)
+        seen = self.seen()
+        self.assertEqual((seen.run, seen.archived, seen.chain, len(self.rows("block"))), (None, 7, last.chain, 7))
 
 
 class Migration(Referees):

@@ -89,7 +89,7 @@ class Trial(unittest.TestCase):
 class Formats(unittest.TestCase):
     def test_the_stored_run(self) -> None:
         section = FORMATS.split("## The stored run")[1].split("\n## ")[0]
-        bodies = [hexadecimal(text) for text in re.findall(r"^\d\. `([0-9a-f ]+)`", section, flags=re.M)]
+        bodies = [hexadecimal(line) for line in (TOP / "crates" / "pagelog" / "stdin").read_text().splitlines()]
         writer, reader = Head(2, TOKEN, Role.PRIMARY, 0, 1), Head(3, bytes.fromhex(token(3)), Role.SECONDARY, 0, 1)
         asked = [Request(writer, Write(0, AA)), Request(writer, Write(1, AA)), Request(writer, Report(1)), Request(reader, Pull(1))]
         self.assertEqual([request.encode() for request in asked], bodies)

@@ -161,8 +161,8 @@ class Words(unittest.TestCase):
         self.assertEqual(said("explain", "--diff", self.service.table, missing)[0], 2)
         self.service.stop()
         for word in ("status", "archive", "audit"):
-            self.assertEqual(said(word, "--credentials", self.file, *(("--url", f"sqlite:///{self.folder}/b.db") if word == "archive" else ()))[0], 3)
-        self.service.words[3] = self.service.address
+            url = ("--url", f"sqlite:///{self.folder}/b.db") if word == "archive" else ()
+            self.assertEqual(said(word, "--credentials", self.file, *url)[0], 3)
         self.service.start()
         status, _, error = said("restore", "--credentials", self.file, "--url", f"sqlite:///{self.folder}/none.db")
         self.assertEqual((status, "NoArchive" in error), (1, True))

@@ -12,7 +12,7 @@ import pagelog
 from pagelog import Address, Block, Connection, Put
 from pagelog.reply import Done, Page, State
 from pagelog.request import Failover, Get, Head, Report, Request, Role, Status, Write
-from service import PATIENCE, CuttingProxy, Service, put, stand_still, token
+from service import PATIENCE, CuttingProxy, Port, Service, put, stand_still, token
 
 PRIMARY = Head(2, bytes.fromhex(token(2)), Role.PRIMARY, 0, 1)
 SECONDARY = Head(3, bytes.fromhex(token(3)), Role.SECONDARY, 0, 1)
@@ -134,7 +134,7 @@ class Cuts(unittest.TestCase):
         with Service() as service, service.connection() as connection:
             self.assertIsInstance(connection.ask(Request(PRIMARY, Status())), State)
             service.stop()
-            timer = threading.Timer(0.3, service_start_again, (service,))
+            timer = threading.Timer(0.3, service.start)
             timer.start()
             self.addCleanup(timer.join)
             connection.attempts = 1000
@@ -144,18 +144,13 @@ class Cuts(unittest.TestCase):
             self.assertGreaterEqual(connection.connects, 2)
 
 
-def service_start_again(service: Service) -> None:
-    service.words[3] = service.address
-    service.start()
-
-
 class Refused(unittest.TestCase):
     def test_nobody_listens(self) -> None:
-        with socket.create_server(("127.0.0.1", 0)) as listener:
-            port = listener.getsockname()[1]
+        port = Port()
+        self.addCleanup(port.close)
         began = time.monotonic()
         with self.assertRaises(pagelog.Unreachable):
-            Connection(Address("127.0.0.1", port), attempts=3, pause=0.05).ask(Request(PRIMARY, Status()))
+            Connection(Address("127.0.0.1", port.number), attempts=3, pause=0.05).ask(Request(PRIMARY, Status()))
         self.assertGreater(time.monotonic() - began, 0.14)
 
     def test_a_service_that_is_silent(self) -> None:

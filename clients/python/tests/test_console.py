@@ -14,7 +14,7 @@ from pathlib import Path
 import psycopg
 from click.testing import CliRunner
 
-from consoles import HOSTILE, Console, Follower, Rows
+from consoles import HOSTILE, Console, Follower, Rows, page_of
 from keepers import Kept, new_url, plain_url
 from pagelog.console.source import Source
 from pagelog.desk.words import pagelogctl
@@ -23,6 +23,8 @@ from pagelog.trail import Trail, TrailKeeper
 from postgres import SilentProxy, postgres
 from pagelog.request import Get, Pull
 from service import Service, fill
+from test_archive import words as words_of
+from test_looking import ends
 
 DATABASE = {
     "name": str, "state": str, "paused": bool, "read_only": bool, "wanted": (str, type(None)), "holder": (str, type(None)), "address": (str, type(None)),
@@ -156,6 +158,25 @@ class Lively(Kept):
         self.follower.until(lambda: "shop" not in self.follower.databases)
         self.assertIn("shop: was dropped", self.follower.said())
         self.assertEqual(self.console.ask("/api/databases/shop")[0].status, 404)
+
+
+class OfAKeeper(Kept):
+    """The page at a keeper's own port."""
+
+    keepers = "a"
+    options = {"more": 'console = "127.0.0.1:0"\nsucceed = 0.25\nmemory = 500000000\n'}
+
+    def test_it_has_the_thresholds_of_the_keeper_and_ends_with_it(self) -> None:
+        page = page_of(self.keeping)
+        self.assertEqual(page.ask("/", Host="elsewhere.example")[0].status, 421)
+        with page.follow() as follower:
+            follower.until(lambda: follower.databases["shop"]["state"] == "serving")
+            shop = follower.databases["shop"]
+            self.assertEqual((shop["entries"], shop["due"], shop["memory_limit"]), (1_000_000, 750_000, 500_000_000 >> 20))
+            self.keeping.word("succeed", "shop")
+            follower.until(lambda: follower.databases["shop"]["generation"] > shop["generation"])
+            self.keeping.kill("a", signal.SIGTERM)  # a browser that follows holds up no end
+        self.assertEqual(self.keeping.processes["a"].returncode, 0)
 
 
 class ByRows(OfAPage):
@@ -363,6 +384,9 @@ class Doors(unittest.TestCase):
             words = ["console", "--listen", address, "--credentials", credentials, *more]
             done = CliRunner().invoke(pagelogctl, list(map(str, words)))
             self.assertEqual((done.exit_code, said in done.output), (status, True), done.output)
+        keeper = words_of("keep", "--name", "a", "--lines", "127.0.0.1:0", "--serve", "127.0.0.1", "--folder", folder / "a", "--console", "0.0.0.0:0",
+                          "--credentials", credentials)  # fmt: skip
+        self.assertIn("others reach 0.0.0.0: say console_token too", ends(keeper, 2))
 
 
 class Headers(unittest.TestCase):

@@ -8,7 +8,7 @@ import signal
 import unittest
 from typing import Any
 
-from consoles import HOSTILE, Console, Rows
+from consoles import HOSTILE, Console, Page, Rows, page_of
 from keepers import Kept, eventually, plain_url
 from postgres import postgres
 
@@ -99,7 +99,7 @@ class Browsed(unittest.TestCase):
     def js(self, script: str, *arguments: object) -> Any:
         return self.browser.execute_script(script, *arguments)
 
-    def open(self, console: Console, hash: str = "") -> None:
+    def open(self, console: Page, hash: str = "") -> None:
         self.browser.get(console.url + hash)
         eventually(lambda: "live" in self.text("#live"), "a look")
 
@@ -277,6 +277,22 @@ class Takeover(Browsed, Kept):
             )
             eventually(lambda: int(self.js("return document.querySelectorAll('.strip rect').length")) >= 2, "the strip")
             self.assertIn(f"shop: {holder}", self.js("return document.getElementById('said').textContent"))
+            self.check_page()
+
+
+class OfAKeeper(Browsed, Kept):
+    keepers = "a"
+    options = {"more": 'console = "127.0.0.1:0"\n'}
+
+    def test_a_succession_at_the_port_of_a_keeper(self) -> None:
+        self.addCleanup(self.check_log)
+        with self.keeping.primary() as primary:
+            self.open(page_of(self.keeping), "#/shop")
+            self.commit(primary, "1", durable=True)
+            self.keeping.word("succeed", "shop")
+            eventually(lambda: "a goes on with generation" in self.text(".part-events"), "the succession")
+            eventually(lambda: int(self.js("return document.querySelectorAll('.strip rect').length")) >= 2, "the strip")
+            self.assertEqual(self.commit(primary, "2", durable=True), 2)
             self.check_page()
 
 

@@ -255,7 +255,7 @@ class Audits(Folder):
         process.terminate()
         _, error = process.communicate(timeout=PATIENCE)
         self.assertEqual(process.returncode, 0)
-        self.assertIn("the service was started anew, or moved: here its new list begins", error)
+        self.assertIn("the service was restarted, or moved: here its new list begins", error)
 
     def test_a_list_with_the_same_entries_is_known_by_the_mark(self) -> None:
         with self.service.operator() as operator:

@@ -18,7 +18,7 @@ CREDENTIALS = pagelog.Credentials.of(2, token(2))
 
 
 class Restarts(unittest.TestCase):
-    """Ten blocks are archived, and the service is started anew at its address and restored."""
+    """Ten blocks are archived, and the service is restarted at its address and restored."""
 
     def setUp(self) -> None:
         self.folder = Path(self.enterContext(tempfile.TemporaryDirectory()))

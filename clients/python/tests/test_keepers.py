@@ -8,7 +8,7 @@ import signal
 import socket
 
 from keepers import Gate, Kept, Line, eventually
-from pagelog import Connection, Lost, OlderEpoch, Reader
+from pagelog import Connection, Lost, OlderEpoch, PagelogError, Reader
 from pagelog.keeper.table import keeper_of
 from pagelog.place import UnknownName
 from service import PATIENCE, stand_still
@@ -50,6 +50,21 @@ class OneKeeper(Kept):
             stand_still(pid)
             self.keeping.place(least=before.generation + 1)
             primary._timeout = primary._primary.connection.timeout = 1.0  # type: ignore[union-attr]
+            self.assertEqual(self.commit(primary, "3", durable=True), 3)
+            self.assertEqual(self.texts(), [b"1", b"2", b"3"])
+
+    def test_a_commit_whose_service_and_keeper_stood_still_is_made_by_the_next_one(self) -> None:
+        with self.keeping.primary() as primary:
+            self.commit(primary, "1", durable=True)
+            pid, patience = self.keeping.pid(), primary.keepers.patience
+            connection = primary._primary.connection  # type: ignore[union-attr]
+            stand_still(pid)
+            self.keeping.kill("a", signal.SIGSTOP)
+            primary.keepers.patience = connection.timeout = 0.5
+            self.assertRaises(PagelogError, self.commit, primary, "2")
+            primary.keepers.patience, connection.timeout = patience, PATIENCE
+            os.kill(pid, signal.SIGCONT)
+            self.keeping.processes["a"].send_signal(signal.SIGCONT)
             self.assertEqual(self.commit(primary, "3", durable=True), 3)
             self.assertEqual(self.texts(), [b"1", b"2", b"3"])
 

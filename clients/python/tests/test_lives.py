@@ -9,9 +9,14 @@ import signal
 import psycopg
 
 from keepers import Kept, Line, Trigger, eventually
-from pagelog.keeper.referee import Referee
+from pagelog import Reader
+from pagelog.archive import Archive
+from pagelog.connection import Connection
+from pagelog.credentials import Credentials
+from pagelog.keeper.referee import Referee, digest
 from pagelog.keeper.schema import FORMAT
-from service import PATIENCE, stand_still
+from pagelog.keeper.table import token_of
+from service import PATIENCE, stand_still, token
 
 
 class Ends(Kept):
@@ -88,6 +93,109 @@ class Vanished(Kept):
             eventually(lambda: self.keeping.said().count("shop: serves\n") == 2, "the word that it is there again")
             self.assertEqual(self.commit(primary, "2", durable=True), 2)
             self.assertEqual((self.keeping.place().generation, self.keeping.pid()), (place.generation, pid))
+
+
+class WentBack(Kept):
+    """PostgreSQL loses what it has acknowledged, as at a failover without a synchronous standby."""
+
+    keepers = "a"
+
+    def put_back(self, archived: int, more: str = "") -> None:
+        """It is as it was when so much was archived, and `more`, an assignment, is so."""
+        row, chain = self.keeping.row(), digest(b"", self.keeping.archive()[:archived])
+        with psycopg.connect(self.keeping.url) as session:
+            session.execute("DELETE FROM pagelog_block WHERE log = %s AND lsn > %s", (row.id, archived))
+            session.execute(f"UPDATE pagelog_log SET archived = %s, chain = %s{more} WHERE id = %s", (archived, chain, row.id))
+            session.execute("NOTIFY pagelog_keeper")
+
+    def test_what_it_has_lost_of_a_run_is_archived_again_by_that_run(self) -> None:
+        with self.keeping.primary() as primary:
+            for number in range(1, 6):
+                self.commit(primary, f"{number}", durable=True)
+            place, pid = self.keeping.place(), self.keeping.pid()
+            self.put_back(2)
+            self.assertEqual(self.commit(primary, "6", durable=True), 6)
+            self.assertIn("archived again", self.keeping.said())
+            # Back to before its address was known: the same service is published again.
+            self.put_back(3, ", base = 0, address = NULL")
+            eventually(lambda: self.keeping.row().address == place.address, "the address")
+            self.assertEqual(self.commit(primary, "7", durable=True), 7)
+            self.assertEqual(self.texts(), [b"%d" % number for number in range(1, 8)])
+            self.assertEqual((self.keeping.place().run, self.keeping.pid()), (place.run, pid))
+
+    def test_a_service_that_may_be_the_only_copy_outlives_its_keeper(self) -> None:
+        with self.keeping.primary() as primary:
+            for number in range(1, 4):
+                self.commit(primary, f"{number}", durable=True)
+        place, pid = self.keeping.place(), self.keeping.pid()
+        self.addCleanup(os.kill, pid, signal.SIGKILL)
+        # It comes back without two of the blocks, and another generation has begun and was released.
+        self.put_back(1, ", generation = generation + 5, next_generation = next_generation + 5, run = NULL, holder = NULL, address = NULL")
+        after = self.keeping.place(least=place.generation + 6)
+        self.assertEqual((after.archived, len(self.texts())), (1, 1))
+        self.assertIn(f"process {pid} at {place.address}, may be the only copy of its log", self.keeping.said())
+        for number in (signal.SIGKILL, signal.SIGTERM):
+            self.keeping.kill("a", number)
+            self.keeping.start("a")
+            self.keeping.place()
+        credentials = Credentials(3, token_of(bytes.fromhex(token(3)), "shop", place.run))
+        with Reader(Connection(place.address), credentials) as reader:
+            self.assertEqual([block.lsn for block in reader.blocks(1, follow=False)], [1, 2, 3])
+
+    def test_a_service_that_was_set_aside_is_shown_saved_and_ended_by_a_word(self) -> None:
+        with self.keeping.primary() as primary:
+            for number in range(1, 4):
+                self.commit(primary, f"{number}", durable=True)
+        place, pid = self.keeping.place(), self.keeping.pid()
+        self.addCleanup(lambda: os.path.exists(f"/proc/{pid}") and os.kill(pid, signal.SIGKILL))
+        self.put_back(1, ", generation = generation + 5, next_generation = next_generation + 5, run = NULL, holder = NULL, address = NULL")
+        self.keeping.place(least=place.generation + 6)
+        with self.keeping.primary() as primary:
+            self.commit(primary, "another", durable=True)
+        said = f"set aside: run {place.run} of shop at {place.address}, process {pid} of keeper a"
+        eventually(lambda: said in self.keeping.word("kept"), "its word")
+        self.keeping.kill("a")
+        self.keeping.start("a")
+
+        def asides() -> list[object]:
+            found: list[object] = json.loads(self.keeping.word("kept", "--json"))["set_aside"]
+            return found
+
+        eventually(lambda: asides() == [{"keeper": "a", "name": "shop", "run": place.run, "address": place.address, "pid": pid, "shift": 0,
+                                         "images": 0}], "the word of the next life")  # fmt: skip
+        stand_still(pid)
+        with self.assertRaisesRegex(AssertionError, r"\): 3: "):
+            self.keeping.word("--timeout", "0.5", "rescue", "shop")
+        os.kill(pid, signal.SIGCONT)
+        self.assertIn("ends at position 3, which is LSN 3: PostgreSQL has it up to 1, and lacks 2 blocks", self.keeping.word("rescue", "shop"))
+        folder, url = self.keeping.folder / "a", f"sqlite:///{self.keeping.folder}/saved.db"
+        with self.assertRaisesRegex(AssertionError, "its 2 blocks would be lost"):
+            self.keeping.word("rescue", "shop", "--end", folder)
+        self.assertIn("no keeper says", self.refused("rescue", "shop", "--run", "other"))
+        self.assertIn("it is on the machine of its keeper", self.refused("rescue", "shop", "--into", url, "--end", self.keeping.folder))
+        os.kill(pid, 0)
+        self.assertIn(f"saved 3 blocks as log {place.run}\nended process {pid}", self.keeping.word("rescue", "shop", "--into", url, "--end", folder))
+        with Archive(url, place.run) as archive:
+            self.assertEqual([block.records[-1].data.strip(b"<>") for block in archive.blocks(1)], [b"1", b"2", b"3"])  # type: ignore[union-attr]
+        eventually(lambda: not os.path.exists(f"/proc/{pid}") and not asides(), "its end")
+        self.assertEqual(self.texts(), [b"1", b"another"])
+
+    def refused(self, *words: object) -> str:
+        with self.assertRaises(AssertionError) as caught:
+            self.keeping.word(*words)
+        return str(caught.exception)
+
+    def test_a_service_whose_address_it_has_lost_is_kept_by_the_next_life(self) -> None:
+        with self.keeping.primary() as primary:
+            self.commit(primary, "1", durable=True)
+        pid, generation = self.keeping.pid(), self.keeping.row().generation
+        self.addCleanup(os.kill, pid, signal.SIGKILL)
+        self.keeping.kill("a")
+        self.put_back(0, ", base = 0, address = NULL")
+        self.keeping.start("a")
+        self.keeping.place(least=generation + 1)
+        self.assertIn(f"process {pid} at", self.keeping.said())
+        os.kill(pid, 0)
 
 
 class InDoubt(Kept):

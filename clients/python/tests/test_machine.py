@@ -1,12 +1,21 @@
-"""What a keeper decides, fact by fact: a table of cases, with no process and no clock."""
+"""What a keeper decides, fact by fact: a table of cases, with no process and no clock; and that it takes what it has decided to take."""
 
 from __future__ import annotations
 
+import asyncio
 import unittest
 from dataclasses import replace
+from itertools import product
+from pathlib import Path
+from typing import Any, Callable
+from unittest.mock import Mock
 
+from pagelog.keeper.database import Database
 from pagelog.keeper.machine import Action, Facts, Kind, Own, Stage, State, Stillness, decide, state_of
+from pagelog.keeper.referee import Referee
 from pagelog.keeper.rows import Row, StandbyRow
+from pagelog.keeper.settings import Settings
+from pagelog.keeper.shared import Shared
 
 TTL = 4.0
 ROW = Row(1, "shop", generation=3, run="r3", holder="b", address="b:1", archived=5000)
@@ -34,11 +43,19 @@ class Cases(unittest.TestCase):
         self.check(Action.RELEASE, OURS, replace(HOLDS, silent=TTL))
         self.check(Action.NOTHING, OURS, replace(HOLDS, silent=TTL - 0.1))
         self.check(Action.FILL, replace(OURS, address=None), replace(HOLDS, silent=TTL))
+        self.check(Action.FILL, OURS, replace(HOLDS, is_open=False))
         self.check(Action.RELEASE, replace(OURS, address=None), replace(HOLDS, alive=False))
         self.check(Action.CLOSE, OURS, HOLDS, ending=True)
         self.check(Action.CLOSE, OURS, replace(HOLDS, share=0.8))
         self.check(Action.NOTHING, OURS, replace(HOLDS, share=0.79))
         self.check(Action.NOTHING, replace(OURS, paused=True), replace(HOLDS, share=0.9))
+        # What was closed, and is not to be closed any more, goes on.
+        closed = replace(HOLDS, was_closed=True)
+        for goes_on in (OURS, replace(OURS, paused=True), replace(OURS, wanted="c")):
+            self.check(Action.FILL, goes_on, closed)
+        self.check(Action.CLOSE, OURS, closed, ending=True)
+        self.check(Action.CLOSE, replace(OURS, wanted="c"), closed, others=(OF_C,))
+        self.check(Action.NOTHING, replace(OURS, generation=1), replace(closed, run="before"))
 
     def test_of_a_switchover(self) -> None:
         to_c = replace(OURS, wanted="c")
@@ -124,13 +141,47 @@ class Cases(unittest.TestCase):
         self.check(Action.END, replace(RELEASED, dropped=True), STANDBY)
         self.check(Action.NOTHING, replace(RELEASED, dropped=True))
 
+    def test_no_service_that_may_be_the_only_copy_of_what_postgresql_has_lost_is_ended(self) -> None:
+        full = replace(HOLDS, reached=5001)
+        self.check(Action.SET_ASIDE, replace(ROW, generation=4), full)
+        self.check(Action.SET_ASIDE, RELEASED, full)
+        self.check(Action.END, replace(ROW, generation=4, archived=5001), full)
+        self.check(Action.END, replace(RELEASED, archived=5001), full)
+        # What was seen once stays so, whatever comes into its place.
+        self.check(Action.SET_ASIDE, replace(ROW, generation=9, archived=9000), replace(full, went_back=True))
+        # A standby that has more than the archive neither takes over nor is ended.
+        ahead = replace(STANDBY, reached=5001)
+        self.check(Action.NOTHING, ROW, ahead)
+        self.check(Action.SET_ASIDE, ROW, ahead, still=TTL)
+        self.check(Action.SET_ASIDE, RELEASED, ahead)
+        self.check(Action.SET_ASIDE, ROW, replace(ahead, share=0.5))
+        self.check(Action.SET_ASIDE, ROW, replace(ahead, silent=TTL))
+        # The keeper may end, and leaves it running.
+        for row in (None, replace(ROW, generation=2), ROW, RELEASED):
+            self.check(Action.SET_ASIDE, row, full, ending=True)
+        self.check(Action.END, ROW, replace(ahead, alive=False))
+        self.check(Action.END, replace(RELEASED, dropped=True), replace(full, went_back=True))
+
+    def test_in_no_state_is_such_a_service_ended(self) -> None:
+        rows = [None, *(replace(row, generation=generation, archived=archived, wanted=wanted, paused=paused)
+                        for row in (ROW, RELEASED, replace(ROW, holder="a"), replace(ROW, holder="a", address=None))
+                        for generation in (2, 3, 4) for archived in (0, 5000) for wanted in (None, "a", "c", "*") for paused in (False, True))]  # fmt: skip
+        owns = [replace(own, reached=reached, went_back=reached < 5001, silent=silent, share=share) for own in (HOLDS, STANDBY)
+                for reached in (5001, 4990) for silent in (0.0, TTL) for share in (0.0, 0.9)]  # fmt: skip
+        for row, own, ending, still in product(rows, owns, (False, True), (0.0, 9 * TTL)):
+            done = self.decide(row, own, ending=ending, still=still)
+            self.assertIn(done, (Action.NOTHING, Action.SET_ASIDE), (row, own, ending, still))
+
     def test_of_an_earlier_life(self) -> None:
         self.check(Action.ADOPT, OURS)
         self.check(Action.ADOPT, OURS, still=9 * TTL)
         self.check(Action.ADOPT, OURS, ending=True)  # what it has is archived before the keeper ends
+        self.check(Action.END, OURS, STANDBY)
+        self.check(Action.SET_ASIDE, OURS, replace(STANDBY, reached=5001))
 
     def test_a_standby_whose_take_was_in_doubt_finds_itself_the_holder(self) -> None:
         self.check(Action.FILL, replace(OURS, run="s", address=None), STANDBY)
+        self.check(Action.FILL, replace(OURS, run="s"), replace(STANDBY, is_open=False))
 
     def test_states(self) -> None:
         self.assertIs(state_of(Facts("a", TTL, ROW)), State.AWAY)
@@ -148,3 +199,40 @@ class Clocks(unittest.TestCase):
         self.assertEqual([still.see("y", now) for now in (15, 16)], [0, 1])
         # This process stood still, or PostgreSQL was away: what it sees after that proves nothing.
         self.assertEqual([still.see("y", now) for now in (19, 20)], [0, 1])
+
+
+class Taken(unittest.TestCase):
+    """What a keeper takes is as it was when it decided so, whatever a look shows while it prepares."""
+
+    def taken(self, decided: Row, beat: int | None, seen: Row, beat_seen: int) -> tuple[Row, int | None]:
+        """The row and the beat under which one is taken that was decided upon so, where a look then shows what is `seen`."""
+        session = Mock(referee=Mock(Referee))
+        takes: list[tuple[Any, ...]] = []
+
+        async def ask(call: Callable[..., object], *arguments: Any) -> object:
+            if call == session.referee.table:
+                database.see(seen, beat_seen, (), is_noted=False, began=2.0)
+                return "", b"secret"
+            takes.append(arguments)
+            return None
+
+        async def decided_and_taken() -> None:
+            database.see(decided, beat, (), is_noted=False, began=1.0)
+            while shared.tasks:
+                await asyncio.gather(*shared.tasks)
+
+        session.ask = ask
+        settings = Settings.of("a", "", "", Path("."), "", "", {"standby": False, "ttl": TTL})
+        shared = Shared(settings, "life", session, Mock(), Mock(), Mock())
+        database = Database(shared, decided)
+        database._still = Mock(see=Mock(side_effect=[TTL, 0.0]))
+        asyncio.run(decided_and_taken())
+        [(row, _, with_beat, _)] = takes
+        return row, with_beat
+
+    def test_not_from_a_holder_that_came_meanwhile(self) -> None:
+        new = Row(1, "shop")
+        self.assertEqual(self.taken(new, None, replace(new, generation=1, run="r1", holder="b"), 7), (new, None))
+
+    def test_not_from_a_holder_whose_beat_came_meanwhile(self) -> None:
+        self.assertEqual(self.taken(ROW, 7, ROW, 8), (ROW, 7))

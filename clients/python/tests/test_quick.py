@@ -9,7 +9,7 @@ from dataclasses import replace
 from unittest.mock import patch
 
 from keepers import Line, Trigger, batch_of
-from pagelog.keeper import quick
+from pagelog.keeper import puller, quick
 from pagelog.keeper.puller import Puller
 from pagelog.keeper.quick import QuickReferee, QuickSession
 from pagelog.keeper.referee import Doubt, Refused
@@ -157,6 +157,14 @@ class Pulls(unittest.TestCase):
         self.assertEqual([self.pull(0), self.pull(20), self.pull(19, epoch=7)], [None, None, None])
         self.assertIsNotNone(self.pull(19))
 
+    def test_an_epoch_that_has_begun_since_is_asked_in_from_then_on(self) -> None:
+        with self.service.operator() as operator:
+            operator.failover(2)
+        with patch.object(self.puller, "_asked", wraps=self.puller._asked) as asked:
+            for count in (2, 3):
+                self.assertIsNotNone(self.pull(19))
+                self.assertEqual(asked.call_count, count)
+
     def test_a_service_that_hangs_or_is_gone(self) -> None:
         self.assertIsNotNone(self.pull(19))
         stand_still(self.service.process.pid)
@@ -166,3 +174,11 @@ class Pulls(unittest.TestCase):
         self.service.process.kill()
         self.service.process.wait()
         self.assertIsNone(self.pull(19))
+
+
+class PullsOfTheLoop(Pulls):
+    """With descriptors that `select` does not take."""
+
+    def setUp(self) -> None:
+        self.enterContext(patch.object(puller, "_SELECTED", 0))
+        super().setUp()

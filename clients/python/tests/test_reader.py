@@ -14,7 +14,8 @@ import pagelog
 from pagelog import Operation, Put
 from pagelog.reply import Denied
 from pagelog.request import Get, Pull
-from service import PATIENCE, SOURCE, Service, fill, put
+from pagelog.tables import TableText
+from service import PATIENCE, SOURCE, WIDE_TABLE, Service, fill, put
 
 
 class Reading(unittest.TestCase):
@@ -224,6 +225,22 @@ class Operators(unittest.TestCase):
 
             operator.connection.ask = after_another  # type: ignore[method-assign]
             self.assertEqual((operator.failover(2), operator.status().primary), (3, 2))
+
+    def test_a_fence_lets_nobody_write_also_where_a_failover_comes_between(self) -> None:
+        closed = TableText(WIDE_TABLE).without_writes()
+        with Service(table=WIDE_TABLE) as service, service.operator() as operator, service.operator() as second:
+            self.assertEqual(operator.status().epoch, 1)
+            with service.primary(5) as writer:
+                self.assertEqual(second.failover(5), 2)
+                fill(writer, 3)
+                state = operator.fence(closed, 2)
+                self.assertEqual((state.epoch, state.primary, state.hard, operator.epoch), (3, 2, 3, 3))
+                writer.append(put(0, b"x"))
+                with self.assertRaises((pagelog.OlderEpoch, pagelog.TableRow)):
+                    writer.commit()
+            with self.assertRaises(pagelog.NoTable):
+                operator.fence("no table", 2)
+            self.assertEqual(operator.status().epoch, 4)  # each is done or not by itself
 
     def test_the_audit_list(self) -> None:
         with Service() as service, service.operator() as operator, service.primary() as primary:

@@ -5,13 +5,14 @@ from __future__ import annotations
 import threading
 import unittest
 from dataclasses import replace
+from unittest.mock import patch
 
 import psycopg
 
 from keepers import Line, Replying, batch_of, blocks, new_database, new_url
 from pagelog.keeper import statements
 from pagelog.keeper.referee import Away, BrokenArchive, Doubt, Referee, Refused, Superseded, digest
-from pagelog.keeper.rows import Kept, Row
+from pagelog.keeper.rows import Batch, Kept, Row, Where, released_of
 from postgres import SilentProxy, postgres
 
 
@@ -47,15 +48,19 @@ class Referees(unittest.TestCase):
 
 
 class Fences(Referees):
+    def kept_by_both(self, batch: Batch) -> frozenset[int]:
+        """What is kept of it by the statement of one batch, and then by that of many, with one of no database."""
+        return self.referee.keep([batch]) | self.referee.keep([batch, replace(batch, log=98)])
+
     def test_a_batch_is_kept_under_run_generation_and_archived_position(self) -> None:
         kept = self.taken()
         self.assertEqual((kept.archived, kept.generation, kept.chain), (0, 1, b""))
         batch = batch_of(self.row, kept, "r1")
         for wrong in (replace(batch, run="r2"), replace(batch, generation=2), replace(batch, old=1), replace(batch, log=99)):
-            self.assertEqual(self.referee.keep([wrong]), frozenset())
+            self.assertEqual(self.kept_by_both(wrong), frozenset())
         self.assertEqual((self.rows(), self.seen().archived), ([], 0))
         self.assertEqual(self.referee.keep([batch]), {self.row.id})
-        self.assertEqual(self.referee.keep([batch]), frozenset())
+        self.assertEqual(self.kept_by_both(batch), frozenset())
         seen = self.seen()
         self.assertEqual((seen.archived, seen.chain, self.everything()), (3, batch.chain, list(batch.blocks)))
         self.assertEqual(seen.chain, digest(b"", blocks(1, 3)))
@@ -64,22 +69,25 @@ class Fences(Referees):
         kept = self.taken()
         other = self.new("two")
         self.assertEqual(self.taken("r2", other).generation, 2)
-        self.assertEqual(self.referee.keep([batch_of(self.row, kept, "r1")]), frozenset())
+        self.assertEqual(self.kept_by_both(batch_of(self.row, kept, "r1")), frozenset())
         self.assertIsNone(self.referee.kept(self.row.id, "r1"))
-        self.assertFalse(self.referee.publish(self.row.id, "r1", "x:1"))
+        self.assertFalse(self.referee.publish(self.row.id, "r1", Where("x:1", 0, 0)))
         self.assertIsNone(self.referee.release(self.row.id, "r1"))
-        self.assertTrue(other.publish(self.row.id, "r2", "y:1"))
+        self.assertTrue(other.publish(self.row.id, "r2", Where("y:1", 0, 0)))
         self.assertEqual((self.seen().address, self.seen().holder, self.rows()), ("y:1", "two", []))
 
     def test_without_the_run_in_its_condition_a_batch_of_an_old_run_is_kept(self) -> None:
         # The fence taken out, so that the test above is known to see it. The generation is that of a take that was lost.
-        planted = statements.KEEP.replace("l.run = due.run AND l.generation = due.generation AND", "")
-        self.assertNotEqual(planted, statements.KEEP)
         kept = self.taken()
         self.taken("r2", self.new("two"))
-        self.addCleanup(setattr, statements, "KEEP", statements.KEEP)
-        statements.KEEP = planted
-        self.assertEqual(self.referee.keep([batch_of(self.row, kept, "r1")]), {self.row.id})
+        for name, run in (("KEEP_ONE", "run = %(run)s AND generation = %(generation)s AND"), ("KEEP", "l.run = due.run AND l.generation = due.generation AND")):
+            whole = getattr(statements, name)
+            planted = whole.replace(run, "")
+            self.assertNotEqual(planted, whole)
+            batch = batch_of(self.row, kept, "r1")
+            with patch.object(statements, name, planted):
+                self.assertEqual(self.kept_by_both(batch), {self.row.id})
+            kept = Kept(batch.new, batch.chain, kept.generation)
 
     def test_of_eight_takes_of_one_look_one_wins(self) -> None:
         seen, start = self.seen(), threading.Barrier(8)
@@ -112,6 +120,35 @@ class Fences(Referees):
         seen = self.seen()
         self.assertIsNone(other.take(seen, "r2", beat))
         self.assertEqual(other.take(seen, "r2", beat + 1), Kept(3, seen.chain, 2))
+
+    def test_a_take_tells_the_place_of_a_service_that_has_all_that_is_archived(self) -> None:
+        batch = batch_of(self.row, self.taken(), "r1")
+        self.referee.keep([batch])
+        other, seen = self.new("two"), self.seen()
+        for chain in (b"", b"x" * 16):
+            self.assertIsNone(other.take(seen, "r2", None, Where("y:1", 5, 2, chain)))
+        self.assertEqual(other.take(seen, "r2", None, Where("y:1", 5, 2, batch.chain)), Kept(3, batch.chain, 2))
+        seen = self.seen()
+        self.assertEqual((seen.run, seen.holder, seen.address, seen.shift, seen.images, seen.base), ("r2", "two", "y:1", 5, 2, 3))
+        self.taken("r3")
+        self.assertIsNone(self.seen().address)
+        with psycopg.connect(self.url) as connection:
+            found = connection.execute("SELECT shift, images FROM pagelog_generation ORDER BY generation").fetchall()
+        self.assertEqual(found, [(0, 0), (5, 2), (5, 0)])
+
+    def test_a_release_says_where_it_was(self) -> None:
+        for chain in (b"", b"\x00\xab" * 8):
+            self.assertEqual(released_of(f"shop 3 17 {chain.hex()}"), ("shop", 3, 17, chain))
+        for other in ("", "shop 3 17", "shop 3 x ab", "shop 3 17 a", "shop 3 17 ab 1"):
+            self.assertEqual(released_of(other)[0], "")
+
+    def test_a_wish_that_is_taken_back_is_no_other_one(self) -> None:
+        self.assertFalse(self.referee.wish("none", "a"))
+        for wish in ("a", "*"):
+            self.assertTrue(self.referee.wish("shop", wish))
+            self.assertEqual((self.referee.wish("shop", None, instead_of="b"), self.seen().wanted), (False, wish))
+            self.assertEqual((self.referee.wish("shop", None, instead_of=wish), self.seen().wanted), (True, None))
+        self.assertEqual((self.referee.wish("shop", None, instead_of="b"), self.referee.wish("shop", None)), (False, True))
 
     def test_numbers_are_given_once_and_a_paused_database_is_taken_by_nobody(self) -> None:
         self.taken("r1")

@@ -20,9 +20,10 @@ from pagelog.archive import Archive, BrokenArchive, _blocks
 from pagelog.keeping import Archiver, OtherLog
 from pagelog.reply import LINE_SIZE
 from pagelog.trail import BrokenTrail, Start, Trail, TrailKeeper, TrailList
+from pagelog.trail.logs import ArchivedLog
 from pagelog.trail.pages import compare_pages
 from pagelog.trail.replay import (
-    ANNULLED_BLOCK, DENIED_TEXT, UNARCHIVED_BLOCK, Difference, NotReplayable, Replay, Replayed, blocks_of, lines_of, replay,
+    ANNULLED_BLOCK, DENIED_TEXT, UNARCHIVED_BLOCK, Difference, NotReplayable, Replay, Replayed, lines_of, replay,
 )  # fmt: skip
 from pagelog.trail.seal import seal
 from pagelog.trail.store import NO_DIGEST, _lists, _pieces, _texts
@@ -52,7 +53,7 @@ class Replays(unittest.TestCase):
         self.archive = self.enterContext(Archive(self.url, "shop", create=True))
 
     def replay(self, **options: Any) -> Replayed:
-        return replay(self.trail, self.trail.lists()[-1], self.archive, **options)
+        return replay(self.trail, self.trail.lists()[-1], ArchivedLog(self.trail, self.archive), **options)
 
     def run_sql(self, statement: Any) -> None:
         with self.trail.engine.begin() as connection:
@@ -291,7 +292,7 @@ class Edits(Replays):
         self.replay()
 
     def test_a_block_at_the_place_of_another_is_found(self) -> None:
-        blocks = list(blocks_of(self.trail, self.archive))
+        blocks = list(ArchivedLog(self.trail, self.archive).blocks())
         for wrong in (blocks[:30] + blocks[31:], blocks[:30] + [blocks[30][:-1]] + blocks[31:]):
             again = Replay(Start(BY_BLOCKS.encode(), 2), iter(wrong), lambda _, __: [self.text])
             with self.assertRaises(Difference) as raised:
@@ -301,7 +302,7 @@ class Edits(Replays):
 
     def test_blocks_that_are_not_archived_are_listed(self) -> None:
         with Archive(self.url, "empty", create=True) as empty:
-            done = replay(self.trail, self.trail.lists()[-1], empty)
+            done = replay(self.trail, self.trail.lists()[-1], ArchivedLog(self.trail, empty))
         self.assertEqual((done.hard, done.blocks, done.archived), (80, 0, 0))
         self.assertGreater(done.unchecked[UNARCHIVED_BLOCK], 100)
 
@@ -332,26 +333,39 @@ class Edits(Replays):
 
     def test_another_service_is_found(self) -> None:
         with self.service.reader() as reader:
-            alike = compare_pages(self.archive, reader, 80, count=400, seed=1)
+            alike = compare_pages(ArchivedLog(self.trail, self.archive), reader, 80, count=400, seed=1)
             self.assertGreater(alike.alike, 200)
             [kept] = self.archive.blocks(30, 30)
             page = kept.records[0].page
             other = Block.of(30, (*kept.records, put(page, bytes(8000), 190)))
             self.run_sql(_blocks.update().where(_blocks.c.lsn == 30).values(data=other.data, crc=zlib.crc32(other.data)))
             with self.assertRaises(OtherLog) as raised:
-                compare_pages(self.archive, reader, 80, count=400, seed=1)
+                compare_pages(ArchivedLog(self.trail, self.archive), reader, 80, count=400, seed=1)
             self.assertIn(f"page {page} ", str(raised.exception))
             self.assertGreaterEqual(raised.exception.lsn, 30)
         file = self.service.credentials_file(url=self.url)
         self.assertIn("OtherLog: the two logs have different blocks at LSN 30",
                       ends(words("replay", "shop", "--url", self.url, "--credentials", file), 1))  # fmt: skip
 
+    def test_texts_are_looked_up_once(self) -> None:
+        asked: list[str] = []
+        sql.event.listen(self.trail.engine, "before_cursor_execute", lambda _, __, statement, *___: asked.append(statement))
+        self.replay()
+        before = sum(_texts.name in statement for statement in asked)
+        with self.service.operator() as operator:
+            for _ in range(20):
+                self.assertRaises(pagelog.NoTable, operator.set_table, "nothing")
+        self.keeper.run(follow=False)
+        asked.clear()
+        self.assertEqual(self.replay().unchecked[DENIED_TEXT], 21)
+        self.assertEqual(sum(_texts.name in statement for statement in asked), before)
+
     def test_memory_is_of_a_window(self) -> None:
         with self.service.primary() as primary, self.service.reader() as reader:
             fill(primary, 150, seed=5, empties=False)
             Archiver(reader, self.archive).run(follow=False)
         self.keeper.run(follow=False)
-        again = Replay(Start(BY_BLOCKS.encode(), 2), blocks_of(self.trail, self.archive), lambda _, __: [self.text])
+        again = Replay(Start(BY_BLOCKS.encode(), 2), ArchivedLog(self.trail, self.archive).blocks(), lambda _, __: [self.text])
         for line in lines_of(self.trail, self.trail.lists()[-1]):
             again.take(line)
             held = again._state

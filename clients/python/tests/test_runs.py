@@ -2,6 +2,8 @@
 
 from __future__ import annotations
 
+import asyncio
+import errno
 import json
 import os
 import signal
@@ -11,18 +13,27 @@ import tomllib
 import unittest
 from dataclasses import replace
 from pathlib import Path
+from typing import Any
+from unittest.mock import patch
 
 from keepers import blocks
 from pagelog import (
     Connection, Credentials, HardenedAlready, OlderEpoch, Operator, OtherPrimary, Primary, Put, Reader, TableRow, UnknownPrincipal,
 )  # fmt: skip
+from pagelog.keeper.archiver import Archiver
+from pagelog.keeper.committer import Committer
 from pagelog.keeper.loading import Loader
+from pagelog.keeper.referee import digest
+from pagelog.keeper.rows import Row
 from pagelog.keeper.run import NotStarted, Program, Run, _facts_of, end_orphans, new_run
 from pagelog.keeper.served import Served
+from pagelog.keeper.succession import _closed
 from pagelog.keeper.table import KEEPER, Form, TableError, keeper_of, quorum_of, read_table, table_of_run, token_of
-from service import PATIENCE, PROGRAM, TABLE, WIDE_TABLE, token
+from pagelog.keeper.waits import Waits
+from service import PATIENCE, PROGRAM, TABLE, WIDE_TABLE, Port, token
 
 SECRET = b"s" * 16
+TABLE_TEXT = TABLE.read_text()
 
 
 class Tables(unittest.TestCase):
@@ -59,6 +70,10 @@ class Runs(unittest.TestCase):
 
     def start(self, form: Form = Form.OPEN, listen: str | None = None, run: str | None = None) -> Run:
         run = run or new_run()
+        if listen is None:
+            port = Port()
+            self.addCleanup(port.close)
+            listen = port.address
         started = Run.start(self.program, "shop", run, table_of_run(WIDE_TABLE, SECRET, "shop", run, form), listen=listen)
         self.addCleanup(self.kill, started)
         return started
@@ -139,6 +154,32 @@ class Runs(unittest.TestCase):
         self.assertEqual((served.hard, served.answers), (1, 1))
         self.assertEqual([len(served.pulled(0)), served.pulled(1)], [1, []])
 
+    def test_what_was_not_archived_when_a_service_was_closed_is_brought_to_the_next_one(self) -> None:
+        known = blocks(1, 2)
+        present, following = (Served("shop", run, WIDE_TABLE, SECRET, timeout=PATIENCE) for run in ("r1", "r2"))
+        for each in (present, following):
+            each.start(self.program)
+            self.addCleanup(each.end)
+            each.fill([known], 2, digest(b"", known))
+        present.open()
+        assert present.process is not None
+        writer = Primary.take_over(Connection(present.process.address), self.client(Primary, present.process, 2).credentials,
+                                   self.client(Operator, present.process, 1))  # fmt: skip
+        for _ in range(3):
+            writer.append(Put(0, 0, b"x"))
+            writer.commit()
+        with following.loader() as loader:
+            switch = _closed(7, 4, present, following, loader)
+        self.assertEqual((switch.log, switch.next, switch.old, switch.end, switch.next_run), (7, 4, 2, 5, "r2"))
+        self.assertEqual((following.pulled(0), following.reached), ([*known, *switch.blocks], 5))
+        self.assertEqual(digest(b"", [*known, *switch.blocks]), switch.chain)
+        # The same of a release.
+        archiver = Archiver(Row(7, "shop"), present, Waits("shop"), Committer(None, 1.0), print, int)  # type: ignore[arg-type]
+        last = asyncio.run(archiver.rest(5, None))
+        assert last is not None
+        self.assertEqual((last.old, last.blocks, last.chain), (2, switch.blocks, switch.chain))
+        self.assertIsNone(asyncio.run(archiver.rest(6, None)))
+
     def test_a_service_is_adopted_by_a_later_keeper(self) -> None:
         run = self.start()
         facts = json.loads((self.folder / f"shop.{run.name}.json").read_text())
@@ -194,11 +235,24 @@ class Runs(unittest.TestCase):
         self.assertEqual((run.is_alive, list(self.folder.iterdir())), (False, []))
 
     def test_a_service_that_does_not_start_leaves_nothing(self) -> None:
+        before = os.listdir("/proc/self/fd")
         with self.assertRaisesRegex(NotStarted, "fault: table"):
             Run.start(self.program, "shop", "r", "nonsense")
         with self.assertRaises(NotStarted):
             Run.start(replace(self.program, path="/nowhere"), "shop", "r", "")
-        self.assertEqual(list(self.folder.iterdir()), [])
+        self.assertEqual((list(self.folder.iterdir()), os.listdir("/proc/self/fd")), ([], before))
+
+    def test_a_service_that_cannot_be_watched_any_more_is_ended(self) -> None:
+        children, start, no_more = list[subprocess.Popen[bytes]](), subprocess.Popen, OSError(errno.EMFILE, "too many open files")
+
+        def started(*words: Any, **how: Any) -> subprocess.Popen[bytes]:
+            children.append(start(*words, **how))
+            return children[-1]
+
+        with patch("subprocess.Popen", started), patch("os.pidfd_open", side_effect=no_more), patch.object(Path, "read_text", side_effect=no_more):
+            with self.assertRaisesRegex(NotStarted, "too many open files"):
+                Run.start(self.program, "shop", "r", table_of_run(TABLE_TEXT, SECRET, "shop", "r", Form.OPEN))
+        self.assertEqual(([child.poll() for child in children], list(self.folder.iterdir())), ([-signal.SIGKILL], []))
 
     def test_a_service_is_filled_with_the_bytes_of_the_archive(self) -> None:
         run = self.start(Form.READING)

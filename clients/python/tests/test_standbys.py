@@ -2,6 +2,7 @@
 
 from __future__ import annotations
 
+import json
 import os
 import signal
 import time
@@ -11,17 +12,17 @@ from unittest.mock import patch
 
 import psycopg
 
-from keepers import Gate, Kept, blocks, eventually
-from pagelog import Lost, Reader
+from keepers import Gate, Kept, Trigger, blocks, eventually
+from pagelog import Connection, Lost, Reader
 from pagelog.keeper.loading import Loader
 from pagelog.keeper.run import end_orphans
 from pagelog.keeper.table import keeper_of
 from pagelog.place import Fate, Keepers
 from postgres import postgres
-from service import PATIENCE
+from service import PATIENCE, stand_still
 
 
-class TwoKeepers(Kept):
+class Two(Kept):
     def standby(self, at: int = 0) -> None:
         """Waits until a standby has as much."""
         eventually(lambda: any(reached >= at for reached in self.keeping.standbys().values()), f"a standby at {at}")
@@ -33,6 +34,8 @@ class TwoKeepers(Kept):
     def other(self) -> str:
         return "b" if self.holder() == "a" else "a"
 
+
+class TwoKeepers(Two):
     def test_a_standby_has_what_is_durable_and_takes_over_without_a_restore(self) -> None:
         with self.keeping.primary() as primary, self.keeping.reader(durable_only=True) as reader:
             for number in range(1, 21):
@@ -73,11 +76,25 @@ class TwoKeepers(Kept):
             self.commit(primary, "1", durable=True)
             self.standby(1)
             before = self.keeping.place()
-            session.execute(f"NOTIFY pagelog_keeper, 'shop {before.generation} 1'")
+            session.execute(f"NOTIFY pagelog_keeper, 'shop {before.generation} 1 {self.keeping.row().chain.hex()}'")
             eventually(lambda: "shop: nobody has it" in self.keeping.said().partition(f"--- {self.other()}")[2], "the word of it")
             self.assertEqual(self.commit(primary, "2", durable=True), 2)
             self.standby(2)
             self.assertEqual(self.keeping.place(), replace(before, archived=2))
+
+    def test_a_standby_whose_take_is_in_doubt_serves(self) -> None:
+        with self.keeping.primary() as primary:
+            self.commit(primary, "1", durable=True)
+            self.standby(1)
+            eventually(lambda: self.keeping.keepers().standby() is not None, "a standby")
+            run = self.keeping.keepers().standby().run  # type: ignore[union-attr]
+            trigger = Trigger(self.keeping.url, "pagelog_log", "UPDATE ON pagelog_log FOR EACH ROW WHEN (NEW.generation > OLD.generation)",
+                              "RAISE WARNING 'cancelled'")  # fmt: skip
+            self.addCleanup(trigger.close)
+            os.kill(self.keeping.pid(), signal.SIGKILL)
+            self.assertEqual(self.commit(primary, "2", durable=True), 2)
+            self.assertIn("take: PostgreSQL: cancelled", self.keeping.said())
+            self.assertEqual((self.keeping.place().run, self.texts()), (run, [b"1", b"2"]))
 
     def test_a_keeper_that_is_told_to_end_hands_over(self) -> None:
         with self.keeping.primary() as primary:
@@ -209,3 +226,54 @@ class TwoKeepers(Kept):
             finally:
                 with psycopg.connect(self.keeping.url) as connection:
                     connection.execute("DROP FUNCTION other CASCADE")
+
+
+class Heard(Two):
+    """A keeper that has heard of a release, and has not looked since."""
+
+    options = {"ttl": 120.0}
+
+    def look(self) -> None:
+        with psycopg.connect(self.keeping.url, autocommit=True) as session:
+            session.execute("NOTIFY pagelog_keeper")
+
+    def answers(self, keeper: str, *questions: str) -> list[list[str]]:
+        with self.keeping.line(keeper) as text:
+            print(*questions, sep="\n", file=text, flush=True)
+            return [text.readline().split() for _ in questions]
+
+    def test_a_standby_is_told_as_it_is_taken_and_no_more_of_it_before(self) -> None:
+        with self.keeping.primary() as primary:
+            self.commit(primary, "1", durable=True)
+            eventually(lambda: self.look() or 1 in self.keeping.standbys().values(), "a standby")  # type: ignore[func-returns-value]
+            target = self.other()
+            eventually(lambda: self.look() or self.answers(target, "standby shop")[0][4] == "1", "its word")  # type: ignore[func-returns-value]
+            standby = self.keeping.keepers().standby()
+            assert standby is not None
+            [note] = self.keeping.folder.glob(f"{target}/shop.{standby.run}.json")
+            pid = int(json.loads(note.read_text())["pid"])
+            before = self.keeping.row().generation
+            # It looks at what is before the release, and then hears of that.
+            looking = Gate(self.keeping.url, f"NEW.name = '{target}'", "pagelog_keeper", lock=43)
+            self.look()
+            looking.somebody_waits()
+            for number in range(2, 32):
+                self.commit(primary, f"{number}")
+            gate = Gate(self.keeping.url, "NEW.generation > OLD.generation")
+            self.keeping.referee.wish("shop", target)
+            eventually(lambda: self.keeping.row().run is None, "the release")
+            looking.open()
+            gate.somebody_waits()
+            with Reader(Connection(standby.address), keeper_of(b"s" * 16, "shop", standby.run)) as reader:
+                self.assertEqual(reader.status().hard, 31)
+            # Whether the release will stay is not known before the take is.
+            (*_, reached, _, _), where = self.answers(target, "standby shop", "where shop")
+            self.assertEqual((reached, where), ("1", ["nowhere", "shop"]))
+            stand_still(pid)
+            gate.open()
+            eventually(lambda: self.keeping.row().address == standby.address, "the take")
+            self.assertEqual(self.answers(target, "where shop"), [["nowhere", "shop"]])  # nobody is let in yet
+            os.kill(pid, signal.SIGCONT)
+            self.assertEqual(self.commit(primary, "32", durable=True), 32)
+            self.assertEqual((self.keeping.place().run, self.keeping.row().generation), (standby.run, before + 1))
+            self.assertEqual(self.texts(), [b"%d" % number for number in range(1, 33)])

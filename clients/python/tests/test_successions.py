@@ -13,10 +13,12 @@ import psycopg
 
 from cutting import STEPS
 from keepers import Gate, Keeping, Kept, eventually
-from pagelog import BelowBase, Block, ConnectionLost, Lost, Primary, Put
+from pagelog import BelowBase, Block, ConnectionLost, Lost, Operator, Primary, Put, TableRow
+from pagelog.connection import Connection
+from pagelog.following import NamedAccount
 from pagelog.place import Place
 from postgres import postgres
-from service import IS_LONG, PATIENCE
+from service import IS_LONG, PATIENCE, token
 
 CUTTING = Path(__file__).resolve().parent / "cutting.py"
 
@@ -142,6 +144,14 @@ class OneKeeper(Succeeding):
                 self.assertEqual(reader.page(0, position).data[:3], b"<6>")
                 self.assertEqual(reader.place.run, after.run)  # type: ignore[union-attr]
 
+    def test_a_writer_that_is_told_of_the_end_asks_nothing_of_the_service_before(self) -> None:
+        with self.keeping.primary() as primary:
+            position = self.commit(primary, "1")
+            self.succeed()
+            primary.durable(position)  # all of its generation is
+            with self.assertNoLogs("pagelog", "INFO"):  # as of a connection to it that is made again
+                self.assertEqual(self.commit(primary, "2", durable=True), 2)
+
     def test_a_transaction_of_many_blocks_at_the_fence_is_written_whole(self) -> None:
         with self.keeping.primary() as primary:
             self.commit(primary, "1", durable=True)
@@ -210,6 +220,9 @@ class OneKeeper(Succeeding):
             gate = Gate(self.keeping.url, "NEW.generation > OLD.generation")
             before = self.succeed(waits=False)
             gate.somebody_waits()
+            account = NamedAccount("shop", 1, token(1))
+            with Operator(Connection(before.address), account.of(before)) as operator, self.assertRaises(TableRow):
+                operator.failover(2)  # what is written there now would be lost
             with self.keeping.line() as text:
                 print(f"where shop {before.generation + 1}\nwhere shop", file=text, flush=True)
                 self.assertEqual(text.readline().split()[2], str(before.generation))  # of the second, which does not wait
@@ -218,10 +231,27 @@ class OneKeeper(Succeeding):
                 print(f"where shop {before.generation + 9}", file=text, flush=True)  # nobody is about to publish that
                 self.assertEqual(text.readline().split()[2], str(before.generation + 1))
 
+    def test_a_look_that_began_before_a_switch_does_not_undo_it(self) -> None:
+        with self.keeping.primary() as primary:
+            self.commit(primary, "1", durable=True)
+            before = self.succeed(waits=False)
+            eventually(lambda: "generation: making" in self.keeping.said(), "the beginning of a succession")
+            gate = Gate(self.keeping.url, "true", table="pagelog_keeper")
+            gate.somebody_waits()
+            eventually(lambda: self.keeping.row().generation > before.generation, "the switch")
+            gate.open()
+            self.assertEqual(self.commit(primary, "2", durable=True), 2)
+            self.assertEqual(self.keeping.place().generation, self.keeping.row().generation)
+            self.assertNotIn("went back", self.keeping.said())
+
     def test_what_nobody_asked_durable_is_in_the_next_generation(self) -> None:
         with self.keeping.primary() as primary:
             self.commit(primary, "1", durable=True)
             before = self.succeed(waits=False)
+            with psycopg.connect(self.keeping.url, autocommit=True) as session:
+                numbered = "SELECT 1 FROM pagelog_log WHERE next_generation > generation + 1"
+                eventually(lambda: session.execute(numbered).fetchone() is not None, "the number of the next generation")
+            # A batch that waits there holds its row, for which a statement that gives a number would wait.
             gate = Gate(self.keeping.url, "NEW.archived > OLD.archived AND NEW.generation = OLD.generation")
             self.commit(primary, "2")
             gate.somebody_waits()
@@ -235,13 +265,35 @@ class OneKeeper(Succeeding):
 
 
 class Thresholds(Succeeding):
-    options = {"audit": 8000, "ttl": 0.8}
+    options = {"audit": 16000, "ttl": 0.8}
 
     def test_at_half_of_the_list_the_next_generation_is_made(self) -> None:
         with Writer(self.keeping) as writer:
-            eventually(lambda: self.keeping.place().base > 0 or writer.fault is not None, "a generation with images")
-        self.assertEqual(self.texts(), writer.texts)
+            eventually(lambda: "% full" in self.keeping.said() or writer.fault is not None, "half of the list")
+        # On a quick machine it would fill the list before the next generation is made.
+        eventually(lambda: self.keeping.place().base > 0, "a generation with images")
+        with Writer(self.keeping, len(writer.texts)) as second:
+            second.has(5)
+        self.assertEqual(self.texts(), writer.texts + second.texts)
         self.assertRegex(self.keeping.said(), "(?s)its list or its memory is .* begins at position .*, from images at")
+
+
+class GivenUp(Succeeding):
+    options = {"ttl": 4.0}
+
+    def test_the_present_generation_goes_on_where_the_next_service_dies_after_the_fence(self) -> None:
+        mark = self.keeping.folder / "cut"
+        self.keeping.kill("a")
+        self.keeping.keeper = (CUTTING, "pulled", "next", mark)
+        self.keeping.start("a")
+        with Writer(self.keeping) as writer:
+            writer.has(5)
+            before = self.succeed(waits=False)
+            eventually(lambda: "was given up" in self.keeping.said(), "the end of the succession")
+            writer.has(5)
+            self.assertTrue(mark.exists())
+            self.assertEqual(self.keeping.place().generation, before.generation)
+        self.assertEqual(self.texts(), writer.texts)
 
 
 class TwoKeepers(Succeeding):
@@ -292,8 +344,12 @@ class Cuts(Succeeding):
                 self.keeping.processes["a"].wait(PATIENCE)
                 self.keeping.start("a")
             # What was asked for comes to pass in the end: it is asked for again, or a take-over has begun from images.
-            self.keeping.place(least=before.generation + 1)
+            after = self.keeping.place(least=before.generation + 1)
+            if (step, deed) == ("filled", "next"):
+                self.assertEqual(after.generation, before.generation + 2, "the number of the one that was given up is a gap")
             writer.has(5)
+            if (step, deed) == ("switched", "away"):
+                self.assertEqual(self.keeping.place().generation, before.generation + 1, "what was switched is found out")
         self.written += writer.texts
         self.assertEqual(self.texts(), self.written, f"{step}: {deed}")
         self.keeping.kill("a", signal.SIGTERM)

@@ -12,7 +12,6 @@ from pathlib import Path
 
 import pagelog
 from pagelog import Address, Operator
-from pagelog.archive import Archive
 from pagelog.errors import AuditListFull
 from pagelog.reply import LINE_SIZE, Entry, encode_entry
 from pagelog.request import AUDIT_MAX
@@ -95,7 +94,7 @@ class Kept(Folder):
             each.run(follow=False)
             one, two = self.trail.lists()
             self.assertEqual((self.kept(1), two.ended), (before, None))
-            self.assertIn("started anew", one.ended or "")
+            self.assertIn("restarted", one.ended or "")
             self.check_all_is_kept(2)
         self.assertEqual(self.trail.start(two), Start(without_tokens(START.table), 2))
 
@@ -184,8 +183,6 @@ class Kept(Folder):
         for zombie in (old, TrailKeeper(self.operator, self.trail, generation=3)):
             self.assertRaises(OtherKeeper, zombie.step)
         self.assertEqual([one.ended for one in self.trail.lists()][1:], [None])
-        with Archive(self.url, "shop", create=True) as archive:  # which is no named database's
-            self.assertTrue(archive.begins_with_blocks(3))
 
     def test_a_full_list_ends_and_says_so(self) -> None:
         with Service(audit=50) as service, service.operator() as operator, service.primary() as primary:
@@ -296,7 +293,7 @@ class Words(Folder):
         self.service.restart()
         ends(words(*record))
         shown = ends(words("trail", "shop", "--url", self.url)).splitlines()
-        [at] = [at for at, line in enumerate(shown) if re.search(r"list 1 ends behind line \d+, seen at .*: the service was started anew", line)]
+        [at] = [at for at, line in enumerate(shown) if re.search(r"list 1 ends behind line \d+, seen at .*: the service was restarted", line)]
         self.assertTrue(all(" list 1: " in line for line in shown[:at]) and all(" list 2: " in line for line in shown[at + 1 :]))
         self.assertIn("give both", ends(words("replay", "shop", "--url", self.url), 1))
 

@@ -6,7 +6,7 @@ import unittest
 from typing import Any, Callable
 
 from keepers import Kept
-from pagelog.keeper.turns import GRACE, MANY, AllTurns, Turns
+from pagelog.keeper.turns import EARLY, GRACE, MANY, AllTurns, Turns
 
 
 class Heard:
@@ -132,14 +132,30 @@ class Rules(unittest.TestCase):
         self.assertNotIn("kept", self.a.last())
 
     def test_a_generation_that_is_over_ends_all_turns(self) -> None:
-        every = AllTurns()
+        every = AllTurns(self.clock)  # type: ignore[arg-type]
         for who in (self.a, self.b):
             every.take(who, ["turn", "shop"], 1)  # type: ignore[arg-type]
         every.look(lambda name: 2)
         self.assertEqual(self.b.lines, ["elsewhere shop"])
         every.take(self.b, ["turn", "shop"], 2)  # type: ignore[arg-type]
+        every.take(self.c, ["turn", "shop", "now"], 2)  # type: ignore[arg-type]
+        self.assertEqual((self.b.lines, self.c.lines, [each for each, _ in self.clock.open]), (["elsewhere shop"], ["busy shop"], [EARLY]))
+        self.clock.end()
         every.take(self.c, ["turn", "shop", "now"], None)  # type: ignore[arg-type]
         self.assertEqual((self.b.last(), self.c.last()), ("turn shop other", "elsewhere shop"))
+
+    def test_who_had_the_turn_before_comes_first(self) -> None:
+        self.turns = Turns("shop", 2, self.clock)
+        self.ask(self.a)
+        self.turns.ask(self.b, now=True, mine=True)  # type: ignore[arg-type]
+        self.turns.ask(self.c, now=False, mine=True)  # type: ignore[arg-type]
+        self.assertEqual((self.a.lines, self.b.lines, self.c.lines), ([], ["turn shop other"], []))
+        self.clock.end()
+        self.assertEqual(self.a.lines, [])
+        self.back(self.b)
+        self.assertEqual((self.a.lines, self.c.lines), (["turn shop other"], []))
+        self.turns.ask(self.b, now=True, mine=True)  # type: ignore[arg-type]
+        self.assertEqual(self.b.last(), "busy shop")
 
 
 class Lines(Kept):

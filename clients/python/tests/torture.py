@@ -1,14 +1,15 @@
-"""The torture of keepers, see clients/python/torture; called with `write` or `read` it is a client of its own process."""
+"""The torture of keepers, see clients/python/torture; called with `write`, `share` or `read` it is a client of its own process."""
 
 from __future__ import annotations
 
-import faulthandler
+import itertools
 import json
 import os
 import random
 import signal
 import subprocess
 import sys
+import threading
 import time
 from collections import Counter
 from pathlib import Path
@@ -20,22 +21,23 @@ sys.path[:0] = [str(HERE), str(HERE.parent / "src")]
 import psycopg  # noqa: E402
 
 from keepers import Keeping, eventually  # noqa: E402
-from pagelog import Block, Lost, PagelogError, Primary, Put, Reader  # noqa: E402
+from long_runs import STOP, LongRun, is_client, text_of, texts_of  # noqa: E402
+from pagelog import Block, Group, Lost, PagelogError, Primary, Put, Reader, Unwritten  # noqa: E402
 from pagelog.keeper.rows import Row  # noqa: E402
 from replicated import Pair  # noqa: E402
 from service import token  # noqa: E402
 
 TTL = 2.0
 NAME = "shop"
-STOP = "stop"
+THREADS = 6
 
 
 # Clients, each a process with books of its own: a line of JSON for each thing that it was told.
 
 
-def write(folder: Path, id: int, addresses: list[str], seed: int) -> None:
+def write(folder: Path, who: str, addresses: list[str], seed: float) -> None:
     """Commits until there is a file `stop`; some commits are durable at once, some later. In the end all are."""
-    chance, number, open_commits = random.Random(seed), 0, {}
+    id, chance, number, open_commits = int(who), random.Random(seed), 0, {}
     books = (folder / f"writer{id}").open("a", buffering=1)
 
     def note(what: str, **facts: object) -> None:
@@ -72,8 +74,66 @@ def write(folder: Path, id: int, addresses: list[str], seed: int) -> None:
     note("end")
 
 
-def read(folder: Path, id: int, addresses: list[str], _: int) -> None:
+class Sharing:
+    """Threads that share a writer as a group commit until there is a file `stop`. Where the group has ended the writer finds out what
+    became of what was begun, and another one is made."""
+
+    def __init__(self, folder: Path, id: int, addresses: list[str]) -> None:
+        self._id, self._stop, self._addresses = id, folder / STOP, addresses
+        self._books, self._guard = (folder / f"writer{id}").open("a", buffering=1), threading.Lock()
+        self._numbers = itertools.count(1)
+        self._begun: list[str] = []
+
+    def note(self, what: str, **facts: object) -> None:
+        with self._guard:
+            self._books.write(json.dumps({"what": what, **facts}) + "\n")
+
+    def run(self) -> None:
+        while not self._stop.exists():
+            self._share()
+            time.sleep(0 if self._stop.exists() else TTL)  # the other writer's turn
+        self.note("end")
+
+    def _share(self) -> None:
+        with Primary.named(NAME, keepers=self._addresses, principal=self._id, token=token(self._id), operator=(1, token(1)), patience=5.0,
+                           timeout=TTL) as primary:  # fmt: skip
+            group, self._begun = Group(primary), []
+            threads = [threading.Thread(target=self._commit, args=(group, thread)) for thread in range(THREADS)]
+            for thread in threads:
+                thread.start()
+            for thread in threads:
+                thread.join()
+            try:
+                primary.commit(durable=True)
+                for text in self._begun:
+                    self.note("found", text=text)
+            except PagelogError as error:
+                self.note("open", why=f"{type(error).__name__}: {error}", open=self._begun)
+
+    def _commit(self, group: Group, thread: int) -> None:
+        """Goes on until the group has ended."""
+        while not self._stop.exists():
+            text = f"{self._id} {next(self._numbers)}"
+            self.note("try", text=text)
+            try:
+                self.note("durable", text=text, position=group.commit(Put(0, 0, text.encode())), thread=thread)
+            except Lost as lost:
+                return self.note("lost", text=text, position=lost.position)
+            except Unwritten:
+                return self.note("unwritten", text=text)
+            except PagelogError as error:
+                self.note("ended", why=f"{type(error).__name__}: {error}", open=[text])
+                return self._begun.append(text)
+
+
+def share(folder: Path, who: str, addresses: list[str], _: float) -> None:
+    """Threads of one process write."""
+    Sharing(folder, int(who), addresses).run()
+
+
+def read(folder: Path, who: str, addresses: list[str], _: float) -> None:
     """Follows what is durable, and notes each block."""
+    id = int(who)
     books = (folder / f"reader{id}").open("a", buffering=1)
     reader = Reader.named(NAME, keepers=addresses, principal=id, token=token(id), durable_only=True, patience=60.0, timeout=TTL)
     position = 1
@@ -88,21 +148,17 @@ def read(folder: Path, id: int, addresses: list[str], _: int) -> None:
             time.sleep(0.1)
 
 
-def text_of(block: Block) -> str:
-    return block.records[-1].data.decode().rstrip(".")  # type: ignore[union-attr]
-
-
 # Faults.
 
 
-class Torture:
+class Torture(LongRun):
     def __init__(self, seconds: float, seed: int) -> None:
         self.seconds, self.chance = seconds, random.Random(seed)
         self.pair = Pair()
-        self.keeping = Keeping(ttl=TTL, url=self.pair.url)
+        super().__init__(__file__, Keeping(ttl=TTL, url=self.pair.url))
         self.done: Counter[str] = Counter()
         self.stopped: list[int] = []
-        self.faults: list[tuple[int, Callable[[], None]]] = [
+        self.deeds: list[tuple[int, Callable[[], None]]] = [
             (4, self.kill_service), (2, self.stop_service), (3, self.kill_keeper), (1, self.kill_keeper_for_long),
             (2, self.stop_keeper), (1, self.stop_machine), (2, self.switch_over), (1, self.end_keeper), (2, self.cut_lines),
             (1, self.fail_over_postgresql),
@@ -202,36 +258,18 @@ class Torture:
         keeping.word("create", NAME, "--table", keeping.table)
         keeping.start("a", "b")
         keeping.place()
-        clients = [self.client("write", 2), self.client("write", 5), self.client("read", 3)]
+        clients = [self.client(what, id, self.chance.random()) for what, id in (("write", 2), ("share", 5), ("read", 3))]
         ends = time.monotonic() + self.seconds
         while time.monotonic() < ends:
-            [(_, fault)] = self.chance.choices(self.faults, [weight for weight, _ in self.faults])
+            [(_, fault)] = self.chance.choices(self.deeds, [weight for weight, _ in self.deeds])
             self.done[fault.__name__] += 1
             print(f"{self.seconds - (ends - time.monotonic()):6.1f} s: {fault.__name__}", flush=True)
             fault()
             time.sleep(self.chance.uniform(0.2, 2 * TTL))
         eventually(lambda: keeping.place() is not None)
         (keeping.folder / STOP).touch()
-        ended = [self.ended(client) for client in clients]
-        violations = Check(keeping).violations()
-        violations += [f"a client ended with status {status}" for status in ended if status != 0]
-        violations += [line for line in keeping.said().splitlines() if "fault of the keeper" in line]
-        return self.report(violations)
-
-    def ended(self, client: subprocess.Popen[bytes]) -> int:
-        """The status of a client that has to end now. One that does not says what it is at, and so do the keepers."""
-        try:
-            return client.wait(60)
-        except subprocess.TimeoutExpired:
-            for process in (client, *self.keeping.processes.values()):
-                process.send_signal(signal.SIGUSR1)
-            time.sleep(1)
-            client.kill()
-            return client.wait()
-
-    def client(self, what: str, id: int) -> subprocess.Popen[bytes]:
-        words = [sys.executable, "-B", __file__, what, self.keeping.folder, id, ",".join(self.keeping.addresses), self.chance.random()]
-        return subprocess.Popen(list(map(str, words)))
+        ended = [self.ended(client, 60) for client in clients]
+        return self.report(Check(keeping).violations() + self.faults(ended))
 
     def report(self, violations: list[str]) -> int:
         for violation in violations[:20]:
@@ -245,8 +283,7 @@ class Torture:
         return 1 if violations or not counts["durable"] else 0
 
     def stop(self) -> None:
-        (self.keeping.folder / STOP).touch()
-        self.keeping.__exit__()
+        super().stop()
         self.pair.stop()
 
 
@@ -260,20 +297,24 @@ class Check:
             self.books += [json.loads(line) | {"who": file.name} for line in file.read_text().splitlines()]
 
     def violations(self) -> list[str]:
-        texts = dict(enumerate((text_of(Block.decode(block)) for block in self.keeping.archive(NAME)), 1))
-        found = [f"{text!r} is there {count} times" for text, count in Counter(texts.values()).items() if count > 1]
+        texts = dict(enumerate((texts_of(Block.decode(block)) for block in self.keeping.archive(NAME)), 1))
+        counts = Counter(text for each in texts.values() for text in each)
+        found = [f"{text!r} is there {count} times" for text, count in counts.items() if count > 1]
         tried = {line["text"] for line in self.books if line["what"] == "try"}
-        found += [f"{text!r} was not tried" for text in texts.values() if text not in tried]
-        there, ends = set(texts.values()), self.ends()
+        found += [f"{text!r} was not tried" for text in counts if text not in tried]
+        ends = self.ends()
         for line in self.books:
-            if line["what"] in ("durable", "read") and texts.get(line["position"]) != line["text"]:  # type: ignore[call-overload]
+            if line["what"] in ("durable", "read") and line["text"] not in texts.get(line["position"], ()):  # type: ignore[call-overload]
                 found.append(f"{line} and the archive has {texts.get(line['position'])!r}")  # type: ignore[call-overload]
-            if line["what"] == "durable" and line["position"] > ends.get(line["generation"], 1 << 60):  # type: ignore[operator,call-overload]
+            if line["what"] == "durable" and line["position"] > ends.get(line.get("generation"), 1 << 60):  # type: ignore[operator,call-overload]
                 found.append(f"{line} after the end of its generation, {ends[line['generation']]}")  # type: ignore[index]
-            if line["what"] == "lost" and line["text"] in there:
+            if line["what"] in ("lost", "unwritten") and line["text"] in counts:
                 found.append(f"{line} and it is there")
-        for who in {line["who"] for line in self.books}:
-            positions = [line["position"] for line in self.books if (line["who"], line["what"]) in ((who, "durable"), (who, "read"))]
+            if line["what"] == "found" and line["text"] not in counts:
+                found.append(f"{line} and it is not there")
+        for who in {(line["who"], line.get("thread")) for line in self.books}:
+            told = [line for line in self.books if (line["who"], line.get("thread")) == who and line["what"] in ("durable", "read")]
+            positions = [line["position"] for line in told]
             if positions != sorted(set(positions)):  # type: ignore[type-var]
                 found.append(f"{who} was told positions out of order")
         return found
@@ -286,17 +327,9 @@ class Check:
 
 
 def main(words: list[str]) -> int:
-    if words and words[0] in ("write", "read"):
-        faulthandler.register(signal.SIGUSR1)
-        {"write": write, "read": read}[words[0]](Path(words[1]), int(words[2]), words[3].split(","), int(float(words[4]) * 1e9))
+    if is_client(words, {"write": write, "share": share, "read": read}):
         return 0
-    torture = Torture(float(words[0]) if words else 60.0, int(words[1]) if len(words) > 1 else 1)
-    try:
-        return torture.run()
-    finally:
-        if os.environ.get("PAGELOG_TEST_SAYS"):
-            print(torture.keeping.said())
-        torture.stop()
+    return Torture(float(words[0]) if words else 60.0, int(words[1]) if len(words) > 1 else 1).whole()
 
 
 if __name__ == "__main__":

@@ -1,5 +1,5 @@
 -- Chunks of 64 frames as one row: the frame i is the frame i % 64 of the chunk i / 64.
-use Rattle.std.proofs.Common.{◌≡◌, ℕ, zero, suc, ◌+◌, ◌-◌, ◌*◌, ◌/◌, ◌%◌, ◌<◌, ◌≤◌, ◌++◌, List, [], ◌∷◌, length, get_or, set, sym, ap, ◌∙◌, arith, length-append, length-set, append_assoc, div-add-mod'}
+use Rattle.std.proofs.Common.{◌≡◌, ℕ, zero, suc, ◌+◌, ◌-◌, ◌*◌, ◌/◌, ◌%◌, ◌<◌, ◌≤◌, ◌++◌, List, [], ◌∷◌, length, get_or, set, refl, sym, ap, ◌∙◌, arith, length-append, length-set, append_assoc, div-add-mod'}
 use Rattle.std.proofs.lemmas.List.{get_or_append_left, get_or-append_right, set-append_left, set-append_right, append-nil}
 use Rattle.pl_arena.specs.Packed.{IsPacked, flat}
 
@@ -81,3 +81,9 @@ pub each_small : (chunks : List Row) (q : ℕ) → IsPacked chunks → length (g
 each_small [] q all = omega arith
 each_small (c ∷ cs) zero all = all.0
 each_small (c ∷ cs) (suc q) all = each_small cs q all.2
+
+-- where the last chunk is whole, each has 64 frames
+pub flat_whole : (chunks : List Row) → ((n : ℕ) → n + 1 ≡ length chunks → length (get_or chunks n []) ≡ 64) → IsPacked chunks → length (flat chunks) ≡ 64 * length chunks
+flat_whole [] whole all = refl
+flat_whole (x ∷ []) whole all = omega (arith, length-append x [], whole 0 (omega arith))
+flat_whole (x ∷ y ∷ ys) whole all = omega (arith, length-append x (flat (y ∷ ys)), all.1 (omega arith), flat_whole (y ∷ ys) (λ n e. whole (suc n) (omega (arith, e))) all.2)

@@ -1,10 +1,11 @@
 //! The arena: which frames are out, and which are taken again.
 
-ghost use Rattle.std.specs.Prelude.{◌≡◌, ◌<◌, ◌≤◌, ◌*◌, ◌↔◌, [], ◌∷◌, ◌++◌, None, Some, true, false, length, is_some, slice_index_or, IfOk, IfSome, OnErr, OnOk, IsErrOf};
+ghost use Rattle.std.specs.Prelude.{◌≡◌, ◌<◌, ◌≤◌, ◌*◌, ◌↔◌, [], ◌∷◌, ◌++◌, None, Some, true, false, length, is_some, slice_index_or, IfOk, IfSome, OnErr, OnOk, IsErrOf, IsOk, vec_capacity};
 ghost use Rattle.std.specs.FinMap as maps;
 ghost use Rattle.std.specs.Borrow.{sem};
 ghost use Rattle.pl_arena.specs.Arena.{IsFull, IsOut, capacity, frame_bytes, with_frame, without_frame, zeros};
 ghost use Rattle.pl_arena.specs.Lends.{LendsFrame};
+ghost use Rattle.pl_arena.specs.Packed.{HasRoom};
 ghost use Rattle.pl_arena.specs.declared.arena.TakeFault.TheVariants.{Full};
 
 use crate::chunk::CHUNK_FRAMES;
@@ -183,7 +184,8 @@ impl VersionArena {
         requires from { IsOut self.old from }
         requires to { IsOut self.old to }
         // The frame `to` has the bytes of `from`, and all others are as before.
-        ensures value { IfSome (frame_bytes self.old from) (λ bytes. self.new ≡ with_frame self.old to bytes) }
+        ensures value { IfSome (frame_bytes self.old from) (λ bytes.
+            self.new ≡ with_frame self.old to bytes) }
     {
         self.frames.copy(from.number as usize, to.number as usize);
     }
@@ -208,6 +210,8 @@ fn push_frame(frames: &mut Frames, out: &mut Vec<bool>, max_chunks: u32) -> Resu
     ensures number { IfOk result (λ number. number ≡ length out.old.items) }
     ensures frame { OnOk result (frames.new ≡ frames.old ++ zeros ∷ []) }
     ensures flag { OnOk result (out.new.items ≡ out.old.items ++ true ∷ []) }
+    ensures succeeds { HasRoom frames.old → length out.old.items < vec_capacity out.old →
+        IsOk result }
     ensures err { OnErr result ((frames.new ≡ frames.old) × (out.new.items ≡ out.old.items)) }
 {
     let used = out.len();

@@ -1,10 +1,10 @@
 //! The frames of all chunks, by number.
 
-ghost use Rattle.std.specs.Prelude.{◌≡◌, ◌<◌, [], ◌∷◌, ◌++◌, length, OnOk, OnErr, slice_index_or, slice_set};
+ghost use Rattle.std.specs.Prelude.{◌≡◌, ◌<◌, [], ◌∷◌, ◌++◌, length, IsOk, OnOk, OnErr, slice_index_or, slice_set};
 ghost use Rattle.std.specs.Borrow.{sem};
 ghost use Rattle.pl_arena.specs.Arena.{zeros};
 ghost use Rattle.pl_arena.specs.Frames.{LendsPlace};
-ghost use Rattle.pl_arena.specs.Packed.{with_copied_frame};
+ghost use Rattle.pl_arena.specs.Packed.{HasRoom, with_copied_frame};
 
 use crate::FRAME_SIZE;
 use crate::chunk::{CHUNK_FRAMES, Chunk};
@@ -41,9 +41,10 @@ impl Frames {
         }
     }
 
-    /// Makes a frame of zeros more. A chunk is allocated where the last has no room.
+    /// Makes a frame of zeros more. A chunk is allocated where the last has no room, and nowhere else.
     pub(crate) fn push_zeros(&mut self) -> Result<(), AllocError>
         ensures ok { OnOk result (self.new ≡ self.old ++ zeros ∷ []) }
+        ensures succeeds { HasRoom self.old → IsOk result }
         ensures err { OnErr result (self.new ≡ self.old) }
     {
         let count = self.chunks.len();

@@ -84,7 +84,8 @@ impl<T> Items<T> {
         len: usize,
     ) -> Result<(Start<T>, Items<T>, Deed<T, A>), AllocError>
         requires fits { FitsInBlock T.row len }
-        ensures block { IfOk result (λ r. IsMemoryBlock r.0 r.1 r.2 len alloc.now × (r.1.items ≡ [])) }
+        ensures block { IfOk result (λ r.
+            IsMemoryBlock r.0 r.1 r.2 len alloc.now × (r.1.items ≡ [])) }
     {
         match alloc.allocate(len * size_of::<T>(), align_of::<T>()) {
             Ok(block) => {
@@ -124,7 +125,8 @@ impl<T> Items<T> {
 
     /// Writes an item after the `len` that there are.
     pub(crate) fn push(&mut self, start: Start<T>, len: usize, item: T)
-        requires room { (start.first ≡ self.old.at) × (len ≡ length self.old.items) × (0 < self.old.room) }
+        requires room { (start.first ≡ self.old.at) × (len ≡ length self.old.items)
+            × (0 < self.old.room) }
         ensures value { HasMore self.old item self.new }
     {
         unsafe { start.first.add(len).write(item) }

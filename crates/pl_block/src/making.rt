@@ -62,8 +62,8 @@ fn record_len(entry: &Record) -> usize
 fn spelling_len(partitions: &[u16], records: &[Record]) -> usize
     ensures value { result ≤ longest_block →
         result ≡ 12 + 2 * length partitions.now + length (flat_map record_spelling records.now) }
-    ensures long { longest_block < result →
-        longest_block < 12 + 2 * length partitions.now + length (flat_map record_spelling records.now) }
+    ensures long { longest_block < result → longest_block <
+        12 + 2 * length partitions.now + length (flat_map record_spelling records.now) }
 {
     let mut len = 12 + 2 * partitions.len();
     for entry in records {

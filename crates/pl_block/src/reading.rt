@@ -131,7 +131,8 @@ fn take_records(alloc: Global, count: u16, rest: &mut Bytes) -> Result<Few<Recor
 
 // Whether the records touch these partitions. Those of one record are compared without memory.
 fn are_touched(alloc: Global, partitions: &[u16], records: &[Record]) -> Result<bool, AllocError>
-    ensures value { IfOk result (λ same. same ≡ pointwise nat_eq partitions.now (touched records.now)) }
+    ensures value { IfOk result (λ same.
+        same ≡ pointwise nat_eq partitions.now (touched records.now)) }
 {
     if let [entry] = records {
         return Ok(partitions == [entry.partition()].as_slice());

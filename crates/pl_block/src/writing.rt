@@ -23,7 +23,8 @@ const ZERO_BYTES: usize = 5;
 
 // Fields of a fixed size go out together: each write to a vector looks at its room.
 fn put_front(out: &mut Vec<u8>, lsn: u64, count: u16) -> Result<(), AllocError>
-    ensures ok { OnOk result (out.new.items ≡ out.old.items ++ (to_be_bytes w64 lsn ++ to_be_bytes w16 count)) }
+    ensures ok { OnOk result
+        (out.new.items ≡ out.old.items ++ (to_be_bytes w64 lsn ++ to_be_bytes w16 count)) }
     ensures spare { UsesSpare result out.old out.new 10 }
 {
     let mut front = [0; FRONT];
@@ -34,7 +35,8 @@ fn put_front(out: &mut Vec<u8>, lsn: u64, count: u16) -> Result<(), AllocError>
 
 // The partitions, without their count.
 fn put_partitions(out: &mut Vec<u8>, partitions: &[u16]) -> Result<(), AllocError>
-    ensures ok { OnOk result (out.new.items ≡ out.old.items ++ flat_map (to_be_bytes w16) partitions.now) }
+    ensures ok { OnOk result
+        (out.new.items ≡ out.old.items ++ flat_map (to_be_bytes w16) partitions.now) }
     ensures spare { UsesSpare result out.old out.new (2 * length partitions.now) }
 {
     for partition in partitions {

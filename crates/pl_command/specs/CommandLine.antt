@@ -46,6 +46,7 @@ words_option name = record (new_rule name) {
   required = true;
 }
 
+-- the words of `ask`
 abbrev pub words_rule : Rule
 words_rule = words_option (codes "words")
 
@@ -185,21 +186,26 @@ AsksFor words (lines.Ask to id token db epoch words_are) =
 
 -- ---- the options of a subcommand were found, and each number is in its range
 
+-- the option of this name has a value
 abbrev pub GivesText : List Row → Text → Type 0
 GivesText rows name = (text : Text) × (first_of name rows ≡ Some text)
 
+-- the option of this name has a number in the range, or a default that is one
 pub record GivesNumber (rows : List Row) (name : Text) (least most : ℕ) : Type 0 where
   pub digits : Text
   pub value : one_of name rows ≡ Some (without_minus digits)
   pub number : IsSignedIn (pos least) (pos most) digits
 
+-- there are words after the options
 abbrev pub GivesWords : List Row → Type 0
 GivesWords rows = (words : List Text) × (all_of (codes "words") rows ≡ Some words)
 
+-- all options of `play` were found
 pub record GivesPlay (rows : List Row) : Type 0 where
   pub table : GivesText rows (codes "table")
   pub primary : GivesNumber rows (codes "primary") 0 most_u32
 
+-- all options of `serve` were found
 pub record GivesServe (rows : List Row) : Type 0 where
   pub listen : GivesText rows (codes "listen")
   pub table : GivesText rows (codes "table")
@@ -213,6 +219,7 @@ pub record GivesServe (rows : List Row) : Type 0 where
   pub rounds : GivesNumber rows (codes "rounds") 0 most_u32
   pub idle_polls : GivesNumber rows (codes "idle-polls") 0 10000
 
+-- all options of `ask` and its words were found
 pub record GivesAsk (rows : List Row) : Type 0 where
   pub to : GivesText rows (codes "to")
   pub id : GivesNumber rows (codes "id") 0 most_u32

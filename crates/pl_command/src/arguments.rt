@@ -23,7 +23,8 @@ For more information, try '--help'.
 /// error.
 pub fn asked(alloc: Global, arguments: io::Result<Vec<String>>) -> Result<CommandLine, CommandFault>
     // What is asked for follows from the arguments (`AsksFor`).
-    ensures ok { IfOk result (λ line. IsOkAnd arguments (λ ws. AsksFor (map string_bytes ws.items) line)) }
+    ensures ok { IfOk result (λ line.
+        IsOkAnd arguments (λ ws. AsksFor (map string_bytes ws.items) line)) }
     // Arguments that `clap` takes are never a usage error.
     ensures usage { IfErr result (λ fault. IsUsage fault →
         IsOkAnd arguments (λ ws. takes own_app (map string_bytes ws.items) ≡ true) → ⊥) }

@@ -91,7 +91,8 @@ impl From<AllocError> for CommandFault {
 // The number that was found for this option, where it is in the range.
 fn number_of(found: &ArgMatches<'_>, name: &str, least: u32, most: u32) -> Option<u32>
     ensures some { IfSome result (HasNumber (rows_of (found_of found.now)) name.now least most) }
-    ensures none { IsNone result → GivesNumber (rows_of (found_of found.now)) name.now least most → ⊥ }
+    ensures none { IsNone result →
+        GivesNumber (rows_of (found_of found.now)) name.now least most → ⊥ }
 {
     let number = found.get_one::<u32>(name)?;
     if number < least || most < number {
@@ -104,7 +105,8 @@ fn number_of(found: &ArgMatches<'_>, name: &str, least: u32, most: u32) -> Optio
 fn words_of(alloc: Global, found: &ArgMatches<'_>) -> Result<Option<Vec<String>>, AllocError>
     ensures ok { IfOk result (λ words. IfSome words (λ words.
         HasWords (rows_of (found_of found.now)) (map string_bytes words.items))) }
-    ensures none { IfOk result (λ words. IsNone words → GivesWords (rows_of (found_of found.now)) → ⊥) }
+    ensures none { IfOk result (λ words. IsNone words →
+        GivesWords (rows_of (found_of found.now)) → ⊥) }
 {
     let Some(given) = found.get_strs("words") else {
         return Ok(None);
@@ -117,8 +119,10 @@ fn words_of(alloc: Global, found: &ArgMatches<'_>) -> Result<Option<Vec<String>>
 }
 
 fn play_of(alloc: Global, found: &ArgMatches<'_>) -> Result<Option<CommandLine>, AllocError>
-    ensures ok { IfOk result (λ line. IfSome line (Has (codes "play") (rows_of (found_of found.now)))) }
-    ensures none { IfOk result (λ line. IsNone line → GivesPlay (rows_of (found_of found.now)) → ⊥) }
+    ensures ok { IfOk result (λ line. IfSome line
+        (Has (codes "play") (rows_of (found_of found.now)))) }
+    ensures none { IfOk result (λ line. IsNone line →
+        GivesPlay (rows_of (found_of found.now)) → ⊥) }
 {
     let Some(table) = found.get_str("table") else {
         return Ok(None);
@@ -171,8 +175,10 @@ fn serve_numbers(found: &ArgMatches<'_>) -> Option<ServeNumbers>
 }
 
 fn serve_of(alloc: Global, found: &ArgMatches<'_>) -> Result<Option<CommandLine>, AllocError>
-    ensures ok { IfOk result (λ line. IfSome line (Has (codes "serve") (rows_of (found_of found.now)))) }
-    ensures none { IfOk result (λ line. IsNone line → GivesServe (rows_of (found_of found.now)) → ⊥) }
+    ensures ok { IfOk result (λ line. IfSome line
+        (Has (codes "serve") (rows_of (found_of found.now)))) }
+    ensures none { IfOk result (λ line. IsNone line →
+        GivesServe (rows_of (found_of found.now)) → ⊥) }
 {
     let (Some(listen), Some(table)) = (found.get_str("listen"), found.get_str("table")) else {
         return Ok(None);
@@ -196,8 +202,10 @@ fn serve_of(alloc: Global, found: &ArgMatches<'_>) -> Result<Option<CommandLine>
 }
 
 fn ask_of(alloc: Global, found: &ArgMatches<'_>) -> Result<Option<CommandLine>, AllocError>
-    ensures ok { IfOk result (λ line. IfSome line (Has (codes "ask") (rows_of (found_of found.now)))) }
-    ensures none { IfOk result (λ line. IsNone line → GivesAsk (rows_of (found_of found.now)) → ⊥) }
+    ensures ok { IfOk result (λ line. IfSome line
+        (Has (codes "ask") (rows_of (found_of found.now)))) }
+    ensures none { IfOk result (λ line. IsNone line →
+        GivesAsk (rows_of (found_of found.now)) → ⊥) }
 {
     let (Some(to), Some(token)) = (found.get_str("to"), found.get_str("token")) else {
         return Ok(None);
@@ -229,7 +237,8 @@ fn ask_of(alloc: Global, found: &ArgMatches<'_>) -> Result<Option<CommandLine>, 
 // The subcommand that was matched, with its options.
 fn line_of(alloc: Global, matches: &ArgMatches<'_>) -> Result<Option<CommandLine>, AllocError>
     ensures ok { IfOk result (λ line. IfSome line (Names (subcommand_rows_of matches.now))) }
-    ensures none { IfOk result (λ line. IsNone line → IsWholeCommand (subcommand_rows_of matches.now) → ⊥) }
+    ensures none { IfOk result (λ line. IsNone line →
+        IsWholeCommand (subcommand_rows_of matches.now) → ⊥) }
 {
     if let Some(play) = matches.subcommand_matches("play") {
         return play_of(alloc, play);
@@ -254,12 +263,15 @@ fn match_arguments<'a>(
         (Names (subcommand_of own_app (map string_bytes arguments.entry.now)))) }
     ensures none { IfOk result (λ line. IsNone line →
         takes own_app (map string_bytes arguments.entry.now) ≢ true) }
-    ensures usage { IfErr result (λ error. takes own_app (map string_bytes arguments.entry.now) ≡ true →
+    ensures usage { IfErr result (λ error.
+        takes own_app (map string_bytes arguments.entry.now) ≡ true →
         kind_of error ≡ ErrorKind.OutOfMemory) }
     ensures help { IfErr result (λ error. kind_of error ≡ ErrorKind.DisplayHelp →
-        IsAmong ErrorKind.DisplayHelp (fault_of own_app (map string_bytes arguments.entry.now))) }
+        IsAmong ErrorKind.DisplayHelp
+        (fault_of own_app (map string_bytes arguments.entry.now))) }
     ensures version { IfErr result (λ error. kind_of error ≡ ErrorKind.DisplayVersion →
-        IsAmong ErrorKind.DisplayVersion (fault_of own_app (map string_bytes arguments.entry.now))) }
+        IsAmong ErrorKind.DisplayVersion
+        (fault_of own_app (map string_bytes arguments.entry.now))) }
 {
     let matches = program.try_get_matches_from_mut(arguments)?;
     Ok(line_of(alloc, &matches)?)
@@ -269,8 +281,10 @@ fn match_arguments<'a>(
 fn outcome_of(alloc: Global, error: &clap::Error) -> Result<CommandLine, CommandFault>
     ensures help { IfOk result (λ line. IsHelp line × ((kind_of error.now ≡ ErrorKind.DisplayHelp)
         ⊎ (kind_of error.now ≡ ErrorKind.DisplayVersion))) }
-    ensures usage { IfErr result (λ fault. IsUsage fault → (kind_of error.now ≢ ErrorKind.DisplayHelp)
-        × (kind_of error.now ≢ ErrorKind.DisplayVersion) × (kind_of error.now ≢ ErrorKind.OutOfMemory)) }
+    ensures usage { IfErr result (λ fault. IsUsage fault →
+        (kind_of error.now ≢ ErrorKind.DisplayHelp)
+        × (kind_of error.now ≢ ErrorKind.DisplayVersion)
+        × (kind_of error.now ≢ ErrorKind.OutOfMemory)) }
 {
     if error.kind() == ErrorKind::OutOfMemory {
         return Err(CommandFault::NoMemory);

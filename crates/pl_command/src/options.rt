@@ -103,7 +103,8 @@ impl<'a> Making<'a> {
     // An option more.
     fn option(self, name: &'a str, takes: Takes<'a>, help: &'a str) -> Making<'a>
         ensures app { (app : App) → IfOk self.entry.command (λ c. app_of c ≡ app) →
-            IfOk result.command (λ c. app_of c ≡ with_rule app (rule_that name.entry.now takes.entry)) }
+            IfOk result.command (λ c.
+            app_of c ≡ with_rule app (rule_that name.entry.now takes.entry)) }
     {
         let Making { alloc, command } = self;
         Making {
@@ -173,8 +174,9 @@ fn ask_command<'a>(alloc: Global) -> Making<'a>
 
 // The command with this subcommand.
 fn with_sub<'a>(command: Command<'a>, subcommand: Making<'a>) -> Result<Command<'a>, AllocError>
-    ensures app { (app sub : App) → app_of command.entry ≡ app → IfOk subcommand.entry.command (λ c. app_of c ≡ sub) →
-        sub.top.is_plain ≡ true → IfOk result (λ c. app_of c ≡ with_subcommand app sub.top) }
+    ensures app { (app sub : App) → app_of command.entry ≡ app →
+        IfOk subcommand.entry.command (λ c. app_of c ≡ sub) → sub.top.is_plain ≡ true →
+        IfOk result (λ c. app_of c ≡ with_subcommand app sub.top) }
 {
     let Making { command: made, .. } = subcommand;
     match made {

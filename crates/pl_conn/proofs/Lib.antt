@@ -12,3 +12,4 @@ pub mod Reading
 pub mod Filling
 pub mod Turning
 pub mod Finishing
+pub mod Listing

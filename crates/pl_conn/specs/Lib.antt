@@ -7,3 +7,4 @@ pub mod Resting
 pub mod Gathering
 pub mod Serving
 pub mod Workers
+pub mod Lines

@@ -7,10 +7,10 @@ ghost use Rattle.pl_conn.specs.Serving.{is_passing};
 
 use crate::post::Post;
 use crate::serving::Stop;
+use crate::terms::Terms;
 use crate::watch::Watch;
-use crossbeam_channel::{Sender, TrySendError};
 use std::io;
-use std::net::{TcpListener, TcpStream};
+use std::net::TcpStream;
 use std::sync::Wait;
 use std::sync::atomic::AtomicU64;
 use std::time::Duration;
@@ -39,21 +39,20 @@ fn passes(error: &io::Error) -> bool
 // listener itself.
 fn accept<R: Wait, W: Watch>(
     rt: &R,
-    listener: &TcpListener,
-    watch: &W,
+    terms: &Terms<W>,
     is_reported: &mut bool,
 ) -> io::Result<TcpStream> {
-    let bell = AtomicU64::new(0);
+    let rest = AtomicU64::new(0);
     for _ in rt.forever() {
-        match listener.accept() {
+        match terms.listener.accept() {
             Ok((socket, _)) => return Ok(socket),
-            // Nobody rings: it is the time that ends the rest.
+            // Nobody wakes it: the time ends the rest.
             Err(error) if passes(&error) => {
                 if !*is_reported {
-                    watch.accept_rests(&error);
+                    terms.watch.accept_rests(&error);
                     *is_reported = true;
                 }
-                bell.park_timeout(rt, 0, Duration::from_millis(REST));
+                rest.park_timeout(rt, 0, Duration::from_millis(REST));
             }
             Err(error) => return Err(error),
         }
@@ -75,70 +74,51 @@ fn fewest(posts: &[Post]) -> usize {
     place
 }
 
-// Hands the socket to the worker, if its channel has room. Else the socket comes back.
+// Hands the socket to the worker at this place, if its channel has room. Else the socket comes back.
 fn offer<R: Wait>(
     rt: &R,
-    post: &Post,
-    channel: &Sender<TcpStream>,
+    posts: &mut [Post],
+    place: usize,
     socket: TcpStream,
 ) -> Option<TcpStream> {
-    post.opens();
-    match channel.try_send(rt, socket) {
-        Ok(()) => {
-            post.ring();
-            None
-        }
-        Err(TrySendError::Full(socket))
-        | Err(TrySendError::Disconnected(socket))
-        | Err(TrySendError::OutOfMemory(socket)) => {
-            post.closes();
-            Some(socket)
-        }
+    match posts.get_mut(place) {
+        Some(post) => post.offer(rt, socket),
+        None => Some(socket),
     }
 }
 
 // Hands the socket to the worker that has the fewest connections. Where its channel is full, it goes to the first
 // that has room; where none has, to that worker, once it has.
-fn hand_over<R: Wait>(rt: &R, posts: &[Post], channels: &[Sender<TcpStream>], socket: TcpStream) {
+fn hand_over<R: Wait>(rt: &R, posts: &mut [Post], socket: TcpStream) {
     let place = fewest(posts);
-    let (Some(post), Some(channel)) = (posts.get(place), channels.get(place)) else {
-        return;
-    };
-    let mut left = offer(rt, post, channel, socket);
-    for (other, its) in posts.iter().zip(channels) {
+    let mut left = offer(rt, posts, place, socket);
+    for other in 0..posts.len() {
         left = match left {
-            Some(socket) => offer(rt, other, its, socket),
+            Some(socket) => offer(rt, posts, other, socket),
             None => None,
         };
     }
-    if let Some(socket) = left {
-        post.opens();
-        if channel.send(rt, socket).is_err() {
-            post.closes();
-        }
-        post.ring();
+    if let (Some(socket), Some(post)) = (left, posts.get_mut(place)) {
+        post.send(rt, socket);
     }
 }
 
-/// Accepts this many connections, and hands their sockets to the workers.
+/// Accepts as many connections as the terms say, and hands their sockets to the workers.
 pub(crate) fn accept_all<R: Wait, W: Watch>(
     rt: &R,
-    listener: &TcpListener,
-    posts: &[Post],
-    channels: &[Sender<TcpStream>],
-    connections: u32,
-    watch: &W,
+    terms: &Terms<W>,
+    posts: &mut [Post],
 ) -> (u32, Stop)
-    ensures most { result.0 ≤ connections }
-    ensures limit { result.1 ≡ Stop.Limit → result.0 ≡ connections }
+    ensures most { result.0 ≤ terms.now.connections }
+    ensures limit { result.1 ≡ Stop.Limit → result.0 ≡ terms.now.connections }
     ensures never { result.1 ≢ Stop.Start }
 {
     let mut is_reported = false;
-    for accepted in 0..connections {
-        let Ok(socket) = accept(rt, listener, watch, &mut is_reported) else {
+    for accepted in 0..terms.connections {
+        let Ok(socket) = accept(rt, terms, &mut is_reported) else {
             return (accepted, Stop::Accept);
         };
-        hand_over(rt, posts, channels, socket);
+        hand_over(rt, posts, socket);
     }
-    (connections, Stop::Limit)
+    (terms.connections, Stop::Limit)
 }

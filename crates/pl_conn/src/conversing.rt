@@ -38,7 +38,6 @@ fn request_in(alloc: Global, body: Vec<u8>) -> Result<Request, BodyFault>
 // room before the request has its step. False at the end of input.
 #[tactic(auto, using(crate::proofs::Gathered::takes_buffered, crate::proofs::Gathered::takes_fault))]
 fn take_next<R: Source, G: Gate>(
-    alloc: Global,
     reader: &mut R,
     gate: &G,
     pass: &mut G::Pass,
@@ -51,13 +50,14 @@ fn take_next<R: Source, G: Gate>(
         (R.remaining reader.new) pass.new outbox.new result }
     ensures one { result ≡ Ok true → length outbox.new.lens ≡ length outbox.old.lens + 1 }
 {
-    if let Some(count) = answer_first(alloc, reader.buffered(), gate, pass, outbox) {
+    if let Some(count) = answer_first(reader.buffered(), gate, pass, outbox) {
         reader.consume(count);
         return Ok(true);
     }
-    match read_frame(alloc, reader, LONGEST_REQUEST) {
+    match read_frame(outbox.alloc(), reader, LONGEST_REQUEST) {
         Ok(Some(body)) => {
-            outbox.put_answer(request_in(alloc, body), gate, pass);
+            let read = request_in(outbox.alloc(), body);
+            outbox.put_answer(read, gate, pass);
             Ok(true)
         }
         Ok(None) => Ok(false),
@@ -68,7 +68,6 @@ fn take_next<R: Source, G: Gate>(
 // One turn: answers the next frame, and the whole frames that are buffered after it, as many as may wait together, and
 // writes the replies. Returns their number, at most this many, and 0 at the end of input.
 fn turn<R: Source, W: Write, G: Gate>(
-    alloc: Global,
     reader: &mut R,
     writer: &mut W,
     most: u64,
@@ -87,12 +86,12 @@ fn turn<R: Source, W: Write, G: Gate>(
     ensures few { IfErr result (λ fault. fault.answered ≤ most) }
 {
     outbox.restart();
-    match take_next(alloc, reader, gate, pass, outbox) {
+    match take_next(reader, gate, pass, outbox) {
         Ok(true) => {}
         Ok(false) => return Ok(0),
         Err(cause) => return Err(ConnFault { cause, answered: 0 }),
     }
-    let taken = answer_whole(alloc, reader.buffered(), most - 1, gate, pass, outbox);
+    let taken = answer_whole(reader.buffered(), most - 1, gate, pass, outbox);
     reader.consume(taken);
     let (sent, _end) = write_ready(writer, outbox.text());
     if sent < outbox.text().len() {
@@ -146,7 +145,7 @@ pub fn converse<R: Source, W: Write, G: Gate>(
     let mut answered = 0;
     while answered < MOST_FRAMES {
         let most = MOST_FRAMES - answered;
-        match turn(alloc, reader, writer, most, gate, pass, &mut outbox) {
+        match turn(reader, writer, most, gate, pass, &mut outbox) {
             Ok(0) => return Ok(answered),
             Ok(count) => answered += count,
             Err(fault) => {

@@ -48,7 +48,8 @@ fn read_after<R: Read>(from: &mut R, room: &mut [u8], count: usize) -> io::Resul
     ensures few { IfOk result (λ more. count + more ≤ length room.new) }
     ensures ok { IfOk result (λ more. Hears (R.remaining from.old) (take count room.old)
         (R.remaining from.new) (take (count + more) room.new)) }
-    ensures end { IfOk result (λ more. more ≡ 0 → count < length room.old → IsAtEnd (R.remaining from.new)) }
+    ensures end { IfOk result (λ more. more ≡ 0 → count < length room.old
+        → IsAtEnd (R.remaining from.new)) }
     ensures err { OnErr result (Hears (R.remaining from.old) (take count room.old)
         (R.remaining from.new) (take count room.new)) }
     ensures kept { take count room.new ≡ take count room.old }
@@ -94,7 +95,8 @@ impl Inbox {
         ensures value { Hears (R.remaining from.old) self.old (R.remaining from.new) self.new }
         ensures more { IfOk result (λ more. length self.new ≡ length self.old + more) }
         ensures kept { OnErr result (self.new ≡ self.old) }
-        ensures end { IfOk result (λ more. more ≡ 0 → length self.old < 65540 → IsAtEnd (R.remaining from.new)) }
+        ensures end { IfOk result (λ more. more ≡ 0 → length self.old < 65540
+            → IsAtEnd (R.remaining from.new)) }
     {
         let more = read_after(from, self.room.as_mut_slice(), self.len)?;
         self.len += more;

@@ -53,26 +53,30 @@ impl Worked {
     }
 }
 
-/// What a page server says of itself, and which partition it applies the log to.
-#[derive(Drop)]
-struct Errand {
-    principal: u32,
-    token: [u8; 16],
-    database: u32,
-    partition: u16,
+/// A page server: what it says of itself, and how it applies the log.
+#[derive(Clone, Copy)]
+pub struct PageServer {
+    /// Its id.
+    pub principal: u32,
+    /// Its token.
+    pub token: [u8; 16],
+    /// The partition to which it applies the log.
+    pub partition: u16,
+    /// How many rounds it makes at a database.
+    pub rounds: u32,
 }
 
-impl Errand {
-    // The request of a round at this epoch.
-    fn at(&self, epoch: u32) -> Request
-        ensures { result ≡ advance_at self.now.principal self.now.token self.now.database
+impl PageServer {
+    // The request of a round at this database and epoch.
+    fn advance(&self, database: u32, epoch: u32) -> Request
+        ensures { result ≡ advance_at self.now.principal self.now.token database
             self.now.partition epoch }
     {
         let head = Head {
             principal: self.principal,
             token: self.token,
             role: Role::PageServer,
-            database: self.database,
+            database,
             epoch,
         };
         let act = Act::Advance {
@@ -84,34 +88,60 @@ impl Errand {
         };
         request
     }
+
+    // One round. It returns whether another may follow.
+    fn round<G: Gate>(
+        &self,
+        gate: &G,
+        pass: &mut G::Pass,
+        database: u32,
+        worked: &mut Worked,
+    ) -> bool
+        requires own { G.owns gate.now pass.old }
+        requires few { worked.old.done < 2 ^ 32 - 1 }
+        ensures own { G.owns gate.now pass.new }
+        ensures value { Round (G.calls gate.now)
+            (advance_at self.now.principal self.now.token database self.now.partition)
+            pass.old worked.old worked.new result pass.new }
+    {
+        let reply = gate.call(pass, self.advance(database, worked.epoch));
+        worked.learn(&reply)
+    }
+
+    /// Advances its partition of this database by 16 blocks in each of its rounds, first at epoch 1. Where a
+    /// round is denied for its older epoch, the next one asks at the epoch that the denial reports. Any
+    /// other reply than `Done` and such a denial ends it.
+    ///
+    /// It makes one call of the gate a round, and no allocation of its own.
+    pub fn advance_rounds<G: Gate>(&self, gate: &G, pass: &mut G::Pass, database: u32) -> Worked
+        // The pass is the gate's.
+        requires own { G.owns gate.now pass.old }
+        // The pass stays the gate's.
+        ensures own { G.owns gate.now pass.new }
+        // At most the given number of calls, each the advance of the partition by 16 as page server, at
+        // the epoch that was reported last, 1 at first. Only the last reply may be other than Done and a
+        // denial that reports the current epoch, and fewer calls are made only after such a reply. `done`
+        // counts the replies of Done, and `epoch` is the one reported last (`Works`).
+        ensures value { Works (G.calls gate.now)
+            (advance_at self.now.principal self.now.token database self.now.partition)
+            self.now.rounds pass.old result pass.new }
+    {
+        let mut worked = Worked { done: 0, epoch: 1 };
+        for _round in 0..self.rounds {
+            if !self.round(gate, pass, database, &mut worked) {
+                break;
+            }
+        }
+        worked
+    }
 }
 
-// One round. It returns whether another may follow.
-fn round<G: Gate>(gate: &G, pass: &mut G::Pass, errand: &Errand, worked: &mut Worked) -> bool
-    requires own { G.owns gate.now pass.old }
-    requires few { worked.old.done < 2 ^ 32 - 1 }
-    ensures own { G.owns gate.now pass.new }
-    ensures value { Round (G.calls gate.now)
-        (advance_at errand.now.principal errand.now.token errand.now.database errand.now.partition)
-        pass.old worked.old worked.new result pass.new }
-{
-    let reply = gate.call(pass, errand.at(worked.epoch));
-    worked.learn(&reply)
-}
-
-/// Advances a partition by 16 blocks in each of this many rounds, as page server, first at epoch 1. Where
-/// a round is denied for its older epoch, the next one asks at the epoch that the denial reports. Any
-/// other reply than `Done` and such a denial ends it.
-///
-/// It makes one call of the gate a round, and no allocation of its own.
+/// Materialises the partition of a page server at this database, as [`PageServer::advance_rounds`] does.
 pub fn materialise<G: Gate>(
     gate: &G,
     pass: &mut G::Pass,
-    principal: u32,
-    token: [u8; 16],
+    server: &PageServer,
     database: u32,
-    partition: u16,
-    rounds: u32,
 ) -> Worked
     // The pass is the gate's.
     requires own { G.owns gate.now pass.old }
@@ -121,20 +151,9 @@ pub fn materialise<G: Gate>(
     // the epoch that was reported last, 1 at first. Only the last reply may be other than Done and a
     // denial that reports the current epoch, and fewer calls are made only after such a reply. `done`
     // counts the replies of Done, and `epoch` is the one reported last (`Works`).
-    ensures value { Works (G.calls gate.now) (advance_at principal token database partition) rounds
-        pass.old result pass.new }
+    ensures value { Works (G.calls gate.now)
+        (advance_at server.now.principal server.now.token database server.now.partition)
+        server.now.rounds pass.old result pass.new }
 {
-    let errand = Errand {
-        principal,
-        token,
-        database,
-        partition,
-    };
-    let mut worked = Worked { done: 0, epoch: 1 };
-    for _round in 0..rounds {
-        if !round(gate, pass, &errand, &mut worked) {
-            break;
-        }
-    }
-    worked
+    server.advance_rounds(gate, pass, database)
 }

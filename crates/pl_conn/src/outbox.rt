@@ -22,6 +22,7 @@ const MANY_REPLIES: usize = 4_096;
 /// The room of all that may wait is there from the start, so that no reply that was given lacks memory.
 #[derive(Drop)]
 pub(crate) struct Outbox {
+    alloc: Global,
     text: Vec<u8>,
     // How long each frame in the text is.
     lens: Vec<usize>,
@@ -66,10 +67,16 @@ impl Outbox {
         ensures value { IfOk result (λ outbox. outbox ≡ emptied) }
     {
         Ok(Outbox {
+            alloc,
             text: Vec::with_capacity(alloc, MANY_BYTES + LARGEST_REPLY_FRAME)?,
             lens: Vec::with_capacity(alloc, MANY_REPLIES)?,
             latest: Latest::new(),
         })
+    }
+
+    /// What it takes memory of.
+    pub(crate) fn alloc(&self) -> Global {
+        self.alloc
     }
 
     /// Forgets the replies.
@@ -111,12 +118,12 @@ impl Outbox {
     }
 
     /// The request that a body spells. The block of a write or an offer that was in the one before, too, is not read again.
-    pub(crate) fn request_of(&mut self, alloc: Global, body: &[u8]) -> Result<Request, BodyFault>
+    pub(crate) fn request_of(&mut self, body: &[u8]) -> Result<Request, BodyFault>
         ensures exact { Returns result (request_reading body.now) }
         ensures no_memory { result ≡ Err NoMemory → MayLackMemory body.now }
         ensures same { self.new ≡ self.old }
     {
-        decode_request_after(alloc, body, &mut self.latest)
+        decode_request_after(self.alloc, body, &mut self.latest)
     }
 
     /// Answers a body, by what was read of it, and puts the frame of the reply after the others. There is no allocation here,

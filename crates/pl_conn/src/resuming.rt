@@ -14,7 +14,7 @@ use crate::inbox::{Inbox, LONGEST_FRAME};
 use crate::outbox::Outbox;
 use pl_wire::{Gate, body_in, is_cut};
 use std::alloc::{AllocError, Global};
-use std::io::{self, ErrorKind, Read, Write};
+use std::io::{ErrorKind, Read, Write};
 use std::marker::Model;
 use std::mem;
 
@@ -48,6 +48,7 @@ pub enum Rest {
 /// that may wait together. Conversations share one, since it is empty between two turns.
 #[derive(Drop)]
 pub struct Room {
+    alloc: Global,
     inbox: Inbox,
     outbox: Outbox,
     // Memory for what is unread of one conversation, where there is no other.
@@ -58,6 +59,7 @@ impl Room {
     /// An empty room, of about 950 KB.
     pub fn new(alloc: Global) -> Result<Room, AllocError> {
         Ok(Room {
+            alloc,
             inbox: Inbox::new(alloc)?,
             outbox: Outbox::new(alloc)?,
             spare: Vec::with_capacity(alloc, LONGEST_FRAME)?,
@@ -101,12 +103,13 @@ enum Heard {
 }
 
 // Reads once, unless a whole frame was read, or the length of one that is too long.
-fn hear<R: Read>(reader: &mut R, inbox: &mut Inbox) -> io::Result<Heard>
+fn hear<R: Read>(reader: &mut R, inbox: &mut Inbox) -> Result<Heard, Cause>
     ensures value { Hears (R.remaining reader.old) inbox.old (R.remaining reader.new) inbox.new }
     ensures end { IfOk result (λ heard. heard ≡ Heard.End → IsAtEnd (R.remaining reader.new)) }
     ensures some { IfOk result (λ heard. heard ≡ Heard.Some →
         (length inbox.old < length inbox.new) ⊎ IsDecided longest_request inbox.new) }
     ensures cut { OnErr result (IsCut longest_request inbox.new) }
+    ensures cause { IfErr result (λ cause. cause ≡ Cause.Read) }
 {
     if !is_cut(inbox.as_slice()) {
         return Ok(Heard::Some);
@@ -116,7 +119,7 @@ fn hear<R: Read>(reader: &mut R, inbox: &mut Inbox) -> io::Result<Heard>
         Ok(_) if inbox.is_full() => Ok(Heard::Some),
         Ok(_) => Ok(Heard::All),
         Err(error) if error.kind() == ErrorKind::WouldBlock => Ok(Heard::All),
-        Err(error) => Err(error),
+        Err(_) => Err(Cause::Read),
     }
 }
 
@@ -124,20 +127,20 @@ fn hear<R: Read>(reader: &mut R, inbox: &mut Inbox) -> io::Result<Heard>
 // them, and this often at most. Returns how many bytes the frames have, and how many are written of the replies that are
 // then in the outbox.
 fn speak<W: Write, G: Gate>(
-    alloc: Global,
     bytes: &[u8],
     writes: u32,
     writer: &mut W,
     gate: &G,
     pass: &mut G::Pass,
     outbox: &mut Outbox,
-) -> (usize, usize, io::Result<()>)
+) -> (usize, usize, Result<(), Cause>)
     requires own { G.owns gate.now pass.old }
     ensures own { G.owns gate.now pass.new }
     ensures few { result.0 ≤ length bytes.now }
     ensures sent { result.1 ≤ length outbox.new.text }
     ensures value { Speaks (G.calls gate.now) pass.old (W.contents writer.old) bytes.now
-        pass.new (W.contents writer.new) (middle (drop result.0 bytes.now) (drop result.1 outbox.new.text)) }
+        pass.new (W.contents writer.new)
+        (middle (drop result.0 bytes.now) (drop result.1 outbox.new.text)) }
     ensures all { (result.1 < length outbox.new.text) ⊎ ((4 * writes ≤ result.0)
         ⊎ LacksFrame longest_request (drop result.0 bytes.now)) }
     ensures err { OnErr result.2 (result.1 < length outbox.new.text) }
@@ -145,17 +148,10 @@ fn speak<W: Write, G: Gate>(
     let mut taken = 0;
     for _ in 0..writes {
         outbox.restart();
-        let Some(first) = answer_first(alloc, &bytes[taken..], gate, pass, outbox) else {
+        let Some(first) = answer_first(&bytes[taken..], gate, pass, outbox) else {
             return (taken, 0, Ok(()));
         };
-        let more = answer_whole(
-            alloc,
-            &bytes[taken + first..],
-            MOST_FRAMES,
-            gate,
-            pass,
-            outbox,
-        );
+        let more = answer_whole(&bytes[taken + first..], MOST_FRAMES, gate, pass, outbox);
         let (sent, end) = write_ready(writer, outbox.text());
         taken += first + more;
         if end.is_err() || sent < outbox.text().len() {
@@ -165,9 +161,9 @@ fn speak<W: Write, G: Gate>(
     (taken, outbox.text().len(), Ok(()))
 }
 
-// Ends a conversation that finds no memory for these bytes, once the frames that are whole are answered.
+// Ends a conversation that finds no memory for these bytes, once the frames that are whole are answered. All replies before
+// are written: none is lost.
 fn end_of<W: Write, G: Gate>(
-    alloc: Global,
     bytes: &[u8],
     writer: &mut W,
     gate: &G,
@@ -177,11 +173,12 @@ fn end_of<W: Write, G: Gate>(
     requires own { G.owns gate.now pass.old }
     requires few { length bytes.now ≤ 65540 }
     ensures own { G.owns gate.now pass.new }
-    ensures value { (lost : Middle) × Speaks (G.calls gate.now) pass.old (W.contents writer.old) bytes.now
-        pass.new (W.contents writer.new) lost
-        × ((left : _) → Ends result (lost.waiting ≡ []) (0 < length lost.waiting) lost.unread left) }
+    ensures value { (lost : Middle) × Speaks (G.calls gate.now) pass.old
+        (W.contents writer.old) bytes.now pass.new (W.contents writer.new) lost
+        × ((left : _) → Ends result (lost.waiting ≡ []) (0 < length lost.waiting)
+        lost.unread left) }
 {
-    let (taken, sent, end) = speak(alloc, bytes, MOST_WRITES, writer, gate, pass, outbox);
+    let (taken, sent, end) = speak(bytes, MOST_WRITES, writer, gate, pass, outbox);
     if end.is_err() || sent < outbox.text().len() {
         return Cause::Write;
     }
@@ -205,9 +202,12 @@ fn rest_after(heard: Heard, unread: &[u8], waiting: usize) -> Result<Rest, Cause
         × (HasFrame unread.now ⊎ ((heard ≡ Heard.Some) × IsCut longest_request unread.now)) }
     ensures input { result ≡ Ok Rest.Input → (waiting ≡ 0) × IsCut longest_request unread.now }
     ensures output { result ≡ Ok Rest.Output → 0 < waiting }
-    ensures over { result ≡ Ok Rest.Over → (waiting ≡ 0) × (unread.now ≡ []) × (heard ≡ Heard.End) }
-    ensures err { IfErr result (λ cause. (waiting ≡ 0) × (((cause ≡ Cause.TooLong) × IsTooLong unread.now)
-        ⊎ ((cause ≡ Cause.Short) × (0 < length unread.now) × IsCut longest_request unread.now × (heard ≡ Heard.End)))) }
+    ensures over { result ≡ Ok Rest.Over → (waiting ≡ 0) × (unread.now ≡ [])
+        × (heard ≡ Heard.End) }
+    ensures err { IfErr result (λ cause. (waiting ≡ 0)
+        × (((cause ≡ Cause.TooLong) × IsTooLong unread.now)
+        ⊎ ((cause ≡ Cause.Short) × (0 < length unread.now) × IsCut longest_request unread.now
+        × (heard ≡ Heard.End)))) }
 {
     if waiting > 0 {
         return Ok(Rest::Output);
@@ -255,10 +255,11 @@ impl Conversation {
     }
 
     // Writes the replies that wait, as many bytes as the writer takes now.
-    fn tell<W: Write>(&mut self, alloc: Global, writer: &mut W) -> io::Result<()>
+    fn tell<W: Write>(&mut self, alloc: Global, writer: &mut W) -> Result<(), Cause>
         ensures value { Tells (W.contents writer.old) self.old (W.contents writer.new) self.new }
         ensures few { length self.new.waiting < waiting_limit }
         ensures err { OnErr result (0 < length self.new.waiting) }
+        ensures cause { IfErr result (λ cause. cause ≡ Cause.Write) }
     {
         let (count, end) = write_ready(writer, &self.waiting[self.sent..]);
         self.sent += count;
@@ -337,7 +338,6 @@ impl Conversation {
     /// did not take (`Write`).
     pub fn resume<R: Read, W: Write, G: Gate>(
         &mut self,
-        alloc: Global,
         reader: &mut R,
         writer: &mut W,
         gate: &G,
@@ -356,33 +356,23 @@ impl Conversation {
         // Fewer bytes of replies wait than 786,511 (`waiting_limit`).
         ensures waits { length self.new.waiting < waiting_limit }
     {
-        if self.tell(alloc, writer).is_err() {
-            return Err(Cause::Write);
-        }
+        self.tell(room.alloc, writer)?;
         if self.left() > 0 {
             return Ok(Rest::Output);
         }
-        let Room {
-            inbox,
-            outbox,
-            spare,
-        } = room;
-        inbox.load(self.unread());
-        let Ok(heard) = hear(reader, inbox) else {
-            return Err(Cause::Read);
-        };
-        let bytes = inbox.as_slice();
-        let (taken, sent, end) = speak(alloc, bytes, WRITES_A_TURN, writer, gate, pass, outbox);
+        room.inbox.load(self.unread());
+        let heard = hear(reader, &mut room.inbox)?;
+        let (bytes, outbox) = (room.inbox.as_slice(), &mut room.outbox);
+        let (taken, sent, end) = speak(bytes, WRITES_A_TURN, writer, gate, pass, outbox);
         if end.is_err() {
             return Err(Cause::Write);
         }
         let (unread, left) = (&bytes[taken..], &outbox.text()[sent..]);
-        if self.keep(alloc, left, unread, spare).is_ok() {
+        if self.keep(room.alloc, left, unread, &mut room.spare).is_ok() {
             return rest_after(heard, self.unread(), self.left());
         }
-        // Where all replies are written, none is lost.
         if left.is_empty() {
-            return Err(end_of(alloc, unread, writer, gate, pass, outbox));
+            return Err(end_of(unread, writer, gate, pass, outbox));
         }
         Err(Cause::Write)
     }

@@ -1,6 +1,6 @@
 //! Many connections at once, each served by one of several workers.
 
-ghost use Rattle.std.specs.Prelude.{◌≡◌, ◌≤◌, [], IfSome, length, take, vec_len, vec_capacity};
+ghost use Rattle.std.specs.Prelude.{◌≡◌, ◌≢◌, ◌≤◌, [], IfSome, take, vec_len, vec_capacity};
 ghost use Rattle.std.specs.List.{All};
 ghost use Rattle.pl_conn.specs.Serving.{Reaches, Returned, ServesConnections};
 ghost use Rattle.pl_conn.specs.Workers.{AllOf, each_of};
@@ -8,12 +8,12 @@ ghost use Rattle.pl_conn.specs.Workers.{AllOf, each_of};
 use crate::accepting::accept_all;
 use crate::post::Post;
 use crate::staff::Staff;
+use crate::terms::Terms;
 use crate::watch::{Unwatched, Watch};
 use crate::worker::{Outcome, Worker};
-use crossbeam_channel::Sender;
 use pl_wire::Gate;
 use std::alloc::Global;
-use std::net::{Net, TcpListener, TcpStream};
+use std::net::{Net, TcpListener};
 use std::snapshot::Snapshot;
 use std::sync::Wait;
 use std::thread;
@@ -69,9 +69,7 @@ impl<G: Gate> Promise<Outcome<G::Pass>> for Kept<G> {
 fn start<'s, E, R: Wait + Sync, G: Gate + Sync>(
     scope: &Scope<'s, E>,
     rt: &'s R,
-    alloc: Global,
     worker: Worker,
-    post: &'s Post,
     gate: &'s G,
     pass: G::Pass,
 ) -> Option<PromisedHandle<Outcome<G::Pass>, Kept<G>>>
@@ -85,7 +83,7 @@ where
         gate: Snapshot::of(gate),
         start: Snapshot::of(&pass),
     };
-    match scope.spawn_with(promise, move || worker.work(rt, alloc, post, gate, pass)) {
+    match scope.spawn_with(promise, move || worker.work(rt, gate, pass)) {
         Ok(handle) => Some(handle),
         Err(_) => None,
     }
@@ -96,9 +94,7 @@ where
 fn start_all<'s, E, R: Wait + Sync, G: Gate + Sync>(
     scope: &Scope<'s, E>,
     rt: &'s R,
-    alloc: Global,
     hired: Vec<Worker>,
-    posts: &'s [Post],
     gate: &'s G,
     passes: Vec<G::Pass>,
     workers: Vec<PromisedHandle<Outcome<G::Pass>, Kept<G>>>,
@@ -120,12 +116,9 @@ where
         if hired.is_empty() {
             break;
         }
-        let Some(post) = posts.get(workers.len()) else {
-            break;
-        };
         let worker = hired.remove(0);
         let pass = passes.remove(0);
-        let Some(handle) = start(scope, rt, alloc, worker, post, gate, pass) else {
+        let Some(handle) = start(scope, rt, worker, gate, pass) else {
             break;
         };
         workers.push_reserved(handle);
@@ -161,12 +154,13 @@ where
     (ended, faults)
 }
 
-// Those of the first workers, this many.
-fn started_of(posts: &[Post], workers: usize) -> &[Post]
-    ensures some { workers ≤ length posts.now → result.now ≡ take workers posts.now }
-    ensures few { length result.now ≤ workers }
+// The posts of the first workers, this many.
+fn started_of(posts: Vec<Post>, workers: usize) -> Vec<Post>
+    ensures value { result.items ≡ take workers posts.items }
 {
-    &posts[..workers.min(posts.len())]
+    let mut posts = posts;
+    posts.truncate(workers);
+    posts
 }
 
 // Nothing was served.
@@ -183,47 +177,51 @@ fn stopped<P>(alloc: Global, stop: Stop) -> Served<P>
     }
 }
 
+// Accepts the connections for the workers of these posts. Then each of them sees that no more come.
+fn accept_for<R: Wait, W: Watch>(rt: &R, terms: &Terms<W>, posts: Vec<Post>) -> (u32, Stop)
+    ensures most { result.0 ≤ terms.now.connections }
+    ensures limit { result.1 ≡ Stop.Limit → result.0 ≡ terms.now.connections }
+    ensures never { result.1 ≢ Stop.Start }
+{
+    let mut posts = posts;
+    let accepted = accept_all(rt, terms, posts.as_mut_slice());
+    for post in posts {
+        post.close();
+    }
+    accepted
+}
+
 // Starts the workers, accepts the connections, and waits for the workers.
 fn serve_in<'s, E, R: Threads + Wait + Sync, G: Gate + Sync, W: Watch>(
     scope: &Scope<'s, E>,
     rt: &'s R,
-    alloc: Global,
-    listener: &TcpListener,
-    hired: Vec<Worker>,
-    posts: &'s [Post],
-    channels: Vec<Sender<TcpStream>>,
+    terms: &Terms<W>,
+    staff: Staff,
     gate: &'s G,
     passes: Vec<G::Pass>,
-    connections: u32,
-    watch: &W,
 ) -> Served<G::Pass>
 where
     G::Pass: Send + Drop + 's,
     requires own { All (G.owns gate.now) passes.items }
-    ensures serves { ServesConnections (G.calls gate.now) (G.owns gate.now) passes.items connections
-        result.accepted result.stop result.passes.items }
+    ensures serves { ServesConnections (G.calls gate.now) (G.owns gate.now) passes.items
+        terms.now.connections result.accepted result.stop result.passes.items }
 {
-    let (Ok(workers), Ok(ended)) = (
-        Vec::with_capacity(alloc, passes.len()),
-        Vec::with_capacity(alloc, passes.len()),
-    ) else {
-        return stopped(alloc, Stop::NoMemory);
-    };
     let asked = passes.len();
-    let workers = start_all(scope, rt, alloc, hired, posts, gate, passes, workers);
+    let (Ok(workers), Ok(ended)) = (
+        Vec::with_capacity(terms.alloc, asked),
+        Vec::with_capacity(terms.alloc, asked),
+    ) else {
+        return stopped(terms.alloc, Stop::NoMemory);
+    };
+    let workers = start_all(scope, rt, staff.workers, gate, passes, workers);
     if workers.is_empty() {
-        return stopped(alloc, Stop::Start);
+        return stopped(terms.alloc, Stop::Start);
     }
     if workers.len() < asked {
-        watch.few_workers(workers.len(), asked);
+        terms.watch.few_workers(workers.len(), asked);
     }
-    let posts = started_of(posts, workers.len());
-    let (accepted, stop) = accept_all(rt, listener, posts, &channels, connections, watch);
-    // No more sockets come: each worker sees it when it looks.
-    drop(channels);
-    for post in posts {
-        post.ring();
-    }
+    let posts = started_of(staff.posts, workers.len());
+    let (accepted, stop) = accept_for(rt, terms, posts);
     let (passes, faults) = join_all(rt, gate, workers, ended);
     Served {
         accepted,
@@ -274,30 +272,24 @@ where
     ensures serves { ServesConnections (G.calls gate.now) (G.owns gate.now) passes.items connections
         result.accepted result.stop result.passes.items }
 {
-    serve_watched(
-        rt,
+    let terms = Terms {
         alloc,
         listener,
-        gate,
-        passes,
         connections,
-        0,
-        &Unwatched,
-    )
+        idle_polls: 0,
+        watch: &Unwatched,
+    };
+    serve_watched(rt, &terms, gate, passes)
 }
 
-/// Serves as [`serve`] does, and reports to the watch what it cannot do meanwhile. A worker that has nothing to do first polls
-/// its sockets `idle_polls` times more, awake, unless another worker does so, and then sleeps; with 0, as `serve` has it, it
-/// sleeps at once.
+/// Serves as [`serve`] does, by these terms, and reports to their watch what it cannot do meanwhile. A worker that has nothing to do
+/// first polls its sockets `idle_polls` times more, awake, unless another worker does so, and then sleeps; with 0, as `serve`
+/// has it, it sleeps at once.
 pub fn serve_watched<R: Threads + Wait + Net + Sync, G: Gate + Sync, W: Watch>(
     rt: &R,
-    alloc: Global,
-    listener: &TcpListener,
+    terms: &Terms<W>,
     gate: &G,
     passes: Vec<G::Pass>,
-    connections: u32,
-    idle_polls: u32,
-    watch: &W,
 ) -> Served<G::Pass>
 where
     G::Pass: Send + Drop,
@@ -306,39 +298,19 @@ where
     // At most `connections` are accepted, and exactly that many if the stop is `Limit`; at `Start`
     // none, and no pass is returned. The returned passes are a prefix of those given, in order,
     // each after a list of the gate's calls, and are the gate's (`ServesConnections`).
-    ensures serves { ServesConnections (G.calls gate.now) (G.owns gate.now) passes.items connections
-        result.accepted result.stop result.passes.items }
+    ensures serves { ServesConnections (G.calls gate.now) (G.owns gate.now) passes.items
+        terms.now.connections result.accepted result.stop result.passes.items }
 {
-    let Ok(staff) = Staff::hire(rt, alloc, passes.len(), idle_polls) else {
-        return stopped(alloc, Stop::NoMemory);
+    let Ok(staff) = Staff::hire(rt, terms, passes.len()) else {
+        return stopped(terms.alloc, Stop::NoMemory);
     };
-    let Staff {
-        workers,
-        posts,
-        channels,
-    } = staff;
-    let posts = posts.as_slice();
     thread::scope(
         thread::scope_env(),
         rt,
         move |scope| -> Served<G::Pass>
             requires own { All (G.owns gate.now) passes.items }
-            ensures serves { ServesConnections (G.calls gate.entry.now) (G.owns gate.entry.now) passes.items
-                connections result.accepted result.stop result.passes.items }
-        {
-            serve_in(
-                scope,
-                rt,
-                alloc,
-                listener,
-                workers,
-                posts,
-                channels,
-                gate,
-                passes,
-                connections,
-                watch,
-            )
-        },
+            ensures serves { ServesConnections (G.calls gate.entry.now) (G.owns gate.entry.now)
+                passes.items terms.entry.now.connections result.accepted result.stop result.passes.items }
+        { serve_in(scope, rt, terms, staff, gate, passes) },
     )
 }

@@ -20,7 +20,8 @@ pub trait Source: Read {
         // The buffered bytes.
         ensures value { result.now ≡ hand self.now }
         // Reads give these bytes next.
-        ensures next { IfSome (Self.remaining self.now) (λ bytes. StartsWith bytes (hand self.now)) };
+        ensures next { IfSome (Self.remaining self.now)
+            (λ bytes. StartsWith bytes (hand self.now)) };
 
     /// Takes this many of the buffered bytes, as reads of them would.
     fn consume(&mut self, count: usize)

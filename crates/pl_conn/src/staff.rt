@@ -2,22 +2,18 @@
 
 use crate::polling::Lookout;
 use crate::post::Post;
+use crate::terms::Terms;
 use crate::worker::Worker;
-use crossbeam_channel::Sender;
 use mio::Poll;
 use std::alloc::{AllocError, Global};
-use std::net::{Net, TcpStream};
+use std::net::Net;
 use std::sync::Arc;
 
-/// How many accepted sockets wait for one worker at most.
-const WAITING: usize = 64;
-
-/// Workers that are not yet started, and at the same places what the accepting thread needs of each.
+/// Workers that are not yet started, and at the same places what the accepting thread has of each.
 #[derive(Drop)]
 pub(crate) struct Staff {
     pub(crate) workers: Vec<Worker>,
     pub(crate) posts: Vec<Post>,
-    pub(crate) channels: Vec<Sender<TcpStream>>,
 }
 
 impl Staff {
@@ -25,36 +21,20 @@ impl Staff {
         Ok(Staff {
             workers: Vec::with_capacity(alloc, count)?,
             posts: Vec::with_capacity(alloc, count)?,
-            channels: Vec::with_capacity(alloc, count)?,
         })
     }
 
-    fn push(
-        &mut self,
-        worker: Worker,
-        post: Post,
-        channel: Sender<TcpStream>,
-    ) -> Result<(), AllocError> {
-        self.workers.push(worker)?;
-        self.posts.push(post)?;
-        self.channels.push(channel)?;
-        Ok(())
-    }
-
     // One worker more, if there is memory for it, and descriptors.
-    fn add<R: Net>(
+    fn add<R: Net, W>(
         &mut self,
         rt: &R,
-        alloc: Global,
+        terms: &Terms<W>,
         lookout: &Arc<Lookout>,
-        idle_polls: u32,
     ) -> Result<bool, AllocError> {
-        let Ok((channel, sockets)) = crossbeam_channel::bounded(alloc, WAITING) else {
-            return Ok(false);
-        };
-        match Worker::new(rt, alloc, sockets, lookout, idle_polls) {
+        match Worker::new(rt, terms, lookout) {
             Some((worker, post)) => {
-                self.push(worker, post, channel)?;
+                self.workers.push(worker)?;
+                self.posts.push(post)?;
                 Ok(true)
             }
             None => Ok(false),
@@ -63,21 +43,20 @@ impl Staff {
 
     /// This many, or as many as there is memory for, and descriptors. For each worker a descriptor more is held until all are
     /// hired, so that connections find as many.
-    pub(crate) fn hire<R: Net>(
+    pub(crate) fn hire<R: Net, W>(
         rt: &R,
-        alloc: Global,
+        terms: &Terms<W>,
         count: usize,
-        idle_polls: u32,
     ) -> Result<Staff, AllocError> {
-        let mut staff = Staff::with_room(alloc, count)?;
-        let lookout = Arc::new(alloc, Lookout::new())?;
-        let mut held = Vec::with_capacity(alloc, count)?;
+        let mut staff = Staff::with_room(terms.alloc, count)?;
+        let lookout = Arc::new(terms.alloc, Lookout::new())?;
+        let mut held = Vec::with_capacity(terms.alloc, count)?;
         for _ in 0..count {
             let Ok(one) = Poll::new(rt) else {
                 break;
             };
             held.push(one)?;
-            if !staff.add(rt, alloc, &lookout, idle_polls)? {
+            if !staff.add(rt, terms, &lookout)? {
                 break;
             }
         }

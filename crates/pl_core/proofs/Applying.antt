@@ -1,17 +1,17 @@
--- How far partitions are applied, and what is kept of pages.
+-- How far partitions are applied, and the state of pages.
 use Rattle.std.proofs.Common.{◌≡◌, ℕ, ◌+◌, ◌≤◌, Bool, true, false, ◌==◌, cond, List, [], ◌∷◌, length, sym, ap, subst, ◌∙◌, arith}
 use Rattle.std.specs.Prelude.{min}
 use Rattle.pl_block.specs.Block.{Content}
 use Rattle.pl_pages.specs.State.{PagesState, FitsLog, applied_at}
 use Rattle.pl_pages.specs.Laws.{FitsLongerLogs}
-use Rattle.pl_core.specs.declared.kept.Kept.{Kept}
-use Rattle.pl_audit.specs.declared.audit.Entry.{Entry as KeptEntry}
+use Rattle.pl_core.specs.declared.state.State.{State}
+use Rattle.pl_audit.specs.declared.audit.Entry.{Entry as AuditEntry}
 use Rattle.pl_core.specs.History.{Effect, advanced, Entry, Start, History, grown}
 use Rattle.pl_core.specs.Log.{hardened_log, hard_of}
 use Rattle.pl_core.specs.Applied.{applied_by, applied_after, applied_of}
-use Rattle.pl_core.specs.Keeping.{history_kept, HoldsLog, HoldsPages, DbInvariant, PartsAgree}
+use Rattle.pl_core.specs.Representation.{history_of, HoldsLog, HoldsPages, DbInvariant, PartsAgree}
 use Rattle.pl_core.specs.Laws.{AppliedLsnsOnlyRise}
-use Rattle.pl_core.specs.Performing.{PagesFollow, with_unseen, applied_then}
+use Rattle.pl_core.specs.Transition.{PagesFollow, with_unseen, applied_then}
 use Rattle.pl_decide.specs.Agreement.{AgreesWith}
 use Rattle.pl_decide.specs.Keys.{CachedVerdict}
 use Rattle.pl_audit.specs.Audit.{AuditList}
@@ -50,36 +50,36 @@ only_rise h e partition =
     let within = within_log h.start h.entries partition in
     record { within = within; rises = rises_by e.effect (hard_of h) partition (applied_of h partition) within }
 
--- ---- what is kept of pages
+-- ---- the state of pages
 
--- what is kept says the same as the history
-applied-then : (f : Effect) (h : History) (kept : Kept) (partition : ℕ) → length kept.log.hardened ≡ hard_of h → applied_at kept.pages partition ≡ applied_of h partition
-    → applied_then f kept partition ≡ applied_by f (hard_of h) partition (applied_of h partition)
-applied-then f h kept partition hard applied =
-    ap (λ (n : ℕ). applied_by f n partition (applied_at kept.pages partition)) hard ∙ ap (applied_by f (hard_of h) partition) applied
+-- the state says the same as the history
+applied-then : (f : Effect) (h : History) (state : State) (partition : ℕ) → length state.log.hardened ≡ hard_of h → applied_at state.pages partition ≡ applied_of h partition
+    → applied_then f state partition ≡ applied_by f (hard_of h) partition (applied_of h partition)
+applied-then f h state partition hard applied =
+    ap (λ (n : ℕ). applied_by f n partition (applied_at state.pages partition)) hard ∙ ap (applied_by f (hard_of h) partition) applied
 
 -- so it does after a request
-pub holds_pages : FitsLongerLogs → (h : History) (e : Entry) (kept : Kept) (pages : PagesState) → HoldsLog h kept.log → HoldsPages h kept.pages → PagesFollow kept (λ p. applied_then e.effect kept p) pages → HoldsPages (grown h e) pages
-holds_pages law h e kept pages log held follow =
+pub holds_pages : FitsLongerLogs → (h : History) (e : Entry) (state : State) (pages : PagesState) → HoldsLog h state.log → HoldsPages h state.pages → PagesFollow state (λ p. applied_then e.effect state p) pages → HoldsPages (grown h e) pages
+holds_pages law h e state pages log held follow =
     let more = (only_grow h e).log in
     let here : FitsLog pages (hardened_log h) = subst (λ (l : List Content). FitsLog pages l) log.hardened follow.fits in
     record {
       fits = subst (λ (l : List Content). FitsLog pages l) (sym more.1) (law pages (hardened_log h) more.0 here);
-      applied = λ p. follow.applied_are p ∙ applied-then e.effect h kept p (ap length log.hardened) (held.applied p);
+      applied = λ p. follow.applied_are p ∙ applied-then e.effect h state p (ap length log.hardened) (held.applied p);
       chunks = follow.chunks ∙ held.chunks;
     }
 
--- the history is the same wherever the blocks lie, and whatever is kept of pages
-pub history-moved : (start : Start) (kept : Kept) (entries : List KeptEntry) (pages : PagesState) (in_broker : ℕ) → history_kept start kept entries ≡ history_kept start (with_unseen kept pages in_broker) entries
-history-moved start kept entries pages in_broker = ap (λ (xs : List Entry). record { start = start; entries = xs }) (sym (entries-moved kept.log in_broker entries))
+-- the history is the same wherever the blocks lie, and whatever the state of pages is
+pub history-moved : (start : Start) (state : State) (entries : List AuditEntry) (pages : PagesState) (in_broker : ℕ) → history_of start state entries ≡ history_of start (with_unseen state pages in_broker) entries
+history-moved start state entries pages in_broker = ap (λ (xs : List Entry). record { start = start; entries = xs }) (sym (entries-moved state.log in_broker entries))
 
 -- and after one that had no memory
-pub still_kept : (start : Start) (kept : Kept) (entries : List KeptEntry) (pages : PagesState) (in_broker : ℕ) → DbInvariant start kept entries → PagesFollow kept (λ p. applied_at kept.pages p) pages → DbInvariant start (with_unseen kept pages in_broker) entries
-still_kept start kept entries pages in_broker sound follow =
-    let same = history-moved start kept entries pages in_broker in
+pub still_represents : (start : Start) (state : State) (entries : List AuditEntry) (pages : PagesState) (in_broker : ℕ) → DbInvariant start state entries → PagesFollow state (λ p. applied_at state.pages p) pages → DbInvariant start (with_unseen state pages in_broker) entries
+still_represents start state entries pages in_broker sound follow =
+    let same = history-moved start state entries pages in_broker in
     record {
       legal = subst IsLegal same sound.legal;
-      log = holds_moved _ kept.log in_broker (subst (λ (h : History). HoldsLog h kept.log) same sound.log);
+      log = holds_moved _ state.log in_broker (subst (λ (h : History). HoldsLog h state.log) same sound.log);
       pages = subst (λ (h : History). HoldsPages h pages) same (record {
         fits = subst (λ (l : List Content). FitsLog pages l) sound.log.hardened follow.fits;
         applied = λ p. follow.applied_are p ∙ sound.pages.applied p;
@@ -90,13 +90,13 @@ still_kept start kept entries pages in_broker sound follow =
     }
 
 -- with a place reserved in the audit list
-pub still_sound : (start : Start) (kept after : Kept) (before audit : AuditList) (verdicts : List CachedVerdict) → PartsAgree start kept before verdicts → after ≡ with_unseen kept after.pages after.log.in_broker → PagesFollow kept (λ p. applied_at kept.pages p) after.pages
+pub still_sound : (start : Start) (state after : State) (before audit : AuditList) (verdicts : List CachedVerdict) → PartsAgree start state before verdicts → after ≡ with_unseen state after.pages after.log.in_broker → PagesFollow state (λ p. applied_at state.pages p) after.pages
     → audit ≡ record before { reserved = true } → PartsAgree start after audit verdicts
-still_sound start kept after before audit verdicts sound after-is follow audit-is =
-    let same = history-moved start kept before.entries after.pages after.log.in_broker in
-    let here : PartsAgree start (with_unseen kept after.pages after.log.in_broker) (record before { reserved = true }) verdicts = record {
-      history = still_kept start kept before.entries after.pages after.log.in_broker sound.history follow;
+still_sound start state after before audit verdicts sound after-is follow audit-is =
+    let same = history-moved start state before.entries after.pages after.log.in_broker in
+    let here : PartsAgree start (with_unseen state after.pages after.log.in_broker) (record before { reserved = true }) verdicts = record {
+      history = still_represents start state before.entries after.pages after.log.in_broker sound.history follow;
       limit = sound.limit;
       agrees = subst (λ (h : History). AgreesWith verdicts (table_of h)) same sound.agrees;
     } in
-    subst (λ (a : AuditList). PartsAgree start after a verdicts) (sym audit-is) (subst (λ (k : Kept). PartsAgree start k (record before { reserved = true }) verdicts) (sym after-is) here)
+    subst (λ (a : AuditList). PartsAgree start after a verdicts) (sym audit-is) (subst (λ (k : State). PartsAgree start k (record before { reserved = true }) verdicts) (sym after-is) here)

@@ -20,7 +20,7 @@ use Rattle.pl_core.specs.Log.{hard_of}
 use Rattle.pl_core.specs.Verdict.{epochs_of, view_of, verdict_of}
 use Rattle.pl_core.specs.Reach.{IsAllowedTo}
 use Rattle.pl_core.specs.Laws.{RowsAllowTo, ReadsReachAsRowsAllow, ReachesAreHardened, ReadsAboveAreDenied}
-use Rattle.pl_core.specs.Performing.{OrderLaws}
+use Rattle.pl_core.specs.Transition.{OrderLaws}
 
 -- the rows of the table in force allow the request at an LSN
 abbrev pub allowed_at : History → Query → ℕ → Bool

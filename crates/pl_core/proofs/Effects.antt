@@ -14,7 +14,7 @@ use Rattle.pl_core.specs.History.{Effect, wrote, offered, hardened, advanced, fa
 use Rattle.pl_core.specs.Epoch.{table_of}
 use Rattle.pl_core.specs.Verdict.{can_harden, epochs_of, view_of, verdict_of}
 use Rattle.pl_core.specs.Legal.{IsLegalEntry}
-use Rattle.pl_core.specs.Performing.{OrderLaws}
+use Rattle.pl_core.specs.Transition.{OrderLaws}
 
 -- what the written order has seen to, and that what is brought is a block
 abbrev pub MayDo : Effect → History → Type 0

@@ -12,7 +12,7 @@ use Rattle.pl_core.specs.Epoch.{table_of}
 use Rattle.pl_core.specs.Log.{hardened_after, hardened_log, hard_of}
 use Rattle.pl_core.specs.Verdict.{epochs_of, view_of, verdict_of}
 use Rattle.pl_core.specs.Laws.{PagesAreReplays, GetsAreRepeatable}
-use Rattle.pl_core.specs.Performing.{OrderLaws, PageLaws}
+use Rattle.pl_core.specs.Transition.{OrderLaws, PageLaws}
 use Rattle.pl_core.proofs.Joining.{grown_log}
 use Rattle.pl_core.proofs.Replies.{answered_page}
 

@@ -7,13 +7,13 @@
 #![tactic(auto)]
 
 mod db;
-mod kept;
 pub mod laws;
 mod limits;
 mod line;
 mod lower;
 mod reply;
 mod run;
+mod state;
 mod step;
 mod verdict;
 

@@ -1,6 +1,6 @@
 //! What the laws of the crates below say, gathered for the proofs here.
 
-ghost use Rattle.pl_core.specs.Performing.{LogLaws, OrderLaws, PageLaws};
+ghost use Rattle.pl_core.specs.Transition.{LogLaws, OrderLaws, PageLaws};
 
 /// What the laws of the log say of its changes.
 pub(crate) fn log_laws()

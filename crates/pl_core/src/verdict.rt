@@ -1,4 +1,4 @@
-//! The verdict on a request: it is decided by what is kept, which represents the history.
+//! The verdict on a request: it is decided by the state, which represents the history.
 
 ghost use Rattle.std.specs.Prelude.{◌≡◌, ◌+◌, ◌<◌, ◌≤◌, true, unwrap_or, IfSome};
 ghost use Rattle.pl_block.specs.Bounds.{window};
@@ -13,11 +13,11 @@ ghost use Rattle.pl_core.specs.Laws.{RowsAllowTo};
 ghost use Rattle.pl_table.specs.Zone.{copies_in, quorum_in};
 
 use crate::db::Db;
-use crate::kept::ByTable;
 use crate::lower::order_laws;
+use crate::state::ByTable;
 use pl_audit::Audit;
 use pl_decide::{View, known};
-use pl_table::{Act, Head, Request, Table, Verdict};
+use pl_table::{Act, Head, Op, Request, Table, Verdict};
 
 // Whether the act is a get or a pull.
 fn reads(act: &Act) -> bool
@@ -62,8 +62,8 @@ impl Db {
             block.lsn ≤ hard_of self.now + window →
             result.agrees ≡ agrees request.now.act self.now) }
     {
-        let log = &self.kept.log;
-        let in_epoch = request.head().epoch == self.kept.epochs.epoch;
+        let log = &self.state.log;
+        let in_epoch = request.head().epoch == self.state.epochs.epoch;
         let agrees = match request.act() {
             Act::Write { block, .. } | Act::Offer { block } => !in_epoch || log.agrees(block),
             _ => true,
@@ -114,22 +114,40 @@ impl Db {
         }
     }
 
-    // What the table in force says to the request. How far it reaches is asked for a get or a pull alone.
+    // How many copies a failover makes, and how many of them harden an LSN: those of the table in force.
+    // For every other request it is one of one, and no table is looked at.
+    fn zone(&self, request: &Request) -> (u8, u8)
+        ensures exact { op_of request.now.act ≡ Op.Failover →
+            (result.0 ≡ copies_in (table_of self.now).zone) ×
+            (result.1 ≡ quorum_in (table_of self.now).zone) }
+        ensures fits { (1 ≤ result.1) × (result.1 ≤ result.0) × (result.0 ≤ 6) }
+    {
+        match request.act() {
+            Act::Failover { .. } => {
+                let table = self.table_in_force();
+                (table.copies(), table.quorum())
+            }
+            _ => (1, 1),
+        }
+    }
+
+    // What the table in force says to the request.
     pub(crate) fn by_table(&self, request: &Request, verdict: Verdict) -> ByTable
         requires verdict { verdict ≡ verdict_of request.now self.now }
         ensures within { result.reach ≤ hard_of self.now }
         ensures exact { verdict ≡ Verdict.Allowed → reads_the_log (op_of request.now.act) ≡ true →
             RowsAllowTo self.now request.now result.reach }
-        ensures copies { result.copies ≡ copies_in (table_of self.now).zone }
-        ensures quorum { result.quorum ≡ quorum_in (table_of self.now).zone }
+        ensures zone { op_of request.now.act ≡ Op.Failover →
+            (result.copies ≡ copies_in (table_of self.now).zone) ×
+            (result.quorum ≡ quorum_in (table_of self.now).zone) }
         ensures fits { (1 ≤ result.quorum) × (result.quorum ≤ result.copies) × (result.copies ≤ 6) }
     {
         let reach = self.reach(request, verdict);
-        let table = self.table_in_force();
+        let (copies, quorum) = self.zone(request);
         ByTable {
             reach,
-            copies: table.copies(),
-            quorum: table.quorum(),
+            copies,
+            quorum,
         }
     }
 }

@@ -98,7 +98,8 @@ fn ends(lsns: Option<LsnRange>) -> (Option<u64>, Option<u64>)
 
 // Whether this is what the table finds for what is asked with the key at the LSN.
 fn finds(table: &Table, key: VerdictKey, lsn: Option<u64>, found: Found) -> bool
-    ensures exact { IsTrue result ↔ (first_match_from 1 table.now.rows (asked_with key lsn) ≡ found) }
+    ensures exact { IsTrue result
+        ↔ (first_match_from 1 table.now.rows (asked_with key lsn) ≡ found) }
 {
     table.first_match_of(&key.asking(lsn)) == found
 }

@@ -1,8 +1,7 @@
 //! The decision: the first rule of the written order that denies a request.
 
-ghost use Rattle.std.specs.Prelude.{◌≡◌, ◌≢◌, ◌==◌, ◌≤◌, ◌&&◌, ◌↔◌, ◌++◌, nat_le, not, true, [], length, ℕ, Some, None, IfOk, IfSome, IsTrue, Contains};
+ghost use Rattle.std.specs.Prelude.{◌≡◌, ◌≢◌, ◌==◌, ◌≤◌, ◌&&◌, ◌↔◌, ◌++◌, nat_le, not, true, [], length, ℕ, IfOk, IfSome, IsTrue, Contains};
 ghost use Rattle.std.specs.Str.{bytes_eq};
-ghost use Rattle.pl_block.specs.Block.{Content};
 ghost use Rattle.pl_table.specs.Ops.{same_role};
 ghost use Rattle.pl_table.specs.Table.{WrittenTable};
 ghost use Rattle.pl_table.specs.Asking.{asked_at, asked_in};
@@ -14,13 +13,13 @@ ghost use Rattle.pl_decide.specs.Agreement.{AgreesWith, IsAllowedThrough, most_c
 
 use crate::cache::{are_of_rows, find, keep, look_at};
 use crate::key::VerdictKey;
+use crate::log_rules::decide_by_log;
 use crate::row_verdict::{Found, RowVerdict};
 use crate::rule::Rule;
 use crate::through::{ends, lsn_read, verdict_of};
 use crate::view::{Epochs, View};
 use lru::LruCache;
-use pl_block::WINDOW;
-use pl_table::{Act, Head, Request, Role, Table, Verdict};
+use pl_table::{Head, Request, Role, Table, Verdict};
 use std::alloc::{AllocError, Global};
 use std::marker::Model;
 use std::num::NonZeroUsize;
@@ -295,7 +294,8 @@ impl Decider {
     // What is cached under the key.
     fn look_up(&mut self, key: VerdictKey) -> Option<RowVerdict>
         ensures found { IfSome result (λ verdict. Contains self.old (key, verdict)) }
-        ensures agrees { (table : WrittenTable) → AgreesWith self.old table → AgreesWith self.new table }
+        ensures agrees { (table : WrittenTable) →
+            AgreesWith self.old table → AgreesWith self.new table }
     {
         find(&mut self.verdicts, key)
     }
@@ -307,8 +307,7 @@ impl Decider {
         requires found { found ≡ first_match_from 1 table.now.rows (asked_in request.now) }
         ensures agrees { AgreesWith self.new table.now }
     {
-        let lsns = table.lsns_alike(request);
-        let verdict = verdict_of(table, request, key, found, lsns);
+        let verdict = verdict_of(table, request, key, found);
         keep(&mut self.verdicts, key, verdict);
     }
 }
@@ -355,75 +354,5 @@ fn decide_by_table(
                 Rule::TableRow(row).denial(0)
             }
         }
-    }
-}
-
-// The verdict of section C, which does not look at who asks.
-fn decide_by_log(table: &Table, epochs: Epochs, view: View, act: &Act) -> Verdict
-    ensures value { (head : Head) → result ≡ first_denial section_c
-        (record { head = head; act = act.now }) table.now epochs view }
-{
-    match act {
-        Act::Write { copy, block } => decide_block(view, Some(*copy), block.lsn()),
-        Act::Offer { block } => decide_block(view, None, block.lsn()),
-        Act::Report { .. } => {
-            if view.can_harden {
-                Verdict::Allowed
-            } else {
-                Rule::BelowQuorum.denial(view.hard)
-            }
-        }
-        Act::Get { lsn, .. } | Act::Pull { lsn, .. } => {
-            if view.hard < *lsn {
-                Rule::AboveTheEnd.denial(view.hard)
-            } else {
-                Verdict::Allowed
-            }
-        }
-        Act::Advance { .. } | Act::Status | Act::Audit { .. } | Act::Tidy => Verdict::Allowed,
-        Act::Failover { primary } => decide_failover(table, epochs, *primary),
-        Act::SetTable { text } => match text.reading() {
-            Ok(_) => Verdict::Allowed,
-            Err(fault) => Rule::NoTable.denial(u64::from(fault.code())),
-        },
-    }
-}
-
-// The verdict of section C on a failover.
-fn decide_failover(table: &Table, epochs: Epochs, primary: u32) -> Verdict
-    ensures value { (head : Head) (v : View) → result ≡ first_denial section_c
-        (record { head = head; act = Act.Failover primary }) table.now epochs v }
-{
-    if table.token(primary).is_none() {
-        return Rule::UnlistedPrimary.denial(0);
-    }
-    if epochs.epoch == u32::MAX {
-        return Rule::LastEpoch.denial(0);
-    }
-    Verdict::Allowed
-}
-
-// The verdict of section C on a block with this LSN: on a write of it, which names a copy, or on an
-// offer.
-fn decide_block(view: View, copy: Option<u8>, lsn: u64) -> Verdict
-    ensures write { (head : Head) (t : WrittenTable) (e : Epochs) (block : Content) (to : ℕ) →
-        block.lsn ≡ lsn → copy ≡ Some to → result ≡ first_denial section_c
-        (record { head = head; act = Act.Write to block }) t e view }
-    ensures offer { (head : Head) (t : WrittenTable) (e : Epochs) (block : Content) →
-        block.lsn ≡ lsn → copy ≡ None → result ≡ first_denial section_c
-        (record { head = head; act = Act.Offer block }) t e view }
-{
-    if lsn <= view.hard {
-        return Rule::HardenedAlready.denial(view.hard);
-    }
-    if lsn - view.hard > WINDOW {
-        return Rule::AboveTheWindow.denial(view.hard);
-    }
-    if !view.agrees {
-        return Rule::OtherContent.denial(0);
-    }
-    match copy {
-        Some(copy) if view.copies <= copy => Rule::NoSuchCopy.denial(0),
-        _ => Verdict::Allowed,
     }
 }

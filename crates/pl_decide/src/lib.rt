@@ -10,6 +10,7 @@ mod cache;
 mod decider;
 mod key;
 pub mod laws;
+mod log_rules;
 mod row_verdict;
 mod rule;
 mod through;

@@ -6,7 +6,7 @@ ghost use Rattle.pl_table.specs.Asking.{asked_in};
 ghost use Rattle.pl_table.specs.FirstMatch.{first_match_from, rows_allow};
 ghost use Rattle.pl_table.specs.Reach.{AreAlike, IsAtOne};
 ghost use Rattle.pl_decide.specs.Keys.{asked_with, IsKeyOf};
-ghost use Rattle.pl_decide.specs.Agreement.{IsAllowedThrough};
+ghost use Rattle.pl_decide.specs.Agreement.{IsAllowedThrough, IsOfRows, IsSpan};
 
 use crate::key::VerdictKey;
 use crate::row_verdict::{Found, RowVerdict};
@@ -30,31 +30,46 @@ pub(crate) fn ends(table: &Table, row: u16) -> bool {
     }
 }
 
-// The verdict that is cached of what was found for a request with this key, at these LSNs.
+// The verdict that is cached of what was found for a request with this key, with the LSNs at which it is
+// the same.
 pub(crate) fn verdict_of(
     table: &Table,
     request: &Request,
     key: VerdictKey,
     found: Found,
-    lsns: Option<LsnRange>,
 ) -> RowVerdict
     requires key { IsKeyOf key (asked_in request.now) }
     requires found { found ≡ first_match_from 1 table.now.rows (asked_in request.now) }
-    requires own { IsAtOne lsns (number_of request.now.act) }
-    requires alike { IfSome lsns (AreAlike table.now.rows (asked_in request.now)) }
-    ensures found { result.found ≡ found }
-    ensures lsns { result.lsns ≡ lsns }
-    ensures end { IfSome result.allowed_through
-        (IsAllowedThrough table.now.rows (asked_with key (Some 0))) }
+    ensures span { IsSpan (key, result) }
+    ensures rows { IsOfRows table.now.rows (key, result) }
 {
-    let allowed_through = match (lsn_read(request.act()), lsns, found) {
-        (Some(_), Some(lsns), Some((_, true))) => Some(last_allowed(table, request, lsns)),
-        _ => None,
-    };
+    let lsns = table.lsns_alike(request);
+    let allowed_through = end_of(table, request, key, found, lsns);
     RowVerdict {
         found,
         lsns,
         allowed_through,
+    }
+}
+
+// How far the rows allow a get or a pull that they allow at each of these LSNs.
+fn end_of(
+    table: &Table,
+    request: &Request,
+    key: VerdictKey,
+    found: Found,
+    lsns: Option<LsnRange>,
+) -> Option<u64>
+    requires key { IsKeyOf key (asked_in request.now) }
+    requires found { found ≡ first_match_from 1 table.now.rows (asked_in request.now) }
+    requires own { IsAtOne lsns (number_of request.now.act) }
+    requires alike { IfSome lsns (AreAlike table.now.rows (asked_in request.now)) }
+    ensures exact { IfSome result
+        (IsAllowedThrough table.now.rows (asked_with key (Some 0))) }
+{
+    match (lsn_read(request.act()), lsns, found) {
+        (Some(_), Some(lsns), Some((_, true))) => Some(last_allowed(table, request, lsns)),
+        _ => None,
     }
 }
 

@@ -2,6 +2,11 @@
 use Rattle.std.specs.Prelude.{◌≡◌, ◌≢◌, ℕ, ◌+◌, ◌<◌, ◌≤◌, Bool, true, false, nat_lt, [], ◌∷◌, length, Option, Some, if◌then◌else◌}
 use Rattle.atomic_table.specs.Table.{Step, Me, rest}
 use Rattle.pl_table.specs.declared.zone.Zone.TheVariants.{Three}
+use Rattle.std.specs.Global.{Vec}
+use Rattle.pl_core.specs.declared.reply.Answer.{Answer}
+use Rattle.pl_core.specs.declared.reply.Reply.TheVariants as replies
+use Rattle.pl_core.specs.Appending.{AppendsTo, reply_in}
+use Rattle.pl_core.specs.Reply.{FitsReply}
 use Rattle.pl_core.specs.History.{Entry, History, grown}
 use Rattle.pl_core.specs.Legal.{IsLegal}
 use Rattle.pl_desk.specs.declared.rule.Stage.{Stage}
@@ -146,6 +151,13 @@ meets_then st me found after = (after ≡ (at_stage Idle me.0, me.1))
 abbrev pub Grows : Bool → ℕ → History → History → Type 0
 Grows true number earlier later = AddsOne number earlier later
 Grows false number earlier later = later ≡ earlier
+
+-- The reply of a step, of which a page's bytes were appended to this buffer: it is not Spent and can be
+-- written, and the buffer keeps its bytes and its memory.
+pub record IsReplyOfStep (answer : Answer) (before after : Vec ℕ) : Type 0 where
+  pub never : reply_in answer before.items after.items ≢ replies.Spent
+  pub fits : FitsReply (reply_in answer before.items after.items)
+  pub page : AppendsTo answer before after
 
 -- the view after its turn
 abbrev pub settled : History → View → View

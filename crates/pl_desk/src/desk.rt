@@ -7,11 +7,11 @@ ghost use Rattle.pl_core.specs.Reply.{FitsReply};
 ghost use Rattle.pl_desk.specs.Rule.{IsAhead};
 ghost use Rattle.pl_desk.specs.Passes.{IsOf, IsSamePass, WasCalled, HasMet, fresh_passes};
 
-use crate::bells::Bells;
 use crate::boxed::{BoxedDb, unboxed};
-use crate::door::Door;
 use crate::opening::{DeskTable, deal_all, open_table};
+use crate::parking::Parkers;
 use crate::pass::Pass;
+use crate::queue::Queue;
 use crate::steps::{DB, NEXT, SERVING, ask, compare, draw, join};
 use crate::turn::{take_turn, wait};
 use pl_core::{Answer, Db, Reply};
@@ -27,8 +27,8 @@ use std::sync::Wait;
 pub struct Desk {
     pub(crate) alloc: Global,
     pub(crate) table: DeskTable,
-    pub(crate) door: Door,
-    pub(crate) bells: Bells,
+    pub(crate) queue: Queue,
+    pub(crate) parkers: Parkers,
     /// Where the next ticket is this or more, a call is answered Spent.
     pub(crate) turns: u64,
 }
@@ -68,8 +68,10 @@ impl Desk {
         // Out of memory, the database is given back.
         ensures err { IfErr result (λ back. back ≡ db) }
     {
-        let (Ok(passes), Ok(bells)) = (Vec::with_capacity(alloc, seats as usize), Bells::new(alloc))
-        else {
+        let (Ok(passes), Ok(parkers)) = (
+            Vec::with_capacity(alloc, seats as usize),
+            Parkers::new(alloc),
+        ) else {
             return Err(db);
         };
         let boxed = BoxedDb::new(alloc, db)?;
@@ -78,8 +80,8 @@ impl Desk {
         let desk = Desk {
             alloc,
             table,
-            door: Door::new(),
-            bells,
+            queue: Queue::new(),
+            parkers,
             turns,
         };
         Ok((desk, passes))
@@ -132,17 +134,17 @@ impl Desk {
         // (`AppendsTo` of pl_core).
         ensures page { AppendsTo result page.old page.new }
     {
-        let board = &self.table.shared;
-        self.door.enter(rt, board);
-        if ask(board, &mut pass.chair) >= self.turns {
-            self.door.leave();
+        let shared = &self.table.shared;
+        self.queue.enter(rt, shared);
+        if ask(shared, &mut pass.seat) >= self.turns {
+            self.queue.leave();
             return Answer::Whole(Reply::Spent);
         }
-        let ticket = draw(board, &mut pass.chair);
-        wait(rt, board, &self.bells, &mut pass.chair, ticket);
-        let answer = take_turn(board, &mut pass.chair, pass.number, request, page);
-        self.door.leave();
-        self.bells.ring(ticket.wrapping_add(1));
+        let ticket = draw(shared, &mut pass.seat);
+        wait(rt, shared, &self.parkers, &mut pass.seat, ticket);
+        let answer = take_turn(shared, &mut pass.seat, pass.number, request, page);
+        self.queue.leave();
+        self.parkers.wake(ticket.wrapping_add(1));
         answer
     }
 
@@ -158,10 +160,10 @@ impl Desk {
         // either (`HasMet`).
         ensures met { HasMet pass.old other pass.new }
     {
-        let board = &self.table.shared;
-        let Pass { chair, number: _ } = other;
-        join(board, &mut pass.chair, chair);
-        compare(board, &mut pass.chair);
+        let shared = &self.table.shared;
+        let Pass { seat, number: _ } = other;
+        join(shared, &mut pass.seat, seat);
+        compare(shared, &mut pass.seat);
     }
 
     /// Takes the database out, once all calls have returned. There is none where a call was left in
@@ -176,12 +178,12 @@ impl Desk {
         let Desk {
             alloc: _,
             table,
-            door: _,
-            bells: _,
+            queue: _,
+            parkers: _,
             turns: _,
         } = self;
-        let Pass { chair, number: _ } = pass;
-        let mut closed = table.close_with(chair);
+        let Pass { seat, number: _ } = pass;
+        let mut closed = table.close_with(seat);
         let is_idle = closed.word(NEXT) == closed.word(SERVING);
         let db = closed.take(DB);
         closed.free();
@@ -195,7 +197,7 @@ impl Desk {
         // 1 to the number of seats.
         ensures fits { (1 ≤ result) × (result ≤ pass.now.terms.seats) }
     {
-        let Pass { number, chair: _ } = pass;
+        let Pass { number, seat: _ } = pass;
         *number
     }
 }

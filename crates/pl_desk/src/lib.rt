@@ -6,14 +6,14 @@
 //! number, those that the pass made. Two passes that meet then know what both had seen.
 #![tactic(auto)]
 
-mod bells;
 mod boxed;
 mod desk;
-mod door;
 pub mod laws;
 mod opening;
+mod parking;
 mod pass;
 mod plays;
+mod queue;
 mod rule;
 mod steps;
 mod turn;

@@ -9,7 +9,7 @@ ghost use Rattle.pl_desk.specs.Passes.{fresh, fresh_passes, origin_of};
 use crate::boxed::BoxedDb;
 use crate::pass::Pass;
 use crate::rule::{Opening, Turns, View};
-use crate::steps::{Board, Chair, deal};
+use crate::steps::{DeskSeat, DeskShared, deal};
 use atomic_table::{Refused, Table};
 use pl_core::Db;
 use std::alloc::Global;
@@ -24,10 +24,9 @@ pub(crate) fn open_table(
     db: BoxedDb,
     seats: u32,
     turns: u64,
-) -> Result<(DeskTable, Chair), Db>
+) -> Result<(DeskTable, DeskSeat), Db>
     requires seats { 1 ≤ seats }
-    requires some { 1 ≤ turns }
-    requires few { turns ≤ 2 ^ 62 }
+    requires turns { (1 ≤ turns) × (turns ≤ 2 ^ 62) }
     ensures terms { IfOk result (λ r. terms_of r.0.shared.key ≡
         record { seats = seats; turns = turns; opening = db }) }
     ensures len { IfOk result (λ r. (r.0.shared.table_id.words ≡ 3) ×
@@ -62,30 +61,29 @@ pub(crate) fn open_table(
 
 /// All passes, in the order of their numbers: the first, and those that it deals out.
 pub(crate) fn deal_all(
-    board: &Board,
-    mut first: Chair,
+    shared: &DeskShared,
+    mut first: DeskSeat,
     seats: u32,
     mut passes: Vec<Pass>,
 ) -> Vec<Pass>
-    requires board { (first.table_id ≡ board.now.table_id) × (board.now.table_id.words ≡ 3) }
-    requires first { first.me ≡ (first_view (terms_of board.now.key), []) }
-    requires some { 1 ≤ seats }
-    requires seats { (terms_of board.now.key).seats ≡ seats }
+    requires shared { (first.table_id ≡ shared.now.table_id) × (shared.now.table_id.words ≡ 3) }
+    requires first { first.me ≡ (first_view (terms_of shared.now.key), []) }
+    requires seats { (1 ≤ seats) × ((terms_of shared.now.key).seats ≡ seats) }
     requires empty { vec_len passes ≡ 0 }
     requires room { seats ≤ vec_capacity passes }
     ensures passes { result.items ≡
-        fresh_passes (origin_of board.now.table_id board.now.key) seats }
+        fresh_passes (origin_of shared.now.table_id shared.now.key) seats }
 {
     let mut number: u64 = 1;
     while number < u64::from(seats) {
-        let chair = deal(board, &mut first);
+        let seat = deal(shared, &mut first);
         number += 1;
-        passes.push(Pass { chair, number }).unwrap();
+        passes.push(Pass { seat, number }).unwrap();
     }
     let Ok(()) = passes.insert(
         0,
         Pass {
-            chair: first,
+            seat: first,
             number: 1,
         },
     ) else {

@@ -1,6 +1,6 @@
 //! The pass of one thread.
 
-use crate::steps::Chair;
+use crate::steps::DeskSeat;
 use std::marker::Model;
 
 /// The right to call one desk, under a number of its own. A call takes it by `&mut`, so that a pass
@@ -10,7 +10,7 @@ use std::marker::Model;
 /// it has read.
 #[derive(Drop)]
 pub struct Pass {
-    pub(crate) chair: Chair,
+    pub(crate) seat: DeskSeat,
     pub(crate) number: u64,
 }
 
@@ -21,9 +21,9 @@ impl Model for Pass {
 
     ghost Value = { Knowledge };
 
-    ghost view = { λ p. knowledge_of p.chair.table_id p.chair.me.0 };
+    ghost view = { λ p. knowledge_of p.seat.table_id p.seat.me.0 };
 
-    ghost invariant = { λ p. (p.chair.me.1 ≡ []) × (p.chair.me.0.stage ≡ Idle) ×
-        (p.number ≡ p.chair.me.0.number) × (1 ≤ p.chair.me.0.number) ×
-        (p.chair.me.0.number ≤ p.chair.me.0.terms.seats) };
+    ghost invariant = { λ p. (p.seat.me.1 ≡ []) × (p.seat.me.0.stage ≡ Idle) ×
+        (p.number ≡ p.seat.me.0.number) × (1 ≤ p.seat.me.0.number) ×
+        (p.seat.me.0.number ≤ p.seat.me.0.terms.seats) };
 }

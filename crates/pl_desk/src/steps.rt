@@ -13,10 +13,10 @@ use atomic_table::{Seat, Shared};
 use std::marker::Brand;
 
 /// The words and the slot of a desk.
-pub(crate) type Board = Shared<Option<BoxedDb>, View, Opening, Turns>;
+pub(crate) type DeskShared = Shared<Option<BoxedDb>, View, Opening, Turns>;
 
-/// The seat of a pass at the board.
-pub(crate) type Chair = Seat<Option<BoxedDb>, View>;
+/// The seat of a pass at the table.
+pub(crate) type DeskSeat = Seat<Option<BoxedDb>, View>;
 
 /// The word that counts the entries of the audit list.
 const COUNT: usize = 0;
@@ -31,112 +31,112 @@ pub(crate) const SERVING: usize = 2;
 pub(crate) const DB: usize = 0;
 
 /// Loads the next ticket.
-pub(crate) fn ask(board: &Board, chair: &mut Chair) -> u64
-    requires board { (chair.old.table_id ≡ board.now.table_id) × (board.now.table_id.words ≡ 3) }
-    requires rests { (chair.old.me.1 ≡ []) × (chair.old.me.0.stage ≡ Idle) }
-    ensures same { (chair.new.table_id ≡ chair.old.table_id) × (chair.new.id ≡ chair.old.id) }
-    ensures pass { chair.new.me ≡ (asked result chair.old.me.0, []) }
-    ensures legal { (chair.old.me.0.drawn ≤ result) ×
-        GoesOnFrom chair.old.me.0.terms chair.old.me.0.seen }
+pub(crate) fn ask(shared: &DeskShared, seat: &mut DeskSeat) -> u64
+    requires shared { (seat.old.table_id ≡ shared.now.table_id) × (shared.now.table_id.words ≡ 3) }
+    requires rests { (seat.old.me.1 ≡ []) × (seat.old.me.0.stage ≡ Idle) }
+    ensures same { (seat.new.table_id ≡ seat.old.table_id) × (seat.new.id ≡ seat.old.id) }
+    ensures pass { seat.new.me ≡ (asked result seat.old.me.0, []) }
+    ensures legal { (seat.old.me.0.drawn ≤ result) ×
+        GoesOnFrom seat.old.me.0.terms seat.old.me.0.seen }
 {
-    board.load::<Asks>(chair, NEXT)
+    shared.load::<Asks>(seat, NEXT)
 }
 
 /// Takes a ticket.
-pub(crate) fn draw(board: &Board, chair: &mut Chair) -> u64
-    requires board { (chair.old.table_id ≡ board.now.table_id) × (board.now.table_id.words ≡ 3) }
-    requires asks { (chair.old.me.1 ≡ []) × (chair.old.me.0.stage ≡ Asking) }
-    ensures same { (chair.new.table_id ≡ chair.old.table_id) × (chair.new.id ≡ chair.old.id) }
-    ensures pass { chair.new.me ≡ (at_stage (Waiting result) chair.old.me.0, []) }
+pub(crate) fn draw(shared: &DeskShared, seat: &mut DeskSeat) -> u64
+    requires shared { (seat.old.table_id ≡ shared.now.table_id) × (shared.now.table_id.words ≡ 3) }
+    requires asks { (seat.old.me.1 ≡ []) × (seat.old.me.0.stage ≡ Asking) }
+    ensures same { (seat.new.table_id ≡ seat.old.table_id) × (seat.new.id ≡ seat.old.id) }
+    ensures pass { seat.new.me ≡ (at_stage (Waiting result) seat.old.me.0, []) }
 {
-    board.fetch_add::<Draws>(chair, NEXT, 1)
+    shared.fetch_add::<Draws>(seat, NEXT, 1)
 }
 
 /// Loads the ticket being served. Where it is the pass's own, the pass has the turn.
-pub(crate) fn look(board: &Board, chair: &mut Chair, ticket: u64) -> u64
-    requires board { (chair.old.table_id ≡ board.now.table_id) × (board.now.table_id.words ≡ 3) }
-    requires waits { (chair.old.me.1 ≡ []) × (chair.old.me.0.stage ≡ Waiting ticket) }
-    ensures same { (chair.new.table_id ≡ chair.old.table_id) × (chair.new.id ≡ chair.old.id) }
-    ensures not_yet { result ≢ ticket → chair.new.me ≡ chair.old.me }
+pub(crate) fn look(shared: &DeskShared, seat: &mut DeskSeat, ticket: u64) -> u64
+    requires shared { (seat.old.table_id ≡ shared.now.table_id) × (shared.now.table_id.words ≡ 3) }
+    requires waits { (seat.old.me.1 ≡ []) × (seat.old.me.0.stage ≡ Waiting ticket) }
+    ensures same { (seat.new.table_id ≡ seat.old.table_id) × (seat.new.id ≡ seat.old.id) }
+    ensures not_yet { result ≢ ticket → seat.new.me ≡ seat.old.me }
     ensures turn { result ≡ ticket → (h : History) ×
-        (chair.new.me ≡ (at_stage (InTurn ticket h) chair.old.me.0, (0, Some h) ∷ [])) ×
-        IsAhead chair.old.me.0.terms chair.old.me.0.number chair.old.me.0.seen h }
+        (seat.new.me ≡ (at_stage (InTurn ticket h) seat.old.me.0, (0, Some h) ∷ [])) ×
+        IsAhead seat.old.me.0.terms seat.old.me.0.number seat.old.me.0.seen h }
 {
-    board.load::<Looks>(chair, SERVING)
+    shared.load::<Looks>(seat, SERVING)
 }
 
 // The one step that makes an entry. The database is out, and has the history that the step announces.
-fn count_as<J: Told>(board: &Board, chair: &mut Chair, db: &BoxedDb)
-    requires board { (chair.old.table_id ≡ board.now.table_id) × (board.now.table_id.words ≡ 3) }
+fn count_as<J: Told>(shared: &DeskShared, seat: &mut DeskSeat, db: &BoxedDb)
+    requires shared { (seat.old.table_id ≡ shared.now.table_id) × (shared.now.table_id.words ≡ 3) }
     requires told { db.now ≡ J.told }
-    requires turn { (t : ℕ) × (h : History) × (chair.old.me.0.stage ≡ InTurn t h) ×
-        AddsOne chair.old.me.0.number h db.now }
-    ensures same { (chair.new.table_id ≡ chair.old.table_id) × (chair.new.id ≡ chair.old.id) }
-    ensures pass { chair.new.me ≡ (counted db.now chair.old.me.0, chair.old.me.1) }
+    requires turn { (t : ℕ) × (h : History) × (seat.old.me.0.stage ≡ InTurn t h) ×
+        AddsOne seat.old.me.0.number h db.now }
+    ensures same { (seat.new.table_id ≡ seat.old.table_id) × (seat.new.id ≡ seat.old.id) }
+    ensures pass { seat.new.me ≡ (counted db.now seat.old.me.0, seat.old.me.1) }
 {
     let _ = db;
-    board.fetch_add::<Counts<J>>(chair, COUNT, 1);
+    shared.fetch_add::<Counts<J>>(seat, COUNT, 1);
 }
 
 /// Counts an entry: the history is that of the database from here on.
-pub(crate) fn count(board: &Board, chair: &mut Chair, db: &BoxedDb)
-    requires board { (chair.old.table_id ≡ board.now.table_id) × (board.now.table_id.words ≡ 3) }
-    requires turn { (t : ℕ) × (h : History) × (chair.old.me.0.stage ≡ InTurn t h) ×
-        AddsOne chair.old.me.0.number h db.now }
-    ensures same { (chair.new.table_id ≡ chair.old.table_id) × (chair.new.id ≡ chair.old.id) }
-    ensures pass { chair.new.me ≡ (counted db.now chair.old.me.0, chair.old.me.1) }
+pub(crate) fn count(shared: &DeskShared, seat: &mut DeskSeat, db: &BoxedDb)
+    requires shared { (seat.old.table_id ≡ shared.now.table_id) × (shared.now.table_id.words ≡ 3) }
+    requires turn { (t : ℕ) × (h : History) × (seat.old.me.0.stage ≡ InTurn t h) ×
+        AddsOne seat.old.me.0.number h db.now }
+    ensures same { (seat.new.table_id ≡ seat.old.table_id) × (seat.new.id ≡ seat.old.id) }
+    ensures pass { seat.new.me ≡ (counted db.now seat.old.me.0, seat.old.me.1) }
 {
-    count_as::<Brand>(board, chair, db);
+    count_as::<Brand>(shared, seat, db);
 }
 
 /// Passes the turn on: the next ticket is served. The database is back in the slot by then.
-pub(crate) fn serve(board: &Board, chair: &mut Chair)
-    requires board { (chair.old.table_id ≡ board.now.table_id) × (board.now.table_id.words ≡ 3) }
-    requires turn { (t : ℕ) × (h : History) × (chair.old.me.0.stage ≡ InTurn t h) ×
-        (chair.old.me.1 ≡ (0, Some h) ∷ []) }
-    ensures same { (chair.new.table_id ≡ chair.old.table_id) × (chair.new.id ≡ chair.old.id) }
-    ensures pass { chair.new.me ≡ (turn_passed chair.old.me.0, []) }
+pub(crate) fn serve(shared: &DeskShared, seat: &mut DeskSeat)
+    requires shared { (seat.old.table_id ≡ shared.now.table_id) × (shared.now.table_id.words ≡ 3) }
+    requires turn { (t : ℕ) × (h : History) × (seat.old.me.0.stage ≡ InTurn t h) ×
+        (seat.old.me.1 ≡ (0, Some h) ∷ []) }
+    ensures same { (seat.new.table_id ≡ seat.old.table_id) × (seat.new.id ≡ seat.old.id) }
+    ensures pass { seat.new.me ≡ (turn_passed seat.old.me.0, []) }
 {
-    board.fetch_add::<Serves>(chair, SERVING, 1);
+    shared.fetch_add::<Serves>(seat, SERVING, 1);
 }
 
 /// Deals out one more pass. The first pass alone does so.
-pub(crate) fn deal(board: &Board, chair: &mut Chair) -> Chair
-    requires board { (chair.old.table_id ≡ board.now.table_id) × (board.now.table_id.words ≡ 3) }
-    requires rests { (chair.old.me.1 ≡ []) × (chair.old.me.0.stage ≡ Idle) }
-    requires deals { (0 < chair.old.me.0.dealt) ×
-        (chair.old.me.0.dealt < chair.old.me.0.terms.seats) }
-    ensures same { (chair.new.table_id ≡ chair.old.table_id) × (chair.new.id ≡ chair.old.id) }
-    ensures pass { chair.new.me ≡ (dealing chair.old.me.0, []) }
-    ensures value { (result.table_id ≡ chair.old.table_id) ×
-        (result.me ≡ (dealt chair.old.me.0, [])) }
+pub(crate) fn deal(shared: &DeskShared, seat: &mut DeskSeat) -> DeskSeat
+    requires shared { (seat.old.table_id ≡ shared.now.table_id) × (shared.now.table_id.words ≡ 3) }
+    requires rests { (seat.old.me.1 ≡ []) × (seat.old.me.0.stage ≡ Idle) }
+    requires deals { (0 < seat.old.me.0.dealt) ×
+        (seat.old.me.0.dealt < seat.old.me.0.terms.seats) }
+    ensures same { (seat.new.table_id ≡ seat.old.table_id) × (seat.new.id ≡ seat.old.id) }
+    ensures pass { seat.new.me ≡ (dealing seat.old.me.0, []) }
+    ensures value { (result.table_id ≡ seat.old.table_id) ×
+        (result.me ≡ (dealt seat.old.me.0, [])) }
 {
-    board.split_seat::<Deals>(chair)
+    shared.split_seat::<Deals>(seat)
 }
 
 /// Takes in another pass.
-pub(crate) fn join(board: &Board, chair: &mut Chair, other: Chair)
-    requires board { (chair.old.table_id ≡ board.now.table_id) × (board.now.table_id.words ≡ 3) }
-    requires other { other.table_id ≡ board.now.table_id }
-    requires rests { (chair.old.me.1 ≡ []) × (chair.old.me.0.stage ≡ Idle) ×
+pub(crate) fn join(shared: &DeskShared, seat: &mut DeskSeat, other: DeskSeat)
+    requires shared { (seat.old.table_id ≡ shared.now.table_id) × (shared.now.table_id.words ≡ 3) }
+    requires other { other.table_id ≡ shared.now.table_id }
+    requires rests { (seat.old.me.1 ≡ []) × (seat.old.me.0.stage ≡ Idle) ×
         (other.me.1 ≡ []) × (other.me.0.stage ≡ Idle) }
-    ensures same { (chair.new.table_id ≡ chair.old.table_id) × (chair.new.id ≡ chair.old.id) }
-    ensures pass { chair.new.me ≡ (meeting chair.old.me.0 other.me.0, []) }
+    ensures same { (seat.new.table_id ≡ seat.old.table_id) × (seat.new.id ≡ seat.old.id) }
+    ensures pass { seat.new.me ≡ (meeting seat.old.me.0 other.me.0, []) }
 {
-    board.join_seat::<Joins>(chair, other);
+    shared.join_seat::<Joins>(seat, other);
 }
 
 /// Loads the count of entries: it shows that what both passes had seen has been seen now.
-pub(crate) fn compare(board: &Board, chair: &mut Chair)
-    requires board { (chair.old.table_id ≡ board.now.table_id) × (board.now.table_id.words ≡ 3) }
-    requires met { (chair.old.me.1 ≡ []) × ((first second : History) × (other : ℕ) ×
-        (chair.old.me.0.stage ≡ Met first second other)) }
-    ensures same { (chair.new.table_id ≡ chair.old.table_id) × (chair.new.id ≡ chair.old.id) }
-    ensures pass { chair.new.me ≡ (at_stage Idle chair.old.me.0, []) }
-    ensures legal { GoesOnFrom chair.old.me.0.terms chair.old.me.0.seen }
+pub(crate) fn compare(shared: &DeskShared, seat: &mut DeskSeat)
+    requires shared { (seat.old.table_id ≡ shared.now.table_id) × (shared.now.table_id.words ≡ 3) }
+    requires met { (seat.old.me.1 ≡ []) × ((first second : History) × (other : ℕ) ×
+        (seat.old.me.0.stage ≡ Met first second other)) }
+    ensures same { (seat.new.table_id ≡ seat.old.table_id) × (seat.new.id ≡ seat.old.id) }
+    ensures pass { seat.new.me ≡ (at_stage Idle seat.old.me.0, []) }
+    ensures legal { GoesOnFrom seat.old.me.0.terms seat.old.me.0.seen }
     ensures met { (first second : History) (other : ℕ) →
-        chair.old.me.0.stage ≡ Met first second other →
-        HasBoth chair.old.me.0.terms chair.old.me.0.number other first second chair.old.me.0.seen }
+        seat.old.me.0.stage ≡ Met first second other →
+        HasBoth seat.old.me.0.terms seat.old.me.0.number other first second seat.old.me.0.seen }
 {
-    board.load::<Meets>(chair, COUNT);
+    shared.load::<Meets>(seat, COUNT);
 }

@@ -1,5 +1,5 @@
 -- What is kept of pages, as contracts see it, and when it fits a log.
-use Rattle.std.specs.Prelude.{◌≡◌, ℕ, ◌/◌, ◌≤◌, ◌==◌, Bool, ◌&&◌, not, nat_le, All, List, [], length, map, filter, take, unwrap_or, slice_index_or, if◌then◌else◌}
+use Rattle.std.specs.Prelude.{◌≡◌, ℕ, ◌/◌, ◌<◌, ◌≤◌, ◌==◌, Bool, ◌&&◌, not, nat_le, All, List, [], length, map, filter, take, unwrap_or, slice_index_or, if◌then◌else◌}
 use Rattle.std.specs.List.{list_any, AllByRecursion}
 use Rattle.std.specs.Ordering.{nat_cmp}
 use Rattle.std.specs.FinMap as maps
@@ -64,6 +64,12 @@ pub record FitsLog (pages : PagesState) (log : List Content) : Type 0 where
   pub blocks : AllByRecursion IsBlock (take pages.indexed log)
   pub index : (page : ℕ) → indexed_at pages page ≡ lsns_of page (take pages.indexed log)
   pub versions : AreVersions pages.versions log
+
+-- No block changes the page up to the LSN; the index has the whole log, and there is a version, whose place may be taken.
+pub record IsBlankThere (pages : PagesState) (log : List Content) (page lsn : ℕ) : Type 0 where
+  pub none : lsns_of page (take lsn log) ≡ []
+  pub whole : pages.indexed ≡ length log
+  pub some : 0 < length pages.versions
 
 -- the applied LSNs are the same
 abbrev pub SameApplied : PagesState → PagesState → Type 0

@@ -4,6 +4,7 @@
 //! each page, the versions that are kept, and the number of chunks that versions may take.
 #![tactic(auto)]
 
+mod applied;
 mod changes;
 mod index;
 pub mod laws;

@@ -1,6 +1,6 @@
 //! The pages of one database.
 
-ghost use Rattle.std.specs.Prelude.{◌≡◌, ◌≢◌, ◌+◌, ◌-◌, ◌<◌, ◌≤◌, ℕ, List, length, min, IfOk, IfSome, IsOk, OnOk, OnErr, vec_capacity, slice_index_or, take, ◌==◌, if◌then◌else◌};
+ghost use Rattle.std.specs.Prelude.{◌≡◌, ◌≢◌, ◌+◌, ◌-◌, ◌<◌, ◌≤◌, ℕ, List, length, min, IfOk, IfSome, IsOk, OnOk, OnErr, slice_index_or, take};
 ghost use Rattle.std.specs.List.{AllByRecursion};
 ghost use Rattle.std.specs.Borrow.{sem};
 ghost use Rattle.pl_block.specs.Block.{Content};
@@ -11,8 +11,9 @@ ghost use Rattle.pl_pages.specs.Index.{IsAfterChanges, IsIndex, count_before};
 ghost use Rattle.pl_pages.specs.Kept.{IsAt, version_at};
 ghost use Rattle.pl_pages.specs.Page.{page_of};
 ghost use Rattle.pl_pages.specs.Ends.{EndsFitting};
-ghost use Rattle.pl_pages.specs.State.{AreVersions, FitsLog, SameApplied, applied_at, chosen, chosen_lsn, lsns_of};
+ghost use Rattle.pl_pages.specs.State.{AreVersions, FitsLog, IsBlankThere, SameApplied, applied_at, chosen_lsn, lsns_of};
 
+use crate::applied::{applied_in, choose, raise};
 use crate::changes::is_image;
 use crate::index::Index;
 use crate::versions::{Found, Versions};
@@ -20,6 +21,7 @@ use pl_block::PAGES_PER_PARTITION;
 use pl_log::DbLog;
 use std::alloc::{AllocError, Global};
 use std::marker::Model;
+use std::ops::Range;
 
 /// How many blocks a call of `follow` enters at most: as many as the window of a log has.
 const MOST_FOLLOWED: u64 = 64;
@@ -148,10 +150,9 @@ impl Pages {
     /// searches, and where no version of the page is kept at the LSN a replay of the blocks that change
     /// the page: from a copy of the newest version below it on, or from the newest block below it that
     /// makes the whole page (a Zero, or a Put of 8,192 bytes), whichever is newer; where there is
-    /// neither, of all that change it. A new version takes a frame; once all have versions, or there is
-    /// no memory for one more, it takes that of the oldest. Where there is no memory to note where the
-    /// version is, it is made again when it is asked for again. An error means that another allocation
-    /// failed: no applied LSN has changed.
+    /// neither, of all of them. A new version takes a frame; once all have versions, or there is no memory
+    /// for one more, that of the oldest. Where there is no memory to note where the version is, it is made
+    /// again when it is asked for again. An error means that another allocation failed: no applied LSN has changed.
     pub fn get(
         &mut self,
         log: &mut DbLog,
@@ -175,48 +176,15 @@ impl Pages {
         ensures len { IfOk result (λ given. length given.1.now ≡ page_size) }
         // The log is as before.
         ensures log { log.new ≡ log.old }
+        // A get of a page that no block changes up to the LSN does not fail, once the index has the whole log
+        // and a version is kept (`IsBlankThere`).
+        ensures succeeds { IsBlankThere self.old log.old.hardened page
+            (chosen_lsn self.old page lsn exact) → IsOk result }
     {
         let partition = (page / PAGES_PER_PARTITION) as u16;
         let at = choose(self.applied(partition), lsn, exact);
         let place = find_or_make(log, &mut self.index, &mut self.versions, page, at)?;
         Ok((at, self.versions.bytes(place)))
-    }
-}
-
-// The LSN that a partition is applied to.
-fn applied_in(applied: &[u64], partition: u16) -> u64
-    ensures value { result ≡ slice_index_or applied.now partition 0 }
-{
-    match applied.get(usize::from(partition)) {
-        Some(lsn) => *lsn,
-        None => 0,
-    }
-}
-
-// Applies a partition up to the LSN.
-fn raise(applied: &mut Vec<u64>, partition: u16, lsn: u64) -> Result<(), AllocError>
-    ensures ok { OnOk result ((other : ℕ) → slice_index_or applied.new.items other 0 ≡
-        (if other == partition then lsn else slice_index_or applied.old.items other 0)) }
-    ensures err { OnErr result ((other : ℕ) →
-        slice_index_or applied.new.items other 0 ≡ slice_index_or applied.old.items other 0) }
-    ensures succeeds { partition < vec_capacity applied.old → IsOk result }
-{
-    let place = usize::from(partition);
-    if applied.len() <= place {
-        applied.resize(place + 1, 0)?;
-    }
-    applied[place] = lsn;
-    Ok(())
-}
-
-// The LSN that a get is answered at.
-fn choose(applied: u64, lsn: u64, exact: bool) -> u64
-    ensures value { result ≡ chosen applied lsn exact }
-{
-    if !exact && lsn <= applied {
-        applied
-    } else {
-        lsn
     }
 }
 
@@ -238,6 +206,9 @@ fn find_or_make(
     ensures within { IfOk result (λ place. place < length versions.new.versions) }
     ensures page { IfOk result (λ place. (version_at versions.new.versions place).bytes ≡
         page_of page (take lsn log.old.hardened)) }
+    ensures succeeds { index.old.entered ≡ length log.old.hardened →
+        0 < length versions.old.versions →
+        count_before page log.old.hardened lsn ≡ 0 → IsOk result }
 {
     let hard = log.hard();
     catch_up(log, index, hard)?;
@@ -249,11 +220,11 @@ fn find_or_make(
 // Enters the hardened blocks up to an LSN that the index was not made of yet.
 fn catch_up(log: &mut DbLog, index: &mut Index, to: u64) -> Result<(), AllocError>
     requires index { IsIndex index.old log.old.hardened }
-    requires from { index.old.entered ≤ to }
-    requires hard { to ≤ length log.old.hardened }
+    requires to { (index.old.entered ≤ to) × (to ≤ length log.old.hardened) }
     ensures log { log.new ≡ log.old }
     ensures index { IsIndex index.new log.old.hardened }
     ensures all { OnOk result (index.new.entered ≡ to) }
+    ensures succeeds { index.old.entered ≡ to → IsOk result }
 {
     for before in index.entered()..to {
         let block = log.read(before + 1)?;
@@ -273,29 +244,29 @@ fn count_up_to(lsns: &[u64], lsn: u64) -> usize
     lsns.partition_point(|other| *other <= lsn)
 }
 
-// Makes the changes of some of the blocks that change a page, of which the LSNs are these, in the
-// version at a place.
+// Redoes in the version at a place a range of the blocks that change a page, of which these are the LSNs.
 fn bring_up(
     log: &mut DbLog,
     versions: &mut Versions,
     place: usize,
     page: u32,
     lsns: &[u64],
-    from: usize,
-    to: usize,
+    range: Range<usize>,
 ) -> Result<(), AllocError>
     requires numbered { AreNumbered 1 log.old.hardened }
     requires lsns { lsns.now ≡ lsns_of page log.old.hardened }
     requires truth { AreVersions versions.old.versions log.old.hardened }
-    requires after { IsAfterChanges versions.old.versions place page log.old.hardened from }
-    requires rising { from ≤ to }
-    requires within { to ≤ length lsns.now }
+    requires after { IsAfterChanges versions.old.versions place page log.old.hardened range.start }
+    requires rising { range.start ≤ range.end }
+    requires within { range.end ≤ length lsns.now }
     ensures log { log.new ≡ log.old }
     ensures truth { AreVersions versions.new.versions log.old.hardened }
     ensures chunks { versions.new.chunks ≡ versions.old.chunks }
-    ensures after { OnOk result (IsAfterChanges versions.new.versions place page log.old.hardened to) }
+    ensures after { OnOk result
+        (IsAfterChanges versions.new.versions place page log.old.hardened range.end) }
+    ensures succeeds { range.start ≡ range.end → IsOk result }
 {
-    for i in from..to {
+    for i in range.start..range.end {
         let block = log.read(lsns[i])?;
         versions.redo(place, &block);
     }
@@ -318,6 +289,7 @@ fn begin_at_image(
     ensures chunks { versions.new.chunks ≡ versions.old.chunks }
     ensures at { IfOk result (λ begun. IsAt versions.new.versions begun.place page begun.lsn) }
     ensures below { IfOk result (λ begun. begun.lsn ≤ image) }
+    ensures succeeds { image ≡ 0 → 0 < length versions.old.versions → IsOk result }
 {
     let place = versions.begin(page)?;
     if image == 0 {
@@ -353,6 +325,7 @@ fn begin(
     ensures chunks { versions.new.chunks ≡ versions.old.chunks }
     ensures at { IfOk result (λ begun. IsAt versions.new.versions begun.place page begun.lsn) }
     ensures below { IfOk result (λ begun. begun.lsn ≤ lsn) }
+    ensures succeeds { image ≡ 0 → 0 < length versions.old.versions → IsOk result }
 {
     match found {
         Some(found) if image <= found.lsn => {
@@ -361,6 +334,14 @@ fn begin(
         }
         _ => begin_at_image(log, versions, page, image),
     }
+}
+
+// The LSN of the image to begin at: 0 where no block changes the page.
+fn image_after(changes: usize, image: u64) -> u64
+    ensures within { result ≤ image }
+    ensures none { changes ≡ 0 → result ≡ 0 }
+{
+    if changes == 0 { 0 } else { image }
 }
 
 // The place of a version that is the page at an LSN. Where the newest at or below it lacks blocks
@@ -384,6 +365,8 @@ fn show(
     ensures chunks { versions.new.chunks ≡ versions.old.chunks }
     ensures after { IfOk result (λ place. IsAfterChanges versions.new.versions place page
         log.old.hardened (count_before page log.old.hardened lsn)) }
+    ensures succeeds { 0 < length versions.old.versions →
+        count_before page log.old.hardened lsn ≡ 0 → IsOk result }
 {
     let to = count_up_to(lsns, lsn);
     let found = versions.find(page, lsn);
@@ -392,9 +375,9 @@ fn show(
             return Ok(found.place);
         }
     }
-    let begun = begin(log, versions, page, found, image, lsn)?;
+    let begun = begin(log, versions, page, found, image_after(to, image), lsn)?;
     let from = count_up_to(lsns, begun.lsn);
-    bring_up(log, versions, begun.place, page, lsns, from, to)?;
+    bring_up(log, versions, begun.place, page, lsns, from..to)?;
     versions.enter(begun.place);
     Ok(begun.place)
 }

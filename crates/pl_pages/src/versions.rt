@@ -1,6 +1,6 @@
 //! Versions of pages, in frames of an arena.
 
-ghost use Rattle.std.specs.Prelude.{◌≡◌, ◌<◌, ◌≤◌, [], length, slice_set, IfOk, IfSome};
+ghost use Rattle.std.specs.Prelude.{◌≡◌, ◌<◌, ◌≤◌, [], length, slice_set, IfOk, IfSome, IsOk, IsSome};
 ghost use Rattle.pl_block.specs.Bounds.{page_size};
 ghost use Rattle.pl_pages.specs.Kept.{IsAt, StayInPlace, StayTrue, version_at, with_block};
 ghost use Rattle.pl_pages.specs.Page.{empty_page};
@@ -131,6 +131,7 @@ impl Versions {
         ensures truth { StayTrue self.old.versions self.new.versions }
         ensures chunks { self.new.chunks ≡ self.old.chunks }
         ensures at { IfOk result (λ place. IsAt self.new.versions place page 0) }
+        ensures succeeds { 0 < length self.old.versions → IsOk result }
     {
         let place = self.make_room()?;
         self.put_blank(place, page);
@@ -144,6 +145,7 @@ impl Versions {
         ensures chunks { self.new.chunks ≡ self.old.chunks }
         ensures at { IfOk result (λ place. IsAt self.new.versions place
             (version_at self.old.versions from).page (version_at self.old.versions from).lsn) }
+        ensures succeeds { IsOk result }
     {
         let place = self.make_room()?;
         self.copy(from, place);
@@ -196,6 +198,7 @@ impl Versions {
         ensures stay { StayInPlace self.old.versions self.new.versions }
         ensures chunks { self.new.chunks ≡ self.old.chunks }
         ensures within { IfOk result (λ place. place < length self.new.versions) }
+        ensures succeeds { 0 < length self.old.versions → IsOk result }
     {
         match self.add_place() {
             Ok(place) => Ok(place),
@@ -229,6 +232,7 @@ impl Versions {
     fn free_oldest(&mut self) -> Option<usize>
         ensures same { self.new ≡ self.old }
         ensures within { IfSome result (λ place. place < length self.new.versions) }
+        ensures some { 0 < length self.old.versions → IsSome result }
     {
         let place = self.oldest;
         let version = *self.kept.get(place)?;
@@ -242,7 +246,8 @@ impl Versions {
     fn put_blank(&mut self, place: usize, page: u32)
         requires within { place < length self.old.versions }
         ensures versions { self.new.versions ≡
-            slice_set self.old.versions place (record { page = page; lsn = 0; bytes = empty_page }) }
+            slice_set self.old.versions place
+            (record { page = page; lsn = 0; bytes = empty_page }) }
         ensures chunks { self.new.chunks ≡ self.old.chunks }
     {
         let frame = self.kept[place].frame;

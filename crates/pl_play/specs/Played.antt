@@ -34,6 +34,7 @@ pub record Moment (S : Type 0) : Type 0 where
   pub output : Option (List ℕ)
   pub state : S
 
+-- this output, and this state
 abbrev pub moment : {S : Type 0} → Option (List ℕ) → S → Moment S
 moment output state = record { output = output; state = state }
 

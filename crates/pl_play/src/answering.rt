@@ -2,21 +2,21 @@
 
 ghost use Rattle.std.specs.Prelude.{◌≡◌, ◌↔◌, Err, IfOk, IsTrue, OnErr, OnOk};
 ghost use Rattle.pl_block.specs.declared.fault.Failed.TheVariants.{NoMemory};
+ghost use Rattle.pl_core.specs.declared.reply.Reply.{Reply as ReplySeen};
 ghost use Rattle.pl_core.specs.Reply.{FitsReply};
 ghost use Rattle.pl_wire.specs.Answering.{AnswersAsRead};
 ghost use Rattle.pl_wire.specs.Replies.{reply_spelling};
 ghost use Rattle.pl_play.specs.Answering.{IsCopied, PlayCall};
-ghost use Rattle.pl_play.specs.Played.{WritesReply};
+ghost use Rattle.pl_play.specs.Played.{WritesReply, reply_line};
 ghost use Rattle.pl_play.specs.Text.{line_text};
 
 use crate::fault::PlayFault;
 use crate::one_database::OneDatabase;
 use crate::text::line_of_bytes;
-use crate::writing::write_whole;
 use bytes::Bytes;
 use pl_core::{Db, Reply};
 use pl_table::Request;
-use pl_wire::{BodyFault, answer, decode_request_shared, encode_reply};
+use pl_wire::{BodyFault, answer, decode_request_shared, encode_reply, write_bytes};
 use std::alloc::{AllocError, Global};
 use std::io::Write;
 
@@ -67,6 +67,17 @@ fn lacks_memory(reply: &Reply) -> bool
     matches!(reply, Reply::NoMemory)
 }
 
+/// Writes the line of a reply. A write that fails ends it, whatever the cause, an interruption too, and is not tried again.
+fn write_line<W: Write>(writer: &mut W, line: &[u8]) -> Result<(), PlayFault>
+    ensures value { (reply : ReplySeen) → line.now ≡ reply_line reply →
+        WritesReply reply (W.contents writer.old) (W.contents writer.new) result }
+{
+    match write_bytes(writer, line) {
+        Ok(()) => Ok(()),
+        Err(_) => Err(PlayFault::Write),
+    }
+}
+
 /// Writes a reply as one line. The line of [`Reply::NoMemory`] takes no memory, so that it is never
 /// lost for lack of it.
 pub(crate) fn write_reply<W: Write>(
@@ -81,10 +92,8 @@ pub(crate) fn write_reply<W: Write>(
     ensures value { WritesReply reply.now (W.contents writer.old) (W.contents writer.new) result }
 {
     if lacks_memory(reply) {
-        write_whole(writer, NO_MEMORY)?;
-        return Ok(());
+        return write_line(writer, NO_MEMORY);
     }
     let line = line_of_reply(alloc, reply)?;
-    write_whole(writer, line.as_slice())?;
-    Ok(())
+    write_line(writer, line.as_slice())
 }

@@ -3,7 +3,6 @@
 ghost use Rattle.std.specs.Prelude.{◌≡◌, Some};
 ghost use Rattle.pl_play.specs.FaultText.{fault_text};
 
-use crate::writing::WriteFailed;
 use std::alloc::AllocError;
 use std::fmt;
 use thiserror::Error;
@@ -34,16 +33,6 @@ impl fmt::Display for PlayFault {
             PlayFault::Text(line) => write!(f, "line {line} is no hexadecimal text"),
             PlayFault::Long(line) => write!(f, "line {line} is too long"),
         }
-    }
-}
-
-impl From<WriteFailed> for PlayFault {
-    ghost use Rattle.pl_play.specs.declared.fault.PlayFault.TheVariants.{Write};
-
-    ghost from_gives = { λ _ e. e ≡ Write };
-
-    fn from(_failed: WriteFailed) -> PlayFault {
-        PlayFault::Write
     }
 }
 

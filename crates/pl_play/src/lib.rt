@@ -15,7 +15,6 @@ mod player;
 mod reply_text;
 mod start;
 mod text;
-mod writing;
 
 pub use fault::PlayFault;
 pub use operator_words::{AdminFault, Credentials, admin};

@@ -86,7 +86,8 @@ fn act_of_three(word: &str, first: &str, max: &str) -> Option<Act>
 
 // The set_table of this text.
 fn table_of(alloc: Global, text: Option<Vec<u8>>) -> Result<Option<Act>, AllocError>
-    ensures exact { IfOk result (λ act. (file : List ℕ) → ReadAs (codes "set_table" ∷ file ∷ []) (bytes_of text) act) }
+    ensures exact { IfOk result (λ act. (file : List ℕ) →
+        ReadAs (codes "set_table" ∷ file ∷ []) (bytes_of text) act) }
 {
     let Some(text) = text else {
         return Ok(None);

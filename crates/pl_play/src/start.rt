@@ -100,7 +100,8 @@ impl From<FileFault> for StartFault {
 /// The fault of a file that could not be opened or read.
 pub fn file_fault_of(error: &io::Error) -> FileFault
     // `NoMemory` exactly for an error of that kind.
-    ensures no_memory { (result ≡ FileFault.NoMemory) ↔ (error_kind error.now ≡ ErrorKind.OutOfMemory) }
+    ensures no_memory { (result ≡ FileFault.NoMemory)
+        ↔ (error_kind error.now ≡ ErrorKind.OutOfMemory) }
     // It is never `Long`.
     ensures never { result ≢ FileFault.Long }
 {
@@ -114,7 +115,8 @@ pub fn file_fault_of(error: &io::Error) -> FileFault
 fn text_of(read: io::Result<usize>, text: Vec<u8>) -> Result<Vec<u8>, FileFault>
     ensures ok { IfOk result (λ whole. (whole ≡ text) × (length text.items ≤ longest_table_text)) }
     ensures read { OnOk result (IsOk read) }
-    ensures long { result ≡ Err FileFault.Long → IsOk read × (longest_table_text < length text.items) }
+    ensures long { result ≡ Err FileFault.Long →
+        IsOk read × (longest_table_text < length text.items) }
     ensures memory { IfErr read (λ error. error_kind error ≡ ErrorKind.OutOfMemory →
         result ≡ Err FileFault.NoMemory) }
     ensures no_memory { result ≡ Err FileFault.NoMemory →
@@ -150,7 +152,8 @@ pub fn start_db(alloc: Global, text: &[u8], primary: u32, audit: u64) -> Result<
     requires { 1 ≤ audit }
     // The database with that table, primary and limit of its audit list, of which nothing was
     // asked; or the first fault, or `NoMemory` (`start_of`).
-    ensures value { (result ≡ Err StartFault.NoMemory) ⊎ (result ≡ start_of text.now primary audit) }
+    ensures value { (result ≡ Err StartFault.NoMemory)
+        ⊎ (result ≡ start_of text.now primary audit) }
 {
     let table = read_table(alloc, text)?;
     let limits = Limits {
@@ -164,7 +167,8 @@ pub fn start_db(alloc: Global, text: &[u8], primary: u32, audit: u64) -> Result<
 pub fn start_play(alloc: Global, text: &[u8], primary: u32) -> Result<Db, StartFault>
     // The database with that table, that primary and an audit list of at most 65,536, of which
     // nothing was asked; or the first fault, or `NoMemory`.
-    ensures value { (result ≡ Err StartFault.NoMemory) ⊎ (result ≡ start_of text.now primary audit_of_play) }
+    ensures value { (result ≡ Err StartFault.NoMemory)
+        ⊎ (result ≡ start_of text.now primary audit_of_play) }
 {
     start_db(alloc, text, primary, AUDIT_OF_PLAY)
 }

@@ -8,12 +8,12 @@ use Rattle.pl_core.specs.History.{History}
 use Rattle.pl_desk.specs.Passes.{Knowledge, DeskOrigin}
 use Rattle.pl_conn.specs.Desks.{ArePassesOf, DesksCall, all_fresh, fresh_at, terms_of_each}
 use Rattle.pl_conn.specs.Serving.{ServesConnections}
+use Rattle.pl_conn.specs.declared.materialising.PageServer.{PageServer}
 use Rattle.pl_conn.specs.declared.serving.Stop.{Stop}
 use Rattle.pl_conn.specs.declared.serving.Stop.TheVariants as stops
 use Rattle.pl_play.specs.declared.start.StartFault.{StartFault}
 use Rattle.pl_play.specs.declared.start.StartFault.TheVariants as starts
 use Rattle.pl_program.specs.Paging.{HasPaged}
-use Rattle.pl_program.specs.declared.pager.Pager.{Pager}
 use Rattle.pl_program.specs.declared.run_fault.RunFault.{RunFault}
 use Rattle.pl_program.specs.declared.run_fault.RunFault.TheVariants as faults
 use Rattle.pl_program.specs.declared.tally.Tally.{Tally}
@@ -33,7 +33,7 @@ abbrev pub token_for : List ℕ → ℕ → Result (List ℕ) StartFault
 token_for text principal = read_token (table_reading text) principal
 
 -- the page server of these numbers, with its token
-abbrev pub pager_with : Result (List ℕ) StartFault → ServeNumbers → Result (Option Pager) StartFault
+abbrev pub pager_with : Result (List ℕ) StartFault → ServeNumbers → Result (Option PageServer) StartFault
 pager_with (Err fault) numbers = Err fault
 pager_with (Ok token) numbers = Ok (Some (record {
   principal = numbers.pager;
@@ -43,14 +43,14 @@ pager_with (Ok token) numbers = Ok (Some (record {
 }))
 
 -- the page server of a service with the table of this text: none of no rounds
-abbrev pub pager_in : List ℕ → ServeNumbers → Result (Option Pager) StartFault
+abbrev pub pager_in : List ℕ → ServeNumbers → Result (Option PageServer) StartFault
 pager_in text numbers =
     if numbers.rounds == 0 then Ok None else pager_with (token_for text numbers.pager) numbers
 
 -- Each database got a desk, with a seat for each worker and one for the page server. The passes that come
 -- back are those of workers, each after a list of calls, and the last one: the page server's after its rounds,
 -- if there is a page server.
-pub record ServesDatabases (dbs : List History) (workers connections : ℕ) (pager : Option Pager) (accepted : ℕ) (stop : Stop) (passes : List (List Knowledge)) (left : Option (List Knowledge)) : Type 0 where
+pub record ServesDatabases (dbs : List History) (workers connections : ℕ) (pager : Option PageServer) (accepted : ℕ) (stop : Stop) (passes : List (List Knowledge)) (left : Option (List Knowledge)) : Type 0 where
   pub desks : List DeskOrigin
   pub made : map (λ desk. desk.terms) desks ≡ terms_of_each (workers + 1) (2 ^ 62) dbs
   pub serves : ServesConnections DesksCall (ArePassesOf desks) (all_fresh desks workers) connections accepted stop passes

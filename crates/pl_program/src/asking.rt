@@ -29,7 +29,8 @@ pub fn credentials_of(
     ensures others { IfOk result (λ c.
         (c.principal ≡ principal) × (c.database ≡ database) × (c.epoch ≡ epoch)) }
     // The fault is `Words`, and the token is not 32 hexadecimal digits.
-    ensures err { IfErr result (λ fault. (fault ≡ RunFault.Words) × IsErr (decode_sized token.now 16)) }
+    ensures err { IfErr result (λ fault. (fault ≡ RunFault.Words)
+        × IsErr (decode_sized token.now 16)) }
 {
     let mut bytes = [0; TOKEN_BYTES];
     if hex::decode_to_slice(token.as_bytes(), &mut bytes).is_err() {

@@ -15,7 +15,8 @@ pub(crate) fn text_in<R: Read + Drop>(
     opened: io::Result<R>,
 ) -> Result<Vec<u8>, FileFault>
     // The whole of the file.
-    ensures ok { IfOk result (λ text. IsOkAnd opened (λ reader. IsWhole (R.remaining reader) text.items)) }
+    ensures ok { IfOk result (λ text. IsOkAnd opened (λ reader.
+        IsWhole (R.remaining reader) text.items)) }
     // If memory ran out while it was opened, the fault is `NoMemory`.
     ensures no_memory { IfErr opened (λ error. error_kind error ≡ ErrorKind.OutOfMemory →
         result ≡ Err FileFault.NoMemory) }
@@ -23,7 +24,8 @@ pub(crate) fn text_in<R: Read + Drop>(
     ensures unopened { IfErr opened (λ error. error_kind error ≢ ErrorKind.OutOfMemory →
         result ≡ Err FileFault.Read) }
     // `Long` comes only if the file was opened and has more than 65,506 bytes.
-    ensures long { result ≡ Err FileFault.Long → IsOkAnd opened (λ reader. IsTooLongText (R.remaining reader)) }
+    ensures long { result ≡ Err FileFault.Long → IsOkAnd opened (λ reader.
+        IsTooLongText (R.remaining reader)) }
 {
     match opened {
         Ok(reader) => read_text(alloc, reader),

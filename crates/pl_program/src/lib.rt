@@ -23,7 +23,6 @@ mod telling;
 pub use asking::{credentials_of, exchange, file_of};
 pub use ending::{Ending, Failure};
 pub use opening::{Opening, databases_of, opening_of, pager_of, token_of};
-pub use pager::Pager;
 pub use run_fault::RunFault;
 pub use running::run;
 pub use service::{ServedDatabases, serve_databases};

@@ -5,8 +5,8 @@ ghost use Rattle.std.specs.List.{All};
 ghost use Rattle.pl_play.specs.Start.{start_of};
 ghost use Rattle.pl_program.specs.Serving.{pager_in, token_for};
 
-use crate::pager::Pager;
 use pl_command::ServeNumbers;
+use pl_conn::PageServer;
 use pl_core::Db;
 use pl_play::{StartFault, start_db};
 use pl_table::read_table;
@@ -36,7 +36,8 @@ pub fn databases_of(
     // This many databases.
     ensures count { IfOk result (λ dbs. vec_len dbs ≡ count) }
     // Each has the table of the text, that primary and that limit of its audit list.
-    ensures each { IfOk result (λ dbs. All (λ db. start_of text.now primary audit ≡ Ok db) dbs.items) }
+    ensures each { IfOk result (λ dbs. All (λ db. start_of text.now primary audit ≡ Ok db)
+        dbs.items) }
     // The first fault of these, or `NoMemory`.
     ensures err { IfErr result (λ fault. (fault ≡ StartFault.NoMemory)
         ⊎ (start_of text.now primary audit ≡ Err fault)) }
@@ -69,7 +70,7 @@ pub fn pager_of(
     alloc: Global,
     text: &[u8],
     numbers: ServeNumbers,
-) -> Result<Option<Pager>, StartFault>
+) -> Result<Option<PageServer>, StartFault>
     // The page server of these numbers, with the token that the table lists for it; `None` of no
     // rounds; or the first fault, or `NoMemory`.
     ensures value { (result ≡ Err StartFault.NoMemory) ⊎ (result ≡ pager_in text.now numbers) }
@@ -77,7 +78,7 @@ pub fn pager_of(
     if numbers.rounds == 0 {
         return Ok(None);
     }
-    Ok(Some(Pager {
+    Ok(Some(PageServer {
         principal: numbers.pager,
         token: token_of(alloc, text, numbers.pager)?,
         partition: numbers.partition,
@@ -91,7 +92,7 @@ pub struct Opening {
     /// Its databases, by their numbers from 0 on.
     pub dbs: Vec<Db>,
     /// Its page server, where it has one.
-    pub pager: Option<Pager>,
+    pub pager: Option<PageServer>,
 }
 
 /// What a service with the table of this text begins with: this many databases as the numbers say, each with
@@ -103,7 +104,8 @@ pub fn opening_of(alloc: Global, text: &[u8], numbers: ServeNumbers) -> Result<O
     ensures count { IfOk result (λ o. vec_len o.dbs ≡ numbers.dbs) }
     // Each has the table of the text, and the primary and the limit of its audit list that the
     // numbers say.
-    ensures each { IfOk result (λ o. All (λ db. start_of text.now numbers.primary numbers.audit ≡ Ok db) o.dbs.items) }
+    ensures each { IfOk result (λ o. All (λ db.
+        start_of text.now numbers.primary numbers.audit ≡ Ok db) o.dbs.items) }
     // Their page server, if the numbers ask for one.
     ensures pager { IfOk result (λ o. pager_in text.now numbers ≡ Ok o.pager) }
     // A fault of these, or `NoMemory`.

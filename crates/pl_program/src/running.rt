@@ -13,6 +13,7 @@ use crate::service::serve_databases;
 use crate::tally::{Tally, tally_of};
 use crate::telling::Teller;
 use pl_command::{CommandLine, ServeNumbers, arguments_of, asked};
+use pl_conn::Terms;
 use pl_core::{Db, Reply};
 use pl_play::{Credentials, PlayFault, StartFault, admin, answer_text, play, start_play};
 use pl_table::Request;
@@ -245,19 +246,14 @@ where
     requires workers { numbers.workers ≤ 64 }
 {
     let Opening { dbs, pager } = opening;
-    let watch = Teller { rt };
-    let served = serve_databases(
-        rt,
-        rt.alloc(),
+    let terms = Terms {
+        alloc: rt.alloc(),
         listener,
-        dbs,
-        numbers.workers,
-        numbers.connections,
-        pager,
-        numbers.idle_polls,
-        &watch,
-    );
-    match served {
+        connections: numbers.connections,
+        idle_polls: numbers.idle_polls,
+        watch: &Teller { rt },
+    };
+    match serve_databases(rt, &terms, dbs, numbers.workers, pager) {
         Ok(served) => {
             let tally = tally_of(&served.connections);
             note_stopped(rt, numbers.workers, &tally);

@@ -7,26 +7,17 @@ ghost use Rattle.pl_conn.specs.Serving.{ServesConnections};
 ghost use Rattle.pl_program.specs.Paging.{AreLeftBy};
 ghost use Rattle.pl_program.specs.Serving.{ServesDatabases};
 
-use crate::pager::{Pager, start_pager};
+use crate::pager::{Paging, start_pager};
 use crate::run_fault::RunFault;
-use pl_conn::{Desks, Passes, Served, Watch, serve_watched};
+use pl_conn::{Desks, PageServer, Passes, Served, Terms, Watch, serve_watched};
 use pl_core::Db;
-use std::alloc::Global;
-use std::net::{Net, TcpListener};
+use std::net::Net;
 use std::sync::Wait;
 use std::thread;
 use std::thread::{Scope, Threads};
 
 /// The most turns that a desk has: one for each request of centuries.
 const TURNS: u64 = 1 << 62;
-
-/// A page server with its passes, and how many databases there are.
-#[derive(Drop)]
-struct Paging {
-    pager: Pager,
-    passes: Passes,
-    databases: u32,
-}
 
 /// What a service did for connections, and what its page server left.
 #[derive(Drop)]
@@ -42,55 +33,28 @@ pub struct ServedDatabases {
 fn serve_in<'s, E, R: Threads + Wait + Net + Sync + Drop, W: Watch>(
     scope: &Scope<'s, E>,
     rt: &'s R,
-    alloc: Global,
-    listener: &TcpListener,
+    terms: &Terms<W>,
     desks: &'s Desks<R>,
     passes: Vec<Passes>,
     paging: Option<Paging>,
-    connections: u32,
-    idle_polls: u32,
-    watch: &W,
 ) -> Option<ServedDatabases>
     requires own { All (ArePassesOf desks.now) passes.items }
     requires pager { IfSome paging (λ p. ArePassesOf desks.now p.passes) }
-    ensures serves { IfSome result (λ s. ServesConnections DesksCall (ArePassesOf desks.now) passes.items connections
-        s.connections.accepted s.connections.stop s.connections.passes.items) }
+    ensures serves { IfSome result (λ s. ServesConnections DesksCall (ArePassesOf desks.now)
+        passes.items terms.now.connections s.connections.accepted s.connections.stop
+        s.connections.passes.items) }
     // Where there is a page server, it was started and waited for.
     ensures paged { IfSome result (λ s. AreLeftBy paging s.pager) }
     ensures none { IsNone result → IsSome paging }
 {
     let Some(paging) = paging else {
-        let connections = serve_watched(
-            rt,
-            alloc,
-            listener,
-            desks,
-            passes,
-            connections,
-            idle_polls,
-            watch,
-        );
         return Some(ServedDatabases {
-            connections,
+            connections: serve_watched(rt, terms, desks, passes),
             pager: None,
         });
     };
-    let Paging {
-        pager,
-        passes: own,
-        databases,
-    } = paging;
-    let started = start_pager(scope, desks, own, pager, databases)?;
-    let connections = serve_watched(
-        rt,
-        alloc,
-        listener,
-        desks,
-        passes,
-        connections,
-        idle_polls,
-        watch,
-    );
+    let started = start_pager(scope, desks, paging)?;
+    let connections = serve_watched(rt, terms, desks, passes);
     let left = started.join(rt);
     Some(ServedDatabases {
         connections,
@@ -115,66 +79,58 @@ fn take_last<R>(desks: &Desks<R>, passes: &mut Vec<Passes>) -> Passes
 // Serves the databases of the desks, with a worker for each of the passes.
 fn serve_over<R: Threads + Wait + Net + Sync + Drop, W: Watch>(
     rt: &R,
-    alloc: Global,
-    listener: &TcpListener,
+    terms: &Terms<W>,
     desks: &Desks<R>,
     passes: Vec<Passes>,
     paging: Option<Paging>,
-    connections: u32,
-    idle_polls: u32,
-    watch: &W,
 ) -> Option<ServedDatabases>
     requires own { All (ArePassesOf desks.now) passes.items }
     requires pager { IfSome paging (λ p. ArePassesOf desks.now p.passes) }
-    ensures serves { IfSome result (λ s. ServesConnections DesksCall (ArePassesOf desks.now) passes.items connections
-        s.connections.accepted s.connections.stop s.connections.passes.items) }
+    ensures serves { IfSome result (λ s. ServesConnections DesksCall (ArePassesOf desks.now)
+        passes.items terms.now.connections s.connections.accepted s.connections.stop
+        s.connections.passes.items) }
     ensures paged { IfSome result (λ s. AreLeftBy paging s.pager) }
     ensures none { IsNone result → IsSome paging }
 {
+    let (alloc, listener, watch) = (terms.alloc, terms.listener, terms.watch);
+    let (connections, idle_polls) = (terms.connections, terms.idle_polls);
     thread::scope(
         thread::scope_env(),
         rt,
         move |scope| -> Option<ServedDatabases>
             requires own { All (ArePassesOf desks.now) passes.items }
             requires pager { IfSome paging (λ p. ArePassesOf desks.now p.passes) }
-            ensures serves { IfSome result (λ s. ServesConnections DesksCall (ArePassesOf desks.entry.now) passes.items
-                connections s.connections.accepted s.connections.stop s.connections.passes.items) }
+            ensures serves { IfSome result (λ s. ServesConnections DesksCall
+                (ArePassesOf desks.entry.now) passes.items connections
+                s.connections.accepted s.connections.stop s.connections.passes.items) }
             ensures paged { IfSome result (λ s. AreLeftBy paging s.pager) }
             ensures none { IsNone result → IsSome paging }
         {
-            serve_in(
-                scope,
-                rt,
+            let terms = Terms {
                 alloc,
                 listener,
-                desks,
-                passes,
-                paging,
                 connections,
                 idle_polls,
                 watch,
-            )
+            };
+            serve_in(scope, rt, &terms, desks, passes, paging)
         },
     )
 }
 
-/// Serves the databases to connections, with this many workers, until this many were accepted. Where
-/// there is a pager, it works at the same time, in a thread of its own, and is waited for. One worker at a time that has
-/// nothing to do polls its sockets `idle_polls` times more before it sleeps. What the service cannot do while it goes on is
-/// reported to the watch.
+/// Serves the databases to connections by these terms, with this many workers. Where
+/// there is a page server, it works at the same time, in a thread of its own, and is waited for. One worker at a time that has
+/// nothing to do polls its sockets more before it sleeps, as the terms say. What the service cannot do while it goes on is
+/// reported to their watch.
 ///
 /// `NoMemory` where the desks found none, and `Threads` where the page server's thread could not be
 /// started.
 pub fn serve_databases<R: Threads + Wait + Net + Sync + Copy + Drop, W: Watch>(
     rt: &R,
-    alloc: Global,
-    listener: &TcpListener,
+    terms: &Terms<W>,
     dbs: Vec<Db>,
     workers: u32,
-    connections: u32,
-    pager: Option<Pager>,
-    idle_polls: u32,
-    watch: &W,
+    pager: Option<PageServer>,
 ) -> Result<ServedDatabases, RunFault>
     // 1 to 16 databases.
     requires some { 1 ≤ vec_len dbs }
@@ -185,34 +141,24 @@ pub fn serve_databases<R: Threads + Wait + Net + Sync + Copy + Drop, W: Watch>(
     // passes that come back are passes of these desks, each after a list of calls. It says how many
     // connections were accepted, by why it stopped. The page server's passes come back if there is
     // one, after its rounds at each database, in turn (`ServesDatabases`).
-    ensures serves { IfOk result (λ s. ServesDatabases dbs.items workers connections pager
+    ensures serves { IfOk result (λ s. ServesDatabases dbs.items workers terms.now.connections pager
         s.connections.accepted s.connections.stop s.connections.passes.items s.pager) }
     // The fault is `NoMemory`, or `Threads` where there is a page server.
     ensures err { IfErr result (λ fault. (fault ≡ RunFault.NoMemory)
         ⊎ ((fault ≡ RunFault.Threads) × IsSome pager)) }
 {
     let databases = dbs.len() as u32;
-    let (desks, mut passes) = Desks::new(alloc, *rt, dbs, workers + 1, TURNS)?;
+    let (desks, mut passes) = Desks::new(terms.alloc, *rt, dbs, workers + 1, TURNS)?;
     let last = take_last(&desks, &mut passes);
     let paging = match pager {
-        Some(pager) => Some(Paging {
-            pager,
+        Some(server) => Some(Paging {
+            server,
             passes: last,
             databases,
         }),
         None => None,
     };
-    match serve_over(
-        rt,
-        alloc,
-        listener,
-        &desks,
-        passes,
-        paging,
-        connections,
-        idle_polls,
-        watch,
-    ) {
+    match serve_over(rt, terms, &desks, passes, paging) {
         Some(served) => Ok(served),
         None => Err(RunFault::Threads),
     }

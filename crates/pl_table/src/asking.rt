@@ -42,7 +42,8 @@ impl Partitions<'_> {
     /// The only partition, if there is one; `None` where there are several.
     pub fn at_most_one(&self) -> Option<Option<u16>>
         // The one partition or none; `None` where there are several (`named_by`).
-        ensures value { IfSome result (λ one. option_map_or (λ p. p ∷ []) one [] ≡ named_by self.now) }
+        ensures value { IfSome result
+            (λ one. option_map_or (λ p. p ∷ []) one [] ≡ named_by self.now) }
     {
         match self {
             Partitions::Nowhere => Some(None),

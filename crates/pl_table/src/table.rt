@@ -91,7 +91,8 @@ impl Table {
         rows: Vec<Row>,
         zone: Zone,
     ) -> Result<Table, AllocError>
-        requires { IsTable (record { principals = principals.items; rows = rows.items; zone = zone }) }
+        requires { IsTable
+            (record { principals = principals.items; rows = rows.items; zone = zone }) }
         ensures ok { IfOk result
             (λ t. t ≡ record { principals = principals.items; rows = rows.items; zone = zone }) }
     {

@@ -1,8 +1,7 @@
 //! The reply to a body: what it reads as is answered by a gate.
 
-ghost use Rattle.std.specs.Prelude.{◌≡◌, ◌+◌, ◌<◌, ◌≤◌, ◌^◌, ◌++◌, ◌∷◌, [], drop, length, take, vec_capacity, vec_len};
-ghost use Rattle.std.specs.Int.{w32, w64, to_be_bytes};
-ghost use Rattle.pl_core.specs.Appending.{AppendsTo, reply_in};
+ghost use Rattle.std.specs.Prelude.{◌≡◌, ◌+◌, ◌<◌, ◌≤◌, ◌^◌, ◌++◌, ◌∷◌, [], Ok, drop, length, take, vec_capacity, vec_len};
+ghost use Rattle.std.specs.Int.{w32, to_be_bytes};
 ghost use Rattle.pl_core.specs.Reply.{FitsReply};
 ghost use Rattle.pl_wire.specs.Answering.{AnswersRead, PutsAnswer, refusal};
 ghost use Rattle.pl_wire.specs.FrameWriting.{largest_reply_frame, page_head, reply_frame};
@@ -10,17 +9,21 @@ ghost use Rattle.pl_wire.specs.Replies.{kind_number, kind_of, reply_spelling};
 
 use crate::fault::BodyFault;
 use crate::frame_reading::LENGTH_BYTES;
+use crate::frame_writing::put_reply;
 use crate::gate::Gate;
 use crate::kind::ReplyKind;
 use crate::reply_writing::{put_fields, reply_len};
 use pl_core::{Answer, Reply};
 use pl_table::Request;
 
-/// The frame of a page before the bytes of the page, with no LSN yet: a length of 8,201, the kind, and eight bytes for the LSN.
-const PAGE_HEAD: [u8; 13] = [0, 0, 0x20, 0x09, 2, 0, 0, 0, 0, 0, 0, 0, 0];
+/// The bytes of a page's body: its kind, its LSN and the page.
+const PAGE_BODY_BYTES: u32 = 8_201;
 
-/// How many bytes of a page's frame come before its LSN.
-const BEFORE_LSN: usize = 5;
+/// How many bytes a frame has before what is after the reply's kind: a length and the kind.
+const HEAD_BYTES: usize = 5;
+
+/// How many bytes of a page's frame come before the bytes of the page.
+const PAGE_HEAD_BYTES: usize = 13;
 
 // The reply to a body that is not a request, or for which there was no memory.
 fn refused(fault: BodyFault) -> Reply
@@ -54,77 +57,26 @@ pub fn answer<G: Gate>(read: Result<Request, BodyFault>, gate: &G, pass: &mut G:
     }
 }
 
-// The same, but the bytes of a page are put after those in `page`.
-#[tactic(auto, using(crate::proofs::Answers::by_refusal))]
-fn answer_onto<G: Gate>(
-    read: Result<Request, BodyFault>,
-    gate: &G,
-    pass: &mut G::Pass,
-    page: &mut Vec<u8>,
-) -> Answer
-    requires own { G.owns gate.now pass.old }
-    ensures own { G.owns gate.now pass.new }
-    ensures fits { FitsReply (reply_in result page.old.items page.new.items) }
-    ensures reply { AnswersRead (G.calls gate.now) read pass.old
-        (reply_in result page.old.items page.new.items) pass.new }
-    ensures page { AppendsTo result page.old page.new }
-{
-    match read {
-        Ok(request) => gate.call_onto(pass, request, page),
-        Err(fault) => Answer::Whole(refused(fault)),
-    }
-}
-
-// Puts the frame of a page there, before the bytes of the page, with no LSN yet.
-fn open_page(out: &mut Vec<u8>)
-    requires room { vec_len out.old + 13 ≤ vec_capacity out.old }
-    ensures value { out.new.items ≡ out.old.items ++ page_head 0 }
-    ensures len { vec_len out.new ≡ vec_len out.old + 13 }
-    ensures capacity { vec_capacity out.old ≤ vec_capacity out.new }
-{
-    out.extend_from_slice(&PAGE_HEAD).unwrap();
-}
-
-// Puts the LSN into the frame of a page that begins after this many bytes.
-fn put_lsn(text: &mut [u8], before: usize, at: u64)
-    requires within { before + 13 ≤ length text.old }
-    ensures value { text.new ≡
-        take (before + 5) text.old ++ to_be_bytes w64 at ++ drop (before + 13) text.old }
-    ensures len { length text.new ≡ length text.old }
-{
-    let place = before + BEFORE_LSN;
-    text[place..place + 8].copy_from_slice(&at.to_be_bytes());
-}
-
-// The same in a vector, which keeps its memory.
-fn close_page(out: &mut Vec<u8>, before: usize, at: u64)
-    requires within { before + 13 ≤ vec_len out.old }
-    ensures value { out.new.items ≡
-        take (before + 5) out.old.items ++ to_be_bytes w64 at ++ drop (before + 13) out.old.items }
-    ensures len { vec_len out.new ≡ vec_len out.old }
-    ensures capacity { vec_capacity out.new ≡ vec_capacity out.old }
-{
-    put_lsn(out.as_mut_slice(), before, at);
-}
-
-// Puts the length and the kind of a reply into a frame that begins after this many bytes.
+// Puts the length and the kind of a reply into the room for a head, which comes after this many bytes.
 fn put_head(text: &mut [u8], before: usize, len: usize, kind: u8)
     requires within { before + 5 ≤ length text.old }
     requires few { len < 2 ^ 32 }
-    ensures value { take (before + 5) text.new ≡ take before text.old ++ (to_be_bytes w32 len ++ kind ∷ []) }
+    ensures value { take (before + 5) text.new ≡
+        take before text.old ++ (to_be_bytes w32 len ++ kind ∷ []) }
     ensures len { length text.new ≡ length text.old }
 {
-    let mut head = [kind; BEFORE_LSN];
+    let mut head = [kind; HEAD_BYTES];
     head[..LENGTH_BYTES].copy_from_slice(&(len as u32).to_be_bytes());
-    text[before..before + BEFORE_LSN].copy_from_slice(&head);
+    text[before..before + HEAD_BYTES].copy_from_slice(&head);
 }
 
-// Makes the head of a page's frame that of another reply, in the same room. What the reply has after its kind is to follow.
-fn restart(out: &mut Vec<u8>, before: usize, reply: &Reply)
+// The same in a vector, which gives back the rest of the room. What the reply has after its kind is to follow.
+fn begin_whole(out: &mut Vec<u8>, before: usize, reply: &Reply)
     requires fits { FitsReply reply.now }
     requires within { before + 13 ≤ vec_len out.old }
     ensures value { out.new.items ≡ take before out.old.items ++
-        (to_be_bytes w32 (length (reply_spelling reply.now)) ++ kind_number (kind_of reply.now) ∷ []) }
+        (to_be_bytes w32 (length (reply_spelling reply.now))
+        ++ kind_number (kind_of reply.now) ∷ []) }
     ensures capacity { vec_capacity out.new ≡ vec_capacity out.old }
     ensures few { length (reply_spelling reply.now) ≤ 524363 }
 {
@@ -134,10 +86,10 @@ fn restart(out: &mut Vec<u8>, before: usize, reply: &Reply)
         reply_len(reply),
         ReplyKind::of(reply).number(),
     );
-    out.truncate(before + BEFORE_LSN);
+    out.truncate(before + HEAD_BYTES);
 }
 
-// Puts the frame of a reply that is no page in the place of the head of a page's, which comes after this many bytes.
+// Puts the frame of a reply that is no page, where there is room for its head after this many bytes.
 fn put_whole(out: &mut Vec<u8>, before: usize, reply: &Reply)
     requires fits { FitsReply reply.now }
     requires within { before + 13 ≤ vec_len out.old }
@@ -146,10 +98,69 @@ fn put_whole(out: &mut Vec<u8>, before: usize, reply: &Reply)
     ensures few { length (reply_frame reply.now) ≤ largest_reply_frame }
     ensures capacity { vec_capacity out.old ≤ vec_capacity out.new }
 {
-    restart(out, before, reply);
-    let Ok(()) = put_fields(out, reply) else {
-        unreachable!();
-    };
+    begin_whole(out, before, reply);
+    put_fields(out, reply).unwrap();
+}
+
+// Puts the frame of the reply to a body that is no request.
+fn put_refusal(out: &mut Vec<u8>, fault: BodyFault)
+    requires room { vec_len out.old + 524367 ≤ vec_capacity out.old }
+    ensures value { out.new.items ≡ out.old.items ++ reply_frame (refusal fault) }
+    ensures fits { FitsReply (refusal fault) }
+    ensures few { length (reply_frame (refusal fault)) ≤ largest_reply_frame }
+    ensures capacity { vec_capacity out.old ≤ vec_capacity out.new }
+{
+    put_reply(out, &refused(fault)).unwrap();
+}
+
+// The head of a page's frame.
+fn head_of_page(at: u64) -> [u8; PAGE_HEAD_BYTES]
+    ensures value { result ≡ page_head at }
+{
+    let mut head = [ReplyKind::Page.number(); PAGE_HEAD_BYTES];
+    head[..LENGTH_BYTES].copy_from_slice(&PAGE_BODY_BYTES.to_be_bytes());
+    head[HEAD_BYTES..].copy_from_slice(&at.to_be_bytes());
+    head
+}
+
+// Puts the head of a page's frame into the room for it, which comes after this many bytes.
+fn put_page_head(text: &mut [u8], before: usize, at: u64)
+    requires within { before + 13 ≤ length text.old }
+    ensures value { text.new ≡
+        take before text.old ++ page_head at ++ drop (before + 13) text.old }
+    ensures len { length text.new ≡ length text.old }
+{
+    text[before..before + PAGE_HEAD_BYTES].copy_from_slice(&head_of_page(at));
+}
+
+// The same in a vector, which keeps its memory.
+fn close_page(out: &mut Vec<u8>, before: usize, at: u64)
+    requires within { before + 13 ≤ vec_len out.old }
+    ensures value { out.new.items ≡
+        take before out.old.items ++ page_head at ++ drop (before + 13) out.old.items }
+    ensures len { vec_len out.new ≡ vec_len out.old }
+    ensures capacity { vec_capacity out.new ≡ vec_capacity out.old }
+{
+    put_page_head(out.as_mut_slice(), before, at);
+}
+
+// Calls the gate, and puts the frame of the reply. The gate is lent the place of a page: room for the head of a frame is left
+// before it, of which the head of a page takes all, and that of another reply a part.
+fn put_called<G: Gate>(out: &mut Vec<u8>, request: Request, gate: &G, pass: &mut G::Pass)
+    requires own { G.owns gate.now pass.old }
+    requires room { vec_len out.old + 524367 ≤ vec_capacity out.old }
+    ensures own { G.owns gate.now pass.new }
+    ensures frame { PutsAnswer (G.calls gate.now) (Ok request) pass.old out.old.items
+        pass.new out.new.items }
+    ensures few { vec_len out.new ≤ vec_len out.old + largest_reply_frame }
+    ensures capacity { vec_capacity out.old ≤ vec_capacity out.new }
+{
+    let before = out.len();
+    out.extend_from_slice(&[0; PAGE_HEAD_BYTES]).unwrap();
+    match gate.call_onto(pass, request, out) {
+        Answer::Page { at } => close_page(out, before, at),
+        Answer::Whole(reply) => put_whole(out, before, &reply),
+    }
 }
 
 /// Puts the frame of the reply to a body after what is in `out`. The bytes of a page are put there by the gate, where it has a
@@ -168,16 +179,15 @@ pub fn put_answer<G: Gate>(
     // The pass stays the gate's.
     ensures own { G.owns gate.now pass.new }
     // The frame of a reply that the body may have is appended (`PutsAnswer`).
-    ensures frame { PutsAnswer (G.calls gate.now) read pass.old out.old.items pass.new out.new.items }
+    ensures frame { PutsAnswer (G.calls gate.now) read pass.old out.old.items
+        pass.new out.new.items }
     // It has at most 524,367 bytes.
     ensures few { vec_len out.new ≤ vec_len out.old + largest_reply_frame }
     // There is as much memory as before, or more.
     ensures capacity { vec_capacity out.old ≤ vec_capacity out.new }
 {
-    let before = out.len();
-    open_page(out);
-    match answer_onto(read, gate, pass, out) {
-        Answer::Page { at } => close_page(out, before, at),
-        Answer::Whole(reply) => put_whole(out, before, &reply),
+    match read {
+        Ok(request) => put_called(out, request, gate, pass),
+        Err(fault) => put_refusal(out, fault),
     }
 }

@@ -38,7 +38,8 @@ pub(crate) fn take_u64(rest: &mut &[u8]) -> Result<u64, WireFault>
 
 /// This many bytes.
 pub(crate) fn take_bytes<'a>(rest: &mut &'a [u8], len: usize) -> Result<&'a [u8], WireFault>
-    ensures ok { IfOk result (λ bytes. bytes_taken len rest.old.now ≡ Ok (bytes.now, rest.new.now)) }
+    ensures ok { IfOk result (λ bytes.
+        bytes_taken len rest.old.now ≡ Ok (bytes.now, rest.new.now)) }
     ensures err { IfErr result (λ fault. bytes_taken len rest.old.now ≡ Err fault) }
     ensures long { IfOk result (λ _. len ≤ length rest.old.now) }
 {

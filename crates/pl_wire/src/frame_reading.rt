@@ -59,7 +59,8 @@ fn fill<R: Read>(reader: &mut R, buffer: &mut [u8]) -> Result<usize, usize>
     ensures len { length buffer.new ≡ length buffer.old }
     ensures ok { IfOk result (λ count. (count ≤ length buffer.new)
         × Consumes (R.remaining reader.old) (R.remaining reader.new) (take count buffer.new)) }
-    ensures end { IfOk result (λ count. count < length buffer.new → IsAtEnd (R.remaining reader.new)) }
+    ensures end { IfOk result (λ count. count < length buffer.new →
+        IsAtEnd (R.remaining reader.new)) }
     ensures err { IfErr result (λ count. (count < length buffer.new)
         × Consumes (R.remaining reader.old) (R.remaining reader.new) (take count buffer.new)) }
 {

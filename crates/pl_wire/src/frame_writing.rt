@@ -14,7 +14,7 @@ use bytes::BufMut;
 use pl_core::Reply;
 use pl_table::Request;
 use std::alloc::{AllocError, Global};
-use std::io::Write;
+use std::io::{self, ErrorKind, Write};
 
 /// Why a frame was not written.
 #[derive(Clone, Copy, Debug, PartialEq, Eq)]
@@ -25,6 +25,15 @@ pub enum WriteFault {
     NoMemory,
 }
 
+/// Why not all of some bytes are written.
+#[derive(Debug, Drop)]
+pub struct Unwritten {
+    /// How many are, fewer than all.
+    pub count: usize,
+    /// What the write after them failed with, `WriteZero` if it took no byte.
+    pub error: io::Error,
+}
+
 /// The most bytes of the frame of a reply: of one with 16 blocks of 32,768 bytes.
 pub const LARGEST_REPLY_FRAME: usize = 524_367;
 
@@ -32,19 +41,22 @@ pub const LARGEST_REPLY_FRAME: usize = 524_367;
 ///
 /// `Err` says how many were written, fewer than there are, before a write took none or failed,
 /// whatever made it fail: an interruption too. There is at most one write for each byte.
-pub fn write_bytes<W: Write>(writer: &mut W, bytes: &[u8]) -> Result<(), usize>
+pub fn write_bytes<W: Write>(writer: &mut W, bytes: &[u8]) -> Result<(), Unwritten>
     // All of the bytes are written.
     ensures ok { OnOk result (Appends (W.contents writer.old) (W.contents writer.new) bytes.now) }
     // The first of them are written, fewer than all, and the error says how many.
-    ensures err { IfErr result (λ count. (count < length bytes.now)
-        × Appends (W.contents writer.old) (W.contents writer.new) (take count bytes.now)) }
+    ensures err { IfErr result (λ stop. (stop.count < length bytes.now)
+        × Appends (W.contents writer.old) (W.contents writer.new) (take stop.count bytes.now)) }
 {
     let mut count = 0;
     while count < bytes.len() {
         match writer.write(&bytes[count..]) {
-            Ok(0) => return Err(count),
+            Ok(0) => {
+                let error = io::Error::from(ErrorKind::WriteZero);
+                return Err(Unwritten { count, error });
+            }
             Ok(more) => count += more,
-            Err(_) => return Err(count),
+            Err(error) => return Err(Unwritten { count, error }),
         }
     }
     Ok(())

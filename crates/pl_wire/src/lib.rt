@@ -32,7 +32,7 @@ pub use frame_reading::{
     read_head, read_reply,
 };
 pub use frame_writing::{
-    LARGEST_REPLY_FRAME, WriteFault, put_reply, write_bytes, write_reply, write_request,
+    LARGEST_REPLY_FRAME, Unwritten, WriteFault, put_reply, write_bytes, write_reply, write_request,
 };
 pub use gate::Gate;
 pub use kind::ReplyKind;

@@ -49,7 +49,8 @@ fn put_write(out: &mut Vec<u8>, copy: u8, block: &Block) -> Result<(), AllocErro
 }
 
 fn put_pull(out: &mut Vec<u8>, lo: u16, hi: u16, lsn: u64, max: u16) -> Result<(), AllocError>
-    ensures ok { OnOk result (out.new.items ≡ out.old.items ++ act_spelling (Act.Pull lo hi lsn max)) }
+    ensures ok { OnOk result (out.new.items ≡ out.old.items
+        ++ act_spelling (Act.Pull lo hi lsn max)) }
 {
     out.put_u16(lo)?;
     out.put_u16(hi)?;
@@ -58,7 +59,8 @@ fn put_pull(out: &mut Vec<u8>, lo: u16, hi: u16, lsn: u64, max: u16) -> Result<(
 }
 
 fn put_get(out: &mut Vec<u8>, page: u32, lsn: u64, exact: bool) -> Result<(), AllocError>
-    ensures ok { OnOk result (out.new.items ≡ out.old.items ++ act_spelling (Act.Get page lsn exact)) }
+    ensures ok { OnOk result (out.new.items ≡ out.old.items
+        ++ act_spelling (Act.Get page lsn exact)) }
 {
     out.put_u32(page)?;
     out.put_u64(lsn)?;

@@ -45,7 +45,7 @@ fn tells(
     ensures has { HasDatabases at.new.pass }
 {
     at.reader.come(piece);
-    let rest = turns(alloc, at, room)?;
+    let rest = turns(at, room)?;
     check(rest == Rest::Input && at.writer.text.as_slice() == wanted)?;
     at.writer.clear();
     Ok(())
@@ -125,7 +125,7 @@ fn comes_up_to(alloc: Global, at: &mut Talk<'_>, room: &mut Room, place: usize) 
 {
     let came = FRAMES.len().saturating_sub(at.reader.left.len());
     at.reader.come(place.saturating_sub(came));
-    let rest = turns(alloc, at, room)?;
+    let rest = turns(at, room)?;
     check(rest == Rest::Input && at.writer.text.as_slice() == told_at(place))
 }
 
@@ -184,7 +184,7 @@ fn ends_for(
     requires has { HasDatabases at.pass }
 {
     let mut at = at;
-    let ended = cause_of(alloc, &mut at, room)?;
+    let ended = cause_of(&mut at, room)?;
     let done = check(ended == cause && at.writer.taken() == told);
     went(alloc, &at.writer, done)?;
     let Talk {
@@ -260,7 +260,7 @@ const ALL_AT_ONCE: [&str; 2] = [
 fn ends_with(alloc: Global, at: &mut Talk<'_>, room: &mut Room, told: &[u8]) -> Result<(), Stop>
     requires has { HasDatabases at.old.pass }
 {
-    let rest = turns(alloc, at, room)?;
+    let rest = turns(at, room)?;
     check(rest == Rest::Over && at.writer.taken() == told)
 }
 

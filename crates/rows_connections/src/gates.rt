@@ -8,7 +8,7 @@ ghost use Rattle.pl_conn.specs.Solo.{HasDatabases};
 use crate::conversations::{dbs_of, one_pass};
 use crate::memory::{Telling, check};
 use crate::talking::{TURNS, last_of};
-use pl_conn::{Desks, Gate, Passes, SoloPass, Worked, materialise};
+use pl_conn::{Desks, Gate, PageServer, Passes, SoloPass, Worked, materialise};
 use pl_core::Reply;
 use pl_table::Request;
 use std::alloc::Global;
@@ -17,8 +17,13 @@ use transcripts::asking::request_of;
 use transcripts::reply_text::push_reply;
 use transcripts::transcript::Stop;
 
-/// The token of the page server, whose number is 4.
-const PAGER_TOKEN: [u8; 16] = [0x44; 16];
+/// A page server that makes three rounds.
+const PAGER: PageServer = PageServer {
+    principal: 4,
+    token: [0x44; 16],
+    partition: 0,
+    rounds: 3,
+};
 
 /// How many blocks are hardened.
 const BLOCKS: u64 = 40;
@@ -95,7 +100,7 @@ fn materialise_twice(
     requires own { HasDatabases pass.old }
 {
     harden(alloc, gate, pass)?;
-    let first = materialise(gate, pass, 4, PAGER_TOKEN, 0, 0, 3);
+    let first = materialise(gate, pass, &PAGER, 0);
     answers(
         alloc,
         gate,
@@ -103,7 +108,7 @@ fn materialise_twice(
         (0, "3 33 secondary 1 get 0 1", "Page 40 28+0"),
     )?;
     answers(alloc, gate, pass, (0, "1 11 operator 1 failover 5", "Done"))?;
-    let second = materialise(gate, pass, 4, PAGER_TOKEN, 0, 0, 3);
+    let second = materialise(gate, pass, &PAGER, 0);
     Ok((first, second))
 }
 

@@ -158,28 +158,22 @@ fn rest_of(end: Result<Rest, Cause>) -> Result<Option<Rest>, Stop> {
 }
 
 // One turn, of a gate that reports whether it lacked memory.
-fn turn(alloc: Global, at: &mut Talk<'_>, gate: &Telling, room: &mut Room) -> Result<Rest, Cause>
+fn turn(at: &mut Talk<'_>, gate: &Telling, room: &mut Room) -> Result<Rest, Cause>
     requires has { HasDatabases at.old.pass }
     ensures has { HasDatabases at.new.pass }
 {
-    at.talk.resume(
-        alloc,
-        &mut at.reader,
-        &mut at.writer,
-        gate,
-        &mut at.pass,
-        room,
-    )
+    at.talk
+        .resume(&mut at.reader, &mut at.writer, gate, &mut at.pass, room)
 }
 
 /// Turns, until one rests, or the conversation is over.
-pub(crate) fn turns(alloc: Global, at: &mut Talk<'_>, room: &mut Room) -> Result<Rest, Stop>
+pub(crate) fn turns(at: &mut Talk<'_>, room: &mut Room) -> Result<Rest, Stop>
     requires has { HasDatabases at.old.pass }
     ensures has { HasDatabases at.new.pass }
 {
     let gate = Telling::new();
     for _ in 0..MANY {
-        let end = turn(alloc, at, &gate, room);
+        let end = turn(at, &gate, room);
         if gate.tells_refusal() || at.writer.is_refused {
             return Err(Stop::NoMemory);
         }
@@ -191,12 +185,12 @@ pub(crate) fn turns(alloc: Global, at: &mut Talk<'_>, room: &mut Room) -> Result
 }
 
 /// Turns, until one ends the conversation: for which cause.
-pub(crate) fn cause_of(alloc: Global, at: &mut Talk<'_>, room: &mut Room) -> Result<Cause, Stop>
+pub(crate) fn cause_of(at: &mut Talk<'_>, room: &mut Room) -> Result<Cause, Stop>
     requires has { HasDatabases at.old.pass }
 {
     let gate = Telling::new();
     for _ in 0..MANY {
-        let end = turn(alloc, at, &gate, room);
+        let end = turn(at, &gate, room);
         if gate.tells_refusal() || at.writer.is_refused {
             return Err(Stop::NoMemory);
         }
@@ -227,12 +221,12 @@ fn in_pieces(alloc: Global, at: &mut Talk<'_>, room: &mut Room, piece: usize) ->
 {
     for _ in 0..=FRAMES.len() / piece.max(1) {
         at.reader.come(piece);
-        let rest = turns(alloc, at, room)?;
+        let rest = turns(at, room)?;
         let came = FRAMES.len().saturating_sub(at.reader.left.len());
         check(rest == Rest::Input && at.writer.text.as_slice() == told_by(came))?;
     }
     at.reader.is_over = true;
-    let rest = turns(alloc, at, room)?;
+    let rest = turns(at, room)?;
     check(rest == Rest::Over && at.writer.text.as_slice() == REPLIES)
 }
 
@@ -243,7 +237,7 @@ fn is_over_at(alloc: Global, at: &mut Talk<'_>, room: &mut Room, place: usize) -
     at.reader.left = &[];
     at.reader.is_over = true;
     let is_whole = place == 0 || ENDS.contains(&place);
-    match turns(alloc, at, room) {
+    match turns(at, room) {
         Ok(rest) => check(is_whole && rest == Rest::Over),
         Err(Stop::Unread) => check(!is_whole),
         Err(stop) => Err(stop),
@@ -261,13 +255,13 @@ fn cut_at(
     requires has { HasDatabases at.old.pass }
 {
     at.reader.come(place);
-    let rest = turns(alloc, at, room)?;
+    let rest = turns(at, room)?;
     check(rest == Rest::Input && at.writer.text.as_slice() == told_by(place))?;
     if is_over {
         return is_over_at(alloc, at, room, place);
     }
     at.reader.come(usize::MAX);
-    let rest = turns(alloc, at, room)?;
+    let rest = turns(at, room)?;
     check(rest == Rest::Input && at.writer.text.as_slice() == REPLIES)
 }
 
@@ -282,12 +276,12 @@ fn in_turns_of(
     ensures has { HasDatabases at.new.pass }
 {
     at.reader.come(160);
-    let rest = turns(alloc, at, room)?;
+    let rest = turns(at, room)?;
     check(rest == Rest::Output && at.reader.left.len() == 48 && at.writer.text.is_empty())?;
     at.reader.come(usize::MAX);
     for _ in 0..REPLIES.len() {
         at.writer.room = at_once;
-        let rest = turns(alloc, at, room)?;
+        let rest = turns(at, room)?;
         check(Some(&*at.writer.text) == REPLIES.get(..at.writer.text.len()))?;
         check((at.reader.left.len() == 48) == (at.writer.text.len() < 15))?;
         if rest == Rest::Input {
@@ -311,7 +305,7 @@ fn taken_in_pieces(
     let done = in_turns_of(alloc, at, room, at_once);
     if matches!(done, Err(Stop::Changed)) {
         at.writer.room = usize::MAX;
-        turns(alloc, at, room)?;
+        turns(at, room)?;
     }
     done
 }

@@ -260,7 +260,6 @@ fn turns(
     let mut pass = 0;
     for _ in 0..MANY {
         match talk.resume(
-            alloc,
             &mut reader,
             &mut writer,
             &Counting { tally },

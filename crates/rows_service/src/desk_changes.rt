@@ -4,7 +4,8 @@ ghost use Rattle.std.specs.Prelude.{IfOk};
 ghost use Rattle.std.specs.List.{All};
 ghost use Rattle.pl_desk.specs.Passes.{IsOf};
 
-use crate::desks::{HARDENS, TURNS, ask, desk_of, entries_of, last_of, note, play};
+use crate::desks::{HARDENS, ask, play};
+use crate::opened_desks::{TURNS, desk_of, entries_of, last_of, note};
 use pl_desk::{Desk, Pass};
 use std::alloc::Global;
 use std::process::Abort;

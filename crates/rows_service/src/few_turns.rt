@@ -4,7 +4,8 @@ ghost use Rattle.std.specs.Prelude.{IfOk};
 ghost use Rattle.std.specs.List.{All};
 ghost use Rattle.pl_desk.specs.Passes.{IsOf};
 
-use crate::desks::{desk_of, entries_of, last_of, status};
+use crate::desks::status;
+use crate::opened_desks::{desk_of, entries_of, last_of};
 use pl_core::Reply;
 use pl_desk::{Desk, Pass};
 use std::alloc::Global;

@@ -17,6 +17,8 @@ mod frames;
 #[cfg(test)]
 mod framing;
 #[cfg(test)]
+mod opened_desks;
+#[cfg(test)]
 mod pieces;
 #[cfg(test)]
 mod reply_bodies;

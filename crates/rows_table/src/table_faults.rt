@@ -168,8 +168,8 @@ fn walk_groups(rt: &impl Abort, alloc: Global, groups: &[Group]) -> Result<(), S
     Ok(())
 }
 
-/// What a case is, how many principals, what follows the id of each, how many rows, and the
-/// code of the fault.
+/// What a case is, how many principals, what follows the id of each, how many rows, which name 0 to 63 in turn,
+/// and the code of the fault.
 type Many = (&'static str, u8, &'static str, u16, u8);
 
 fn text_of_many(alloc: Global, principals: u8, token: &str, rows: u16) -> Result<Vec<u8>, Stop> {
@@ -177,8 +177,9 @@ fn text_of_many(alloc: Global, principals: u8, token: &str, rows: u16) -> Result
     for id in 0..principals {
         write!(text, "[[principal]]\nid = {id}\n{token}")?;
     }
-    for _ in 0..rows {
-        text.push_str(ALLOW)?;
+    for row in 0..rows {
+        let who = row % 64;
+        write!(text, "{ALLOW}who = {who}\n")?;
     }
     Ok(text.into_bytes())
 }
@@ -356,7 +357,7 @@ fn first_fault_of_two(rt: HostRuntime) {
 const MANY: &[Many] = &[
     ("64 principals", 64, TOKEN, 1, 0),
     ("65 principals", 65, TOKEN, 1, 3),
-    ("256 rows", 1, TOKEN, 256, 0),
+    ("64 principals, named by 256 rows", 64, TOKEN, 256, 0),
     ("257 rows", 1, TOKEN, 257, 4),
     ("no principal, and 257 rows", 0, TOKEN, 257, 3),
     ("no token, and 257 rows", 1, "", 257, 4),

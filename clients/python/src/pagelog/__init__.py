@@ -23,6 +23,7 @@ from pagelog.errors import (
     TimedOut, TurnsSpent, UnexpectedReply, UnknownDatabase, Unreachable,
 )  # fmt: skip
 from pagelog.faults import BlockFault, FrameFault, MalformedRequest, ReplyFault, RequestFault
+from pagelog.group import Group, Unwritten
 from pagelog.operator import Operator
 from pagelog.named import NamedPrimary
 from pagelog.named_reader import NamedReader
@@ -43,11 +44,11 @@ __version__ = "0.1.0"
 __all__ = [
     "AboveTheEnd", "AboveTheWindow", "Account", "Accounts", "Address", "AuditListFull", "BelowBase", "BelowQuorum", "Block",
     "BlockFault", "Blocks", "Connection", "ConnectionLost", "Credentials", "CredentialsError", "Denial", "Entry",
-    "Fault", "FrameFault", "HardenedAlready", "InDoubt", "LastEpoch", "LogWentBack", "Lost", "MalformedRequest", "NamedPrimary",
+    "Fault", "FrameFault", "Group", "HardenedAlready", "InDoubt", "LastEpoch", "LogWentBack", "Lost", "MalformedRequest", "NamedPrimary",
     "NamedReader", "NewerEpoch",
     "NoRowMatches", "NoSuchCopy", "NoTable", "OlderEpoch", "Operation", "Operator", "OtherContent", "OtherPrimary",
     "OutOfMemory", "PAGE_SIZE", "Page", "PageServer", "PagelogError", "Primary", "Put", "Reader", "Record", "Refusal",
     "ReplyFault", "RequestFault", "Role", "RoleLacksOperation", "Section", "Span", "State", "TableFault", "TableRow",
     "TimedOut", "TurnsSpent", "UnexpectedReply", "UnknownDatabase", "UnknownPrincipal", "UnlistedPrimary",
-    "Unreachable", "Zero", "load",
+    "Unreachable", "Unwritten", "Zero", "load",
 ]  # fmt: skip

@@ -66,6 +66,8 @@ class Archive:
         With `is_read` the log may be a named database: who says so keeps nothing.
         """
         self.log = log
+        self.is_kept = False
+        """Whether it is of a named database, which has generations."""
         self._formats = (FORMAT, *KEPT_FORMATS) if is_read else (FORMAT,)
         if not create and file_is_missing(url):
             raise NoArchive("there is no archive at this URL")
@@ -114,7 +116,7 @@ class Archive:
             raise NoArchive("there is no archive at this URL") from error
         if row is None:
             raise NoArchive(f"the archive has no log {self.log!r}: it has {', '.join(self._names()) or 'none'}")
-        self._is_kept = row.format in KEPT_FORMATS
+        self.is_kept = row.format in KEPT_FORMATS
         if row.format not in self._formats:
             raise ArchiveError(f"the log has format {row.format}, and this program reads {FORMAT}")
         return int(row.id)
@@ -130,18 +132,6 @@ class Archive:
         if not isinstance(archived, int):
             raise ArchiveError(f"the archived LSN is {archived!r}, which is no number: the archive is damaged")
         return archived
-
-    def begins_with_blocks(self, generation: int) -> bool:
-        """Whether a service of this generation began with block 1, and all blocks since are kept. Else it began with images of pages,
-        or what was below a base of them is pruned. A log that is no named database begins so.
-        """
-        if not self._is_kept:
-            return True
-        images = sql.text("SELECT images FROM pagelog_generation WHERE log = :log AND generation = :generation")
-        with self.engine.begin() as connection:
-            found = connection.execute(images, {"log": self.id, "generation": generation}).scalar()
-            first = connection.execute(sql.select(sql.func.min(_blocks.c.lsn)).where(_blocks.c.log == self.id)).scalar()
-        return found == 0 and first in (1, None)
 
     @property
     def epoch(self) -> int:

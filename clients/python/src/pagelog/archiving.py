@@ -112,7 +112,7 @@ class Archiver:
         connects = self.reader.connection.connects
         hard = self.reader.status().hard
         if hard < self.archived:
-            raise LogWentBack(f"the service has {hard} blocks, and {self.archived} are archived: it was started anew")
+            raise LogWentBack(f"the service has {hard} blocks, and {self.archived} are archived: it was restarted")
         for first in {1, max(1, self.archived // 2), max(1, self.archived - 15)}:
             last = min(self.archived, first + 15)
             compare(all_blocks(self.reader, first, last), self.archive.blocks(first, last))

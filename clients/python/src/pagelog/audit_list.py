@@ -19,7 +19,7 @@ MOST_ENTRIES = 1 << 24
 
 
 class AuditFollower:
-    """Reads each entry once, from number `first` on, and notices where the service was started anew and has another list."""
+    """Reads each entry once, from number `first` on, and notices where the service was restarted and has another list."""
 
     def __init__(self, operator: Operator, first: int = 1, *, marks: bool = True) -> None:
         """With `marks` it knows the list again by a question of its own, which is one entry more. Without, by the last entry

@@ -103,12 +103,12 @@ class Client:
     def _take_over(self, epoch: int) -> None:
         """The epoch is this one now. Epochs of one log only rise."""
         if epoch < self.epoch:
-            raise LogWentBack(f"epoch {epoch} where {self.epoch} was seen: the service was started anew")
+            raise LogWentBack(f"epoch {epoch} where {self.epoch} was seen: the service was restarted")
         self.epoch = epoch
 
     def _saw_hard(self, hard: int) -> None:
         if hard < self.hard_seen:
-            raise LogWentBack(f"{hard} blocks where {self.hard_seen} were seen: the service was started anew")
+            raise LogWentBack(f"{hard} blocks where {self.hard_seen} were seen: the service was restarted")
         self.hard_seen = hard
 
     # Asking.

@@ -92,7 +92,7 @@ class Connection:
         self.attempts = max(1, attempts)
         self.pause = pause
         self.connects = 0
-        """How many connections were made so far. A service may have been started anew where it has grown."""
+        """How many connections were made so far. A service may have been restarted where it has grown."""
         self._socket: socket.socket | None = None
         self._out = bytearray()
         self._in = bytearray()

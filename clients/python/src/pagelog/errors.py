@@ -5,7 +5,7 @@
         ConnectionLost         the connection ended, and what was asked may not be asked again
             TimedOut           no byte came or went for as long as the connection waits
         InDoubt                it is not known whether a change was made
-        LogWentBack            the service has less than was seen of it: it was started anew
+        LogWentBack            the service has less than was seen of it: it was restarted
         UnexpectedReply        a reply of a kind that does not answer the request
         CredentialsError       credentials are missing, malformed, or others may read their file
         Fault                  bytes, or values for bytes, that are not in the format
@@ -55,7 +55,7 @@ class InDoubt(PagelogError):
 
 
 class LogWentBack(PagelogError):
-    """The service has fewer hardened blocks, or an older epoch, than it had: it was started anew and is another log."""
+    """The service has fewer hardened blocks, or an older epoch, than it had: it was restarted and is another log."""
 
 
 class UnexpectedReply(PagelogError):

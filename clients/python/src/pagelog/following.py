@@ -14,6 +14,8 @@ from pagelog.rules import UnknownPrincipal
 
 GONE = (ConnectionLost, Unreachable, UnknownPrincipal, LogWentBack, AuditListFull, TurnsSpent, InDoubt)
 """What is raised where the service is gone, or is another run's: the keepers know where the database is now."""
+AGAIN = 0.001
+"""Seconds before a lost connection is tried once more. Where that is refused the service has ended, and the keepers are asked."""
 Self = TypeVar("Self", bound="Following")
 
 
@@ -57,4 +59,4 @@ class Following:
         raise NotImplementedError
 
     def _connection(self, place: Place, attempts: int = 1) -> Connection:
-        return Connection(place.address, timeout=self._timeout, attempts=attempts)
+        return Connection(place.address, timeout=self._timeout, attempts=attempts, pause=AGAIN)

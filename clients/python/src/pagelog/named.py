@@ -20,7 +20,7 @@ from pagelog.errors import InDoubt, OutOfMemory, PagelogError, TimedOut
 from pagelog.following import GONE, Following, NamedAccount
 from pagelog.keeper.table import KEEPER
 from pagelog.operator import Operator
-from pagelog.packing import Packer
+from pagelog.packing import Packed
 from pagelog.place import QUICKEST, SLOWEST, Lost, Place
 from pagelog.primary import Primary
 from pagelog.reader import Reader
@@ -67,6 +67,8 @@ class NamedPrimary(Following):
         self._told = 0
         """The highest position that a commit has returned, if it is not known to be lost."""
         self._ended: PagelogError | None = None
+        self._over: int | None = None
+        """The generation of its place, once the keepers have said that it is over."""
         self._records: list[Record] = []
         self._tail: list[Block] = []
         """Blocks above `durable_end` up to `end`, and those of a commit that is under way."""
@@ -92,11 +94,9 @@ class NamedPrimary(Following):
         Raises `Lost` where another writer has gone on before it, or before an earlier commit that was not durable: nothing of
         either is in the database. After `TimedOut` and the like it may be called again, and goes on.
         """
-        if self._ended is not None:
-            raise self._ended
-        if self._primary is None:
-            self._move()
-        self._pack()
+        self._begin()
+        self._pack([self._records])
+        self._records = []
         self._write_all()
         self._told = self.end
         if durable or sum(len(block.data) for block in self._tail) > TAIL:
@@ -119,22 +119,35 @@ class NamedPrimary(Following):
             assert self.place is not None
             fate = self.keepers.fate(self.place.generation, position, self.place.lines)
             self._is_durable(fate.end)
-            if fate.is_over and position > fate.end:
-                if self._ended is not None:
+            if fate.is_over:
+                self._over = self.place.generation
+                self._leave()  # the next commit asks nothing of a service that is about to end
+                if position > fate.end and self._ended is not None:
                     raise Lost(fate.end + 1)
-                self._move(is_over=True)
+                if position > fate.end:
+                    self._move()
 
-    def _pack(self) -> None:
-        """Makes blocks of what was appended."""
-        packer, position = Packer(), (self._tail[-1].lsn if self._tail else self.end) + 1
-        for record in self._records:
-            if not packer.add(record):
-                self._tail.append(Block.of(position, packer.records))
-                packer, position = Packer(), position + 1
-                packer.add(record)
-        if packer.records:
-            self._tail.append(Block.of(position, packer.records))
-        self._records = []
+    def pack(self, commits: Sequence[Sequence[Record]]) -> list[int]:
+        """Makes blocks of the records of some commits, which `commit` writes then. Those of one that fit into a block are in one. Returns
+        the position of each one's end. Raises where no epoch can be begun: then nothing is taken."""
+        self._begin()
+        if self._ended is not None:
+            raise self._ended
+        return self._pack(commits)
+
+    def _begin(self) -> None:
+        """Begins an epoch, if it has none. Where that shows that another writer has one, it has ended then."""
+        if self._ended is not None:
+            raise self._ended
+        if self._primary is None:
+            self._move()
+
+    def _pack(self, commits: Sequence[Sequence[Record]]) -> list[int]:
+        packed = Packed((self._tail[-1].lsn if self._tail else self.end) + 1)
+        ends = [packed.add(records) for records in commits]
+        packed.close()
+        self._tail += packed.blocks
+        return ends
 
     def _write_all(self) -> None:
         """Writes what is above the end, wherever the database is by then."""
@@ -151,6 +164,8 @@ class NamedPrimary(Following):
         assert self.place is not None
         shift = self.place.shift
         try:
+            self._primary.commit()  # what a call that raised has left on its way
+            self.end = max(self.end, self._primary.durable + shift)
             for lsn in self._primary.harden([block.at(block.lsn - shift) for block in self._tail if block.lsn > self.end]):
                 self.end = max(self.end, lsn + shift)
         except OutOfMemory:
@@ -160,10 +175,10 @@ class NamedPrimary(Following):
 
     # Moving.
 
-    def _move(self, error: PagelogError | None = None, *, is_over: bool = False) -> None:
-        """Begins an epoch where the database is now, and brings the tail along.
+    def _move(self, error: PagelogError | None = None) -> None:
+        """Begins an epoch where the database is now, and brings the tail along. After a generation that is over the next is waited for.
 
-        `error` is what it is for: it is raised where another writer is the cause. If the generation `is_over`, the next is waited for.
+        `error` is what it is for: it is raised where another writer is the cause.
         """
         before = -1 if self.place is None else self.place.generation
         deadline, wait, may_stay = time.monotonic() + self.keepers.patience, QUICKEST, not isinstance(error, _DENIED)
@@ -174,7 +189,7 @@ class NamedPrimary(Following):
                 self._leave()
                 return self._end_for(error)
             # Where its keeper has closed it, the next generation comes; if it does not, the keeper was killed, and its next life opens it.
-            if (is_next or (may_stay and not is_over)) and self._is_settled(place):
+            if (is_next or (may_stay and before != self._over)) and self._is_settled(place):
                 return
             may_stay = True
             if time.monotonic() > deadline:
@@ -218,7 +233,7 @@ class NamedPrimary(Following):
         """Whether this writer has begun an epoch at the place. What became of the tail is settled then."""
         self._leave()
         credentials = self._account.of(place)
-        witness = Reader(self._connection(place, 3), credentials)
+        witness = Reader(self._connection(place, 2), credentials)
         try:
             is_next = self.place is not None and place.generation > self.place.generation
             known = 0
@@ -271,7 +286,7 @@ class NamedPrimary(Following):
         if any(block.lsn <= self.end for block in self._tail):
             return False
         try:
-            with Operator(self._connection(place, 3), self._operator.of(place)) as operator:
+            with Operator(self._connection(place, 2), self._operator.of(place)) as operator:
                 self._epoch = operator.failover(credentials.id, epoch=FIRST_EPOCH)
             return True
         except OlderEpoch:
@@ -281,7 +296,7 @@ class NamedPrimary(Following):
         """Begins an epoch. In the generation that it was in, it follows on the epoch that this writer has begun last: another writer
         that came since is not fenced."""
         known = self._epoch if self.place is not None and self.place.generation == place.generation else None
-        with Operator(self._connection(place, 3), self._operator.of(place)) as operator:
+        with Operator(self._connection(place, 2), self._operator.of(place)) as operator:
             while True:
                 try:
                     self._epoch = operator.failover(credentials.id, epoch=known)
@@ -293,7 +308,7 @@ class NamedPrimary(Following):
 
     def _begun(self, place: Place, credentials: Credentials, witness: Reader) -> Primary:
         """The primary of the epoch that was begun, if it is that still: a writer without one begins none in another's way."""
-        primary = Primary(self._connection(place, 3), credentials, epoch=self._epoch, alone=True, quorum=self._quorum, witness=witness)
+        primary = Primary(self._connection(place, 2), credentials, epoch=self._epoch, alone=True, quorum=self._quorum, witness=witness)
         try:
             primary.begin()
         except BaseException:

@@ -8,8 +8,8 @@ from typing import Callable, Iterator
 from pagelog.audit_list import AuditFollower
 from pagelog.client import MOST_EPOCHS, Client, reported_epoch
 from pagelog.errors import UnexpectedReply
-from pagelog.reply import Done, Entries, Entry, expect
-from pagelog.request import AUDIT_MAX, Audit, Failover, Head, Request, Role, SetTable, Tidy
+from pagelog.reply import Done, Entries, Entry, State, expect
+from pagelog.request import AUDIT_MAX, Act, Audit, Failover, Head, Request, Role, SetTable, Status, Tidy
 
 
 class Operator(Client):
@@ -25,8 +25,7 @@ class Operator(Client):
         """
         ended = self.status().epoch if epoch is None else epoch
         for _ in range(MOST_EPOCHS):
-            head = Head(self.credentials.id, self.credentials.token, self.role, self.database, ended)
-            reply = self.connection.ask(Request(head, Failover(to)))
+            reply = self.connection.ask(self._request_in(ended, Failover(to)))
             told = reported_epoch(reply)
             if told is not None:
                 self._take_over(told)
@@ -40,6 +39,28 @@ class Operator(Client):
     def set_table(self, text: str | bytes) -> None:
         """Puts this table in force from the next request on. Raises `NoTable`, whose `fault` says what is wrong."""
         expect(Done, self._ask(SetTable(text.encode() if isinstance(text, str) else text)))
+
+    def fence(self, text: str | bytes, to: int) -> State:
+        """Puts this table in force and makes `to` the primary, in one exchange, and returns the state then.
+
+        The table goes first, so that nobody whom it denies undoes the failover. Raises as `set_table` and `failover`.
+        """
+        table = SetTable(text.encode() if isinstance(text, str) else text)
+        for _ in range(MOST_EPOCHS):
+            epoch = self.epoch
+            asked = (self._request(table), self._request(Failover(to)), self._request_in(epoch + 1, Status()))
+            done, fenced, state = self.connection.exchange(asked)
+            told = reported_epoch(done)
+            if told is None:
+                expect(Done, done)
+                expect(Done, fenced)
+                self.epoch = epoch + 1
+                return expect(State, state)
+            self._adopt(told)
+        raise UnexpectedReply(f"{MOST_EPOCHS} epochs ended while it was asked")
+
+    def _request_in(self, epoch: int, act: Act) -> Request:
+        return Request(Head(self.credentials.id, self.credentials.token, self.role, self.database, epoch), act)
 
     def tidy(self) -> None:
         """Moves all but the 64 newest blocks to the segments, where they take less memory."""
@@ -82,7 +103,7 @@ class Operator(Client):
         """The entries from number `first` on. With `follow` it waits for more, asking each `idle` seconds.
 
         Each question is an entry itself. One who follows does not take its own questions for news: it waits where
-        there are fewer entries than one question can bring. Where the service was started anew, it calls `renewed`, and goes
+        there are fewer entries than one question can bring. Where the service was restarted, it calls `renewed`, and goes
         on with number 1 of the new list.
         """
         follower = AuditFollower(self, first, marks=follow)

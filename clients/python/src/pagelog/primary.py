@@ -381,9 +381,9 @@ class Primary(PageClient):
     def _settle(self, refusal: Refusal, was_repeated: bool) -> Exception | None:
         """What is to be raised; None where all that was sent is in the log all the same."""
         if isinstance(refusal, (AboveTheWindow, BelowQuorum)) and refusal.value < self.durable:
-            return LogWentBack(f"{refusal.value} blocks where {self.durable} were seen: the service was started anew")
+            return LogWentBack(f"{refusal.value} blocks where {self.durable} were seen: the service was restarted")
         if isinstance(refusal, NewerEpoch):
-            return LogWentBack(f"epoch {refusal.value} where {self.epoch} was seen: the service was started anew")
+            return LogWentBack(f"epoch {refusal.value} where {self.epoch} was seen: the service was restarted")
         if isinstance(refusal, (OlderEpoch, OtherPrimary, UnknownPrincipal)):
             self._ended = refusal
         if not isinstance(refusal, OlderEpoch):

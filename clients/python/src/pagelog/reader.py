@@ -191,7 +191,7 @@ class Reader(PageClient):
         if not isinstance(reply, Denied) or (reply.section, reply.row) != (Section.C, 1):
             return False
         if reply.value < self.hard_seen:
-            raise LogWentBack(f"{reply.value} blocks where {self.hard_seen} were seen: the service was started anew")
+            raise LogWentBack(f"{reply.value} blocks where {self.hard_seen} were seen: the service was restarted")
         if reply.value < lsn - 1:
             raise AboveTheEnd(reply.section, reply.row, reply.value)
         return True

@@ -116,7 +116,7 @@ def of_keepers(before: Mapping[str, Any], now: Mapping[str, Any], at: float) -> 
             continue
         old_run, lived = before[name]
         if run != old_run:
-            yield Event(at, f"keeper {name} was started anew")
+            yield Event(at, f"keeper {name} was restarted")
         if lives is not lived:
             text = f"keeper {name} lives again" if lives else f"the beat of keeper {name} stands still"
             yield Event(at, text, None, "good" if lives else "bad")

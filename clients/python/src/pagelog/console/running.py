@@ -1,11 +1,13 @@
-"""A console's life: a thread that looks, and a loop that answers, until a signal."""
+"""A console's life: a thread that looks, and a loop that answers, until a signal, or for as long as a keeper runs."""
 
 from __future__ import annotations
 
 import asyncio
 import signal
+from concurrent.futures import Future
 from functools import partial
-from typing import Callable
+from threading import Thread
+from typing import Callable, Iterable
 
 from aiohttp import web
 
@@ -16,21 +18,38 @@ from pagelog.console.watcher import Watcher
 from pagelog.console.web import Pages
 
 
-async def run(source: Source, limits: Limits, door: Door, host: str, port: int, listening: Callable[[int], None]) -> None:
-    """Serves until SIGTERM or SIGINT. `listening` is told the port. Raises `OSError` where it cannot listen there."""
+async def run(
+    source: Source, limits: Limits, door: Door, host: str, port: int, listening: Callable[[int], None],
+    signals: Iterable[int] = (signal.SIGTERM, signal.SIGINT),
+) -> None:  # fmt: skip
+    """Serves until one of the signals. `listening` is told the port. Raises `OSError` where it cannot listen there."""
     loop, board, ended = asyncio.get_running_loop(), Board(limits), asyncio.Event()
     watcher = Watcher(source, partial(_tell, loop, board.take), partial(_tell, loop, board.miss))
     runner = web.AppRunner(Pages(board, door, watcher.watch).application(), access_log=None)
     await runner.setup()
     try:
         await web.TCPSite(runner, host, port).start()
-        for number in (signal.SIGTERM, signal.SIGINT):
+        for number in signals:
             loop.add_signal_handler(number, ended.set)
         watcher.start()
         listening(runner.addresses[0][1])
         await ended.wait()
     finally:
         await runner.cleanup()
+
+
+def begin(source: Source, limits: Limits, door: Door, host: str, port: int) -> int:
+    """Serves in a thread, with a loop of its own, for as long as the program runs. Returns the port. Raises `OSError`."""
+    listening: Future[int] = Future()
+
+    def serve() -> None:
+        try:
+            asyncio.run(run(source, limits, door, host, port, listening.set_result, ()))
+        except OSError as error:
+            listening.set_exception(error)
+
+    Thread(target=serve, name="console", daemon=True).start()
+    return listening.result()
 
 
 def _tell(loop: asyncio.AbstractEventLoop, call: Callable[..., None], *arguments: object) -> None:

@@ -50,7 +50,7 @@ def archive_word(
     whole up to its LSN, and the next call goes on there. With [operator] it warns while the audit list fills; what is not
     archived when that is full is lost. With --fence-at it fences the database before, archives the rest, and ends with exit
     status 4: only the operator and this archiver are let in then, until the operator sets another table. Denied A1 after it was
-    let in, --follow waits: the service was started anew, and is being restored.
+    let in, --follow waits: the service was restarted, and is being restored.
 
     \b
     Examples:
@@ -127,7 +127,7 @@ class Follower:
         return [self.archiver.reader, *([self.guard.room.operator] if self.guard is not None else [])]
 
     def _wait_to_be_let_in(self) -> None:
-        """The service was started anew. What was seen of the one before, and not archived, is lost with that."""
+        """The service was restarted. What was seen of the one before, and not archived, is lost with that."""
         if not self._is_denied:
             _warn(NOT_YET)
         self._is_denied = True

@@ -30,7 +30,7 @@ from pagelog.rules import UnknownPrincipal
 def audit_word(accounts: Accounts, db: int, first: int, follow: bool, idle: float, denied: bool, as_json: bool) -> None:
     """Show the audit list of a database. Needs [operator].
 
-    With --follow it outlives a service that is away, or waits for its restore. Where that was started anew it says so on
+    With --follow it outlives a service that is away, or waits for its restore. Where that was restarted it says so on
     standard error, and goes on with entry 1 of the new list. In JSON `read` is the time at which the entry was read, in seconds
     since 1970.
 
@@ -76,7 +76,7 @@ def _followed(operator: Operator, first: int, idle: float, stop: Callable[[], bo
             continue
         is_denied = False
         if follower.is_new_list:
-            click.echo("pagelogctl: the service was started anew, or moved: here its new list begins", err=True)
+            click.echo("pagelogctl: the service was restarted, or moved: here its new list begins", err=True)
         yield from found
         if len(found) < AUDIT_MAX:
             time.sleep(idle)

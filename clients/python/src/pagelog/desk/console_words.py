@@ -1,15 +1,21 @@
-"""console."""
+"""console, and the same page of a keeper."""
 
 from __future__ import annotations
 
 import asyncio
 from pathlib import Path
+from typing import TYPE_CHECKING
 
 import click
 
 from pagelog.credentials import Accounts
 from pagelog.desk.keeper_words import url_of_referee
 from pagelog.desk.options import credentials_option, fail, faults
+from pagelog.keeper.machine import ROLL_AT, SUCCEED_AT
+
+if TYPE_CHECKING:
+    from pagelog.console.door import Door
+    from pagelog.keeper.settings import Settings
 
 
 @click.command("console")
@@ -23,28 +29,49 @@ def console_word(accounts: Accounts, listen: str, token_file: Path | None) -> No
 
     It prints `listening HOST:PORT`. PostgreSQL is looked at once a second while a browser follows, else every five seconds.
     What the keepers' [keeper] says of ttl, audit, memory and succeed is to be in the credentials too: by it successions are foretold.
+    A keeper whose [keeper] has `console` serves the same page.
 
     \b
     Example:
       pagelogctl console --listen 127.0.0.1:7480 --credentials keeper.toml
     """
     from pagelog.console.board import Limits
-    from pagelog.console.door import Door, is_loopback, read_token
     from pagelog.console.running import run
     from pagelog.console.source import Source
-    from pagelog.keeper.machine import ROLL_AT, SUCCEED_AT
 
-    host, colon, port = listen.rpartition(":")
-    if not colon or not host or not port.isdecimal() or int(port) > 65535:
-        raise click.UsageError(f"--listen: {listen!r} is no address of the form HOST:PORT")
-    if token_file is None and not is_loopback(host):
-        raise click.UsageError(f"--listen: others reach {host}: say --token-file too")
-    door = Door(read_token(token_file) if token_file else None, host)
+    host, port, door = _place_of(listen, token_file, "--listen", "--token-file")
     keeper = accounts.keeper
     limits = Limits(float(keeper.get("ttl", Limits.ttl)), keeper.get("audit", Limits.audit), keeper.get("memory", 0) >> 20,
                     float(keeper.get("succeed", SUCCEED_AT)) or ROLL_AT)  # fmt: skip
     source = Source(url_of_referee(accounts))
     try:
-        asyncio.run(run(source, limits, door, host.strip("[]"), int(port), lambda bound: click.echo(f"listening {host}:{bound}")))
+        asyncio.run(run(source, limits, door, host.strip("[]"), port, lambda bound: click.echo(f"listening {host}:{bound}")))
     except OSError as error:
         fail(f"--listen: {listen}: {error.strerror or error}")
+
+
+def begin_console(settings: Settings) -> str:
+    """Serves the page of a keeper beside its work, by its own settings. Returns the address."""
+    from pagelog.console.board import Limits
+    from pagelog.console.running import begin
+    from pagelog.console.source import Source
+
+    assert settings.console is not None
+    host, port, door = _place_of(settings.console, settings.console_token, "[keeper] console", "console_token")
+    limits = Limits(settings.ttl, settings.program.audit, settings.memory >> 20, settings.succeed or ROLL_AT)
+    try:
+        return f"{host}:{begin(Source(settings.url), limits, door, host.strip('[]'), port)}"
+    except OSError as error:
+        fail(f"[keeper] console: {settings.console}: {error.strerror or error}")
+
+
+def _place_of(listen: str, token_file: Path | None, option: str, token_option: str) -> tuple[str, int, Door]:
+    """Where to listen, and who is let in."""
+    from pagelog.console.door import Door, is_loopback, read_token
+
+    host, colon, port = listen.rpartition(":")
+    if not colon or not host or not port.isdecimal() or int(port) > 65535:
+        raise click.UsageError(f"{option}: {listen!r} is no address of the form HOST:PORT")
+    if token_file is None and not is_loopback(host):
+        raise click.UsageError(f"{option}: others reach {host}: say {token_option} too")
+    return host, int(port), Door(read_token(token_file) if token_file else None, host)

@@ -20,6 +20,7 @@ from click.core import ParameterSource
 
 from pagelog.credentials import Accounts
 from pagelog.desk.options import AGAIN, URL_VARIABLE, credentials_option, fail, faults, url_options
+from pagelog.keeper.aside import asides_of
 from pagelog.keeper.referee import NAME, Away, Doubt, Referee, Refused
 from pagelog.keeper.rows import Look, Row
 from pagelog.keeper.settings import Settings
@@ -78,11 +79,12 @@ def referee_of(accounts: Accounts) -> Iterator[Referee]:
 @click.option("--serve", required=True, metavar="HOST", help="Where its services listen, at ports that the system gives.")
 @click.option("--folder", required=True, metavar="DIR", type=click.Path(path_type=Path), help="For the files of its services.")
 @click.option("--program", default="pagelog", show_default=True, metavar="PAGELOG", envvar="PAGELOG", help="The service.")
+@click.option("--console", metavar="HOST:PORT", help="Serve the page of `pagelogctl console` too, by this keeper's thresholds.")
 @click.option("--require-standby", is_flag=True, help="Nothing is durable that a synchronous standby of PostgreSQL has not.")
 @faults
-def keep_word(accounts: Accounts, name: str, lines: str, serve: str, folder: Path, program: str, require_standby: bool) -> None:
+def keep_word(accounts: Accounts, name: str, lines: str, serve: str, folder: Path, program: str, console: str | None, require_standby: bool) -> None:
     """Keep named databases, with PostgreSQL as the referee. Needs [archive] url; [keeper] may have ttl, standby, audit, memory,
-    metrics and require_standby.
+    succeed, trail, metrics, console, console_token (the file with the token of a page that others reach) and require_standby.
 
     It prints `listening HOST:PORT`, and logs each decision with its reason. SIGTERM hands over what it holds; a second one
     ends it at once, and its services go on until its next life adopts them. Exit status 3: another keeper has its name.
@@ -95,11 +97,16 @@ def keep_word(accounts: Accounts, name: str, lines: str, serve: str, folder: Pat
 
     faulthandler.register(signal.SIGUSR1)  # says what each thread is at
     logging.basicConfig(level=logging.INFO, stream=sys.stderr, format="%(asctime)s %(message)s")
-    section = {**accounts.keeper, "require_standby": True} if require_standby else accounts.keeper
+    said = {"require_standby": require_standby or None, "console": console}
+    section = {**accounts.keeper, **{key: value for key, value in said.items() if value is not None}}
     settings = Settings.of(named(name), lines, serve, folder, program, url_of_referee(accounts), section, accounts.archive_keep)
     keeper = Keeper(settings)
     if settings.metrics is not None:
         _serve_metrics(keeper, settings.metrics)
+    if settings.console is not None:
+        from pagelog.desk.console_words import begin_console
+
+        logging.getLogger("pagelog.keeper").info("console at %s", begin_console(settings))
     sys.exit(asyncio.run(keeper.run()))
 
 
@@ -193,7 +200,7 @@ def facts_of(look: Look, row: Row) -> dict[str, Any]:
 @referee_word
 def kept_word(referee: Referee, as_json: bool) -> None:
     """List the named databases: generation, holder, place, archived position, the oldest one that is kept and the newest base,
-    standbys, entries left, and memory in MiB; and whether PostgreSQL has a synchronous standby.
+    standbys, entries left, and memory in MiB; whether PostgreSQL has a synchronous standby; and services that were set aside.
 
     \b
     Example:
@@ -203,9 +210,11 @@ def kept_word(referee: Referee, as_json: bool) -> None:
 
     look, columns = referee.everything(), columns_of(referee)
     found: list[dict[str, Any]] = [{**facts_of(look, row), **columns[row.id]} for row in look.rows if not row.dropped]
+    asides = asides_of(look)
     if as_json:
-        for facts in found:
-            click.echo(json.dumps(facts))
+        unknown = {each["name"] for each in asides} - {facts["name"] for facts in found}
+        for facts in (*found, *({"name": name} for name in sorted(unknown))):
+            click.echo(json.dumps({**facts, "set_aside": [each for each in asides if each["name"] == facts["name"]]}))
         return
     from rich.console import Console
     from rich.table import Table
@@ -217,6 +226,9 @@ def kept_word(referee: Referee, as_json: bool) -> None:
         table.add_row(*(_shown(facts[word]) for word in words), standbys, _shown(facts["entries_left"]), _shown(facts["memory"]), _state_of(facts))
     Console().print(table)
     click.echo(look.synchronous.meaning)
+    for each in asides:
+        click.echo(f"set aside: run {each['run']} of {each['name']} at {each['address']}, process {each['pid']} of keeper {each['keeper']}: "
+                   f"see `pagelogctl rescue {each['name']} --help`")  # fmt: skip
 
 
 def _state_of(facts: dict[str, Any]) -> str:

@@ -32,7 +32,7 @@ _GAUGES = {
 _COUNTERS = {
     "audit_uncounted": "Entries that came too fast to be read: no request among them is counted.",
     "fenced_requests": "Requests of a primary that were denied since its epoch is over, or another's.",
-    "log_went_back": "How often the service was found to be started anew.",
+    "log_went_back": "How often the service was found to be restarted.",
 }
 _PULL_BLOCKS = 16
 _IDLE_SECONDS = 10.0

@@ -5,27 +5,33 @@ from __future__ import annotations
 import json
 import sys
 import time
-from contextlib import ExitStack
+from contextlib import ExitStack, nullcontext
 from datetime import datetime
+from itertools import islice
 from pathlib import Path
 from typing import Any, Callable, Iterator
 
 import click
 
 from pagelog.archive import Archive, NoArchive
+from pagelog.block import Block
+from pagelog.connection import Connection
 from pagelog.credentials import FILE_VARIABLE, Accounts, load
 from pagelog.desk.audit_words import entry_fields, entry_line
 from pagelog.desk.options import (
     NOT_YET, URL_VARIABLE, _url, bar, client, credentials_option, db_option, fail, faults, first_line_of, is_lost_archive,
-    is_of_the_archive, json_option, stopping, url_of,
+    is_of_the_archive, json_option, stopping, timeout, url_of,
 )  # fmt: skip
 from pagelog.errors import ConnectionLost, OutOfMemory, Unreachable
+from pagelog.following import NamedAccount
 from pagelog.keeping import all_blocks, compare
 from pagelog.operator import Operator
+from pagelog.place import Keepers
 from pagelog.reader import Reader
 from pagelog.request import Operation, Role
 from pagelog.rules import UnknownPrincipal
 from pagelog.trail.keeper import TrailKeeper
+from pagelog.trail.logs import Log, log_of
 from pagelog.trail.pages import compare_pages
 from pagelog.trail.question import Question, Seen, Summary, answer, micros, moment
 from pagelog.trail.replay import Replayed, replay
@@ -43,7 +49,7 @@ texts_option = click.option("--set-table", "texts", metavar="FILE", multiple=Tru
                             type=click.Path(exists=True, dir_okay=False, path_type=Path),
                             help="A table that was set later; may be given more than once.")  # fmt: skip
 list_option = click.option("--list", "run", metavar="N", type=click.IntRange(1), help="Only the N-th list of the trail. A service that "
-                           "was started anew began a new one. [default: all]")  # fmt: skip
+                           "was restarted began a new one. [default: all]")  # fmt: skip
 
 
 def start_of(table: Path | None, primary: int | None) -> Start | None:
@@ -87,7 +93,7 @@ def record_word(
     """Keep the audit list of a database as a trail, beside its archive. Needs [operator].
 
     Each line is kept with the time at which it was seen. Prints `recorded N of list L`: lines 1 to N are kept. A service that was
-    started anew begins a new list; the old one says how it ended. With --table and --primary the trail can be replayed.
+    restarted begins a new list; the old one says how it ended. With --table and --primary the trail can be replayed.
 
     \b
     Example:
@@ -313,7 +319,8 @@ def _show_summary(counted: Summary, as_json: bool) -> None:
 @start_primary_option
 @texts_option
 @click.option("--credentials", "accounts", metavar="FILE", callback=_accounts, help="With its [secondary], the blocks of the service are compared "
-              f"too, and pages at random; [archive] may have the url. {FILE_VARIABLE} is not taken here.")  # fmt: skip
+              "too, and pages at random; of a named database it has `to` of a keeper's lines. [archive] may have the url. "
+              f"{FILE_VARIABLE} is not taken here.")  # fmt: skip
 @db_option
 @faults
 def replay_word(
@@ -324,7 +331,8 @@ def replay_word(
 
     The rules are those of the plain model, which shares no code with the service. Each line has to have the same verdict, section,
     row and value. The first that differs is named, and the exit status is 1. What no line holds is listed as not checked: the
-    block of a denied or annulled write, and the text of a denied table.
+    block of a denied or annulled write, and the text of a denied table. Where a service began with images, its first blocks are
+    made of these again, and some images of what was archived before them.
 
     \b
     Examples:
@@ -336,14 +344,15 @@ def replay_word(
     with ExitStack() as stack:
         trail = stack.enter_context(Trail(where, name))
         archive = _archive(where, name, stack)
-        hard = 0
         for one in chosen(trail, run):
-            with bar(f"list {one.run}") as told:
-                done = replay(trail, one, _blocks_for(archive, one), start=start, texts=more, told=told)
-            _say_replayed(one, done, is_last=one == trail.lists()[-1])
-            hard = done.blocks
-        if accounts is not None and Role.SECONDARY in accounts.of_role and archive is not None:
-            _compare(archive, stack.enter_context(client(Reader, accounts, db)), hard)
+            with nullcontext() if archive is None else log_of(trail, archive, one) as log:
+                with bar(f"list {one.run}") as told:
+                    done = replay(trail, one, log, start=start, texts=more, told=told)
+                _say_replayed(one, done, is_last=one == trail.lists()[-1])
+                if log is not None and log.made:
+                    _compare_images(log)
+                if accounts is not None and Role.SECONDARY in accounts.of_role and archive is not None and log is not None and one.ended is None:
+                    _compare(log, _reader(accounts, db, archive, one), min(done.hard, done.archived))
 
 
 def _archive(url: str, name: str, stack: ExitStack) -> Archive | None:
@@ -354,18 +363,35 @@ def _archive(url: str, name: str, stack: ExitStack) -> Archive | None:
         return None
 
 
-def _blocks_for(archive: Archive | None, one: TrailList) -> Archive | None:
-    """The archive, if it has the blocks of the list from LSN 1 on."""
-    if archive is None or archive.begins_with_blocks(one.generation):
-        return archive
-    click.echo(f"list {one.run}: generation {one.generation} began with images, or its first blocks are pruned: no block is compared")
-    return None
+def _compare_images(log: Log) -> None:
+    alike = log.compare_images()
+    if alike is None:
+        click.echo("  not checked: what the images are made of, which is pruned")
+    else:
+        click.echo(f"  blocks 1 to {log.made} are made of images; {alike} of these are compared with the blocks before")
 
 
-def _compare(archive: Archive, reader: Reader, hard: int) -> None:
+def _reader(accounts: Accounts, db: int, archive: Archive, one: TrailList) -> Reader | None:
+    """A reader of the service of a list. That of a named database is where the keepers say, if it is of this generation still."""
+    if not archive.is_kept:
+        return client(Reader, accounts, db)
+    account = accounts.account(Role.SECONDARY)
+    place = Keepers(archive.log, [str(account.to)], timeout()).place()
+    if place.generation != one.generation:
+        return None
+    run = NamedAccount(archive.log, account.credentials.id, account.credentials.token.hex()).of(place)
+    return Reader(Connection(place.address, timeout=timeout(), attempts=8), run)
+
+
+def _compare(log: Log, reader: Reader | None, last: int) -> None:
     """The service has the blocks of the archive, and makes pages of them."""
-    blocks = compare(all_blocks(reader, 1, hard), archive.blocks(1, hard))
-    pages = compare_pages(archive, reader, hard)
+    if reader is None or log.first > 1:
+        click.echo("  not checked: the service's own blocks: " + ("it has another generation" if reader is None else "the first are pruned"))
+        return
+    with reader:
+        wanted = (Block.decode(data) for data in islice(log.blocks(), last) if data is not None)
+        blocks = compare(all_blocks(reader, 1, last), wanted)
+        pages = compare_pages(log, reader, last)
     click.echo(f"{blocks} blocks and {pages.alike} pages of the service are those of the archive; {pages.denied} more pages are denied "
                "by the table")  # fmt: skip
 
@@ -375,10 +401,12 @@ def _say_replayed(one: TrailList, done: Replayed, *, is_last: bool) -> None:
                f"{done.blocks} of them archived, which fit; digest {one.digest.hex()[:16]}")  # fmt: skip
     for what, count in sorted(done.unchecked.items()):
         click.echo(f"  not checked: {count} lines, which depend on {what}")
-    if done.archived > done.hard and is_last:
+    if done.first > 1:
+        click.echo(f"  not checked: blocks 1 to {done.first - 1} are pruned, or made of images that are")
+    if done.archived > done.hard and (is_last or one.generation):
         click.echo(f"  not checked: blocks {done.hard + 1} to {done.archived} are archived, and the trail ends before they were hardened")
-    if done.hard > done.blocks:
-        click.echo(f"  not checked: blocks {done.blocks + 1} to {done.hard} are hardened by the trail, and not archived")
+    if done.hard > done.archived:
+        click.echo(f"  not checked: blocks {done.archived + 1} to {done.hard} are hardened by the trail, and not archived")
     if one.ended:
         click.echo(f"  the list ended: {one.ended}")
     sys.stdout.flush()

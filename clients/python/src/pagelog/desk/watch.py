@@ -93,7 +93,7 @@ class Watch:
     def look(self) -> Look:
         """Reads what is new. Raises what the service refuses, as `AuditListFull`.
 
-        `LogWentBack` is raised once where the service was started anew; the next look begins with the new one. A database that
+        `LogWentBack` is raised once where the service was restarted; the next look begins with the new one. A database that
         was moved, whose epoch is higher and whose log is not shorter, is gone on with at once.
         """
         try:
@@ -121,7 +121,7 @@ class Watch:
             self._own += 1
             if self._follower.is_new_list:
                 if state.epoch <= self._epoch:
-                    raise LogWentBack("the audit list is another one: the service was started anew")
+                    raise LogWentBack("the audit list is another one: the service was restarted")
                 self._begin(found[-1].number + 1 if found else 1)
             for entry in found:
                 self._count(entry)

@@ -32,6 +32,7 @@ WORDS = {
     "succeed": "history_words",
     "prune": "history_words",
     "drop": "keeper_words",
+    "rescue": "rescue_words",
     "record": "trail_words",
     "trail": "trail_words",
     "replay": "trail_words",

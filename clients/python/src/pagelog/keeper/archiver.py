@@ -3,14 +3,18 @@
 from __future__ import annotations
 
 import asyncio
-from typing import Callable
+from contextlib import asynccontextmanager
+from typing import TYPE_CHECKING, AsyncIterator, Callable, Sequence
 
 from pagelog.errors import AuditListFull, PagelogError, TurnsSpent
 from pagelog.keeper.committer import Committer, Fenced
 from pagelog.keeper.referee import digest
-from pagelog.keeper.rows import Batch, Kept, Row
+from pagelog.keeper.rows import Batch, Kept, Lines, Row
 from pagelog.keeper.served import Served
 from pagelog.keeper.waits import Waits
+
+if TYPE_CHECKING:
+    from pagelog.keeper.recorder import Recorder
 
 FEW = 8
 """Of a service that is known to have more than so many new blocks, a thread pulls a thousand at once."""
@@ -31,13 +35,21 @@ class Archiver:
         self.turn = asyncio.Lock()
         """Held for each batch, from its pull until its fate is known."""
         self._wait = 0.05
+        self.recorder: Recorder | None = None
+        """Who keeps the lines of its audit list, if they are kept."""
         self.is_over = False
-        self._is_stuck = False
+        self.is_stuck = False
+        """Whether it has ended for good: the archive has something else than the service."""
+
+    @property
+    def lining(self) -> Recorder | None:
+        """The recorder, once it keeps lines with the blocks."""
+        return self.recorder if self.recorder is not None and self.recorder.is_ready else None
 
     @property
     def may_begin_again(self) -> bool:
         """Whether it has ended, and another may be begun: it was told that it is fenced, and a look shows that it is not."""
-        return self.is_over and not self._is_stuck
+        return self.is_over and not self.is_stuck
 
     def ring(self) -> None:
         """There is something to archive, or somebody who waits."""
@@ -50,11 +62,11 @@ class Archiver:
     async def reached(self, end: int) -> bool:
         """Returns once all up to `end` is archived; False where it never will be, or the service hangs."""
         while self._served.reached < end:
+            if self.is_over or not self._served.is_alive or self._served.hangs:
+                return False  # also where it was so before: nobody would wake this any more
             self._advanced.clear()
             self.ring()
             await self._advanced.wait()
-            if self.is_over or not self._served.is_alive or self._served.hangs:
-                return False
         return True
 
     async def run(self) -> None:
@@ -76,10 +88,16 @@ class Archiver:
                     return
 
     async def archived(self) -> bool:
-        """Archives what is hardened by now. False where nothing more can be. The turn is the caller's."""
+        """Archives what is hardened by now, with its lines. False where nothing more can be. The turn is the caller's."""
+        if self.recorder is not None:
+            await self.recorder.first_try()
+        async with turn_of(self.lining) as recorder:
+            return await self._archived(recorder)
+
+    async def _archived(self, recorder: Recorder | None) -> bool:
         served, waited = self._served, self._waits.now()
         try:
-            batch = await self._next_batch()
+            batch = await self._next_batch(recorder)
         except (AuditListFull, TurnsSpent):
             served.is_broken = True
             return False
@@ -95,34 +113,47 @@ class Archiver:
             return True
         return await self._kept(batch)
 
-    async def _next_batch(self) -> Batch:
+    async def rest(self, end: int, recorder: Recorder | None) -> Batch | None:
+        """What is not archived of a log that ends there; None where that is much, or cannot be pulled. Both turns are the caller's."""
+        served = self._served
+        try:
+            blocks = await asyncio.to_thread(served.pulled, served.reached) if served.reached < end else []
+        except PagelogError:
+            return None
+        return await self._batch_of(blocks, recorder) if served.reached + len(blocks) == end else None
+
+    async def _next_batch(self, recorder: Recorder | None) -> Batch:
         served = self._served
         blocks = None if served.hard > served.reached + FEW else await served.pulled_at_once(served.reached)
         if blocks is None:
             blocks = await asyncio.to_thread(served.pulled, served.reached)
-        return self._batch_of(tuple(blocks))
+        return await self._batch_of(blocks, recorder)
 
-    def _batch_of(self, blocks: tuple[bytes, ...]) -> Batch:
+    async def _batch_of(self, blocks: Sequence[bytes], recorder: Recorder | None) -> Batch:
         served = self._served
-        return Batch(self._row.id, served.run, served.generation, served.reached, digest(served.chain, blocks), blocks)
+        lines = await recorder.lines() if blocks and recorder is not None else None
+        return Batch(self._row.id, served.run, served.generation, served.reached, digest(served.chain, blocks), tuple(blocks), lines)
 
     async def _kept(self, batch: Batch) -> bool:
         """Has the batch archived, and tells those who wait for it. False where the run holds the database no more."""
         served = self._served
         try:
-            kept = await self._committer.keep(batch)
+            kept = await self._told(batch)
         except Fenced:
             return False  # the next look shows by whom
         try:
             is_known = (kept.archived, kept.chain) in ((batch.new, batch.chain), (batch.old, served.chain))
-            has = is_known or await asyncio.to_thread(self._has, kept)
+            # Else a batch that an earlier life of this keeper had sent has come late, or PostgreSQL went back.
+            has = is_known or await asyncio.to_thread(self._served.has, kept.archived, kept.chain)
         except PagelogError:
             self.ring()
             return True  # the next pull shows why
         if not has:
             self._say(self._row.name, f"the archive went back, to position {kept.archived}: nothing becomes durable, and the service is kept")
-            self._is_stuck = True
+            self.is_stuck = served.went_back = True
             return False
+        if kept.archived < served.reached:
+            self._say(self._row.name, f"the archive went back, to position {kept.archived}: what the service has after it is archived again")
         served.reached, served.chain = kept.archived, kept.chain
         self._advanced.set()
         self._waits.tell(served.generation, served.reached)
@@ -130,9 +161,29 @@ class Archiver:
             self.ring()
         return True
 
-    def _has(self, kept: Kept) -> bool:
-        """Whether the service has what is archived: a batch that an earlier life of this keeper had sent may have come late."""
-        at, chain = self._served.reached, self._served.chain
-        while at < kept.archived and (blocks := self._served.pulled(at)[: kept.archived - at]):
-            at, chain = at + len(blocks), digest(chain, blocks)
-        return (at, chain) == (kept.archived, kept.chain)
+    async def _told(self, batch: Batch) -> Kept:
+        """What the committer says of it; its recorder knows then whether the lines are kept."""
+        kept = None
+        try:
+            kept = await self._committer.keep(batch)
+            return kept
+        finally:
+            self.settle(batch.lines, is_kept=kept is not None and kept.is_told)
+
+    def settle(self, lines: Lines | None, *, is_kept: bool) -> None:
+        """Whether lines are kept that a statement had with their blocks is known."""
+        if lines is not None and self.recorder is not None:
+            self.recorder.settle(lines, is_kept=is_kept)
+
+
+@asynccontextmanager
+async def turn_of(recorder: Recorder | None) -> AsyncIterator[Recorder | None]:
+    """The recorder, from when lines are asked for until it is known whether they are kept; None where there is none, or where its turn
+    does not come soon."""
+    if recorder is None or not await recorder.take_turn():
+        yield None
+        return
+    try:
+        yield recorder
+    finally:
+        recorder.turn.leave()

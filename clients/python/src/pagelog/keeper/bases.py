@@ -74,7 +74,7 @@ class Bases:
 
     def newest(self, upto: int) -> Base:
         """The newest base at or below a position."""
-        found = self._referee._ask("SELECT base, chain, digest, pages FROM pagelog_base WHERE log = %s AND base <= %s "
+        found = self._referee._ask_bounded("SELECT base, chain, digest, pages FROM pagelog_base WHERE log = %s AND base <= %s "
                                   "ORDER BY base DESC LIMIT 1", (self._log, upto))  # fmt: skip
         return Base(found[0][0], bytes(found[0][1]), bytes(found[0][2]), found[0][3]) if found else NOTHING
 
@@ -99,7 +99,7 @@ class Bases:
         return found[0] if found and found[0].range == range else None
 
     def _found(self, position: int, last: int, count: int) -> list[Image]:
-        rows = self._referee._ask(_NEWEST.format(data=", data"), (self._log, position, last, count), binary=True)
+        rows = self._referee._ask_bounded(_NEWEST.format(data=", data"), (self._log, position, last, count), binary=True)
         images = [Image(range, int.from_bytes(pages, "big"), bytes(data)) for range, pages, _, data in rows]
         for image, (_, _, crc, _) in zip(images, rows):
             if zlib.crc32(image.data) != crc:
@@ -109,7 +109,7 @@ class Bases:
     def heads(self, position: int) -> Iterator[tuple[int, bytes]]:
         """How many pages each image in force at a position has, and its head, in order; no page is read."""
         last, count = -1, 1 << 16
-        while rows := self._referee._ask(_NEWEST.format(data=""), (self._log, position, last, count)):
+        while rows := self._referee._ask_bounded(_NEWEST.format(data=""), (self._log, position, last, count)):
             for range, pages, crc in rows:
                 if mask := int.from_bytes(pages, "big"):
                     yield mask.bit_count(), Image.head_of(range, mask, crc)
@@ -138,7 +138,7 @@ class Bases:
         for image in images:
             starts.append(at)
             at += len(image.data)
-        self._referee._ask(_KEEP, {
+        self._referee._ask_bounded(_KEEP, {
             "log": self._log, "base": position, "masks": b"".join(image.mask.to_bytes(8, "big") for image in images),
             "ranges": array_of(image.range for image in images), "crcs": array_of(zlib.crc32(image.data) for image in images),
             "starts": array_of(starts), "lengths": array_of(len(image.data) for image in images),
@@ -151,7 +151,7 @@ class Bases:
         for count, head in self.heads(position):
             heads.update(head)
             pages += count
-        self._referee._ask("INSERT INTO pagelog_base (log, base, chain, digest, pages, came) SELECT %s, %s, %s, %s, %s, "
+        self._referee._ask_bounded("INSERT INTO pagelog_base (log, base, chain, digest, pages, came) SELECT %s, %s, %s, %s, %s, "
                           "COALESCE((SELECT came FROM pagelog_block WHERE log = %s AND lsn = %s), now()) WHERE NOT EXISTS "
                           "(SELECT 1 FROM pagelog_base WHERE log = %s AND base >= %s) RETURNING base",
                           (self._log, position, chain, heads.digest(), pages, self._log, position, self._log, position))  # fmt: skip

@@ -3,9 +3,11 @@
 from __future__ import annotations
 
 import zlib
+from itertools import accumulate
 from typing import Any, Iterable, Mapping, Sequence
 
-from pagelog.keeper.rows import Batch
+from pagelog.keeper import statements
+from pagelog.keeper.rows import Batch, Lines
 
 
 def array_of(numbers: Iterable[int]) -> str:
@@ -13,13 +15,29 @@ def array_of(numbers: Iterable[int]) -> str:
     return "{" + ",".join(map(str, numbers)) + "}"
 
 
+def statement_of(batches: Sequence[Batch]) -> str:
+    """The statement that keeps these batches: with lines only where there are some, since trails have tables of their own."""
+    has_lines = any(batch.lines is not None for batch in batches)
+    if len(batches) > 1:
+        return statements.KEEP_WITH_LINES if has_lines else statements.KEEP
+    return statements.KEEP_ONE_WITH_LINES if has_lines else statements.KEEP_ONE
+
+
 def values_of(batches: Sequence[Batch]) -> Mapping[str, Any]:
     """The values of the statement that keeps these batches."""
-    blocks = [block for batch in batches for block in batch.blocks]
-    starts, at = [], 1
-    for block in blocks:
-        starts.append(at)
-        at += len(block)
+    if len(batches) > 1:
+        return values_of_many(batches)
+    return values_of_one(batches[0] if batches else Batch(0, "", 0, 0, b"", ()))  # there is no database 0
+
+
+def values_of_one(batch: Batch) -> dict[str, Any]:
+    """Those of one batch."""
+    return {"id": batch.log, "run": batch.run, "generation": batch.generation, "old": batch.old, "new": batch.new, "chain": batch.chain,
+            **values_of_blocks(batch.blocks), **values_of_lines([(batch.log, batch.lines)])}  # fmt: skip
+
+
+def values_of_many(batches: Sequence[Batch]) -> dict[str, Any]:
+    """Those of many, column by column."""
     return {
         "logs": array_of(batch.log for batch in batches), "runs": [batch.run for batch in batches],
         "generations": array_of(batch.generation for batch in batches),
@@ -27,6 +45,26 @@ def values_of(batches: Sequence[Batch]) -> Mapping[str, Any]:
         "chains": b"".join(batch.chain.rjust(16, b"\0") for batch in batches),
         "owners": array_of(batch.log for batch in batches for _ in batch.blocks),
         "lsns": array_of(batch.old + at for batch in batches for at in range(1, len(batch.blocks) + 1)),
-        "crcs": array_of(map(zlib.crc32, blocks)), "starts": array_of(starts), "lengths": array_of(map(len, blocks)),
-        "bytes": b"".join(blocks),
+        **values_of_blocks([block for batch in batches for block in batch.blocks]), **values_of_lines([(batch.log, batch.lines) for batch in batches]),
+    }  # fmt: skip
+
+
+def values_of_blocks(blocks: Sequence[bytes]) -> dict[str, Any]:
+    """A row for each block, column by column: numbers in arrays, and bytes one behind the other."""
+    lengths = list(map(len, blocks))
+    return {"crcs": array_of(map(zlib.crc32, blocks)), "starts": array_of(accumulate(lengths[:-1], initial=1) if lengths else ()),
+            "lengths": array_of(lengths), "bytes": b"".join(blocks)}  # fmt: skip
+
+
+def values_of_lines(found: Sequence[tuple[int, Lines | None]]) -> Mapping[str, Any]:
+    """A row for each piece of a log, column by column; nothing where there are no lines at all."""
+    lines = [(log, each) for log, each in found if each is not None]
+    if not lines:
+        return {}
+    pieces = [piece.values for _, piece in lines]
+    sizes = [len(piece["data"]) for piece in pieces]
+    return {
+        "line_logs": array_of(log for log, _ in lines), **{f"line_{name}s": array_of(piece[name] for piece in pieces) for name in ("list", "first", "count", "seen")},
+        "line_days": [piece["day"] for piece in pieces], "line_starts": array_of(accumulate(sizes[:-1], initial=1) if sizes else ()),
+        "line_lengths": array_of(sizes), **{f"line_{name}": b"".join(piece[name] for piece in pieces) for name in ("before", "digest", "data")},
     }  # fmt: skip

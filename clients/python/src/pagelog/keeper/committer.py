@@ -3,6 +3,7 @@
 from __future__ import annotations
 
 import asyncio
+from contextlib import suppress
 from dataclasses import dataclass, field
 from functools import partial
 
@@ -37,6 +38,7 @@ class Committer:
         self._idle = idle
         self._due: list[_Due] = []
         self._came = asyncio.Event()
+        self._is_warm = False
         self._looking: set[asyncio.Task[None]] = set()
         self.kept = 0
         """How many blocks were archived."""
@@ -47,6 +49,13 @@ class Committer:
         self._due.append(due)
         self._came.set()
         return await due.future
+
+    async def warm(self) -> None:
+        """Connects, so that the first batch of a database that is wanted here finds a connection with its statement prepared."""
+        with suppress(Doubt, Refused, Away):
+            await self._session.keep(())
+        self._is_warm = True  # it is closed again if none comes
+        self._came.set()
 
     async def run(self) -> None:
         """Goes on until it is cancelled."""
@@ -61,10 +70,11 @@ class Committer:
             idle = asyncio.get_running_loop().call_later(self._idle, self._came.set)
             await self._came.wait()
             idle.cancel()
-            if not self._due:
+            if not self._due and not self._is_warm:
+                self._came.clear()  # first: one may come while it is closed
                 await self._session.close()
-                self._came.clear()
                 await self._came.wait()
+            self._is_warm = False
             batches = self._taken()
             if not batches:
                 continue
@@ -74,7 +84,7 @@ class Committer:
                 kept = frozenset()
             for due in batches:
                 if due.batch.log in kept:
-                    self._answer(due, Kept(due.batch.new, due.batch.chain, due.batch.generation))
+                    self._answer(due, Kept(due.batch.new, due.batch.chain, due.batch.generation, is_told=True))
                 else:  # beside what comes next: a row that is locked holds up no other database
                     looking = asyncio.create_task(self._look_up(due))
                     self._looking.add(looking)

@@ -3,6 +3,7 @@
 from __future__ import annotations
 
 import asyncio
+import gc
 import json
 import logging
 import secrets
@@ -88,6 +89,7 @@ class Keeper:
 
         Raises `KeeperError` where another keeper has its folder.
         """
+        gc.freeze()  # to look through all that is imported takes a collection 50 ms, in which nobody is answered
         loop = asyncio.get_running_loop()
         loop.set_default_executor(ThreadPoolExecutor(64))
         for number in (signal.SIGTERM, signal.SIGINT):
@@ -149,6 +151,7 @@ class Keeper:
                 await asyncio.sleep(self.settings.ttl / LOOKS)
                 continue
             wanted = {row.run for row in look.rows if row.run is not None and row.holder == self.settings.name}
+            self._shared.asides.begin()
             for name in await asyncio.to_thread(end_orphans, self._folder.path, wanted):
                 self._say(name, "a service of an earlier life that held nothing was ended")
             return
@@ -179,16 +182,14 @@ class Keeper:
 
     async def _hear(self) -> None:
         """Takes what a release has said for true, before a look shows it: what follows has its own conditions."""
-        for name, generation, archived in map(released_of, self._session.taken()):
-            database = self._named(name)
-            if database is not None:
-                database.hear(generation, archived)
-        await asyncio.sleep(0)  # a take goes before the look
+        heard = [(self._named(name), of) for name, *of in map(released_of, self._session.taken())]
+        acting = {task for database, of in heard if database is not None and (task := database.hear(*of)) is not None}
+        if acting:  # a take goes before the look
+            await asyncio.wait(acting, timeout=self.settings.ttl / LOOKS / 2)
 
     async def _look(self) -> None:
-        reached = {
-            each.row.id: each.served.reached for each in self.databases.values() if each.served is not None and not each.holds
-        }
+        reached = {each.row.id: reached for each in self.databases.values() if (reached := each.follows) is not None}
+        began = seconds()
         try:
             self.look = await self._session.ask(self._session.referee.look, reached, self._report())
         except Superseded:
@@ -209,7 +210,7 @@ class Keeper:
                 database = self.databases[row.id] = Database(self._shared, row)
             holder = self.look.keeper(row.holder)
             is_noted = any(standby.keeper == self.settings.name for standby in self.look.standbys_of(row.id))
-            database.see(row, None if holder is None else holder.beat, self._others(row.id), is_noted=is_noted)
+            database.see(row, None if holder is None else holder.beat, self._others(row.id), is_noted=is_noted, began=began)
             self._changed(row.name)
         for id in self.databases.keys() - {row.id for row in self.look.rows}:
             self.databases[id].lose()
@@ -228,7 +229,7 @@ class Keeper:
 
     def _report(self) -> str:
         """What `kept` shows of the services of this keeper."""
-        audit, limit, report = self.settings.program.audit, self.settings.memory, {}
+        audit, limit, report = self.settings.program.audit, self.settings.memory, dict[str, Any](self._shared.asides.report())
         for each in self.databases.values():
             if each.served is not None and each.served.process is not None:
                 memory = each.served.process.memory
@@ -249,7 +250,8 @@ class Keeper:
             return ("unknown" if self.look.keepers else "nowhere", name)  # before its first look it knows of none
         row, served = database.row, database.served
         holder = self.look.keeper(row.holder)
-        if row.address is None or (holder is None and not database.holds):
+        is_closed = database.holds and served is not None and not served.is_open
+        if row.address is None or is_closed or (holder is None and not database.holds):
             return ("nowhere", name)
         archived = served.reached if served is not None and database.holds else row.archived
         lines = self.lines if database.holds or holder is None else holder.lines
@@ -285,8 +287,8 @@ class Keeper:
         found = next((each for each in known if each.keeper in self._living), None)
         if database is None or found is None:
             return ("standby", name, "-", "-", "-", "-", "-")
-        own = database.served
-        reached = own.reached if own is not None and own.run == found.run and not database.holds else found.reached
+        own, follows = database.served, database.follows
+        reached = follows if own is not None and own.run == found.run and follows is not None else found.reached
         return ("standby", name, found.address, found.run, reached, found.images, found.shift)
 
     def durable(self, line: Line, name: str, generation: int, position: int) -> None:

@@ -38,6 +38,7 @@ class Action(Enum):
     CLOSE = "close"
     RELEASE = "release"
     END = "end"
+    SET_ASIDE = "set aside"
     STAND_BY = "stand by"
     STAND_DOWN = "stand down"
     UNWISH = "unwish"
@@ -67,7 +68,9 @@ class Stage(Enum):
 
 @dataclass(frozen=True)
 class Own:
-    """The run that this keeper has of the database. `silent` is for how many seconds its service has not answered."""
+    """The run that this keeper has of the database. `silent` is for how many seconds its service has not answered, and `went_back`
+    is whether PostgreSQL was seen to lack what it once had of this run. It `is_open` once clients were let in, and
+    `was_closed` where nobody may write any more."""
 
     run: str
     kind: Kind
@@ -76,6 +79,9 @@ class Own:
     alive: bool = True
     silent: float = 0.0
     share: float = 0.0
+    went_back: bool = False
+    is_open: bool = True
+    was_closed: bool = False
 
 
 @dataclass(frozen=True)
@@ -111,25 +117,55 @@ class Decision:
     why: str
 
 
+def went_back(row: Row | None, own: Own) -> bool:
+    """Whether the referee lacks what it once had of this run, so that its service may be the only copy. Of the run that holds the
+    database, the archiver finds that out."""
+    if row is None:
+        return True
+    if own.run == row.run:
+        return False
+    is_unknown = row.generation < own.generation or (row.generation == own.generation and row.run is not None)
+    return row.archived < own.reached or (own.kind is Kind.HOLDER and is_unknown)
+
+
 def decide(facts: Facts) -> Decision:
-    """What to do now."""
+    """What to do now. A service that may be the only copy of something is not ended, unless the database was dropped."""
+    decision = _decide(facts)
+    if decision.action in (Action.END, Action.TAKE) and _is_only_copy(facts):
+        return Decision(Action.SET_ASIDE, f"{decision.why}; PostgreSQL went back, and the service is kept")
+    return decision
+
+
+def _is_only_copy(facts: Facts) -> bool:
+    row, own = facts.row, facts.own
+    if own is None or not own.alive or (row is not None and row.dropped):
+        return False
+    return own.went_back or went_back(row, own)
+
+
+def _decide(facts: Facts) -> Decision:
     row, own = facts.row, facts.own
     if row is None:
         if own is None:
             return Decision(Action.NOTHING, "the referee has no such database")
+        if facts.ending:
+            return Decision(Action.END, "the keeper ends")
         return Decision(Action.NOTHING, "the referee knows nothing of the database: PostgreSQL went back, and the service is kept")
     if own is None and facts.is_noted:
         return Decision(Action.STAND_DOWN, "a standby is noted that is not there any more")
     if row.dropped:
         return Decision(Action.END if own else Action.NOTHING, "the database was dropped")
     if own is not None and own.run == row.run:
-        return _of_the_holder(facts, row, own)
+        decision = _of_the_holder(facts, row, own)
+        goes_on = own.was_closed and decision.action is Action.NOTHING
+        return Decision(Action.FILL, f"{decision.why}: opened again") if goes_on else decision
     if own is not None and own.kind is Kind.HOLDER:
-        return _of_a_run_that_is_over(row, own)
+        return _of_a_run_that_is_over(facts, row, own)
     if own is not None and (not own.alive or own.silent >= facts.ttl):
         return Decision(Action.END, "the standby's service ended or hangs")
     if row.run is not None and row.holder == facts.me:  # also where the keeper ends: what it has is to be archived
-        return Decision(Action.ADOPT, f"generation {row.generation} is of an earlier life of this keeper")
+        why = f"generation {row.generation} is of an earlier life of this keeper"
+        return Decision(Action.END if own else Action.ADOPT, why)  # a standby from before PostgreSQL went back is in its way
     if facts.ending:
         return Decision(Action.END if own else Action.NOTHING, "the keeper ends")
     return _of_a_released(facts, row) if row.run is None else _of_another_holder(facts, row)
@@ -138,7 +174,7 @@ def decide(facts: Facts) -> Decision:
 def _of_the_holder(facts: Facts, row: Row, own: Own) -> Decision:
     if not own.alive:
         return Decision(Action.RELEASE, "the service ended")
-    if row.address is None:
+    if row.address is None or not own.is_open:
         return Decision(Action.FILL, f"generation {row.generation} begins at position {row.base}")
     if own.silent >= facts.ttl:
         return Decision(Action.RELEASE, f"the service has not answered for {own.silent:.1f} s")
@@ -177,11 +213,13 @@ def _of_a_wish(facts: Facts, row: Row) -> Decision:
     return Decision(Action.CLOSE, f"a switchover to {row.wanted} was asked for")
 
 
-def _of_a_run_that_is_over(row: Row, own: Own) -> Decision:
+def _of_a_run_that_is_over(facts: Facts, row: Row, own: Own) -> Decision:
     if row.generation > own.generation:
         return Decision(Action.END, f"generation {row.generation} of {row.holder or 'nobody'} has begun")
     if row.generation == own.generation and row.run is None:
         return Decision(Action.END, f"generation {row.generation} was released")
+    if facts.ending:
+        return Decision(Action.END, "the keeper ends")
     return Decision(
         Action.NOTHING, f"the referee knows nothing of generation {own.generation}: PostgreSQL went back, and the service is kept"
     )

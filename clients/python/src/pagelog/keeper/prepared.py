@@ -2,29 +2,29 @@
 
 from __future__ import annotations
 
+import hashlib
 import re
 from typing import Any, Mapping
 
 import psycopg
 from psycopg import pq
 
-_NAME = b"pagelog"
 _VALUE = re.compile(r"%\((\w+)\)([sb])")
 
 
 class Prepared:
-    """The one statement of a connection that is asked so. Between `send` and `receive` nothing else may be asked over it."""
+    """A statement of a connection that is asked so. Between `send` and `receive` nothing else may be asked over it."""
 
     def __init__(self, connection: psycopg.Connection[Any], statement: str) -> None:
         """It waits for the server. `statement` is as psycopg has it: %(name)s is a text, a number or an array, %(name)b bytes."""
-        self.statement = statement
+        self._name = f"pagelog {hashlib.sha256(statement.encode()).hexdigest()}"[:63].encode()
         self._connection = connection
         self._names: list[str] = []
         self._formats: list[pq.Format] = []
         self._results: list[pq.abc.PGresult] = []
         self._is_lost = False
         text = _VALUE.sub(self._number, statement)
-        result = connection.pgconn.prepare(_NAME, text.encode())
+        result = connection.pgconn.prepare(self._name, text.encode())
         if result.status != pq.ExecStatus.COMMAND_OK:
             raise psycopg.errors.error_from_result(result)
 
@@ -38,7 +38,7 @@ class Prepared:
     def send(self, values: Mapping[str, Any]) -> None:
         """Sends it with these values. What does not fit into the socket goes with `flush`. Raises `psycopg.Error`."""
         self._results.clear()
-        self._connection.pgconn.send_query_prepared(_NAME, [_bytes(values[name]) for name in self._names], self._formats)
+        self._connection.pgconn.send_query_prepared(self._name, [_bytes(values[name]) for name in self._names], self._formats)
 
     def flush(self) -> bool:
         """Sends what is left. Returns whether that is all, or the line is gone."""

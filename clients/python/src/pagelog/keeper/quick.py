@@ -8,8 +8,7 @@ from typing import Any, Sequence
 
 import psycopg
 
-from pagelog.keeper import statements
-from pagelog.keeper.batches import values_of
+from pagelog.keeper.batches import statement_of, values_of
 from pagelog.keeper.prepared import Prepared
 from pagelog.keeper.referee import Referee
 from pagelog.keeper.rows import Batch
@@ -22,40 +21,44 @@ SMALL = 1 << 16
 class QuickReferee(Referee):
     """A referee whose statement `keep` can be sent and received apart, under the same conditions."""
 
-    _prepared: tuple[psycopg.Connection[Any], Prepared] | None = None
+    def __init__(self, *arguments: Any, **options: Any) -> None:
+        super().__init__(*arguments, **options)
+        self._prepared: dict[str, tuple[psycopg.Connection[Any], Prepared]] = {}
+
+    def prepared_for(self, batches: Sequence[Batch]) -> Prepared | None:
+        """Their statement, if it can be sent at once. Where a standby has to be asked after it, it cannot."""
+        connection, prepared = self._prepared.get(statement_of(batches), (None, None))
+        is_open = connection is not None and connection is self._connection and not connection.closed
+        return prepared if is_open and not self._requires_standby else None
 
     @property
     def is_prepared(self) -> bool:
-        """Whether it can be sent at once. Where a standby has to be asked after it, it cannot."""
-        if self._prepared is None or self._requires_standby:
-            return False
-        connection, prepared = self._prepared
-        return connection is self._connection and prepared.statement == statements.KEEP and not connection.closed
+        """Whether batches without lines can be sent at once."""
+        return self.prepared_for(()) is not None
 
     def fileno(self) -> int:
-        """The socket of the connection, where it `is_prepared`."""
+        """The socket of the connection, where a statement is prepared."""
         assert self._connection is not None
         return self._connection.fileno()
 
     def keep(self, batches: Sequence[Batch]) -> frozenset[int]:
         """As of any referee, and prepares the next one."""
         kept = super().keep(batches)
-        if not self.is_prepared and not self._requires_standby and self._connection is not None:
+        if self.prepared_for(batches) is None and not self._requires_standby and self._connection is not None:
+            statement = statement_of(batches)
             try:
-                self._prepared = self._connection, Prepared(self._connection, statements.KEEP)
+                self._prepared[statement] = self._connection, Prepared(self._connection, statement)
             except psycopg.Error:
                 self.close()  # what was kept is kept
         return kept
 
-    def send(self, batches: Sequence[Batch]) -> Prepared:
-        """Sends the statement of `keep`, where it `is_prepared`. Raises as `keep`."""
-        assert self._prepared is not None
+    def send(self, prepared: Prepared, batches: Sequence[Batch]) -> None:
+        """Sends the statement of `keep`, which is `prepared_for` them. Raises as `keep`."""
         self._warnings.clear()
         try:
-            self._prepared[1].send(values_of(batches))
+            prepared.send(values_of(batches))
         except psycopg.Error as error:
             raise self._meaning(error) from error
-        return self._prepared[1]
 
     def receive(self, prepared: Prepared) -> frozenset[int]:
         """What `keep` returns or raises, where `prepared` has an answer."""
@@ -78,13 +81,15 @@ class QuickSession(Session):
         """As of any session."""
         async with self._turn:
             is_small = sum(len(block) for batch in batches for block in batch.blocks) <= SMALL
-            if is_small and self._quick.is_prepared:
-                return await self._kept(batches)
+            prepared = self._quick.prepared_for(batches)
+            if is_small and prepared is not None:
+                return await self._kept(prepared, batches)
         return await super().keep(batches)
 
-    async def _kept(self, batches: Sequence[Batch]) -> frozenset[int]:
+    async def _kept(self, prepared: Prepared, batches: Sequence[Batch]) -> frozenset[int]:
         loop, line = asyncio.get_running_loop(), self._quick.fileno()
-        prepared, answered = self._quick.send(batches), loop.create_future()
+        self._quick.send(prepared, batches)
+        answered = loop.create_future()
 
         def move() -> None:
             if not answered.done() and prepared.flush() and prepared.has_answer():

@@ -1,30 +1,75 @@
-"""Keeps the audit lists of the services that a keeper holds, beside their blocks. It holds up nothing: it has a thread and a
-connection to PostgreSQL of its own."""
+"""Keeps the audit lists of the services that a keeper holds: with each batch of blocks the lines that speak of them, in its
+statement; and what else there is beside, in a thread with a connection to PostgreSQL of its own."""
 
 from __future__ import annotations
 
 import asyncio
 import time
-from concurrent.futures import ThreadPoolExecutor
-from typing import Callable
-
-from sqlalchemy.exc import SQLAlchemyError
+from concurrent.futures import Executor, ThreadPoolExecutor
+from typing import Callable, TypeVar
 
 from pagelog.archive_engine import bound_waits, engine_of
-from pagelog.errors import AuditListFull, PagelogError
+from pagelog.errors import AuditListFull
 from pagelog.keeper.referee import plain_url
 from pagelog.keeper.refusal import line_of
+from pagelog.keeper.rows import Lines
 from pagelog.keeper.served import Served
 from pagelog.keeper.table import KEEPER
+from pagelog.reply import Entry, encode_entry
 from pagelog.request import AUDIT_MAX
 from pagelog.trail.keeper import DAY, TrailKeeper, now
-from pagelog.trail.store import OtherKeeper, Start, Trail
+from pagelog.trail.store import OtherKeeper, Start, Trail, TrailList, piece_behind
 
 FEW = 64
 """So many new lines are kept at once, and fewer after a while: each question is an entry of the list itself."""
 _TTLS = 3
+_PATIENCE = 1 / 8
+"""For so much of a ttl blocks wait for lines that a thread has to see to."""
 _STEPS = 4
 """How many questions one database asks before another has its turn."""
+
+
+_Result = TypeVar("_Result")
+
+
+class Turn:
+    """Held from when lines are asked for until it is known whether they are kept, and by a thread until it has done."""
+
+    def __init__(self, patience: float) -> None:
+        self._lock = asyncio.Lock()
+        self._patience = patience
+        self._work: asyncio.Future[object] | None = None
+        self._is_late = False
+
+    async def take(self) -> None:
+        """Waits for it. It has to be left."""
+        await self._lock.acquire()
+
+    async def take_soon(self) -> bool:
+        """Whether it was to be had soon. One that was not is not waited for again before it was left."""
+        if self._is_late:
+            return False
+        try:
+            async with asyncio.timeout(self._patience if self._lock.locked() else None):
+                await self._lock.acquire()
+        except TimeoutError:
+            self._is_late = True
+        return not self._is_late
+
+    def leave(self) -> None:
+        """It is free, once a thread has done that was not waited for."""
+        if self._work is None or self._work.done():
+            self._is_late = False
+            self._lock.release()
+        else:
+            self._work.add_done_callback(lambda _: self.leave())
+
+    async def spend(self, thread: Executor, work: Callable[[], _Result], *, is_short: bool = False) -> _Result | None:
+        """What this returns in the thread, in the caller's turn; None where it `is_short` and has not done soon."""
+        made = asyncio.get_running_loop().run_in_executor(thread, work)
+        self._work = made
+        await asyncio.wait({made}, timeout=self._patience if is_short else None)
+        return made.result() if made.done() else None
 
 
 class Trails:
@@ -33,14 +78,14 @@ class Trails:
     def __init__(self, url: str, days: int, ttl: float) -> None:
         """Lines are kept for so many days; a few new ones after three ttl."""
         bound_waits()
-        self.while_few = _TTLS * ttl
+        self.ttl, self.while_few = ttl, _TTLS * ttl
         self.url, self.days = plain_url(url), days
         self.engine = engine_of(self.url)
         self.thread = ThreadPoolExecutor(1)
 
-    def recorder(self, served: Served, say: Callable[[str, str], None]) -> Recorder:
+    def recorder(self, served: Served, say: Callable[[str, str], None], *, is_waited_for: bool) -> Recorder:
         """Of one run, which this keeper holds."""
-        return Recorder(self, served, say)
+        return Recorder(self, served, say, is_waited_for)
 
     def close(self) -> None:
         """Ends the thread once it has done what it is at."""
@@ -49,17 +94,23 @@ class Trails:
 
 
 class Recorder:
-    """The trail of one run. What it cannot do it says, and tries again later: nothing else waits for it, but the end of a run that
-    is closed, and that no longer than a ttl."""
+    """The trail of one run. What it cannot do it says, and tries again later: no batch needs it to be kept, and the end of a run that is
+    closed waits for it no longer than a ttl. Where it `is_waited_for` the first blocks wait for it too, and not long."""
 
-    def __init__(self, trails: Trails, served: Served, say: Callable[[str, str], None]) -> None:
+    def __init__(self, trails: Trails, served: Served, say: Callable[[str, str], None], is_waited_for: bool = False) -> None:
         self._trails, self._served, self._say = trails, served, say
         self._operator = served.operator()  # it connects once it asks
-        self._due, self._turn = asyncio.Event(), asyncio.Lock()
+        self._due = asyncio.Event()
+        self._due.set()
+        self.turn = Turn(_PATIENCE * trails.ttl)
         self._keeper: TrailKeeper | None = None
         self._kept, self._last, self._pruned = 0, float("-inf"), 0
         self._said = ""
-        self._is_over = False
+        self._is_over = self._met_other = self._is_without = False
+        self._tried_first = asyncio.Event()
+        self._waited_until = time.monotonic() + (_PATIENCE * trails.ttl if is_waited_for else 0)
+        self.is_ready = False
+        """Whether it has kept all that there was once: from then on lines are kept with the blocks."""
 
     def look(self, entries: int) -> None:
         """The list is known to have so many entries."""
@@ -67,11 +118,29 @@ class Recorder:
             self._due.set()
 
     async def run(self) -> None:
-        """Keeps what is new as often as `look` says, until the list is another keeper's, or full."""
+        """Keeps what is new as often as `look` says, until the list is another keeper's, or full. A list that is begun ends the one before:
+        where another keeper is about to end that, it has a ttl for it."""
+        ends, was_said = time.monotonic() + self._trails.ttl, False
+        while self._served.is_after_release and time.monotonic() < ends and await self._call(self._is_open):
+            if not was_said:
+                self._say(self._served.database, "its audit list is kept once the one before has ended, or after a ttl")
+            was_said = True
+            await asyncio.sleep(self._trails.ttl / 64)
         while not self._is_over:
             await self._due.wait()
             self._due.clear()
             await self.catch_up()
+            self._tried_first.set()
+
+    async def first_try(self) -> None:
+        """Returns once it has kept what there was, or has tried to; where it is waited for, and no longer than that."""
+        if not self._tried_first.is_set() and (left := self._waited_until - time.monotonic()) > 0:
+            try:
+                async with asyncio.timeout(left):
+                    await self._tried_first.wait()
+            except TimeoutError:
+                self._tried_first.set()
+                self._say_without()
 
     async def catch_up(self) -> bool:
         """Keeps all that the list has. False where that is not to be had now."""
@@ -81,14 +150,65 @@ class Recorder:
                 return is_all
         return False
 
+    async def lines(self) -> Lines | None:
+        """The lines that come behind the kept ones, to be kept with the blocks that they speak of. The turn is the caller's.
+
+        None where a thread has kept them meanwhile, as after a doubt; or where it cannot be done, or takes long, which is said: blocks
+        wait for no trail.
+        """
+        one = None if self._is_over or self._keeper is None else self._keeper.list
+        found = None if one is None else await self._served.lines_at_once(one.kept + 1)
+        if one is not None and found:
+            return Lines(*piece_behind(one, found, now()))
+        if not self._is_over and await self.turn.spend(self._trails.thread, self._keep, is_short=True) is None:
+            self._due.set()
+            self._say_without()
+        return None
+
+    def last_lines(self) -> Lines | None:
+        """As `lines`, of a list that grows no more, in a thread of the caller's, who has the turn. None where it cannot be done."""
+        one = None if self._is_over or self._keeper is None else self._keeper.list
+        if one is None:
+            return None
+        found: list[Entry] = []
+        try:
+            while len(found) % AUDIT_MAX == 0 and (more := self._operator.audit(one.kept + 1 + len(found))):
+                found += more
+        except Exception as error:
+            self._tell(error)
+            return None
+        return Lines(*piece_behind(one, b"".join(map(encode_entry, found)), now())) if found else None
+
+    def settle(self, lines: Lines, *, is_kept: bool) -> None:
+        """Whether these lines are kept is known; where it is not, the trail is asked next time. The turn is the caller's."""
+        if self._keeper is not None:
+            self._keeper.resume(lines.one if is_kept else None)
+        self._kept = lines.one.kept if is_kept else 0
+        self._is_without = self._is_without and not is_kept
+
     async def end(self, why: str) -> None:
         """The list gets no more lines, for this reason."""
         await self._call(lambda: self._tried(lambda: self._opened().end(why)))
         self._is_over = True
 
+    async def take_turn(self) -> bool:
+        """Whether it is the caller's turn, who has to leave it; where that does not come soon it is said."""
+        is_had = await self.turn.take_soon()
+        if not is_had:
+            self._say_without()
+        return is_had
+
+    def _say_without(self) -> None:
+        if not self._is_without:
+            self._say(self._served.database, "blocks are archived without their lines: its audit list is not kept yet")
+        self._is_without = True
+
     async def _call(self, work: Callable[[], bool | None]) -> bool | None:
-        async with self._turn:
-            return await asyncio.get_running_loop().run_in_executor(self._trails.thread, work)
+        await self.turn.take()
+        try:
+            return await self.turn.spend(self._trails.thread, work)
+        finally:
+            self.turn.leave()
 
     # In the thread.
 
@@ -105,18 +225,26 @@ class Recorder:
                 if lines < AUDIT_MAX:
                     return self._prune(keeper)
 
-        return self._tried(steps) and (lines < AUDIT_MAX or None)
+        is_done = self._tried(steps)
+        self.is_ready = self.is_ready or (is_done and lines < AUDIT_MAX)
+        return is_done and (lines < AUDIT_MAX or None)
+
+    def _is_open(self) -> bool:
+        """Whether the list before has not ended."""
+        lists: list[TrailList] = []
+        self._tried(lambda: lists.extend(Trail(self._trails.url, self._served.database, create=True, engine=self._trails.engine).lists()))
+        return any(one.ended is None for one in lists)
 
     def _tried(self, work: Callable[[], None]) -> bool:
         """Whether it was done. What went wrong is said once."""
         try:
             work()
-            self._said = ""
+            self._said, self._met_other = "", False
             return True
-        except (OtherKeeper, AuditListFull) as error:
-            self._is_over = True
-            self._tell(error)
-        except (PagelogError, SQLAlchemyError) as error:
+        except Exception as error:  # whatever it is: blocks wait for no trail
+            is_other = isinstance(error, OtherKeeper)  # or it was this one, by a statement in doubt that came late
+            self._is_over = isinstance(error, AuditListFull) or (is_other and self._met_other)
+            self._met_other = is_other
             self._tell(error)
             if self._keeper is not None:
                 self._keeper.resume()

@@ -21,9 +21,9 @@ from psycopg.conninfo import conninfo_to_dict, make_conninfo
 
 from pagelog.errors import PagelogError
 from pagelog.keeper import statements
-from pagelog.keeper.batches import array_of, values_of
+from pagelog.keeper.batches import array_of, statement_of, values_of
 from pagelog.keeper.refusal import is_refusal, line_of
-from pagelog.keeper.rows import Batch, Kept, Look, Row, look_of
+from pagelog.keeper.rows import Batch, Kept, Look, Row, Where, look_of
 from pagelog.keeper.schema import CHANNEL, FORMAT, script
 
 PIECE = 2048
@@ -124,24 +124,24 @@ class Referee:
         left = 1 + str(self._options.get("host") or "").count(",")
         while self._connection is None or self._connection.closed:
             try:
-                self._connection = self._connect()
+                self._connect()
             except psycopg.Error as error:
+                self.close()
                 self.turn_hosts()  # psycopg gives up at a host that is silent, as of a machine that is off
                 if (left := left - 1) == 0:
                     raise Away(f"PostgreSQL: {line_of(error)}") from error
         return self._connection
 
-    def _connect(self) -> psycopg.Connection[Any]:
+    def _connect(self) -> None:
         words: dict[str, Any] = {"connect_timeout": self._patience, "target_session_attrs": "read-write",
                                  "keepalives_idle": 5, "keepalives_interval": 2, "keepalives_count": 3, "options": "-c lock_timeout=3s",
                                  "application_name": _session_name(self.me), **self._options}  # fmt: skip
-        made = psycopg.connect(make_conninfo(**words), autocommit=True)
+        made = self._connection = psycopg.connect(make_conninfo(**words), autocommit=True)  # from here on it can be cut
         made.add_notice_handler(self._take_notice)
         made.add_notify_handler(lambda notify: self.notified.append(notify.payload))
         made.execute(statements.WAITS_FOR_STANDBY)
         if self._listens:
             made.execute(f"LISTEN {CHANNEL}")
-        return made
 
     def take_notified(self) -> None:
         """Takes the notifications that have come without a statement, and waits for nothing."""
@@ -170,6 +170,15 @@ class Referee:
         if self._requires_standby:
             self._confirm(connection)
         return rows
+
+    def _ask_bounded(self, statement: str, values: Mapping[str, Any] | Sequence[Any], *, binary: bool = False) -> list[Any]:
+        """As `_ask`, for a thread that nobody else cuts."""
+        hangs = threading.Timer(LONGEST, self.cut)
+        hangs.start()
+        try:
+            return self._ask(statement, values, binary=binary)
+        finally:
+            hangs.cancel()
 
     def _meaning(self, error: psycopg.Error) -> Refused | Doubt:
         """What is to be raised for an error. After a doubt the next statement has another connection."""
@@ -245,13 +254,14 @@ class Referee:
 
     # Who holds a database.
 
-    def take(self, seen: Row, run: str, beat: int | None = None) -> Kept | None:
+    def take(self, seen: Row, run: str, beat: int | None = None, where: Where = Where()) -> Kept | None:
         """Makes this keeper the holder, in a new generation of this run, if all is as it was seen.
 
-        `beat` is that of the holder, as it was seen. Returns what is archived and will stay so; None where it has changed.
+        `beat` is that of the holder, as it was seen. `where` publishes a service that has all that was seen to be archived. Returns
+        what is archived and will stay so; None where it has changed.
         """
         values = {"id": seen.id, "generation": seen.generation, "archived": seen.archived, "seen_run": seen.run, "run": run,
-                  "me": self.me, "beat": beat}  # fmt: skip
+                  "me": self.me, "beat": beat, **vars(where)}  # fmt: skip
         try:
             found = self._ask(statements.TAKE, values)
         except Refused as error:
@@ -266,17 +276,15 @@ class Referee:
             self._ask("SELECT pg_terminate_backend(pid) FROM pg_stat_activity WHERE application_name = %s AND usename = current_user",
                       (_session_name(keeper),))  # fmt: skip
 
-    def publish(self, log: int, run: str, address: str, shift: int = 0, images: int = 0) -> bool:
-        """Tells everyone the address, and where positions are there. False where the run holds the database no more."""
-        values = {"id": log, "run": run, "address": address, "shift": shift, "images": images}
-        return bool(self._ask(statements.PUBLISH, values))
+    def publish(self, log: int, run: str, where: Where) -> bool:
+        """Tells everyone where it is. False where the run holds the database no more."""
+        return bool(self._ask(statements.PUBLISH, {"id": log, "run": run, **vars(where)}))
 
     def release(self, log: int, run: str) -> int | None:
         """Ends the generation of this run: nothing more is archived of it. Returns the archived position, or None."""
         found = self._ask(
             "WITH ended AS (UPDATE pagelog_log SET run = NULL, holder = NULL, address = NULL WHERE id = %s AND run = %s "
-            "RETURNING name, generation, archived) "
-            f"SELECT archived, pg_notify('{CHANNEL}', name || ' ' || generation || ' ' || archived) FROM ended", (log, run))  # fmt: skip
+            f"RETURNING name, generation, archived, chain) SELECT archived, {statements.RELEASED} FROM ended", (log, run))  # fmt: skip
         return int(found[0][0]) if found else None
 
     # The archive.
@@ -286,7 +294,7 @@ class Referee:
 
         Returns the ids of the databases whose batch is kept, whole; of the others nothing is.
         """
-        return frozenset(int(row[0]) for row in self._ask(statements.KEEP, values_of(batches)))
+        return frozenset(int(row[0]) for row in self._ask(statement_of(batches), values_of(batches)))
 
     def kept(self, log: int, run: str) -> Kept | None:
         """What is archived of a run, after a batch in doubt or one that was not kept: it waits for one that still runs.
@@ -314,12 +322,7 @@ class Referee:
             yield self._piece(log, start, min(last, start + PIECE - 1))
 
     def _piece(self, log: int, first: int, last: int) -> list[bytes]:
-        hangs = threading.Timer(LONGEST, self.cut)
-        hangs.start()
-        try:
-            [[count, data, heads]] = self._ask(statements.PIECE, (log, first, last), binary=True)
-        finally:
-            hangs.cancel()
+        [[count, data, heads]] = self._ask_bounded(statements.PIECE, (log, first, last), binary=True)
         if count != last - first + 1:
             raise BrokenArchive(f"{last - first + 1 - count} of the archived blocks {first} to {last} are missing")
         blocks, at = [], 0
@@ -379,11 +382,13 @@ class Referee:
             f"RETURNING id) SELECT id, pg_notify('{CHANNEL}', '') FROM told", (paused, FORMAT, name))  # fmt: skip
         return len(found)
 
-    def wish(self, name: str, keeper: str | None) -> bool:
-        """Asks for a switchover to a keeper, or with `*` to any other; None takes the wish back. False without that name."""
+    def wish(self, name: str, keeper: str | None, *, instead_of: str | None = None) -> bool:
+        """Asks for a switchover to a keeper, or with `*` to any other; None takes the wish back. `instead_of` leaves a wish for another
+        as it is. False without that name, or where it was left."""
         return bool(self._ask(
-            "WITH told AS (UPDATE pagelog_log SET wanted = %s WHERE name = %s AND format = %s AND NOT dropped RETURNING id) "
-            f"SELECT id, pg_notify('{CHANNEL}', '') FROM told", (keeper, name, FORMAT)))  # fmt: skip
+            "WITH told AS (UPDATE pagelog_log SET wanted = %s WHERE name = %s AND format = %s AND NOT dropped "
+            "AND wanted IS NOT DISTINCT FROM COALESCE(%s::text, wanted) RETURNING id) "
+            f"SELECT id, pg_notify('{CHANNEL}', '') FROM told", (keeper, name, FORMAT, instead_of)))  # fmt: skip
 
 
 def shut_down(connection: psycopg.Connection[Any] | None) -> None:

@@ -2,8 +2,12 @@
 
 from __future__ import annotations
 
+import re
 from dataclasses import dataclass, field
-from typing import Any, Mapping
+from typing import TYPE_CHECKING, Any, Mapping
+
+if TYPE_CHECKING:
+    from pagelog.trail.store import TrailList
 
 
 @dataclass(frozen=True)
@@ -36,6 +40,16 @@ class Row:
         """From a row of the look, whose chain is hexadecimal."""
         fields: dict[str, Any] = {**found, "chain": bytes.fromhex(found["chain"])}
         return cls(**fields)
+
+
+@dataclass(frozen=True)
+class Where:
+    """Where a service is, where positions are there, and the digest of what it has; of none where that is not to be told yet."""
+
+    address: str | None = None
+    shift: int | None = None
+    images: int | None = None
+    chain: bytes | None = field(default=None, repr=False)
 
 
 @dataclass(frozen=True)
@@ -104,8 +118,17 @@ class Look:
 
 
 @dataclass(frozen=True)
+class Lines:
+    """A piece of the trail: lines of a run's audit list behind those that are kept, as the columns of its row, and the list with it."""
+
+    values: Mapping[str, Any] = field(repr=False)
+    one: TrailList
+
+
+@dataclass(frozen=True)
 class Batch:
-    """Blocks that follow on position `old` in the archive of a run; `chain` is the digest with them."""
+    """Blocks that follow on position `old` in the archive of a run; `chain` is the digest with them. Where its audit list is kept,
+    `lines` speak of them, and are kept in the same statement."""
 
     log: int
     run: str
@@ -113,6 +136,7 @@ class Batch:
     old: int
     chain: bytes = field(repr=False)
     blocks: tuple[bytes, ...] = field(repr=False)
+    lines: Lines | None = None
 
     @property
     def new(self) -> int:
@@ -122,11 +146,12 @@ class Batch:
 
 @dataclass(frozen=True)
 class Kept:
-    """The archived position of a run, and the digest of all blocks up to it."""
+    """The archived position of a run, and the digest of all blocks up to it. `is_told` is of a batch whose own statement said so."""
 
     archived: int
     chain: bytes = field(repr=False)
     generation: int = 0
+    is_told: bool = field(default=False, compare=False)
 
 
 def look_of(keepers: list[Any], rows: list[Any], standbys: list[Any], names: str, count: int | None) -> Look:
@@ -135,8 +160,7 @@ def look_of(keepers: list[Any], rows: list[Any], standbys: list[Any], names: str
                 tuple(StandbyRow(**found) for found in standbys), Synchronous(names, count))  # fmt: skip
 
 
-def released_of(notified: str) -> tuple[str, int, int]:
-    """The name, the generation and the archived position of a release, by what it has notified; of another notification no name."""
-    words = notified.split()
-    is_release = len(words) == 3 and words[1].isdecimal() and words[2].isdecimal()
-    return (words[0], int(words[1]), int(words[2])) if is_release else ("", 0, 0)
+def released_of(notified: str) -> tuple[str, int, int, bytes]:
+    """The name, the generation, the archived position and the digest of a release, by what it has notified; of another one no name."""
+    found = re.fullmatch(r"(\S+) (\d+) (\d+) ((?:[0-9a-f]{2})*)", notified)
+    return ("", 0, 0, b"") if found is None else (found[1], int(found[2]), int(found[3]), bytes.fromhex(found[4]))

@@ -10,7 +10,7 @@ import signal
 import subprocess
 from dataclasses import dataclass, replace
 from pathlib import Path
-from typing import Iterator
+from typing import Any, Iterator
 
 from pagelog.errors import PagelogError
 from pagelog.keeper.table import KEEPER
@@ -44,6 +44,10 @@ class Facts:
     started: int
     boot: str
     address: str | None = None
+    kept: bool = False
+    """Whether it may be the only copy of something, so that no keeper ends it; it has positions as its run had them."""
+    shift: int = 0
+    images: int = 0
 
     @property
     def file_name(self) -> str:
@@ -85,20 +89,26 @@ class Run:
                  "--dbs", "1", "--workers", str(WORKERS), "--connections", str((1 << 32) - 1), "--audit", str(program.audit),
                  "--idle-polls", "0"]  # fmt: skip
         child = None
+        descriptor = None
         try:
             with os.fdopen(os.open(file, os.O_WRONLY | os.O_CREAT | os.O_EXCL, 0o600), "w") as opened:
                 opened.write(table)
             with said.open("wb") as errors:
                 child = subprocess.Popen(words, stdin=subprocess.DEVNULL, stdout=subprocess.PIPE, stderr=errors, start_new_session=True)
-            made = cls(program.folder, _facts_of(name, run, child.pid), os.pidfd_open(child.pid), child)
-            made._note(None)
-            made._note(_address(child, program.patience))
+            descriptor = os.pidfd_open(child.pid)
+            made = cls(program.folder, _facts_of(name, run, child.pid), descriptor, child)
+            made._note()
+            made._note(address=_address(child, program.patience))
             return made
         except (OSError, NotStarted) as error:
-            why = said.read_text(errors="replace").strip() if said.exists() else ""
             if child is not None:
                 child.kill()
                 child.wait()
+                if child.stdout is not None:
+                    child.stdout.close()
+            if descriptor is not None:
+                os.close(descriptor)
+            why = _text_of(said)
             _forget(program.folder, name, run)
             raise NotStarted(f"{name}: the service did not start: {why or error}") from error
         finally:
@@ -110,8 +120,13 @@ class Run:
         return next((cls(folder, facts, descriptor) for facts, descriptor in _noted(folder)
                      if _is_wanted(facts, descriptor, name, run)), None)  # fmt: skip
 
-    def _note(self, address: str | None) -> None:
-        self.facts = replace(self.facts, address=address)
+    def set_aside(self, shift: int, images: int) -> None:
+        """Leaves the process to whoever knows what to do with it: also the next life of the keeper does not end it."""
+        self._note(kept=True, shift=shift, images=images)
+        self.leave()
+
+    def _note(self, **facts: Any) -> None:
+        self.facts = replace(self.facts, **facts)
         file = self.folder / self.facts.file_name
         fresh = file.with_name(file.name + ".new")
         fresh.write_text(json.dumps(vars(self.facts)))
@@ -159,12 +174,28 @@ def has_services(folder: Path) -> bool:
     return bool(found)
 
 
+def kept_in(folder: Path) -> list[Facts]:
+    """What is noted of the services of this folder that run and that no keeper ends."""
+    found = list(_noted(folder))
+    for _, descriptor in found:
+        os.close(descriptor)
+    return [facts for facts, _ in found if facts.kept]
+
+
+def is_running(facts: Facts) -> bool:
+    """Whether the very process that was noted still runs."""
+    descriptor = _opened(facts)
+    if descriptor is not None:
+        os.close(descriptor)
+    return descriptor is not None
+
+
 def end_orphans(folder: Path, wanted: set[str]) -> list[str]:
-    """Ends the services of this folder whose runs are not among those, or that did not come to listen, and removes what a keeper
-    that was killed has left. Returns the names of their databases."""
+    """Ends the services of this folder whose runs are not among those, or that did not come to listen, but none that is kept, and
+    removes what a keeper that was killed has left. Returns the names of their databases."""
     ended = []
     for facts, descriptor in _noted(folder):
-        if facts.run in wanted and facts.address is not None:
+        if facts.kept or (facts.run in wanted and facts.address is not None):
             os.close(descriptor)
         else:
             Run(folder, facts, descriptor).end()
@@ -233,6 +264,14 @@ def _address(child: subprocess.Popen[bytes], patience: float) -> str:
     if len(line) != 2 or line[0] != "listening":
         raise NotStarted("it ended")
     return line[1]
+
+
+def _text_of(file: Path) -> str:
+    """What it has, if it can be read: where no file can be opened any more it cannot."""
+    try:
+        return file.read_text(errors="replace").strip()
+    except OSError:
+        return ""
 
 
 def _forget(folder: Path, name: str, run: str) -> None:

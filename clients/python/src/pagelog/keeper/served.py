@@ -11,10 +11,11 @@ from pagelog.block import Block
 from pagelog.connection import Connection
 from pagelog.keeper.bases import NOTHING, Bases, snapshot
 from pagelog.keeper.images import blocks_of, labelled
-from pagelog.keeper.loading import GROUP, Loader
+from pagelog.keeper.loading import EPOCH, GROUP, Loader
 from pagelog.keeper.machine import Kind
 from pagelog.keeper.puller import Puller
 from pagelog.keeper.referee import BrokenArchive, Referee, digest
+from pagelog.keeper.rows import Where
 from pagelog.keeper.run import Program, Run
 from pagelog.keeper.table import KEEPER, Form, keeper_of, quorum_of, table_of_run
 from pagelog.operator import Operator
@@ -49,6 +50,14 @@ class Served:
         """For how many seconds it has answered none, in an unbroken series of the keeper's looks."""
         self.is_broken = False
         """Whether it refuses its keeper for good."""
+        self.is_open = False
+        """Whether clients have been let in."""
+        self.was_closed = False
+        """Whether nobody may write any more, or it is in doubt, since it was closed."""
+        self.went_back = False
+        """Whether PostgreSQL was seen to lack what it once had of this run: the service may be the only copy."""
+        self.is_after_release = False
+        """Whether another keeper has released the generation before: it may be ending its audit list still."""
         self.begun = 0
         """Bytes of memory that it held when it was filled, or opened."""
         self._is_read_only = is_read_only
@@ -57,11 +66,19 @@ class Served:
         self.process: Run | None = None
         self._text, self._secret, self._timeout = text, secret, timeout
         self._entries, self._step = 0, 1
+        self._began = (0, b"")
+        """A position at which its log begins, and the digest of all blocks up to there."""
 
     @property
     def is_alive(self) -> bool:
         """Whether there is no reason to end it: it runs, or was not started yet."""
         return not self.is_broken and (self.process is None or self.process.is_alive)
+
+    @property
+    def where(self) -> Where:
+        """Where clients find it, and what is there."""
+        assert self.process is not None
+        return Where(self.process.address, self.shift, self.images, self.chain)
 
     @property
     def hangs(self) -> bool:
@@ -76,11 +93,12 @@ class Served:
 
     def serve(self, process: Run) -> None:
         """Takes this process for its own."""
-        credentials, self.process = keeper_of(self._secret, self.database, self.run), process
-        self._operator = Operator(self._connection(), credentials)
-        self._looker = Operator(self._connection(), credentials)
-        self._reader = Reader(self._connection(), credentials)
+        credentials = keeper_of(self._secret, self.database, self.run)
+        self._operator = Operator(self._connection(process), credentials)
+        self._looker = Operator(self._connection(process), credentials)
+        self._reader = Reader(self._connection(process), credentials)
         self._puller = Puller(process.address, credentials, self._timeout)
+        self.process = process  # last: from now on the event loop asks it
 
     def end(self) -> None:
         """Kills it, and removes what is noted of it."""
@@ -89,15 +107,15 @@ class Served:
 
     def operator(self) -> Operator:
         """A keeper's operator over a connection of its own, for another thread."""
-        return Operator(self._connection(), keeper_of(self._secret, self.database, self.run))
+        assert self.process is not None
+        return Operator(self._connection(self.process), keeper_of(self._secret, self.database, self.run))
 
     def texts(self) -> tuple[bytes, bytes]:
         """The tables of this run: closed, as it begins, and open."""
         return self._table(Form.READING).encode(), self._table(Form.OPEN).encode()
 
-    def _connection(self) -> Connection:
-        assert self.process is not None
-        return Connection(self.process.address, timeout=self._timeout, attempts=2)
+    def _connection(self, process: Run) -> Connection:
+        return Connection(process.address, timeout=self._timeout, attempts=2)
 
     def _table(self, form: Form) -> str:
         return table_of_run(self._text, self._secret, self.database, self.run, form)
@@ -139,6 +157,7 @@ class Served:
             last = loader.load(1, _pieces(blocks_of(bases.images(base))))
             self.shift, self.images = base.position - last, base.position
             self.reached, self.chain, self.hard = base.position, base.chain, base.position
+            self._began = self.reached, self.chain
 
     def load(self, loader: Loader, pieces: Iterable[Sequence[bytes]], archived: int, wanted: bytes) -> None:
         """Loads the blocks behind `reached`, up to a position at which they have the digest that is wanted."""
@@ -160,20 +179,40 @@ class Served:
         """Raises `BrokenArchive` where it does not have exactly what is archived."""
         if (self.reached, self.chain) != (archived, chain):
             raise BrokenArchive(f"{self.database}: the service was filled with other blocks than the {archived} that are archived")
-        hard = self._operator.status().hard + self.shift
+        hard = self.end_of_log()
         if hard != archived:
             raise BrokenArchive(f"{self.database}: the service has {hard} blocks where {archived} are archived")
+
+    def adopt(self, process: Run, reached: int, chain: bytes) -> None:
+        """Takes a process that an earlier life of the keeper has started; so much is archived of it."""
+        self.serve(process)
+        self.reached, self.chain = self._began = reached, chain
+
+    def has(self, archived: int, chain: bytes) -> bool:
+        """Whether its log has exactly what is archived, up to this position."""
+        at, found = self._began if archived < self.reached else (self.reached, self.chain)
+        while at < archived and (blocks := self.pulled(at)[: archived - at]):
+            at, found = at + len(blocks), digest(found, blocks)
+        return (at, found) == (archived, chain)
+
+    def end_of_log(self) -> int:
+        """The position of its last hardened block."""
+        return self._operator.status().hard + self.shift
+
+    def was_written(self) -> bool:
+        """Whether a client has: each begins with an epoch of its own."""
+        return self._operator.status().epoch > EPOCH
 
     def open(self) -> None:
         """From now on its table is that of the database, or lets clients read alone."""
         self._operator.set_table(self._table(Form.READING if self._is_read_only else Form.OPEN))
+        self.is_open, self.was_closed = True, False
         self.begun = self.begun or (0 if self.process is None else self.process.memory)
 
     def close(self) -> int:
-        """Lets nobody write any more, and returns the position of its end: table first, so that no writer undoes the fence."""
-        self._operator.set_table(self._table(Form.READING))
-        self._operator.failover(KEEPER)
-        self.hard = self._operator.status().hard + self.shift
+        """Lets nobody write any more, and returns the position of its end."""
+        self.was_closed = True
+        self.hard = self._operator.fence(self._table(Form.READING), KEEPER).hard + self.shift
         return self.hard
 
     # Looking.
@@ -215,6 +254,10 @@ class Served:
             return None
         self.hard = max(self.hard, position + len(found))
         return labelled(found, position + 1) if self.shift else found
+
+    async def lines_at_once(self, first: int) -> bytes | None:
+        """The bytes of the audit list's lines from this number on, without a thread; None where they are not to be had so."""
+        return await self._puller.audit(first, self._reader.epoch)
 
     def pulled(self, position: int) -> list[bytes]:
         """The next blocks behind this position, at most 1,024. A block without records is served by no pull."""

@@ -29,17 +29,44 @@ class Session:
 
     async def ask(self, call: Callable[..., Result], *arguments: Any) -> Result:
         """What the call returns or raises; it is a method of the referee."""
-        async with self._turn:
+        await self._turn.acquire()
+        work: asyncio.Future[Result] | None = None
+        try:
             work = asyncio.get_running_loop().run_in_executor(self._thread, call, *arguments)
             done, _ = await asyncio.wait({work}, timeout=self._deadline)
             if done:
                 self.was_quick()
-            else:
+            while not work.done():  # cut again where it was connecting, and hangs once it has
                 self.cut()
-            try:
-                return await work
-            finally:
-                self._take_notified()
+                await asyncio.wait({work}, timeout=self._deadline)
+            return await work
+        finally:
+            if work is None or work.done():
+                self._end_turn()
+            else:
+                self._leave(work)
+
+    def _leave(self, work: asyncio.Future[Any]) -> None:
+        """Who asked has given up. The thread has the connection until it ends, and is cut where it hangs."""
+
+        def hangs() -> None:
+            nonlocal timer
+            self.cut()
+            timer = loop.call_later(self._deadline, hangs)
+
+        def ended(_: asyncio.Future[Any]) -> None:
+            timer.cancel()
+            if not work.cancelled():
+                work.exception()  # it is told to nobody
+            self._end_turn()
+
+        loop = asyncio.get_running_loop()
+        timer = loop.call_later(self._deadline, hangs)
+        work.add_done_callback(ended)
+
+    def _end_turn(self) -> None:
+        self._take_notified()
+        self._turn.release()
 
     async def keep(self, batches: Sequence[Batch]) -> frozenset[int]:
         """What the referee's `keep` returns or raises."""

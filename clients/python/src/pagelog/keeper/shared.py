@@ -6,6 +6,7 @@ import asyncio
 from dataclasses import dataclass, field
 from typing import TYPE_CHECKING, Any, Callable, Coroutine
 
+from pagelog.keeper.aside import Asides
 from pagelog.keeper.committer import Committer
 from pagelog.keeper.lines import Line
 from pagelog.keeper.referee import PIECE, Away, Doubt, Referee, Refused
@@ -32,6 +33,9 @@ class Shared:
     ending: bool = False
     tasks: set[asyncio.Task[None]] = field(default_factory=set)
     successions: asyncio.Semaphore = field(default_factory=lambda: asyncio.Semaphore(1))
+
+    def __post_init__(self) -> None:
+        self.asides = Asides(self.settings.program.folder)
 
     async def fill(self, served: Served, log: int, archived: int, chain: bytes) -> None:
         """Fills it up to this position. Where much is missing, over a connection to the archive of its own."""

@@ -7,21 +7,24 @@ service lives, and else is a takeover. What comes after the switch is the next g
 from __future__ import annotations
 
 import asyncio
-from typing import TYPE_CHECKING, Sequence
+from dataclasses import replace
+from typing import TYPE_CHECKING, Callable, Sequence, TypeVar
 
 from pagelog.errors import PagelogError
+from pagelog.keeper.archiver import Archiver, turn_of
 from pagelog.keeper.basing import SMALL, Wish, made_of
 from pagelog.keeper.loading import Loader
 from pagelog.keeper.machine import Stage
 from pagelog.keeper.referee import Away, BrokenArchive, Doubt, Referee, Refused, digest
 from pagelog.keeper.run import new_run
 from pagelog.keeper.served import Served, seconds
-from pagelog.keeper.switch import Switch, succeed
+from pagelog.keeper.switch import Switch, has_begun, number, rehearse, succeed
 
 if TYPE_CHECKING:
-    from pagelog.keeper.archiver import Archiver
     from pagelog.keeper.database import Database
+    from pagelog.keeper.recorder import Recorder
 
+Result = TypeVar("Result")
 HURRY_AT = 0.65
 """The share of the audit list, or of the memory, from which on the next generation waits for nothing."""
 NEAR = 256
@@ -42,6 +45,9 @@ class Succession:
         self._task: asyncio.Task[None] | None = None
         self._basing: asyncio.Task[None] | None = None
         self._referee: Referee | None = None
+        """A connection of its own: nobody waits for another's statement while the database stands still."""
+        self._number = 0
+        """Of the next generation: given once, before anything is made for it."""
         self._has_turn, self._base_turn = False, asyncio.Lock()
         self.base = self._pages = self._tried = 0
         """The newest base of the archive as far as it is known here, how many pages it has, and where one was tried last."""
@@ -98,7 +104,7 @@ class Succession:
             self._has_turn = True
             await self._made(self._database.own)
             self._stage = Stage.READY
-        except (PagelogError, OSError) as error:
+        except Exception as error:  # whatever it is: others wait for the turn
             await self._fail(error)
         self._database.kick()
 
@@ -106,6 +112,11 @@ class Succession:
         """A service with the images of a base, and the blocks after it but for the last few. The base is a ttl old by then, so that
         who reads at a position of the last ttl can go on in the next generation; but not where the present service may soon be full."""
         settings, began = self._shared.settings, seconds()
+        self._referee = Referee(settings.url, settings.name, self._shared.life, requires_standby=settings.require_standby)
+        given = await self._ask(number, self._database.row.id, served.run, served.generation)
+        if given is None:
+            raise Refused("the database is another's")
+        self._number = given
         async with self._base_turn:
             if served.reached - self.base > self._few(SMALL) or (self.base == 0 and served.reached):
                 await self._make_base(served)
@@ -116,7 +127,7 @@ class Succession:
         except asyncio.CancelledError:
             starting.add_done_callback(lambda _: successor.end())
             raise
-        self._successor, self._referee = successor, Referee(settings.url, settings.name, self._shared.life)
+        self._successor = successor
         while True:
             await self._follow(served)
             left = began + settings.ttl - seconds()
@@ -124,6 +135,15 @@ class Succession:
                 if left <= 0 or served.share(settings.program.audit, settings.memory) >= HURRY_AT:
                     return
                 await asyncio.sleep(min(left, settings.ttl / 16))
+
+    async def _ask(self, call: Callable[..., Result], *arguments: object) -> Result:
+        """What the call returns or raises, over the succession's own connection. A statement that hangs is cut."""
+        assert self._referee is not None
+        hangs = asyncio.get_running_loop().call_later(self._shared.settings.ttl, self._referee.cut)
+        try:
+            return await asyncio.to_thread(call, self._referee, *arguments)
+        finally:
+            hangs.cancel()
 
     async def _follow(self, served: Served) -> None:
         """Loads what is archived by now."""
@@ -135,8 +155,7 @@ class Succession:
 
     async def give_up(self) -> None:
         """Ends what was made. The present generation is as it was."""
-        task, self._task = self._task, None
-        for each in (task, self._basing):
+        for each in (self._task, self._basing):
             if each is not None and each is not asyncio.current_task() and not each.done():
                 each.cancel()
                 await asyncio.wait({each})
@@ -170,9 +189,13 @@ class Succession:
         try:
             await self._follow(served)
             await asyncio.to_thread(successor.open)  # nobody knows where it is, nor has its tokens
+            await successor.pulled_at_once(successor.reached)  # the first batch finds its connection made
+            await self._ask(rehearse)
             with successor.loader() as loader:
+                if not await self._near(served, archiver):
+                    raise Refused("the database is another's, or its archive went back")
                 async with archiver.turn:  # what it has sent is archived, and no other batch is pulled
-                    return not await self._near(served, archiver) or await self._switch(served, successor, loader)
+                    return await self._switch(served, successor, loader, archiver)
         except PagelogError as error:
             await self._fail(error)
             return True
@@ -180,76 +203,67 @@ class Succession:
     async def _near(self, served: Served, archiver: Archiver) -> bool:
         """Archives until little is left for the switch. False where the archive is not this run's any more."""
         for _ in range(_ROUNDS):
-            before = served.reached
-            if not await archiver.archived():
-                return False
+            async with archiver.turn:
+                before = served.reached
+                if not await archiver.archived():
+                    return False
             await self._follow(served)
             if served.reached - before <= _LITTLE:
                 break
         return True
 
-    async def _switch(self, served: Served, successor: Served, loader: Loader) -> bool:
-        row, began = self._database.row, seconds()
+    async def _switch(self, served: Served, successor: Served, loader: Loader, archiver: Archiver) -> bool:
+        began = seconds()
         try:
-            switch = await asyncio.to_thread(self._closed, served, successor, loader)
+            async with turn_of(archiver.lining) as recorder:
+                switch, closed, is_done = await self._ask(self._moved, served, successor, loader, recorder)
+                is_done = is_done or await self._switched(switch)
+                archiver.settle(switch.lines, is_kept=is_done)
         except PagelogError as error:
             await self._fail(error)
             await self._open_again(served)
             return True
-        closed = seconds()
-        generation = await self._switched(switch)
-        if generation is None:
+        if not is_done:
             await self._fail(Refused("the database is another's, or its archive went on"))
             await self._open_again(served)
             return True
-        self._say(f"generation {generation} begins at position {switch.end}, from images at {switch.images}: closed in "
+        self._say(f"generation {switch.next} begins at position {switch.end}, from images at {switch.images}: closed in "
                   f"{1000 * (closed - began):.1f} ms, switched in {1000 * (seconds() - closed):.1f} ms, with {len(switch.blocks)} blocks of "
-                  f"generation {row.generation}")  # fmt: skip
+                  f"generation {switch.generation}")  # fmt: skip
         self._successor = None
-        self._end()
-        await self._database.goes_on(successor, generation, switch)
+        try:
+            await self._database.goes_on(successor, switch)
+        finally:
+            self._end()
         return True
 
-    def _closed(self, served: Served, successor: Served, loader: Loader) -> Switch:
-        """Fences the present generation, and brings over what its log has beyond the next one's. In a thread."""
-        row = self._database.row
-        end = served.close()
-        blocks = _pulled(served, successor.reached, end)
-        known = served.reached - successor.reached
-        if digest(successor.chain, blocks[:known]) != served.chain:
-            raise BrokenArchive(f"the service has other blocks up to {served.reached} than those that are archived")
-        rest = tuple(blocks[known:])
-        chain = digest(served.chain, rest)
-        successor.load(loader, [blocks], end, chain)
-        assert successor.process is not None
-        return Switch(row.id, served.run, served.generation, served.reached, rest, chain, successor.run, successor.process.address,
-                      successor.shift, successor.images)  # fmt: skip
+    def _moved(
+        self, referee: Referee, served: Served, successor: Served, loader: Loader, recorder: Recorder | None
+    ) -> tuple[Switch, float, bool]:
+        """From the fence to the switch, in a thread, with no step of the event loop between. Returns what was asked, when, and
+        whether the next generation has begun for certain."""
+        switch = _closed(self._database.row.id, self._number, served, successor, loader)
+        if recorder is not None and switch.blocks:
+            switch = replace(switch, lines=recorder.last_lines())
+        closed = seconds()
+        try:
+            return switch, closed, succeed(referee, switch)
+        except (Away, Doubt, Refused) as error:
+            self._say(f"the switch: {error}")
+            return switch, closed, False
 
-    async def _switched(self, switch: Switch) -> int | None:
-        """The generation that has begun; None where it did not, and never will. In doubt a statement that writes finds out."""
+    async def _switched(self, switch: Switch) -> bool:
+        """Whether the next generation has begun after all, or begins now; else it never will. Nobody may write until it is known."""
         wait = 0.05
         while True:
             try:
-                session = self._shared.session
-                generation = await session.ask(succeed, session.referee, switch)
-                if generation is not None:
-                    return int(generation)
+                found = await self._ask(has_begun, switch)
+                if found is not None or (found := await self._ask(succeed, switch)):
+                    return found
             except (Away, Doubt, Refused) as error:
                 self._say(f"the switch: {error}")
-            try:
-                return await self._looked_up(switch)
-            except (Away, Doubt, Refused):
-                await asyncio.sleep(wait)  # nobody may write until it is known
-                wait = min(1.0, 2 * wait)
-
-    async def _looked_up(self, switch: Switch) -> int | None:
-        referee = self._shared.session.referee
-        if (kept := await self._shared.session.ask(referee.kept, switch.log, switch.next_run)) is not None:
-            return int(kept.generation)
-        kept = await self._shared.session.ask(referee.kept, switch.log, switch.run)
-        if kept is not None and kept.archived == switch.old:
-            raise Doubt("it was not carried out, and may be asked again")
-        return None
+            await asyncio.sleep(wait)
+            wait = min(1.0, 2 * wait)
 
     async def _open_again(self, served: Served) -> None:
         """The present generation goes on, if its service lives."""
@@ -258,6 +272,23 @@ class Succession:
         except PagelogError as error:
             self._say(f"it could not be opened again: {error}")
             served.is_broken = True
+
+
+def _closed(log: int, number: int, served: Served, successor: Served, loader: Loader) -> Switch:
+    """Fences the present generation, and brings over what its log has beyond the next one's."""
+    end = served.close()
+    blocks = _pulled(served, successor.reached, end)
+    known = served.reached - successor.reached
+    if digest(successor.chain, blocks[:known]) != served.chain:
+        raise BrokenArchive(f"the service has other blocks up to {served.reached} than those that are archived")
+    rest = tuple(blocks[known:])
+    chain = digest(served.chain, rest)
+    successor.load(loader, [blocks], end, chain)
+    if not successor.is_alive:
+        raise Refused("the next service has ended")  # where there is nothing to load, nothing else has shown it
+    assert successor.process is not None
+    return Switch(log, served.run, served.generation, served.reached, rest, chain, number, successor.run, successor.process.address,
+                  successor.shift, successor.images)  # fmt: skip
 
 
 def _pulled(served: Served, position: int, end: int) -> list[bytes]:

@@ -1,20 +1,20 @@
-"""The moment of a succession: the statement that archives the rest of a generation and begins the next one."""
+"""The end of a generation: statements that archive its rest, and begin the next one or release the database."""
 
 from __future__ import annotations
 
-import zlib
 from dataclasses import dataclass, field
-from typing import Any
 
 from pagelog.keeper import statements
-from pagelog.keeper.batches import array_of
+from pagelog.keeper.batches import values_of_blocks, values_of_lines, values_of_one
 from pagelog.keeper.referee import Referee
+from pagelog.keeper.rows import Batch, Lines
 from pagelog.keeper.schema import CHANNEL, FORMAT
 
 
 @dataclass(frozen=True)
 class Switch:
-    """From a run to the next one, whose service has all up to the end of the old one: `old` is archived, the `blocks` are not yet."""
+    """From a run to the next one, of generation `next`, whose service has all up to the end of the old one: `old` is archived, the
+    `blocks` are not yet."""
 
     log: int
     run: str
@@ -22,10 +22,13 @@ class Switch:
     old: int
     blocks: tuple[bytes, ...] = field(repr=False)
     chain: bytes = field(repr=False)
+    next: int
     next_run: str
     address: str
     shift: int
     images: int
+    lines: Lines | None = None
+    """Of the old one's audit list, which speak of the blocks."""
 
     @property
     def end(self) -> int:
@@ -33,23 +36,54 @@ class Switch:
         return self.old + len(self.blocks)
 
 
-def succeed(referee: Referee, switch: Switch) -> int | None:
+def number(referee: Referee, log: int, run: str, generation: int) -> int | None:
+    """A number for the generation after this one, which no other gets: of one that never begins it is a gap.
+
+    None where the run holds the database no more.
+    """
+    found = referee._ask(statements.NUMBER, {"id": log, "run": run, "generation": generation})
+    return int(found[0][0]) if found else None
+
+
+def succeed(referee: Referee, switch: Switch) -> bool:
     """Makes the next run the one that serves, if the old one still holds the database and nothing more is archived of it.
 
-    Returns the number of the generation that begins; None where the database is another's, or more is archived.
+    Returns whether it does. It does not where PostgreSQL has gone back, and has not given the number of its generation.
     """
-    starts, at = [], 1
-    for block in switch.blocks:
-        starts.append(at)
-        at += len(block)
-    values: dict[str, Any] = {
-        "id": switch.log, "run": switch.run, "generation": switch.generation, "me": referee.me, "next_run": switch.next_run,
+    statement = statements.SUCCEED if switch.lines is None else statements.SUCCEED_WITH_LINES
+    return bool(referee._ask(statement, {
+        "id": switch.log, "run": switch.run, "generation": switch.generation, "me": referee.me, "next": switch.next, "next_run": switch.next_run,
         "address": switch.address, "shift": switch.shift, "images": switch.images, "old": switch.old, "new": switch.end,
-        "chain": switch.chain, "crcs": array_of(map(zlib.crc32, switch.blocks)), "starts": array_of(starts),
-        "lengths": array_of(map(len, switch.blocks)), "bytes": b"".join(switch.blocks),
-    }  # fmt: skip
-    found = referee._ask(statements.SUCCEED, values)
+        "chain": switch.chain, **values_of_blocks(switch.blocks), **values_of_lines([(switch.log, switch.lines)]),
+    }))  # fmt: skip
+
+
+def release(referee: Referee, last: Batch) -> int | None:
+    """Archives the last blocks of a run and ends its generation, if it still holds the database and nothing more is archived of it.
+
+    Returns the archived position then; None where nothing was done.
+    """
+    statement = statements.RELEASE if last.lines is None else statements.RELEASE_WITH_LINES
+    found = referee._ask(statement, values_of_one(last))
     return int(found[0][0]) if found else None
+
+
+def has_begun(referee: Referee, switch: Switch) -> bool | None:
+    """Whether a switch in doubt was carried out, by statements that write; None where it was not, and may be asked again."""
+    if referee.kept(switch.log, switch.next_run) is not None:
+        return True
+    kept = referee.kept(switch.log, switch.run)
+    return None if kept is not None and kept.archived == switch.old else False
+
+
+def rehearse(referee: Referee) -> None:
+    """Asks for a switch from no run, which changes nothing: the connection has in its caches then what the statement needs."""
+    succeed(referee, Switch(0, "", 0, 0, (), b"", 0, "", "", 0, 0))
+
+
+def rehearse_release(referee: Referee) -> None:
+    """The same of a release."""
+    release(referee, Batch(0, "", 0, 0, b"", ()))
 
 
 def wish_for(referee: Referee, name: str) -> bool:

@@ -5,6 +5,8 @@ whole by epochs, whoever has the turn.
                       turn before was its own, so that nobody has written since
                       elsewhere NAME: another keeper has the database
     turn NAME now     the same, or busy NAME: another has it, and nothing waits
+    turn NAME .. mine by who had the turn when its generation ended, maybe amid a transaction: at the begin of the next one it comes
+                      before all others, who wait for it a little
     back NAME         the turn is given back, or not waited for any more. There is no answer
     hold NAME         a turn that is kept is in use. There is no answer
 
@@ -24,6 +26,8 @@ MANY = 16
 """Turns in a row that nobody else has asked for, after which the next one is kept."""
 GRACE = 1.0
 """For how many seconds a turn that is kept, and was wanted back, is waited for in silence."""
+EARLY = 0.3
+"""For how many seconds the first ones who ask in a generation wait for who had the turn in the one before."""
 
 
 class Turns:
@@ -38,12 +42,17 @@ class Turns:
         self._in_a_row = 0
         self._is_kept = False
         self._grace: asyncio.TimerHandle | None = None
+        self._is_early = generation > 1
+        if self._is_early:
+            self._after(EARLY, self._begin)
 
-    def ask(self, line: Line, *, now: bool) -> None:
+    def ask(self, line: Line, *, now: bool, mine: bool = False) -> None:
         """Gives the turn to who asks, at once or later."""
         if line is self._holder:
             self._let_go()  # it has lost count of it: it is the next one
-        if self._holder is None and not self._waiting:
+        is_first = mine and self._is_early
+        self._is_early = self._is_early and not mine
+        if self._holder is None and not self._is_early and (is_first or not self._waiting):
             self._give(line)
             return
         self._in_a_row = 0
@@ -79,8 +88,13 @@ class Turns:
             line.say("elsewhere", self.name)
         self._waiting.clear()
 
+    def _begin(self) -> None:
+        """Who had the turn before has come by now, or had no transaction."""
+        self._is_early = False
+        self._next()
+
     def _next(self) -> None:
-        if self._holder is None and self._waiting:
+        if self._holder is None and self._waiting and not self._is_early:
             self._give(self._waiting.popleft())
 
     def _give(self, line: Line) -> None:
@@ -113,7 +127,8 @@ class Turns:
 class AllTurns:
     """Of the databases that a keeper holds."""
 
-    def __init__(self) -> None:
+    def __init__(self, after: Callable[..., asyncio.TimerHandle] | None = None) -> None:
+        self._after = after
         self._turns: dict[str, Turns] = {}
 
     def take(self, line: Line, words: list[str], generation: int | None) -> None:
@@ -128,12 +143,10 @@ class AllTurns:
                 line.say("elsewhere", name)
             return
         if turns is None:
-            turns = self._turns[name] = Turns(name, generation)
+            turns = self._turns[name] = Turns(name, generation, self._after)
         match words:
-            case ["turn", _]:
-                turns.ask(line, now=False)
-            case ["turn", _, "now"]:
-                turns.ask(line, now=True)
+            case ["turn", _, *how]:
+                turns.ask(line, now="now" in how, mine="mine" in how)
             case ["back", _]:
                 turns.back(line)
             case ["hold", _]:

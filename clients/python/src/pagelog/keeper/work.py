@@ -57,14 +57,18 @@ class Work:
         """From now on it is held: archived, and recorded, unless `record` is called later."""
         self._served = served
         self.archiver = Archiver(row, served, self._waits, self._shared.committer, self._shared.say, self._news)
+        self.archiver.recorder = self.recorder  # which goes on where the archiver is begun again
         self._archiving = self._shared.spawn(self.archiver.run(), self._name)
         if records:
-            self.record(served)
+            self.record(served, is_first=not served.is_after_release)
 
-    def record(self, served: Served) -> None:
-        """From now on its audit list is kept, if lists are, and if it is held still. It ends the list that the trail has open."""
+    def record(self, served: Served, *, is_first: bool = False) -> None:
+        """From now on its audit list is kept, if lists are, and if it is held still. It ends the list that the trail has open. Blocks
+        wait for its first lines where they come behind a generation that nobody closed."""
         if self._shared.trails is not None and self.recorder is None and served is self._served:
-            self.recorder = self._shared.trails.recorder(served, self._shared.say)
+            self.recorder = self._shared.trails.recorder(served, self._shared.say, is_waited_for=is_first)
+            if self.archiver is not None:
+                self.archiver.recorder = self.recorder
             self._recording = self._shared.spawn(self.recorder.run(), self._name)
 
     def _news(self) -> None:
@@ -81,11 +85,11 @@ class Work:
         if self.archiver is not None:
             self.archiver.stir()
 
-    async def catch_up(self, end: int) -> None:
-        """Archives up to this position, if that takes no longer than a look: less is left for when nobody may write."""
+    async def catch_up(self, end: int, longest: float | None = None) -> None:
+        """Archives up to this position, if that takes no longer than a look, or so many seconds."""
         if self.archiver is not None:
             reached = asyncio.ensure_future(self.archiver.reached(end))
-            await asyncio.wait({reached}, timeout=self._shared.settings.ttl / 4)
+            await asyncio.wait({reached}, timeout=self._shared.settings.ttl / 4 if longest is None else longest)
             reached.cancel()
 
     async def recorded(self, recorder: Recorder | None) -> None:

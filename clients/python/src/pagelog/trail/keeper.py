@@ -82,7 +82,7 @@ class TrailKeeper:
                 self._list = self.trail.keep(one, b"".join(map(encode_entry, found)), self._clock())
                 return Step(len(found), all(map(self._is_own, found)))
             if is_same is False:
-                self._end("the service was started anew: what it decided behind the last line was not seen")
+                self._end("the service was restarted: what it decided behind the last line was not seen")
                 self.operator.forget()
         raise ConnectionLost("no connection lasted for what is new")
 
@@ -101,9 +101,12 @@ class TrailKeeper:
         if self._open_list() is not None:
             self._end(why)
 
-    def resume(self) -> None:
-        """Takes up the list from the trail, after an error that leaves open whether lines were kept."""
-        self._list, self._connects = None, 0
+    def resume(self, one: TrailList | None = None) -> None:
+        """Takes up the list from the trail, after an error that leaves open whether lines were kept; or as somebody else has kept
+        lines of this service, `one`."""
+        self._list = one
+        if one is None:
+            self._connects = 0
 
     def _is_own(self, entry: Entry) -> bool:
         return entry.operation is Operation.AUDIT and entry.principal == self.operator.credentials.id

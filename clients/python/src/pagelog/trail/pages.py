@@ -4,14 +4,15 @@ from __future__ import annotations
 
 import random
 from dataclasses import dataclass
+from typing import Iterator
 
-from pagelog.archive import Archive
 from pagelog.block import PAGE_SIZE
 from pagelog.keeping import OtherLog
 from pagelog.reader import Reader
 from pagelog.reply import Denied, Page, expect
 from pagelog.request import Get
 from pagelog.rules import Section
+from pagelog.trail.logs import Log
 from pagelog_model.bodies import Block, read_block
 
 PAGES = 32
@@ -25,18 +26,18 @@ class Pages:
     denied: int
 
 
-def compare_pages(archive: Archive, reader: Reader, hard: int, *, count: int = PAGES, seed: int | None = None) -> Pages:
+def compare_pages(log: Log, reader: Reader, hard: int, *, count: int = PAGES, seed: int | None = None) -> Pages:
     """Compares pages of random records, each at a random LSN from its block's on to `hard`. Raises `OtherLog`.
 
-    It reads the archive once, from LSN 1 to the last of these LSNs.
+    It reads the log twice, from LSN 1 to the last of these LSNs. All of it has to be known.
     """
-    wanted = _drawn(archive, hard, count, random.Random(seed))
+    wanted = _drawn(log, hard, count, random.Random(seed))
     images = {number: bytearray(PAGE_SIZE) for number, _ in wanted}
     alike = denied = 0
-    for archived in archive.blocks(1, max((lsn for _, lsn in wanted), default=0)):
-        _redo(read_block(archived.data), images)
+    for block in _blocks(log, max((lsn for _, lsn in wanted), default=0)):
+        redo(block, images)
         for number, lsn in wanted:
-            if lsn != archived.lsn:
+            if lsn != block.lsn:
                 continue
             [reply] = reader.answers([Get(number, lsn)])
             if isinstance(reply, Denied) and reply.section is Section.B:
@@ -48,17 +49,24 @@ def compare_pages(archive: Archive, reader: Reader, hard: int, *, count: int = P
     return Pages(alike, denied)
 
 
-def _drawn(archive: Archive, hard: int, count: int, chance: random.Random) -> set[tuple[int, int]]:
+def _blocks(log: Log, last: int) -> Iterator[Block]:
+    """The blocks from LSN 1 to this one."""
+    for _, data in zip(range(last), log.blocks()):
+        assert data is not None
+        yield read_block(data)
+
+
+def _drawn(log: Log, hard: int, count: int, chance: random.Random) -> set[tuple[int, int]]:
     """Pages by their numbers, each with an LSN."""
+    firsts = sorted(chance.choices(range(1, hard + 1), k=count) if hard else ())
     found = set()
-    for _ in range(count if hard else 0):
-        first = chance.randint(1, hard)
-        for block in archive.blocks(first, first):
-            if block.records:
-                found.add((chance.choice(block.records).page, chance.randint(first, hard)))
+    for block in _blocks(log, max(firsts, default=0)):
+        for _ in range(firsts.count(block.lsn) if block.records else 0):
+            found.add((chance.choice(block.records)[0], chance.randint(block.lsn, hard)))
     return found
 
 
-def _redo(block: Block, images: dict[int, bytearray]) -> None:
+def redo(block: Block, images: dict[int, bytearray]) -> None:
+    """Changes those of these pages that the block has records of."""
     for number in {page for page, *_ in block.records} & images.keys():
         block.redo(number, images[number])

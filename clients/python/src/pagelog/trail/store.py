@@ -1,6 +1,6 @@
 """A trail in a database that SQLAlchemy reaches by a URL, beside the archive of the same log.
 
-A trail has *lists*: one for each audit list that was followed, since a service that is started anew begins a new one. A list
+A trail has *lists*: one for each audit list that was followed, since a service that is restarted begins a new one. A list
 has *pieces*: the lines that one reply brought, with the one time at which they were seen. A piece and the number of the last
 line are one transaction, so whatever ends the keeper, all lines up to that number are there, and none twice.
 
@@ -13,9 +13,9 @@ import hashlib
 import struct
 import time
 import zlib
-from dataclasses import dataclass
+from dataclasses import dataclass, replace
 from datetime import datetime, timezone
-from typing import Any, Iterator, Sequence
+from typing import Any, Callable, Iterator, Sequence
 
 import sqlalchemy as sql
 from sqlalchemy.engine import Engine
@@ -143,6 +143,17 @@ def digest_of(before: bytes, first: int, seen: int, lines: bytes) -> bytes:
     return hashlib.sha256(before + _HEAD.pack(first, len(lines) // LINE_SIZE, seen) + lines).digest()
 
 
+def piece_behind(one: TrailList, lines: bytes, seen: int) -> tuple[dict[str, Any], TrailList]:
+    """The row of a piece with these lines, which come behind the last one of a list, and the list as it is with them. They are seen
+    at this time or at that of the last line, whichever is later."""
+    seen = max(seen, one.seen)
+    first, count = one.kept + 1, len(lines) // LINE_SIZE
+    digest = digest_of(one.digest, first, seen, lines)
+    piece = {"list": one.id, "first": first, "count": count, "seen": seen, "day": day_of(seen), "before": one.digest, "digest": digest,
+             "data": zlib.compress(lines, 1)}  # fmt: skip
+    return piece, replace(one, kept=one.kept + count, seen=seen, digest=digest)
+
+
 def day_of(seen: int) -> str:
     """The day of a time, in UTC, as 2026-11-28. Times are in microseconds since 1970."""
     return datetime.fromtimestamp(seen / 1e6, timezone.utc).strftime("%Y-%m-%d")
@@ -243,10 +254,20 @@ class Trail:
             if connection.execute(sql.select(_texts.c.line).where(*same)).first() is None:
                 connection.execute(_texts.insert().values(values))
 
-    def texts_for(self, one: TrailList, line: int, length: int) -> list[bytes]:
-        """The texts that this line may have set: the one that was given for it, or all of its length."""
-        own = self._texts(one, line)
-        return own or [text for text in self._texts(one, _ANY) if len(text) == length]
+    def texts_for(self, one: TrailList) -> Callable[[int, int], list[bytes]]:
+        """The texts that a line may have set, by its number and length: the one that was given for it, or all of its length.
+
+        What is there now is looked up once: a statement takes as long as a hundred lines do.
+        """
+        wanted = sql.select(_texts.c.line).where(_texts.c.list == one.id, _texts.c.line > _START).distinct()
+        with self.engine.begin() as connection:
+            given = set(connection.execute(wanted).scalars())
+        of_any = self._texts(one, _ANY)
+
+        def texts(line: int, length: int) -> list[bytes]:
+            return self._texts(one, line) if line in given else [text for text in of_any if len(text) == length]
+
+        return texts
 
     def _texts(self, one: TrailList, line: int) -> list[bytes]:
         wanted = sql.select(_texts.c.digest, _texts.c.text).where(_texts.c.list == one.id, _texts.c.line == line)
@@ -265,21 +286,17 @@ class Trail:
         """
         if not lines:
             return one
-        first, seen = one.kept + 1, max(seen, one.seen)
-        last = one.kept + len(lines) // LINE_SIZE
-        digest = digest_of(one.digest, first, seen, lines)
-        piece = {"list": one.id, "first": first, "count": last - one.kept, "seen": seen, "day": day_of(seen), "before": one.digest,
-                 "digest": digest, "data": zlib.compress(lines, 1)}  # fmt: skip
+        piece, after = piece_behind(one, lines, seen)
         with self.engine.begin() as connection:
             moved = connection.execute(
                 _lists.update()
                 .where(_lists.c.id == one.id, _lists.c.kept == one.kept, _lists.c.ended.is_(None))
-                .values(kept=last, seen=seen, digest=digest)
+                .values(kept=after.kept, seen=after.seen, digest=after.digest)
             )
             if moved.rowcount != 1:
                 raise OtherKeeper(f"list {one.run} does not end at line {one.kept} any more")
             connection.execute(_pieces.insert(), [piece])
-        return TrailList(one.id, one.run, one.generation, last, seen, one.pruned, digest, None, None)
+        return after
 
     def pieces(
         self, one: TrailList, first: int = 1, *, since: int | None = None, until: int | None = None

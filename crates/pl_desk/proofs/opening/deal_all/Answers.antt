@@ -10,12 +10,12 @@ pub loop-number-preserved : goal.loop-number-preserved
 loop-number-preserved c =
     let i = c.loop-number.invariant in
     let number : ℕ = c.loop-number.number in
-    let key = c.args.board.now.key in
-    let desk : DeskOrigin = origin_of c.args.board.now.table_id key in
-    let chair = c.deal-chair.result in
-    let table : chair.table_id ≡ c.args.board.now.table_id = c.deal-chair.ensures.value.0 ∙ (i.same ∙ c.requires.board.0) in
-    let view : chair.me.0 ≡ dealt (dealer (terms_of key) number) = ap (λ (m : HeldSlot). m.0) c.deal-chair.ensures.value.1 ∙ ap (λ (m : HeldSlot). dealt m.0) i.first in
-    let new : knowledge_of chair.table_id chair.me.0 ≡ fresh desk (number + 1) = λ k. knowledge_of (table k) (view k) in
+    let key = c.args.shared.now.key in
+    let desk : DeskOrigin = origin_of c.args.shared.now.table_id key in
+    let seat = c.deal-seat.result in
+    let table : seat.table_id ≡ c.args.shared.now.table_id = c.deal-seat.ensures.value.0 ∙ (i.same ∙ c.requires.shared.0) in
+    let view : seat.me.0 ≡ dealt (dealer (terms_of key) number) = ap (λ (m : HeldSlot). m.0) c.deal-seat.ensures.value.1 ∙ ap (λ (m : HeldSlot). dealt m.0) i.first in
+    let new : knowledge_of seat.table_id seat.me.0 ≡ fresh desk (number + 1) = λ k. knowledge_of (table k) (view k) in
     let pushed = rw c.unwrap.ensures at c.push.ensures.items in
     let sizes = rw c.unwrap.ensures at c.push.ensures.len in
     let capacity = c.push.ensures.capacity in
@@ -26,8 +26,8 @@ loop-number-preserved c =
     record {
       some = omega arith;
       few = omega (arith, test, size);
-      same = c.deal-chair.ensures.same.0 ∙ i.same;
-      first = c.deal-chair.ensures.pass ∙ ap (λ (m : HeldSlot). (dealing m.0, [])) i.first;
+      same = c.deal-seat.ensures.same.0 ∙ i.same;
+      first = c.deal-seat.ensures.pass ∙ ap (λ (m : HeldSlot). (dealing m.0, [])) i.first;
       passes = pushed ∙ (λ k. i.passes k ++ new k ∷ []) ∙ sym (dealt-end desk number i.some);
       size = let some = i.some in omega (arith, sizes, before, some);
       room = omega (arith, room, capacity);

@@ -11,8 +11,8 @@ invariant-loop-number l = record {
   some : 1 ≤ l.number;
   few : l.number ≤ l.seats;
   same : l.first.table_id ≡ l.fn.first.table_id;
-  first : l.first.me ≡ (dealer (terms_of l.board.key) l.number, []);
-  passes : l.passes.items ≡ map (fresh (origin_of l.board.table_id l.board.key)) (range_with_len 2 (l.number - 1));
+  first : l.first.me ≡ (dealer (terms_of l.shared.key) l.number, []);
+  passes : l.passes.items ≡ map (fresh (origin_of l.shared.table_id l.shared.key)) (range_with_len 2 (l.number - 1));
   size : vec_len l.passes ≡ l.number - 1;
   room : l.seats ≤ vec_capacity l.passes;
 }

@@ -13,7 +13,7 @@ new-requires c =
     let slots : c.push.new.self.items ≡ Some terms.opening ∷ [] =
     c.in_default.ensures.items ∙ ap (λ (xs : List (Option History)). xs ++ Some c.args.db ∷ []) c.new-slots.ensures.items
     ∙ ap (λ (h : History). Some h ∷ []) (sym is) in
-    let bound : c.args.turns + c.args.seats < 18446744073709551616 = omega (arith, c.requires.few, c.ranges.seats.fits) in
+    let bound : c.args.turns + c.args.seats < 18446744073709551616 = omega (arith, c.requires.turns.1, c.ranges.seats.fits) in
     subst (λ (xs : List (Option History)). DeskInvariant terms (opening (c.audit_len.result ∷ 0 ∷ 0 ∷ []) xs (first_view terms))) (sym slots)
-    (opens terms c.audit_len.result c.requires.seats c.requires.some bound (subst IsLegal (sym is) c.audit_len.ensures.legal)
+    (opens terms c.audit_len.result c.requires.seats c.requires.turns.0 bound (subst IsLegal (sym is) c.audit_len.ensures.legal)
     (c.audit_len.ensures.value ∙ ap (λ (h : History). length h.entries) (sym is)))

@@ -10,8 +10,8 @@ use Rattle.pl_desk.proofs.steps.count_as.Goals as goal
 pub fetch_add-requires : goal.fetch_add-requires
 fetch_add-requires g c =
     let adds = c.requires.turn.3 in
-    let board = c.args.board.now in
-    let chair = c.args.chair.now in
-    let rule = DeskInvariant (terms_of board.key) in
-    let allowed = counts _ board.table_id.slots chair.id chair.me _ _ _ adds.entry c.requires.turn.2 adds.own adds.grown adds.legal adds.fits in
-    (search rules, search rules, subst (λ (h : History). Allows rule board.table_id.slots chair.id chair.me 0 (λ n. (n + 1) % 18446744073709551616) (counts_then h no_step chair.me)) c.requires.told allowed)
+    let shared = c.args.shared.now in
+    let seat = c.args.seat.now in
+    let rule = DeskInvariant (terms_of shared.key) in
+    let allowed = counts _ shared.table_id.slots seat.id seat.me _ _ _ adds.entry c.requires.turn.2 adds.own adds.grown adds.legal adds.fits in
+    (search rules, search rules, subst (λ (h : History). Allows rule shared.table_id.slots seat.id seat.me 0 (λ n. (n + 1) % 18446744073709551616) (counts_then h no_step seat.me)) c.requires.told allowed)

@@ -8,7 +8,7 @@ pub returns-clause-turn : goal.returns-clause-turn
 returns-clause-turn c =
     let db : History = c.args.db in
     let is = c.exchange.ensures.3 in
-    let empty : rest c.args.chair.now.me.1 ≡ [] = ap rest c.requires.out.1 in (
+    let empty : rest c.args.seat.now.me.1 ≡ [] = ap rest c.requires.out.1 in (
       c.requires.turn.0,
       db,
       ap (λ (m : HeldSlot). m.0.stage) is ∙ c.requires.turn.1,

@@ -7,4 +7,4 @@ pub exchange-requires : goal.exchange-requires
 exchange-requires c =
     let h = c.requires.turn.0 in
     let is = c.requires.turn.1 in
-    (c.requires.board, (Some h, is ∙ ap (λ (xs : List (ℕ × Option History)). (0, Some h) ∷ xs) (sym (ap rest is))))
+    (c.requires.shared, (Some h, is ∙ ap (λ (xs : List (ℕ × Option History)). (0, Some h) ∷ xs) (sym (ap rest is))))

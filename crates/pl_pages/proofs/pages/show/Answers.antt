@@ -1,4 +1,5 @@
 use Rattle.std.proofs.Common.{refl, sym, subst, ◌∙◌, arith}
+use Rattle.std.proofs.lemmas.Bool.{false≢true}
 use Rattle.pl_pages.specs.Index.{IsAfterChanges, count_before}
 use Rattle.pl_pages.proofs.Touching.{rising, counted, rise, after_at}
 use Rattle.pl_pages.proofs.pages.show.Goals as goal
@@ -23,6 +24,12 @@ returns-then-count_up_to-to-clause-after c =
     let other = counted page log c.requires.numbered c.args.lsns.now c.requires.lsns _ c.args.lsn c.requires.hard to.within to.below to.above in
     after_at c.args.versions.now.versions found.place page page found.lsn _ log c.in-Some.ensures.at refl (one ∙ c.if-count_up_to-to.true ∙ sym other)
 
+pub returns-in_err-begun-clause-succeeds : goal.returns-in_err-begun-clause-succeeds
+returns-in_err-begun-clause-succeeds c some none =
+    let to = c.count_up_to-to.ensures in
+    let other = counted c.args.page c.args.log.now.hardened c.requires.numbered c.args.lsns.now c.requires.lsns _ c.args.lsn c.requires.hard to.within to.below to.above in
+    absurd (false≢true (c.in_err-begun.ensures.succeeds (c.image_after.ensures.none (sym other ∙ none)) some))
+
 pub bring_up-requires-clause-after : goal.bring_up-requires-clause-after
 bring_up-requires-clause-after c =
     let page = c.args.page in
@@ -43,6 +50,17 @@ bring_up-requires-clause-rising c =
     let one = counted page log c.requires.numbered c.args.lsns.now c.requires.lsns _ begun.lsn (omega (arith, c.in_ok-begun.ensures.below, c.requires.hard)) from.within from.below from.above in
     let other = counted page log c.requires.numbered c.args.lsns.now c.requires.lsns _ c.args.lsn c.requires.hard to.within to.below to.above in
     omega (arith, one, other, rise page log begun.lsn c.args.lsn c.in_ok-begun.ensures.below c.requires.hard)
+
+pub returns-in_err-bring_up-clause-succeeds : goal.returns-in_err-bring_up-clause-succeeds
+returns-in_err-bring_up-clause-succeeds c some none =
+    let page = c.args.page in
+    let log = c.args.log.now.hardened in
+    let begun = c.in_ok-begun.begun in
+    let from = c.count_up_to-from.ensures in
+    let to = c.count_up_to-to.ensures in
+    let one = counted page log c.requires.numbered c.args.lsns.now c.requires.lsns _ begun.lsn (omega (arith, c.in_ok-begun.ensures.below, c.requires.hard)) from.within from.below from.above in
+    let other = counted page log c.requires.numbered c.args.lsns.now c.requires.lsns _ c.args.lsn c.requires.hard to.within to.below to.above in
+    absurd (false≢true (c.in_err-bring_up.ensures.succeeds (omega (arith, one, other, none, rise page log begun.lsn c.args.lsn c.in_ok-begun.ensures.below c.requires.hard))))
 
 pub returns-clause-after : goal.returns-clause-after
 returns-clause-after c =

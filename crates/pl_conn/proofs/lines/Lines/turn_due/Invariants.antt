@@ -2,5 +2,5 @@ use Rattle.pl_conn.specs.Serving.{Reaches}
 use Rattle.pl_conn.proofs.lines.Lines.turn_due.Given as goal
 
 -- the pass is the gate's, and came of the first by calls
-abbrev pub invariant-loop-at : goal.invariant-loop-at
-invariant-loop-at g l = g.G.Gate.owns l.gate l.pass × Reaches (g.G.Gate.calls l.gate) l.fn.pass l.pass
+abbrev pub invariant-loop : goal.invariant-loop
+invariant-loop g l = g.G.Gate.owns l.gate l.pass × Reaches (g.G.Gate.calls l.gate) l.fn.pass l.pass

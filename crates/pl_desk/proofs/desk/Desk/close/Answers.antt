@@ -16,5 +16,5 @@ returns-then-is_idle c =
     let out : Some found.0 ≡ c.take-db.result = maybe.some-injective (Some found.0) c.take-db.result (sym found.1 ∙ c.take-db.ensures.value) in
     let is : Some found.0 ≡ c.unboxed.result = out ∙ sym c.unboxed.ensures.value in
     let Ahead : Knowledge → Option History → Type 0 = λ p o. IfSome o (λ h. IsAhead p.terms p.number p.seen h) in
-    let own = c.pass.inside.chair in
+    let own = c.pass.inside.seat in
     record { value = subst (λ (p : Knowledge). Ahead p c.unboxed.result) c.pass.view_is (subst (λ (o : Option History). IfSome o (λ h. IsAhead own.me.0.terms own.me.0.number own.me.0.seen h)) is found.2) }

@@ -15,5 +15,5 @@ returns-clause-passes c = c.deal_all-passes.ensures.passes
 
 pub returns-clause-of : goal.returns-clause-of
 returns-clause-of c =
-    let board = c.in_ok-table.table.shared in
-    fresh_of (origin_of board.table_id board.key) c.args.seats c.deal_all-passes.result.items c.deal_all-passes.ensures.passes
+    let shared = c.in_ok-table.table.shared in
+    fresh_of (origin_of shared.table_id shared.key) c.args.seats c.deal_all-passes.result.items c.deal_all-passes.ensures.passes

@@ -1,0 +1,50 @@
+/* While a file of a named database waits: who waits may end it, and a generation that is over does. A service
+ * that stands still, or a machine that is gone, says neither. */
+#include "pagelog_move.h"
+
+enum { GLANCE_MS = 1000 };
+
+bool pagelog_file_is_overtaken(struct pagelog_file *file) {
+    struct named *named = &file->named;
+    struct pagelog_place place;
+    uint64_t now = pagelog_now();
+    if (!named->has_place || now - named->waited < GLANCE_MS) return false;
+    named->waited = now;
+    return pagelog_where(named->keepers, named->place.generation + 1, &place) == PAGELOG_DONE;
+}
+
+static bool waits_on(void *argument) {
+    struct pagelog_file *file = argument;
+    struct named *named = &file->named;
+    if (named->goes_on && !named->goes_on(named->argument)) return false;
+    named->is_overtaken = !named->is_pausing && pagelog_file_is_overtaken(file);
+    return !named->is_overtaken;
+}
+
+void pagelog_file_set_waiting(struct pagelog_file *file, bool (*goes_on)(void *argument), void *argument) {
+    struct named *named = &file->named;
+    if (!is_named(file)) {
+        pagelog_set_waiting(file->log, goes_on, argument);
+        return;
+    }
+    named->goes_on = goes_on;
+    named->argument = argument;
+    named->is_overtaken = false;
+    pagelog_set_waiting(file->log, waits_on, file);
+    pagelog_keepers_set_waiting(named->keepers, goes_on, argument);
+}
+
+void pagelog_wait_again(struct pagelog_file *file) {
+    struct named *named = &file->named;
+    if (!named->is_overtaken) return;
+    named->is_overtaken = false;
+    pagelog_set_waiting(file->log, waits_on, file);
+}
+
+bool pagelog_may_pause(struct pagelog_file *file) {
+    pagelog_wait_again(file);
+    file->named.is_pausing = true;
+    bool may_pause = pagelog_goes_on(file->log);
+    file->named.is_pausing = false;
+    return may_pause;
+}

@@ -1,0 +1,289 @@
+"""Turns to write a named database, of several processes, with a stub of a keeper: given back, waited for, kept, lost, and from one
+generation to the next."""
+
+import contextlib
+import os
+import signal
+import socket
+import threading
+import time
+
+from check import run, same, true
+from database import code_of, named, numbers, one
+from generations import fill, rows, until
+from stub_keeper import StubKeeper
+from vfs_forks import fork, in_child
+
+from pagelog.keeper import turns  # its folder is where stub_keeper.py has found it
+
+
+def begins(keeper, **how):
+    """What another process is told that begins to write, and ends at once."""
+    return in_child(lambda: code_of(lambda: named(keeper, **how).execute("begin immediate")))
+
+
+def amid_a_transaction(keeper):
+    """A connection that has the turn, and has written row 0."""
+    connection = named(keeper)
+    connection.execute("create table t(a, b)")
+    connection.execute("begin immediate")
+    fill(connection, 1)
+    return connection
+
+
+def waits_for_a_turn(keeper):
+    """Another process waits, writes row 1, and reads all rows. Returns what waits for its end."""
+    waits = fork(lambda: (fill(waiting := named(keeper, busy=60), 1, first=1), rows(waiting)))
+    until(lambda: keeper.turns._waiting, "another waits")
+    return waits
+
+
+def until_it_begins(keeper):
+    while begins(keeper, busy=0):
+        pass
+
+
+def test_a_turn_is_given_back():
+    with StubKeeper() as keeper:
+        connection = named(keeper)
+        connection.execute("create table t(a, b)")
+        for count in (1, 30):  # the last ones of many are kept
+            fill(connection, count)
+            for end in ("commit", "rollback"):
+                connection.execute("begin immediate")
+                fill(connection, 1)
+                same("while it is held", "SQLITE_BUSY", begins(keeper, busy=0))
+                connection.execute(end)
+                same(end, None, begins(keeper, busy=60))
+
+
+def test_a_turn_is_given_back_where_a_begin_fails():
+    with StubKeeper() as keeper:
+        connection, other, told = amid_a_transaction(keeper), named(keeper, 5, move=300), []
+        thread = threading.Thread(target=lambda: told.append(code_of(lambda: other.execute("begin immediate"))))
+        thread.start()
+        until(lambda: keeper.turns._waiting, "another waits")
+        keeper.rule = lambda frame: None if int.from_bytes(frame[4:8], "big") == 5 else frame  # its principal
+        connection.execute("commit")
+        thread.join()
+        same("told", ["SQLITE_IOERR"], told)
+        keeper.rule = None
+        same("it was given back", None, begins(keeper, busy=60))
+
+
+def test_a_turn_is_waited_for():
+    with StubKeeper() as keeper:
+        connection = amid_a_transaction(keeper)
+        waits = waits_for_a_turn(keeper)
+        connection.execute("commit")
+        same("both", (None, [0, 1]), waits())
+
+
+def test_a_turn_ends_with_its_process():
+    """Though a child of that lives on, which has inherited the connection."""
+    with StubKeeper() as keeper:
+        named(keeper).execute("create table t(a, b)")
+        reads, writes = os.pipe()
+
+        def leaves_a_child():
+            connection = named(keeper)
+            connection.execute("begin immediate")
+            if os.fork() == 0:
+                os.close(writes)
+                os.read(reads, 1)  # until the test is over
+                os._exit(0)
+            os._exit(code_of(lambda: fill(connection, 1)) is not None)
+
+        if (child := os.fork()) == 0:
+            leaves_a_child()
+        same("it wrote", 0, os.waitpid(child, 0)[1])
+        until_it_begins(keeper)
+        os.close(writes)
+        os.close(reads)
+
+
+def test_a_child_has_no_turn():
+    """What it closes gives nothing back."""
+    with StubKeeper() as keeper:
+        connection = named(keeper)
+        connection.execute("create table t(a, b)")
+        connection.execute("begin immediate")
+        in_child(lambda: connection.close())
+        same("it is held", "SQLITE_BUSY", begins(keeper, busy=0))
+        fill(connection, 1)
+        connection.execute("commit")
+        same("it is there", [0], rows(named(keeper, 3, mode="ro")))
+
+
+@contextlib.contextmanager
+def early_for_ever():
+    """Generations, the first turn of which is for who had the last one of the generation before, until the test ends that."""
+    before, turns.EARLY = turns.EARLY, 3600
+    try:
+        yield
+    finally:
+        turns.EARLY = before
+
+
+def test_who_is_amid_a_transaction_is_first_in_the_next_generation():
+    """Who waits for the turn asks for it there again, wherever it was when the generation ended."""
+    for event in (StubKeeper.succeed, StubKeeper.die):
+        with early_for_ever(), StubKeeper() as keeper:
+            connection = amid_a_transaction(keeper)
+            waits = waits_for_a_turn(keeper)
+            event(keeper)
+            until(lambda: keeper.turns._waiting, "it waits in the next generation")
+            connection.execute("commit")
+            with keeper.changed:
+                keeper.turns._begin()
+            same("both", (None, [0, 1]), waits())
+
+
+def test_a_writer_that_is_alone_goes_on_at_once():
+    """It has kept the turn, and says so in the next generation, where others would be waited for."""
+    with early_for_ever(), StubKeeper() as keeper:
+        connection = named(keeper, busy=60)
+        connection.execute("create table t(a, b)")
+        fill(connection, 30)
+        true("it is kept", keeper.turns._holder)
+        keeper.succeed()
+        fill(connection, 1, first=30)
+        same("all of it", list(range(31)), rows(connection))
+
+
+def test_a_turn_of_a_generation_that_is_over_is_not_waited_for():
+    """Though nobody says so over its line, as where a machine is gone."""
+    with early_for_ever(), StubKeeper() as keeper:
+        connection = amid_a_transaction(keeper)
+        waits = waits_for_a_turn(keeper)
+        keeper.turns.end = lambda: None
+        keeper.die()
+        connection.execute("commit")
+        with keeper.changed:
+            keeper.turns._begin()
+        same("both", (None, [0, 1]), waits())
+
+
+def test_turns_of_a_keeper_that_is_gone():
+    """Who waits for the turn waits a while for the next keeper, and who has it goes on."""
+    with StubKeeper() as keeper:
+        connection = named(keeper, move=2000)
+        connection.execute("create table t(a, b)")
+        connection.execute("pragma synchronous = normal")
+
+        def wait():
+            waiting = named(keeper, busy=60)
+            waiting.execute("pragma synchronous = normal")
+            fill(waiting, 1, first=1)
+            return rows(waiting)
+
+        connection.execute("begin immediate")
+        fill(connection, 1)
+        waits = fork(wait)
+        until(lambda: keeper.turns._waiting, "another waits")
+        asked = []
+        keeper.rule = lambda frame: (asked.append(frame), frame)[1]
+        keeper.turns.gone = lambda line: None  # it gives no turn any more
+        keeper.server.socket.shutdown(socket.SHUT_RDWR)
+        keeper.cut_lines()
+        until(lambda: len(asked) > 8, "it begins again and again")
+        keeper.rule = None
+        connection.execute("commit")
+        same("both", [0, 1], waits())
+
+
+@contextlib.contextmanager
+def signals_for_ever():
+    """They interrupt each call of the system that waits."""
+    before = signal.signal(signal.SIGALRM, lambda *_: None)
+    signal.setitimer(signal.ITIMER_REAL, 0.05, 0.05)
+    try:
+        yield
+    finally:
+        signal.setitimer(signal.ITIMER_REAL, 0)
+        signal.signal(signal.SIGALRM, before)
+
+
+@contextlib.contextmanager
+def no_connect():
+    """An address at which no connection comes about, and none is refused: there is no room for one more."""
+    with socket.create_server(("127.0.0.1", 0), backlog=0) as listener, contextlib.ExitStack() as waiting:
+        for _ in range(4):
+            each = waiting.enter_context(socket.socket())
+            each.setblocking(False)
+            each.connect_ex(listener.getsockname())
+        yield "%s:%d" % listener.getsockname()
+
+
+def test_a_turn_that_nobody_can_be_asked_for():
+    """Who writes goes on without one in the end, whatever signals come meanwhile."""
+    with StubKeeper() as keeper, no_connect() as lines:
+        answer = keeper.answer
+        keeper.answer = lambda words: (*told[:6], lines, *told[7:]) if (told := answer(words))[0] == "at" else told
+        connection = named(keeper)
+        connection.execute("pragma synchronous = off")
+        with signals_for_ever():
+            since = time.monotonic()
+            connection.execute("create table t(a, b)")
+            true("it ended", time.monotonic() - since < 60)
+        fill(connection, 1)
+        same("it is there", [0], rows(named(keeper, 3, mode="ro")))
+
+
+def test_who_has_the_turn_reads_what_was_written():
+    """However long ago it has asked whether its epoch goes on. A turn that was its own before costs no request."""
+    with StubKeeper() as keeper:
+        connection = named(keeper, check=3600000)
+        connection.execute("create table t(a, b)")
+        fill(connection, 1)
+        for number in range(5):
+            connection.execute("update t set a = a + 1")
+            in_child(lambda: code_of(lambda: named(keeper).execute("update t set a = a + 1")))
+            connection.execute("begin immediate")
+            connection.execute("update t set a = a + 1")
+            connection.execute("commit")
+        same("no update is lost", 15, one(connection, "select a from t"))
+        before = numbers(connection, "epoch", "round_trips")
+        for number in range(5):
+            connection.execute("update t set a = a + 1")
+        same("alone", (0, 5), tuple(now - then for now, then in zip(numbers(connection, "epoch", "round_trips"), before)))
+
+
+def test_a_turn_that_is_kept_and_in_use_is_not_passed_on():
+    """Its holder says so as it writes."""
+    with StubKeeper() as keeper:
+        connection = named(keeper)
+        connection.execute("create table t(a, b)")
+        connection.execute("pragma cache_size = 2")
+        fill(connection, 30)
+        connection.execute("begin immediate")
+        fill(connection, 1, first=30)
+        waits = fork(lambda: code_of(lambda: fill(named(keeper, busy=60), 1, first=-1)))
+        until(lambda: keeper.turns._grace, "it is wanted")
+        holder, count = keeper.turns._holder, 31
+        while keeper.turns._grace:
+            fill(connection, 5, size=20000, first=count)
+            count += 5
+        true("it has it still", keeper.turns._holder is holder)
+        connection.execute("commit")
+        same("both", (None, list(range(-1, count))), (waits(), rows(connection)))
+
+
+def test_a_turn_that_is_kept_is_lost_with_its_line():
+    """Another writes then, and nobody is told an error."""
+    with StubKeeper() as keeper:
+        connection = named(keeper, check=3600000)
+        connection.execute("create table t(a, b)")
+        fill(connection, 30)
+        true("it is kept", keeper.turns._holder)
+        keeper.cut_lines()
+        until_it_begins(keeper)
+        in_child(lambda: fill(named(keeper), 1, first=30))
+        connection.execute("begin immediate")
+        fill(connection, 1, first=31)
+        connection.execute("commit")
+        same("both", list(range(32)), rows(connection))
+
+
+if __name__ == "__main__":
+    run("turns", dict(globals()))

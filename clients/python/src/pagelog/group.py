@@ -1,0 +1,122 @@
+"""Durable commits of many threads through one writer of a named database.
+
+    group = Group(primary)
+    position = group.commit(Put(page=0, offset=0, data=b"hello"))     # in any thread
+"""
+
+from __future__ import annotations
+
+import threading
+from typing import Sequence
+
+from pagelog.block import Block, Record
+from pagelog.errors import InDoubt, PagelogError, TimedOut
+from pagelog.named import NamedPrimary
+from pagelog.place import Lost
+
+
+class Unwritten(PagelogError):
+    """The group had ended before it came to this commit. Nothing of it is written."""
+
+
+class _Commit:
+    """What one thread commits, and what became of it."""
+
+    def __init__(self, records: Sequence[Record]) -> None:
+        self.records = records
+        self.position = 0
+        self.is_settled = False
+        self.error: PagelogError | None = None
+
+    def settle(self, error: PagelogError | None = None) -> None:
+        """It is durable, or this is to be raised."""
+        self.is_settled, self.error = True, error
+
+
+class Group:
+    """Commits that come while one is under way go together into the next: into as few blocks as they fit in, and with one wait for
+    the archive. Records of one commit that fit into a block are in one block.
+
+    It ends with the first error. Each thread raises it whose commit is not known to be durable, or `Lost`, or `Unwritten`. Then
+    the writer is its caller's again: after `TimedOut` and the like its `commit(durable=True)` goes on with what was begun.
+    """
+
+    def __init__(self, primary: NamedPrimary) -> None:
+        """Until it has ended nothing else is asked of the primary."""
+        self._primary = primary
+        self._changed = threading.Condition(threading.Lock())
+        self._due: list[_Commit] = []
+        self._is_under_way = False
+        self._ended: BaseException | None = None
+
+    def commit(self, *records: Record) -> int:
+        """Returns the position of its end once the archive has all up to there. Raises as `NamedPrimary.append` for a faulty
+        record: then nothing of it is taken. Where its wait is interrupted it may be committed all the same."""
+        for record in records:
+            Block.of(1, (record,))
+        mine = _Commit(records)
+        with self._changed:
+            self._due.append(mine)
+            while self._is_under_way and not mine.is_settled:
+                self._changed.wait()
+            taken = [] if mine.is_settled else self._begun()
+        if taken:
+            self._lead(taken)
+        if mine.error is not None:
+            raise mine.error
+        return mine.position
+
+    def _begun(self) -> list[_Commit]:
+        """What is due, to be committed by the caller's thread."""
+        taken, self._due, self._is_under_way = self._due, [], True
+        return taken
+
+    def _lead(self, taken: Sequence[_Commit]) -> None:
+        try:
+            self._commit(taken)
+        except PagelogError as error:
+            self._ended = self._ended or error
+            self._settle(taken, error)
+        except BaseException as error:
+            self._ended = error
+            raise
+        finally:
+            for each in taken:
+                if not each.is_settled:
+                    each.settle(InDoubt(f"the thread that committed for all was interrupted: {self._ended!r}"))
+            with self._changed:
+                self._is_under_way = False
+                self._changed.notify_all()
+
+    def _commit(self, taken: Sequence[_Commit]) -> None:
+        if self._ended is not None:
+            raise Unwritten(f"the group has ended: {self._ended}") from self._ended
+        for each, each.position in zip(taken, self._primary.pack([each.records for each in taken])):
+            pass
+        self._primary.commit(durable=True)
+        for each in taken:
+            each.settle()
+
+    def _settle(self, taken: Sequence[_Commit], error: PagelogError) -> None:
+        """What became of each, where not all went well."""
+        for each in taken:
+            if each.position == 0:
+                each.settle(error if isinstance(error, Unwritten) else Unwritten(f"nothing was written: {error}"))
+            elif isinstance(error, Lost) and each.position >= error.position:
+                each.settle(Lost(error.position))
+            elif each.position <= self._primary.durable_end:
+                each.settle()
+            elif isinstance(error, (TimedOut, InDoubt)):
+                each.settle(error)
+            else:
+                error = self._waited(each) or error
+
+    def _waited(self, one: _Commit) -> PagelogError | None:
+        """Waits for one that is in the log, as far as the writer knows. Returns what it raises."""
+        try:
+            self._primary.durable(one.position)
+            one.settle()
+            return None
+        except PagelogError as error:
+            one.settle(error)
+            return error
