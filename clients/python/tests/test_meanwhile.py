@@ -207,7 +207,6 @@ class Closes(Meanwhile):
         await self.done(lambda: served.close.called and self.database.doing is Action.NOTHING)
         self.assertIn(self.database._let_go, (-1, 3))
 
-
     async def test_a_wish_for_another_that_came_meanwhile_is_not_taken_back(self) -> None:
         self.held()
         await self.rest()
@@ -239,7 +238,6 @@ class Fills(Meanwhile):
             await self.done(lambda: end.await_count)
         self.assertEqual(self.database.row, seen)
 
-
     async def test_one_that_failed_tries_again_after_a_ttl_whatever_another_does(self) -> None:
         released, takes, now = replace(ROW, run=None, holder=None, address=None, generation=0, archived=0), list[int](), [0.0]
 
@@ -267,6 +265,16 @@ class Fills(Meanwhile):
                 self.assertEqual(takes, taken)
 
 
+    async def test_one_that_is_filled_while_postgresql_is_away_goes_on_with_it(self) -> None:
+        self.database.served = served = service(reached=0, is_open=False)
+        with patch.object(Shared, "fill", new=AsyncMock(side_effect=(Away("gone"), None))) as fill:
+            for count in (1, 2):
+                self.see(replace(ROW, address=None))
+                await self.done(lambda: self.database._acting.done())  # type: ignore[union-attr]
+                self.assertEqual((fill.await_count, self.database.served, served.is_broken), (count, served, False))
+        self.assertTrue(served.open.called)
+
+
 class StandsBy(Meanwhile):
     OTHER = replace(ROW, run="other", holder="b", address="b:1", wanted="a")
 
@@ -288,6 +296,20 @@ class StandsBy(Meanwhile):
                     self.see(self.OTHER)
                     await self.done(lambda: self.database._acting.done())  # type: ignore[union-attr]
                     self.assertEqual((new.await_count, self.database.served), (count, None))
+
+    async def test_one_that_lacks_blocks_while_postgresql_is_away_goes_on_with_them(self) -> None:
+        for fresh in (service(run="new", reached=0), service(run="new", kind=Kind.STANDBY, reached=2, is_noted=True)):
+            for away in (Away("gone"), Doubt("cut")):
+                self.setUp()
+                self.database.served = fresh if fresh.is_noted else None
+                with patch.object(Database, "new_served", new=AsyncMock(return_value=fresh)) as new:
+                    with patch.object(Shared, "fill", new=AsyncMock(side_effect=(away, None))) as fill:
+                        for count in (1, 2):
+                            self.see(self.OTHER, is_noted=fresh.is_noted)
+                            await self.done(lambda: self.database._acting.done())  # type: ignore[union-attr]
+                            self.assertEqual((fill.await_count, self.database.served), (count, fresh))
+                self.assertLessEqual(new.await_count, 1)
+                fresh.process.end.assert_not_called()
 
     async def test_one_whose_note_is_gone_is_noted_again(self) -> None:
         self.database.served = service(run="new", kind=Kind.STANDBY, is_noted=True)

@@ -13,7 +13,7 @@ import tomllib
 import unittest
 from dataclasses import replace
 from pathlib import Path
-from typing import Any
+from typing import Any, Iterator
 from unittest.mock import patch
 
 from keepers import blocks
@@ -23,7 +23,7 @@ from pagelog import (
 from pagelog.keeper.archiver import Archiver
 from pagelog.keeper.committer import Committer
 from pagelog.keeper.loading import Loader
-from pagelog.keeper.referee import digest
+from pagelog.keeper.referee import Away, BrokenArchive, digest
 from pagelog.keeper.rows import Row
 from pagelog.keeper.run import NotStarted, Program, Run, _facts_of, end_orphans, new_run
 from pagelog.keeper.served import Served
@@ -179,6 +179,26 @@ class Runs(unittest.TestCase):
         assert last is not None
         self.assertEqual((last.old, last.blocks, last.chain), (2, switch.blocks, switch.chain))
         self.assertIsNone(asyncio.run(archiver.rest(6, None)))
+
+    def test_one_that_is_filled_goes_on_where_the_archive_went_away(self) -> None:
+        known = blocks(1, 200)
+        served = Served("shop", "r", WIDE_TABLE, SECRET, timeout=PATIENCE)
+        served.start(self.program)
+        self.addCleanup(served.end)
+
+        def broken() -> Iterator[list[bytes]]:
+            yield known[served.loaded : served.loaded + 70]
+            raise Away("PostgreSQL is gone")
+
+        for loaded in (70, 140):
+            with self.assertRaises(Away):
+                served.fill(broken(), 200, digest(b"", known))
+            self.assertEqual((served.loaded, served.reached, served.chain, served.end_of_log()), (loaded, 0, b"", loaded))
+        with self.assertRaises(BrokenArchive):
+            served.check(0, b"")  # what it has beyond was compared with nothing yet
+        served.fill([known[140:]], 200, digest(b"", known))
+        served.check(200, digest(b"", known))
+        self.assertEqual(served.pulled(0), list(known))
 
     def test_a_service_is_adopted_by_a_later_keeper(self) -> None:
         run = self.start()

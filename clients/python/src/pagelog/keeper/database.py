@@ -270,6 +270,8 @@ class Database:
                 await self._filled(served, row.base, row.chain)
                 await asyncio.to_thread(served.check, row.base, row.chain)
             await asyncio.to_thread(served.open)
+        except (Away, Doubt):
+            raise  # it goes on from there
         except PagelogError as error:
             self.shared.say(row.name, f"it could not be filled: {error}")
             served.is_broken = True
@@ -338,13 +340,21 @@ class Database:
             return False
         self.served = served  # not before: one that could not be started would be followed in vain
         self._watch(served)
+        await self._catch_up(served)
+        return False
+
+    async def _catch_up(self, served: Served) -> bool:
+        """Has a standby follow the archive. One that cannot is given up, but not as PostgreSQL is away: it goes on from there."""
         try:
             await self._filled(served, self.row.archived, self.row.chain)
+        except (Away, Doubt):
+            raise
         except PagelogError as error:
             await self._give_up(served, error)
             return False  # the next look has another made
-        await self._note_standby(served)
-        return False
+        if not served.is_noted:
+            await self._note_standby(served)
+        return True
 
     async def _note_standby(self, served: Served) -> None:
         assert served.process is not None
@@ -363,15 +373,11 @@ class Database:
         if self.row.paused and self.succession.stage in (Stage.MAKING, Stage.READY):
             await self.succession.give_up()  # others wait for its turn, and a pause may last
         served = self.served if self.is_known else None
-        if served is not None and served.kind is Kind.STANDBY and served.reached < self.row.archived:
-            try:
-                await self._filled(served, self.row.archived, self.row.chain)
-            except PagelogError as error:
-                await self._give_up(served, error)
-                return False  # the next look has another made
+        if served is None or served.kind is not Kind.STANDBY:
+            return False
+        lacks = served.reached < self.row.archived
+        if (lacks or not served.is_noted) and await self._catch_up(served) and lacks:
             served.went_back = False  # what it had is archived again
-        if served is not None and served.kind is Kind.STANDBY and not served.is_noted:
-            await self._note_standby(served)
         return False
 
     async def _give_up(self, served: Served, error: PagelogError) -> bool:

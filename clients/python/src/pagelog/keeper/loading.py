@@ -4,11 +4,11 @@ from __future__ import annotations
 
 import select
 import socket
-from typing import Iterable, Sequence
+from typing import Iterable, Iterator, Sequence
 
 from pagelog.connection import Address
 from pagelog.credentials import Credentials
-from pagelog.errors import ConnectionLost, TimedOut, UnexpectedReply, Unreachable
+from pagelog.errors import ConnectionLost, PagelogError, TimedOut, UnexpectedReply, Unreachable
 from pagelog.reply import decode_reply, refusal_of
 from pagelog.request import QUORUM, Head, Operation, Role
 
@@ -47,18 +47,28 @@ class Loader:
     def load(self, first: int, pieces: Iterable[Sequence[bytes]]) -> int:
         """Writes and hardens blocks that have the LSNs from `first` on. Returns the LSN of the last.
 
-        Raises the `Refusal` of a reply, `ConnectionLost` and `TimedOut`.
+        Raises the `Refusal` of a reply, `ConnectionLost` and `TimedOut`. Where `pieces` raises, those that it has given are hardened.
         """
         lsn = first - 1
-        for piece in pieces:
+        for piece in self._given(pieces):
             for at in range(0, len(piece), GROUP):
                 group = piece[at : at + GROUP]
                 lsn += len(group)
                 self._add(group, lsn)
                 self._move(_MOST_UNSENT)
+        self._settle()
+        return lsn
+
+    def _given(self, pieces: Iterable[Sequence[bytes]]) -> Iterator[Sequence[bytes]]:
+        try:
+            yield from pieces
+        except PagelogError:
+            self._settle()
+            raise
+
+    def _settle(self) -> None:
         while self._owed:
             self._move(0)
-        return lsn
 
     def _add(self, group: Sequence[bytes], last: int) -> None:
         heads = [self._prefix + bytes((Operation.WRITE, copy)) for copy in self._copies]

@@ -66,6 +66,10 @@ class Served:
         self.process: Run | None = None
         self._text, self._secret, self._timeout = text, secret, timeout
         self._entries, self._step = 0, 1
+        self._ahead: tuple[int, bytes] | None = None
+        """How far it was loaded, and the digest of that, where it is loaded, or the archive went away meanwhile."""
+        self._has_part = False
+        """Whether it has a part of the images that it was to begin with."""
         self._began = (0, b"")
         """A position at which its log begins, and the digest of all blocks up to there."""
 
@@ -127,15 +131,15 @@ class Served:
 
         `wanted` is the digest that it has returned. Raises `BrokenArchive` where the blocks have another: they are read without a
         write, and a server that was cut off may have others. Nobody reads what is above `reached` meanwhile. A service that has
-        nothing begins with the images of the newest base.
+        nothing begins with the images of the newest base. Where the archive goes away meanwhile, the next call goes on from there.
         """
         if archived <= self.reached:
             return
-        is_fresh = self.reached == 0
+        is_fresh = self.loaded == 0
         with self.loader() as loader, snapshot(referee) if is_fresh else nullcontext():
             if is_fresh:
                 self._begin(Bases(referee, log), archived, loader)
-            self.load(loader, referee.blocks(log, self.reached + 1, archived), archived, wanted)
+            self.load(loader, referee.blocks(log, self.loaded + 1, archived), archived, wanted)
         if is_fresh and self.process is not None:
             self.begun = self.process.memory
 
@@ -152,28 +156,37 @@ class Served:
 
     def _begin(self, bases: Bases, archived: int, loader: Loader) -> None:
         """With the images of the newest base. Its last block of them then has the base's position."""
+        if self._has_part:
+            raise BrokenArchive(f"{self.database}: the service has a part of the images that it was to begin with")
         base = bases.newest(archived)
         if base is not NOTHING:
+            self._has_part = True
             last = loader.load(1, _pieces(blocks_of(bases.images(base))))
+            self._has_part = False
             self.shift, self.images = base.position - last, base.position
             self.reached, self.chain, self.hard = base.position, base.chain, base.position
             self._began = self.reached, self.chain
 
+    @property
+    def loaded(self) -> int:
+        """How far it was loaded. What is above `reached` was not compared with what is archived."""
+        return self._ahead[0] if self._ahead is not None else self.reached
+
     def load(self, loader: Loader, pieces: Iterable[Sequence[bytes]], archived: int, wanted: bytes) -> None:
-        """Loads the blocks behind `reached`, up to a position at which they have the digest that is wanted."""
-        chain, at = self.chain, self.reached
+        """Loads the blocks behind `loaded`, up to a position at which they have the digest that is wanted."""
+        at, chain = self._ahead or (self.reached, self.chain)
 
         def with_lsns() -> Iterator[Sequence[bytes]]:
             nonlocal chain, at
             for piece in pieces:
-                chain = digest(chain, piece)
                 yield labelled(piece, at + 1 - self.shift) if self.shift else piece
-                at += len(piece)
+                at, chain = at + len(piece), digest(chain, piece)
+                self._ahead = at, chain
 
-        loader.load(self.reached + 1 - self.shift, with_lsns())
-        if chain != wanted:
+        loader.load(at + 1 - self.shift, with_lsns())
+        if (at, chain) != (archived, wanted):
             raise BrokenArchive(f"{self.database}: the blocks up to {archived} are not those that were archived")
-        self.reached, self.chain, self.hard = archived, chain, archived
+        self.reached, self.chain, self.hard, self._ahead = archived, chain, archived, None
 
     def check(self, archived: int, chain: bytes) -> None:
         """Raises `BrokenArchive` where it does not have exactly what is archived."""

@@ -41,8 +41,8 @@ class Shared:
         """Fills it up to this position. Where much is missing, over a connection to the archive of its own."""
         if archived <= served.reached:
             return
-        if 0 < served.reached and archived <= served.reached + PIECE:
-            pieces = await self.session.ask(lambda *of: list(self.session.referee.blocks(*of)), log, served.reached + 1, archived)
+        if 0 < served.loaded and archived <= served.loaded + PIECE:
+            pieces = await self.session.ask(lambda *of: list(self.session.referee.blocks(*of)), log, served.loaded + 1, archived)
             return await asyncio.to_thread(served.fill, pieces, archived, chain)
         referee = Referee(self.settings.url, self.settings.name, self.life)
         try:
