@@ -122,14 +122,14 @@ inline publish(r) {
 
 /* ---- A service ---- */
 
-/* Fills it with what the archive has, up to p. */
+/* Fills it with what the archive has, up to p. One that breaks off goes on behind what is loaded: the digest of all is compared. */
 // served.py: follow
                     // if archived <= self.reached:
                     // return
-                    // is_fresh = self.reached == 0
+                    // is_fresh = self.loaded == 0
                     // ..
                     // self._begin(Bases(referee, log), archived, loader)
-                    // self.load(loader, referee.blocks(log, self.reached + 1, archived), archived, wanted)
+                    // self.load(loader, referee.blocks(log, self.loaded + 1, archived), archived, wanted)
                     // ..
 inline fill(r, p) {
     if
