@@ -115,7 +115,7 @@ def test_attach_by_a_bare_name_with_settings_of_the_environment():
 
 def test_one_service_under_two_spellings_of_its_address():
     """Connections of one process share the database: none fences the other."""
-    with Service() as service:
+    with Service(listen="127.0.0.1:0") as service:
         first = connect(service.address)
         first.execute("create table t(a)")
         second = connect(service.address.replace("127.0.0.1", "localhost"))

@@ -306,7 +306,7 @@ def test_a_commit_waits_at_the_limit():
         first.execute("create table t(a)")
         first.close()
         with Proxy(service.address, between=between, holds=lambda: reports[0] % (limit + 1) > 0) as proxy:
-            connection = connect(proxy.address, check=3600000, async_commits=limit, timeout=5000, patience=1000)
+            connection = connect(proxy.address, check=3600000, async_commits=limit, timeout=60000, patience=1000)
             connection.execute("pragma synchronous = off")
             same("no row yet", 0, one(connection, "select count(*) from t"))
             before = number_of(connection, "round_trips")
@@ -646,7 +646,7 @@ def test_a_file_that_is_made_shorter_after_its_commit():
     for goes_away in (False, True):
         for locking, journal in (("normal", "delete"), ("exclusive", "persist")):
             rule = CutsAfterTheCommit(goes_away)
-            with Service() as service, Proxy(service.address, between=rule, at="127.0.0.2") as rule.proxy:
+            with Service() as service, Proxy(service.address, between=rule) as rule.proxy:
                 writer = connect(rule.proxy.address, pages=1, check=3600000, patience=100)
                 writer.executescript("pragma page_size = 4096; pragma auto_vacuum = incremental; pragma cache_size = 5;"
                                      "create table t(a integer primary key, b); create table u(a integer primary key, b);"
