@@ -18,12 +18,12 @@ static bool takes_over_epoch(const struct pagelog *log, uint8_t role, uint32_t a
 
 struct pagelog_patience pagelog_patience_of(struct pagelog *log) {
     return (struct pagelog_patience){
-        .log = log, .until = pagelog_now() + log->options.patience_ms, .ms = log->options.patience_ms};
+        .log = log, .until = pagelog_after(log->options.patience_ms), .ms = log->options.patience_ms};
 }
 
 void pagelog_progress(struct pagelog_patience *patience) {
     patience->tries = 0;
-    patience->until = pagelog_now() + patience->ms;
+    patience->until = pagelog_after(patience->ms);
 }
 
 bool pagelog_may_try_again(struct pagelog_patience *patience) {

@@ -34,4 +34,13 @@ static inline uint64_t pagelog_now(void) {
     return pagelog_now_ns() / 1000000;
 }
 
+/* When a wait of `ms` is over that began at `ns`, and one that begins now: never too soon, so rounded up. */
+static inline uint64_t pagelog_end_of_wait(uint64_t ns, uint64_t ms) {
+    return (ns + 999999) / 1000000 + ms;
+}
+
+static inline uint64_t pagelog_after(uint64_t ms) {
+    return pagelog_end_of_wait(pagelog_now_ns(), ms);
+}
+
 #endif

@@ -48,9 +48,8 @@ void pagelog_set_waiting(struct pagelog *log, bool (*goes_on)(void *argument), v
 
 bool pagelog_waits_on(struct pagelog_waiter *waiter) {
     if (!waiter->goes_on || waiter->is_given_up) return !waiter->is_given_up;
-    uint64_t now = pagelog_now();
-    if (waiter->since == 0) waiter->since = now;
-    if (now - waiter->since >= FREE_MS) waiter->is_given_up = !waiter->goes_on(waiter->argument);
+    if (waiter->free == 0) waiter->free = pagelog_after(FREE_MS);
+    if (pagelog_now() >= waiter->free) waiter->is_given_up = !waiter->goes_on(waiter->argument);
     return !waiter->is_given_up;
 }
 
@@ -109,7 +108,7 @@ enum pagelog_outcome pagelog_ensure_connected(struct pagelog *log) {
     struct addrinfo hints = {.ai_family = AF_UNSPEC, .ai_socktype = SOCK_STREAM}, *found = NULL;
     if (log->waiter.is_given_up || !log->host) return pagelog_fail(log, PAGELOG_LOST);
     if (log->socket >= 0) return PAGELOG_DONE;
-    uint64_t deadline = pagelog_now() + log->options.connect_ms;
+    uint64_t deadline = pagelog_after(log->options.connect_ms);
     if (getaddrinfo(log->host, log->port, &hints, &found) != 0) return pagelog_fail(log, PAGELOG_LOST);
     for (struct addrinfo *address = found; address && log->socket < 0; address = address->ai_next)
         log->socket = connect_to(log, address, deadline);

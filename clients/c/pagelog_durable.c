@@ -48,7 +48,7 @@ enum pagelog_outcome pagelog_file_take_fate(struct pagelog_file *file, const str
 }
 
 uint64_t pagelog_file_patience(const struct pagelog_file *file) {
-    return pagelog_now() + file->options.move_ms;
+    return pagelog_after(file->options.move_ms);
 }
 
 bool pagelog_file_may_wait(struct pagelog_file *file, uint64_t until) {

@@ -71,7 +71,7 @@ struct ahead {
 struct pagelog_waiter {
     bool (*goes_on)(void *); /* asked while a call waits; NULL: nobody is */
     void *argument;
-    uint64_t since;   /* when the first wait began since that was set; 0: none has */
+    uint64_t free;    /* until when the first wait asks nobody; 0: none was begun since that was set */
     bool is_given_up; /* it has ended the wait */
 };
 

@@ -359,7 +359,7 @@ static bool may_be_there(const struct named *named) {
 }
 
 static enum pagelog_outcome move(struct pagelog_file *file, bool is_over, enum pagelog_outcome cause) {
-    uint64_t until = pagelog_now() + file->options.move_ms, left = file->named.place.generation;
+    uint64_t until = pagelog_after(file->options.move_ms), left = file->named.place.generation;
     unsigned ms = QUICKEST_MS;
     file->reason = NULL;
     file->named.is_sent_again = false;

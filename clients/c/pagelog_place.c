@@ -185,7 +185,7 @@ static bool read_place(char **words, size_t count, struct pagelog_place *place) 
 enum pagelog_outcome pagelog_where(struct pagelog_keepers *keepers, uint64_t least,
                                    struct pagelog_place *place) {
     char line[PAGELOG_PLACE_BYTES + 16], answer[PAGELOG_LINE_BYTES], *words[MOST_WORDS];
-    uint64_t deadline = pagelog_now() + ANSWER_MS;
+    uint64_t deadline = pagelog_after(ANSWER_MS);
     bool is_found = false, is_unknown = false, is_known = false;
     snprintf(line, sizeof line, "where %s\n", keepers->name);
     for (size_t i = 0; i < keepers->count; i++)
@@ -197,7 +197,7 @@ enum pagelog_outcome pagelog_where(struct pagelog_keepers *keepers, uint64_t lea
         is_unknown |= is_unknown_here;
         is_known |= !is_unknown_here;
         bool is_here = read_place(words, count, &told) && told.generation >= least;
-        uint64_t soon = pagelog_now() + (is_here ? LATER_MS : SOON_MS);
+        uint64_t soon = pagelog_after(is_here ? LATER_MS : SOON_MS);
         if (!is_unknown_here && soon < deadline) deadline = soon;
         if (!is_here) continue;
         if (!is_found || told.generation > place->generation) *place = told;
@@ -235,7 +235,7 @@ static bool ask_fate(struct pagelog_keepers *keepers, struct pagelog_line *keepe
                      uint64_t position, struct pagelog_fate *fate) {
     char answer[PAGELOG_LINE_BYTES], *words[MOST_WORDS];
     pagelog_line_ask(keeper);
-    bool is_told = next_answer(keepers, line, pagelog_now() + SILENCE_MS, answer) &&
+    bool is_told = next_answer(keepers, line, pagelog_after(SILENCE_MS), answer) &&
                    read_fate(words, split(answer, words), position, fate);
     stop_asking(keepers, line, false);
     return is_told;

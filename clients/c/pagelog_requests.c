@@ -73,7 +73,7 @@ static bool sleep_before_last(struct pagelog *log, size_t wanted, uint64_t deadl
 static bool wait_first(struct pagelog *log, uint64_t *deadline) {
     uint64_t since = pagelog_now_ns();
     size_t before = held(&log->input), wanted = before + bytes_awaited(log);
-    *deadline = since / 1000000 + log->options.reply_ms;
+    *deadline = pagelog_end_of_wait(since, log->options.reply_ms);
     if (log->spin_ns > 0 && !sleep_before_last(log, wanted, *deadline)) return false;
     if (held(&log->input) > before) since = pagelog_now_ns();
     if (log->usual_ns < log->spin_ns && !look_awake(log, wanted, &since)) return false;

@@ -122,7 +122,7 @@ enum pagelog_outcome pagelog_flush(struct pagelog *log) {
     if (held(&log->output) == 0) return PAGELOG_DONE;
     if (!send_some(log)) return pagelog_lose(log);
     if (held(&log->output) == 0) return PAGELOG_DONE;
-    uint64_t deadline = pagelog_now() + log->options.reply_ms;
+    uint64_t deadline = pagelog_after(log->options.reply_ms);
     while (held(&log->output) > 0) {
         short ready, events = POLLOUT;
         if (held(&log->input) < MOST_INPUT) events |= POLLIN;

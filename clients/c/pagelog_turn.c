@@ -23,8 +23,8 @@ void pagelog_turn_leave(struct pagelog_turn *turn) {
 /* The keeper does not answer: it is asked again later, and meanwhile nobody. */
 static enum pagelog_outcome lose(struct pagelog_turn *turn) {
     pagelog_turn_leave(turn);
-    turn->shunned = pagelog_now() + SHUNNED_MS;
-    if (turn->lost == 0) turn->lost = pagelog_now();
+    turn->shunned = pagelog_after(SHUNNED_MS);
+    if (turn->patient == 0) turn->patient = pagelog_after(PATIENT_MS);
     return PAGELOG_LOST;
 }
 
@@ -37,7 +37,7 @@ static bool take(struct pagelog_turn *turn, char *text) {
     } else if (strcmp(word, "turn") == 0) {
         turn->is_asked = turn->is_wanted = turn->is_mine = false;
         turn->is_held = true;
-        turn->lost = 0;
+        turn->patient = 0;
         turn->is_same = strcmp(how, "same") == 0;
         turn->is_kept = strcmp(kept, "kept") == 0;
     } else if (strcmp(word, "busy") == 0) {
@@ -63,7 +63,7 @@ enum pagelog_outcome pagelog_turn_look(struct pagelog_turn *turn) {
 static bool say(struct pagelog_turn *turn, const char *word, const char *more) {
     char text[PAGELOG_PLACE_BYTES + 16];
     int length = snprintf(text, sizeof text, "%s %s%s\n", word, turn->name, more);
-    uint64_t until = pagelog_now() + ANSWER_MS;
+    uint64_t until = pagelog_after(ANSWER_MS);
     turn->line.sent = 0;
     while (turn->line.socket >= 0 && turn->line.sent < (size_t)length) {
         struct pollfd fd = {.fd = turn->line.socket, .events = POLLOUT};
@@ -81,7 +81,7 @@ static bool say(struct pagelog_turn *turn, const char *word, const char *more) {
 
 /* Waits for the answer to a question that is answered at once. */
 static enum pagelog_outcome answer(struct pagelog_turn *turn) {
-    uint64_t until = pagelog_now() + ANSWER_MS;
+    uint64_t until = pagelog_after(ANSWER_MS);
     for (;;) {
         struct pollfd fd = {.fd = turn->line.socket, .events = POLLIN};
         uint64_t now = pagelog_now();
@@ -101,7 +101,7 @@ static bool lead_to(struct pagelog_turn *turn, const char *lines, uint64_t gener
     turn->line = wanted;
     snprintf(turn->lines, sizeof turn->lines, "%s", lines);
     turn->generation = generation;
-    turn->shunned = turn->lost = 0;
+    turn->shunned = turn->patient = 0;
     return true;
 }
 
@@ -129,7 +129,7 @@ enum pagelog_outcome pagelog_turn_ask(struct pagelog_turn *turn, const char *lin
 }
 
 bool pagelog_turn_may_come(const struct pagelog_turn *turn) {
-    return !turn->is_mine && turn->lost > 0 && pagelog_now() - turn->lost < PATIENT_MS;
+    return !turn->is_mine && pagelog_now() < turn->patient;
 }
 
 void pagelog_turn_hold(struct pagelog_turn *turn) {

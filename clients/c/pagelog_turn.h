@@ -21,7 +21,7 @@ struct pagelog_turn {
     bool is_kept;     /* it may be used again */
     bool is_wanted;   /* another waits for the turn that is kept */
     uint64_t shunned; /* until when a keeper that has not answered is left alone */
-    uint64_t lost;    /* when it first was lost in this generation; 0: it was not */
+    uint64_t patient; /* until when another keeper may have it, since it was lost here; 0: it was not */
 };
 
 /* A turn that was not asked for yet. */

@@ -95,7 +95,7 @@ enum pagelog_outcome pagelog_confirm(struct pagelog *log) {
     enum pagelog_role role = log->writing_epoch > 0 ? PAGELOG_PRIMARY : PAGELOG_SECONDARY;
     enum pagelog_operation operation = PAGELOG_GET;
     bool is_over = false;
-    uint64_t until = pagelog_now() + log->options.reply_ms;
+    uint64_t until = pagelog_after(log->options.reply_ms);
     for (unsigned tries = 0; tries < MOST_TRIES && (tries == 0 || pagelog_now() < until); tries++) {
         struct pagelog_reply reply = {0};
         enum pagelog_outcome outcome = ask(log, role, operation, &reply);

@@ -9,7 +9,7 @@ LONG = "--long" in sys.argv
 # Against scripts/model: the tests that it can answer, and of those of the file and of the VFS a short part.
 MODEL = "--model" in sys.argv
 # A test that hangs ends its part, which shows then where it was.
-faulthandler.dump_traceback_later(7200 if LONG else 900, exit=True)
+faulthandler.dump_traceback_later(7200 if LONG else 1700, exit=True)
 
 
 def same(what, wanted, found):

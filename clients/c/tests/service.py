@@ -21,6 +21,8 @@ TABLE = CLIENT / "table.toml"
 SIX_COPIES = "copies = 6\nquorum = 4\n\n" + TABLE.read_text()
 START_TABLE = ROOT / "crates" / "pagelog" / "data" / "t0.toml"
 PROGRAM = os.environ.get("PAGELOG") or str(ROOT / "crates" / "pagelog" / "out" / "pagelog")
+# An address of this process alone: a port of it that is free for a while stays free.
+HOST = f"127.{1 + os.getpid() // 65536 % 254}.{os.getpid() // 256 % 256}.{os.getpid() % 256}"
 
 sys.path.insert(0, str(ROOT / "scripts"))
 sys.dont_write_bytecode = True
@@ -39,7 +41,7 @@ class Service:
     def __init__(self, table=TABLE, primary=2, dbs=1, workers=16, connections=4294967295, audit=16777216, listen=None,
                  prefix=(), quiet=False, text=None, idle_polls=None):
         """`text` is that of the table, in place of a file."""
-        words = ["serve", "--listen", listen or "127.0.0.1:0", "--primary", primary, "--dbs", dbs, "--workers", workers,
+        words = ["serve", "--listen", listen or f"{HOST}:0", "--primary", primary, "--dbs", dbs, "--workers", workers,
                  "--connections", connections, "--audit", audit]
         if idle_polls is not None:
             words += ["--idle-polls", idle_polls]
@@ -178,11 +180,11 @@ class Proxy:
     A second rule beside it, `holds`, is called once the service has answered all frames that have come. While it is true the
     replies stay here: they go to the client together with later ones."""
 
-    def __init__(self, address, plan=None, between=None, holds=lambda: False, at="127.0.0.1"):
+    def __init__(self, address, plan=None, between=None, holds=lambda: False):
         host, port = address.rsplit(":", 1)
         self.target = host, int(port)
         self.plan, self.between, self.holds = plan, between, holds
-        self.listener = socket.create_server((at, 0), backlog=64)
+        self.listener = socket.create_server((HOST, 0), backlog=64)
         self.address = "%s:%d" % self.listener.getsockname()
         self.cuts = self.accepted = 0
         self.carried = []
@@ -195,10 +197,11 @@ class Proxy:
 
     def __exit__(self, *_):
         self.is_on = False
-        self.listener.close()
+        with contextlib.suppress(OSError):
+            self.go_away()
 
     def go_away(self):
-        """From now on each connect is refused, where no other server is at this address: at 127.0.0.1 one may be soon."""
+        """From now on each connect is refused."""
         self.listener.shutdown(socket.SHUT_RDWR)
         self.listener.close()
 

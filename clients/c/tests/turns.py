@@ -11,6 +11,7 @@ import time
 from check import run, same, true
 from database import code_of, named, numbers, one
 from generations import fill, rows, until
+from service import wire
 from stub_keeper import StubKeeper
 from vfs_forks import fork, in_child
 
@@ -116,19 +117,21 @@ def test_a_child_has_no_turn():
 
 
 @contextlib.contextmanager
-def early_for_ever():
-    """Generations, the first turn of which is for who had the last one of the generation before, until the test ends that."""
-    before, turns.EARLY = turns.EARLY, 3600
+def for_ever(name):
+    """A time of the keeper's that does not end: the first turn of a generation is for who had the last one of the one before (EARLY), or
+    a turn that is wanted back is waited for (GRACE), until the test ends that."""
+    before = getattr(turns, name)
+    setattr(turns, name, 3600)
     try:
         yield
     finally:
-        turns.EARLY = before
+        setattr(turns, name, before)
 
 
 def test_who_is_amid_a_transaction_is_first_in_the_next_generation():
     """Who waits for the turn asks for it there again, wherever it was when the generation ended."""
     for event in (StubKeeper.succeed, StubKeeper.die):
-        with early_for_ever(), StubKeeper() as keeper:
+        with for_ever("EARLY"), StubKeeper() as keeper:
             connection = amid_a_transaction(keeper)
             waits = waits_for_a_turn(keeper)
             event(keeper)
@@ -141,7 +144,7 @@ def test_who_is_amid_a_transaction_is_first_in_the_next_generation():
 
 def test_a_writer_that_is_alone_goes_on_at_once():
     """It has kept the turn, and says so in the next generation, where others would be waited for."""
-    with early_for_ever(), StubKeeper() as keeper:
+    with for_ever("EARLY"), StubKeeper() as keeper:
         connection = named(keeper, busy=60)
         connection.execute("create table t(a, b)")
         fill(connection, 30)
@@ -153,7 +156,7 @@ def test_a_writer_that_is_alone_goes_on_at_once():
 
 def test_a_turn_of_a_generation_that_is_over_is_not_waited_for():
     """Though nobody says so over its line, as where a machine is gone."""
-    with early_for_ever(), StubKeeper() as keeper:
+    with for_ever("EARLY"), StubKeeper() as keeper:
         connection = amid_a_transaction(keeper)
         waits = waits_for_a_turn(keeper)
         keeper.turns.end = lambda: None
@@ -165,7 +168,8 @@ def test_a_turn_of_a_generation_that_is_over_is_not_waited_for():
 
 
 def test_turns_of_a_keeper_that_is_gone():
-    """Who waits for the turn waits a while for the next keeper, and who has it goes on."""
+    """Who waits for the turn waits a while for the next keeper, and who has it goes on. The while is three seconds: if the machine
+    takes longer, a failover is held up for as long."""
     with StubKeeper() as keeper:
         connection = named(keeper, move=2000)
         connection.execute("create table t(a, b)")
@@ -181,14 +185,19 @@ def test_turns_of_a_keeper_that_is_gone():
         fill(connection, 1)
         waits = fork(wait)
         until(lambda: keeper.turns._waiting, "another waits")
-        asked = []
-        keeper.rule = lambda frame: (asked.append(frame), frame)[1]
+        asked, is_done = [], threading.Event()
+
+        def rule(frame):
+            asked.append(frame)
+            return frame if frame[33] != wire.FAILOVER or is_done.wait(60) else None
+
+        keeper.rule = rule
         keeper.turns.gone = lambda line: None  # it gives no turn any more
         keeper.server.socket.shutdown(socket.SHUT_RDWR)
         keeper.cut_lines()
         until(lambda: len(asked) > 8, "it begins again and again")
-        keeper.rule = None
         connection.execute("commit")
+        is_done.set()
         same("both", [0, 1], waits())
 
 
@@ -251,7 +260,7 @@ def test_who_has_the_turn_reads_what_was_written():
 
 def test_a_turn_that_is_kept_and_in_use_is_not_passed_on():
     """Its holder says so as it writes."""
-    with StubKeeper() as keeper:
+    with for_ever("GRACE"), StubKeeper() as keeper:
         connection = named(keeper)
         connection.execute("create table t(a, b)")
         connection.execute("pragma cache_size = 2")

@@ -115,7 +115,7 @@ def test_attach_by_a_bare_name_with_settings_of_the_environment():
 
 def test_one_service_under_two_spellings_of_its_address():
     """Connections of one process share the database: none fences the other."""
-    with Service() as service:
+    with Service(listen="127.0.0.1:0") as service:
         first = connect(service.address)
         first.execute("create table t(a)")
         second = connect(service.address.replace("127.0.0.1", "localhost"))
@@ -306,11 +306,10 @@ def test_a_connection_without_a_busy_timeout_goes_by_its_own():
     with Service() as service:
         writer = connect(service.address, busy=0, timeout=3000, patience=1)
         writer.execute("create table t(a)")
-        one(writer, "select count(*) from t")  # no reply is on its way, whose time would have begun before
-        start = time.monotonic()
         with stopped(service):
+            start = time.monotonic()
             same("a statement", "SQLITE_IOERR", code_of(lambda: writer.execute("select count(*) from t")))
-        true("not before", time.monotonic() - start >= 3)
+            true("not before", time.monotonic() - start >= 3)
 
 
 def test_a_writer_that_is_overtaken_while_it_opens():

@@ -1,5 +1,6 @@
 """The wire, call by call, against the real service."""
 
+import contextlib
 import ctypes
 import os
 import random
@@ -674,7 +675,7 @@ def test_a_failover_that_was_lost_takes_nobody_elses_epoch():
                     operator.carry(frame)
                 return None
 
-            with Proxy(service.address, between=between, at="127.0.0.2") as proxy, \
+            with Proxy(service.address, between=between) as proxy, \
                     Log(proxy.address, 2, patience_ms=100) as old, Log(service.address, who or 5) as new:
                 same("old", (DONE, DONE, 2), (old.take_over(), old.append(numbered(1, 1)), old.writing_epoch))
                 if is_sent:
@@ -871,7 +872,7 @@ def test_every_wait_ends():
             with stopped(service):
                 start = time.monotonic()
                 same("a service that is silent", LOST, log.status(SECONDARY)[0])
-                true("no sooner than reply_ms", time.monotonic() - start > 0.19)
+                true("no sooner than reply_ms", time.monotonic() - start >= 0.2)
         with Log(service.address, 3) as log:
             same("one worker, two connections", (DONE, DONE), (log.status(SECONDARY)[0], holder.status(PRIMARY)[0]))
     with Log("127.0.0.1:1", 2, patience_ms=100) as log:
@@ -885,9 +886,9 @@ def test_every_wait_ends():
     def drip():
         client, _ = listener.accept()
         try:
-            client.sendall(b"\0\0\0\x21")
+            client.sendall(b"\0\0\x20\x09\2")  # the begin of a page
             while not dripping.wait(0.05):
-                client.sendall(b"\4")
+                client.sendall(b"\0")
         except OSError:
             pass
         client.close()
@@ -895,9 +896,41 @@ def test_every_wait_ends():
     thread = threading.Thread(target=drip, daemon=True)
     thread.start()
     with Log("127.0.0.1:%d" % listener.getsockname()[1], 2, reply_ms=400, patience_ms=1) as log:
-        true("a reply that drips", log.ask(SECONDARY, wire.STATUS)[0] in (LOST, MALFORMED))
+        same("a reply that drips", LOST, log.ask(SECONDARY, wire.STATUS)[0])
     dripping.set()
     thread.join()
+
+
+@contextlib.contextmanager
+def begins_to_answer():
+    """A peer that gives each request the first byte of a reply, and no more: its address."""
+    listener, clients = socket.create_server(("127.0.0.1", 0), backlog=64), []
+
+    def answer():
+        with contextlib.suppress(OSError):
+            while True:
+                clients.append(listener.accept()[0])
+                clients[-1].recv(65536)
+                clients[-1].sendall(b"\0")
+
+    thread = threading.Thread(target=answer, daemon=True)
+    thread.start()
+    yield "127.0.0.1:%d" % listener.getsockname()[1]
+    listener.shutdown(socket.SHUT_RDWR)
+    thread.join()
+    listener.close()
+
+
+def test_no_wait_is_shorter_than_asked():
+    """At whatever part of a millisecond it begins: for a reply whose first byte has come, and for somebody to answer."""
+    with begins_to_answer() as address:
+        waits = [(address, {"reply_ms": 3, "patience_ms": 1})] * 40 + [("127.0.0.1:1", {"patience_ms": ms}) for ms in range(1, 41)]
+        for address, options in waits:
+            with Log(address, 2, **options) as log:
+                start = time.monotonic_ns()
+                same("nobody answers", LOST, log.status(SECONDARY)[0])
+                took = (time.monotonic_ns() - start) / 1e6
+                true(f"{took} ms, of {options}", took >= max(options.values()))
 
 
 def test_waits_that_look_for_their_reply():
