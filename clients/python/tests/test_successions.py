@@ -278,8 +278,11 @@ class OneKeeper(Succeeding):
 class Looked(Writer):
     """Before its list is half full it goes on with looks of the keeper alone, so that it never fills the list between two of them."""
 
+    FREE = 1500
+    """So many commits fill less than half of it."""
+
     def _may_go_on(self) -> None:
-        if len(self.texts) > 1500 and len(self.texts) % 50 == 0:
+        if len(self.texts) > self.FREE and len(self.texts) % 50 == 0:
             beat = self._beat()
             eventually(lambda: self._beat() > beat or self._stops.is_set(), "a look of the keeper")
 
