@@ -1,10 +1,12 @@
 """A keeper whose succession is cut off at the end of a step, once: `cutting.py STEP DEED MARK keep ..`, MARK a file to be made then.
 
-What is done is that somebody is killed: the keeper itself, the present service or the next one; or that PostgreSQL goes away.
+What is done is that somebody is killed: the keeper itself, the present service or the next one; or that PostgreSQL goes away; or, at
+a step of the event loop, that the succession waits until the mark is gone.
 """
 
 from __future__ import annotations
 
+import asyncio
 import functools
 import os
 import signal
@@ -59,6 +61,7 @@ def cut(step: str, deed: str, mark: Path) -> None:
     where, name = STEPS[step]
     original: Callable[..., Any] = getattr(where, name)
     prepare = Succession.prepare
+    was_done = [True] if mark.exists() else []
 
     def noted(self: Succession) -> None:
         _successions[:] = [self]
@@ -67,7 +70,8 @@ def cut(step: str, deed: str, mark: Path) -> None:
     @functools.wraps(original)
     def done(*arguments: Any) -> Any:
         found = original(*arguments)
-        if _successions and not mark.exists():
+        if _successions and not was_done:
+            was_done.append(True)
             _do(deed, mark)
             if step == "switched" and deed == "away":
                 raise Doubt("the connection was lost before the reply")
@@ -76,8 +80,11 @@ def cut(step: str, deed: str, mark: Path) -> None:
     @functools.wraps(original)
     async def done_later(*arguments: Any) -> None:
         await original(*arguments)
-        if not mark.exists():
+        if not was_done:
+            was_done.append(True)
             _do(deed, mark)
+            while deed == "wait" and mark.exists():
+                await asyncio.sleep(0.01)
 
     setattr(Succession, "prepare", noted)
     setattr(where, name, done_later if step in ("based", "made") else done)

@@ -235,14 +235,22 @@ class Keeping:
 
     def pid(self, name: str = "shop") -> int:
         """The process of the service that has the database now."""
-        found: list[Path] = []
+        found: list[int] = []
 
-        def is_noted() -> bool:  # a place may be told of a service that was killed just now
-            found[:] = self.folder.glob(f"*/{name}.{self.place(name).run}.json")
+        def is_noted() -> bool:  # a place may be told of a service that was killed just now, and what is noted of it may be gone
+            try:
+                found[:] = [json.loads(file.read_text())["pid"] for file in self.folder.glob(f"*/{name}.{self.place(name).run}.json")]
+            except FileNotFoundError:
+                return False
             return len(found) == 1
 
         eventually(is_noted, "what is noted of a service")
-        return int(json.loads(found[0].read_text())["pid"])
+        return found[0]
+
+    def ring(self) -> None:
+        """Has all keepers look now, however long their ttl is."""
+        with psycopg.connect(self.url, autocommit=True) as session:
+            session.execute("NOTIFY pagelog_keeper")
 
     @contextmanager
     def line(self, name: str = "a") -> Iterator[Any]:

@@ -16,6 +16,8 @@ from service import accept_each
 
 PATIENCE = 300
 """How many seconds a start or an end may take. What pg_ctl waits by itself, 60, is little on a machine with much else to do."""
+FSYNC = os.environ.get("PAGELOG_TEST_FSYNC", "on")
+"""`off` in the tests, where a server is killed and its machine is not: then no test waits for a disk."""
 _started: list["Postgres"] = []
 
 
@@ -56,7 +58,7 @@ class Postgres:
                 raise AssertionError(f"{program} failed: {said.read()}")
 
     def start(self) -> None:
-        options = f"-k {self.folder} -c listen_addresses= -c max_connections=30"
+        options = f"-k {self.folder} -c listen_addresses= -c max_connections=30 -c fsync={FSYNC}"
         self.run("pg_ctl", "-D", self.data, "-o", options, "-l", self.folder / "log", "-w", "-t", PATIENCE, "start")
 
     def crash(self) -> None:

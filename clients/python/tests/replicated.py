@@ -6,10 +6,18 @@ import os
 import shutil
 import signal
 import tempfile
+import time
 from pathlib import Path
 from typing import Any
 
-from postgres import PATIENCE, Postgres
+from postgres import FSYNC, PATIENCE, Postgres
+
+
+def _lives(process: str) -> bool:
+    try:
+        return Path(f"/proc/{process}/stat").read_text().rpartition(")")[2].split()[0] not in "ZX"
+    except OSError:
+        return False
 
 
 class Server(Postgres):
@@ -28,12 +36,15 @@ class Server(Postgres):
         self.start()
 
     def start(self) -> None:
-        options = f"-k {self.folder} -c listen_addresses= -c max_connections=60 -c wal_level=replica -c max_wal_senders=8 -c hot_standby=on"
+        options = f"-k {self.folder} -c listen_addresses= -c max_connections=60 -c wal_level=replica -c max_wal_senders=8 -c hot_standby=on -c fsync={FSYNC}"
         self.run("pg_ctl", "-D", self.data, "-o", options, "-l", self.folder / "log", "-w", "-t", PATIENCE, "start")
 
-    def kill(self) -> None:
-        """Its first process is killed; the others end by themselves."""
-        os.kill(int((self.data / "postmaster.pid").read_text().split()[0]), signal.SIGKILL)
+    def kill(self) -> list[str]:
+        """Its first process is killed; the others end by themselves, and are returned."""
+        first = int((self.data / "postmaster.pid").read_text().split()[0])
+        others = Path(f"/proc/{first}/task/{first}/children").read_text().split()
+        os.kill(first, signal.SIGKILL)
+        return others
 
     def setting(self, name: str, value: str) -> None:
         """Sets it for good, without a wait for the standby."""
@@ -59,11 +70,13 @@ class Pair:
     def fail_over(self) -> None:
         """The leader is killed, its standby leads, and a new standby is made in the old one's place."""
         old, place = self.leader, self.folders.index(self.leader.folder)
-        old.kill()
+        others = old.kill()
         self.standby.run("pg_ctl", "-D", self.standby.data, "-w", "-t", PATIENCE, "promote")
         self.standby.setting("synchronous_standby_names", "*")
         self.leader = self.standby
         fresh = Server(self.leader)
+        while any(map(_lives, others)):
+            time.sleep(0.01)  # what they still write would be in the way
         shutil.rmtree(old.folder, ignore_errors=True)
         fresh.crash()
         fresh.folder.rename(old.folder)

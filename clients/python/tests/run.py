@@ -156,6 +156,7 @@ def play_all(names: list[str]) -> tuple[int, int]:
 def main(arguments: list[str]) -> int:
     # A shell without job control starts what runs in its background with SIGINT ignored, which would go on to each program of a test.
     signal.signal(signal.SIGINT, signal.default_int_handler)
+    os.environ.setdefault("PAGELOG_TEST_FSYNC", "off")
     passed = failed = 0
     is_model = arguments == ["--model"]
     if arguments and not is_model:

@@ -23,7 +23,7 @@ from long_runs import STOP, LongRun, is_client, text_of  # noqa: E402
 from pagelog import BelowBase, Block, PagelogError, Primary, Put, Reader  # noqa: E402
 from pagelog.keeper.bases import Bases  # noqa: E402
 from pagelog.keeper.referee import digest  # noqa: E402
-from service import token  # noqa: E402
+from service import PATIENCE, token  # noqa: E402
 
 TTL = 1.0
 LIST = 8000
@@ -178,7 +178,7 @@ class Soak(LongRun):
                     before, due = self.successions() + self.chance.randrange(3), time.monotonic() + 30
                 time.sleep(0.5)
         (keeping.folder / STOP).touch()
-        violations = self.faults([self.ended(client, 180) for client in clients])
+        violations = self.faults([self.ended(client, PATIENCE) for client in clients])
         for name in NAMES:
             violations += self.violations(name)
         return self.report(violations + self.unbounded())

@@ -65,16 +65,21 @@ class Scrapes(unittest.TestCase):
         self.process = process
         return process.stdout.readline().split()[1]
 
+    def up(self, address: str) -> dict[str, float]:
+        """A scrape in which the service has answered: on a busy machine it may take longer than a scrape waits."""
+        while (found := scrape(address))['pagelog_up{db="0"}'] == 0:
+            time.sleep(0.1)
+        return found
+
     def test_a_service_that_hangs_is_down_within_the_scrape(self) -> None:
         address = self.metrics("--within", "1", dbs=2)
-        self.assertEqual(scrape(address)['pagelog_up{db="0"}'], 1)
+        self.up(address)
         stand_still(self.service.process.pid)
         for _ in range(3):
             found = scrape(address)
             self.assertEqual((found['pagelog_up{db="0"}'], found['pagelog_up{db="1"}']), (0, 0))
         self.service.process.send_signal(signal.SIGCONT)
-        while scrape(address)['pagelog_up{db="0"}'] == 0:
-            time.sleep(0.1)
+        self.up(address)
 
     def test_nothing_has_to_be_up_when_it_begins(self) -> None:
         self.service.stop()
@@ -92,8 +97,7 @@ class Scrapes(unittest.TestCase):
             url = f"postgresql://nobody@127.0.0.1:{silent.getsockname()[1]}/archive"
             address = self.metrics("--within", "1", "--url", url)
             for _ in range(3):
-                found = scrape(address)
-                self.assertEqual((found['pagelog_up{db="0"}'], found['pagelog_archive_up{db="0"}']), (1, 0))
+                self.assertEqual(self.up(address)['pagelog_archive_up{db="0"}'], 0)
             self.process.send_signal(signal.SIGTERM)
             self.assertEqual(self.process.wait(PATIENCE), 0)
 
@@ -163,9 +167,10 @@ class Watching(unittest.TestCase):
         goes_on = threading.Event()
         hangs, fast = Task(lambda: goes_on.wait(PATIENCE)), Task(lambda: True)
         for _ in range(2):
-            found = look_at_all([("hangs", hangs), ("fast", fast)], 0.1)
-            self.assertIsInstance(found["hangs"], NotInTime)
-            self.assertIs(found["fast"], True)
+            found: dict[str, object] = {}
+            while found.get("fast") is not True:  # it would never come if it waited for the other
+                found = dict(look_at_all([("hangs", hangs), ("fast", fast)], 0.1))
+                self.assertIsInstance(found["hangs"], NotInTime)
         goes_on.set()
         while isinstance(found := look_at_all([("hangs", hangs)], 0.1), dict) and found["hangs"] is not True:
             pass

@@ -11,6 +11,7 @@ import threading
 import unittest
 import zlib
 from pathlib import Path
+from unittest import mock
 
 import sqlalchemy as sql
 
@@ -110,10 +111,11 @@ class Keeping(Folder):
                     ended.append("other")
 
         threads = [threading.Thread(target=run) for _ in range(3)]
-        for thread in threads:
-            thread.start()
-        for thread in threads:
-            thread.join()
+        with mock.patch("pagelog.archive_engine._BUSY_MILLISECONDS", int(1000 * PATIENCE)):  # a disk may take its time
+            for thread in threads:
+                thread.start()
+            for thread in threads:
+                thread.join()
         self.assertEqual(len(ended), 3)
         archive = self.archive()
         Archiver(self.reader, archive).run(follow=False)

@@ -7,6 +7,7 @@ import socket
 import threading
 import time
 import unittest
+from unittest import mock
 
 import pagelog
 from pagelog import Address, Block, Connection, Put
@@ -148,10 +149,9 @@ class Refused(unittest.TestCase):
     def test_nobody_listens(self) -> None:
         port = Port()
         self.addCleanup(port.close)
-        began = time.monotonic()
-        with self.assertRaises(pagelog.Unreachable):
+        with mock.patch("pagelog.connection.time.sleep") as slept, self.assertRaises(pagelog.Unreachable):
             Connection(Address("127.0.0.1", port.number), attempts=3, pause=0.05).ask(Request(PRIMARY, Status()))
-        self.assertGreater(time.monotonic() - began, 0.14)
+        self.assertEqual(slept.call_args_list, [mock.call(0.05), mock.call(0.1)])
 
     def test_a_service_that_is_silent(self) -> None:
         """It is stopped amid its work, and goes on later. Its one worker then answers both connections."""

@@ -17,6 +17,7 @@ from click.testing import CliRunner
 from consoles import HOSTILE, Console, Follower, Rows, page_of
 from keepers import Kept, new_url, plain_url
 from pagelog.console.source import Source
+from pagelog.console.watcher import PACE
 from pagelog.desk.words import pagelogctl
 from pagelog.keeper.referee import Referee
 from pagelog.trail import Trail, TrailKeeper
@@ -54,6 +55,7 @@ class Lively(Kept):
     """Two real keepers with one database, and a console."""
 
     keepers = "ab"
+    options = {"ttl": 4.0}
 
     def setUp(self) -> None:
         super().setUp()
@@ -126,9 +128,8 @@ class Lively(Kept):
         self.until(state="silent")
         self.assertIn(f"The beat of {holder} stands still; nobody takes it over while it is paused.", str(self.shop["next"]))
         self.assertIn(f": the beat of keeper {holder} stands still", self.follower.said())
-        self.assertEqual(
-            {each["name"]: each["lives"] for each in self.follower.head["keepers"]}, {each: each != holder for each in "ab"}
-        )
+        lives = {each: each != holder for each in "ab"}  # a look may come between two late beats of the other
+        self.follower.until(lambda: {each["name"]: each["lives"] for each in self.follower.head["keepers"]} == lives)
         self.keeping.start(holder)
         self.until(state="serving")
 
@@ -216,13 +217,13 @@ class ByRows(OfAPage):
             follower.until(lambda: follower.databases["db001"]["holder"] == HOSTILE)
 
     def test_many_browsers_share_one_look_a_second(self) -> None:
+        began = time.monotonic()
         with Rows(3) as rows, Console(rows.url) as console:
             followers = [self.enterContext(console.follow()) for _ in range(12)]
             first = [follower.look()["look"] for follower in followers]
-            began = time.monotonic()
             for follower in followers:
                 follower.until(lambda: follower.head["look"] >= max(first) + 4)
-            self.assertGreater(time.monotonic() - began, 2.5)  # four of them take three seconds at least
+            self.assertLessEqual(followers[-1].head["look"], 1 + (time.monotonic() - began) / PACE)
             sessions = "SELECT count(*) FROM pg_stat_activity WHERE application_name = 'pagelog console' AND datname = current_database()"
             self.assertEqual(rows.session.execute(sessions).fetchone(), (1,))
 

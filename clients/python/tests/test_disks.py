@@ -150,20 +150,21 @@ class Referees(unittest.TestCase):
 
 class Durable(Kept):
     keepers = "a"
-    more = ""
+    more, ttl = "", 1.5
 
     def setUp(self) -> None:
-        self.options = {"url": pair().url, "more": f'metrics = "127.0.0.1:0"\n{self.more}'}
+        self.options = {"url": pair().url, "ttl": self.ttl, "more": f'metrics = "127.0.0.1:0"\n{self.more}'}
         super().setUp()
 
     def standbys(self) -> float:
         """The metric."""
+        self.keeping.ring()
         return self.keeping.metrics()["pagelog_keeper_synchronous_standbys", ""]
 
     def two_looks(self) -> None:
         """Waits for two more, which are committed at the leader even if no standby has them."""
         beat = self.beat()
-        eventually(lambda: self.beat() > beat + 1, "two looks of the keeper")
+        eventually(lambda: self.keeping.ring() or self.beat() > beat + 1, "two looks of the keeper")  # type: ignore[func-returns-value]
 
     def beat(self) -> int:
         with boss() as session:
@@ -172,6 +173,9 @@ class Durable(Kept):
 
 
 class OneDiskIsEnough(Durable):
+    ttl = 120.0
+    """A look that is cut would say something else between."""
+
     def test_that_durable_means_one_disk_is_said_once_and_shown(self) -> None:
         with self.keeping.primary() as primary:
             self.commit(primary, "1", durable=True)

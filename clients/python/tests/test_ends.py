@@ -36,18 +36,21 @@ from test_archive import Folder, words
 class Lists(Folder):
     """A writer goes on until it is denied, while an archiver follows."""
 
-    def write_until_denied(self, service: Service, told: list[object]) -> threading.Thread:
+    def write_until_denied(self, service: Service, told: list[object], archive: Archive | None = None) -> threading.Thread:
+        """With an archive it is never far ahead of that, however long the archiver has to wait for a processor."""
+
         def write() -> None:
             with service.primary() as primary:
                 try:
                     while True:
                         primary.append(put(1, b"on and on"))
                         primary.commit()
-                        time.sleep(0.001)
+                        while archive is not None and primary.durable > archive.archived + 50:
+                            time.sleep(0.001)
                 except pagelog.PagelogError as error:
                     told[:] = [primary.durable, error]
 
-        thread = threading.Thread(target=write)
+        thread = threading.Thread(target=write, daemon=True)
         thread.start()
         return thread
 
@@ -59,7 +62,7 @@ class Lists(Folder):
                              "--table", small.table)  # fmt: skip
             assert archiver.stdout is not None
             self.assertEqual(archiver.stdout.readline(), "archived 0 of 0\n")
-            writer = self.write_until_denied(small, told)
+            writer = self.write_until_denied(small, told, self.archive())
             out, error = archiver.communicate(timeout=PATIENCE)
             writer.join(PATIENCE)
             self.assertEqual(archiver.returncode, 4, out + error)
@@ -297,6 +300,13 @@ class Audits(Folder):
             self.assertGreater(len(found), seen)
 
 
+def patient(*arguments: object) -> subprocess.Popen[str]:
+    """As `words`, with waits for PostgreSQL that have no end of their own, so that it is the signal that ends them."""
+    code = f"from pagelog import archive_engine as of; of.bound_waits.__defaults__ = ({20 * PATIENCE},); import pagelog.__main__"
+    command = [sys.executable, "-B", "-c", code, *map(str, arguments)]
+    return subprocess.Popen(command, stdout=subprocess.PIPE, stderr=subprocess.PIPE, text=True, env={**os.environ, "PYTHONPATH": str(SOURCE)})
+
+
 class Silence(Folder):
     """A PostgreSQL that takes bytes, answers none, and leaves its connections open."""
 
@@ -308,7 +318,7 @@ class Silence(Folder):
 
     def test_sigterm_ends_an_archiver(self) -> None:
         fill(self.primary, 5)
-        process = words("archive", "--follow", "--idle", "0.1", "--credentials", self.service.credentials_file(), "--url", self.silent_url)
+        process = patient("archive", "--follow", "--idle", "0.1", "--credentials", self.service.credentials_file(), "--url", self.silent_url)
         assert process.stdout is not None
         self.assertIn("archived 5 of 5", process.stdout.readline())
         self.proxy.is_silent.set()
@@ -319,10 +329,8 @@ class Silence(Folder):
                           for entry in operator.entries(1)):  # fmt: skip
                 time.sleep(0.05)
         self.assertGreater(pulled, 0)
-        began = time.monotonic()
         process.send_signal(signal.SIGTERM)
         process.communicate(timeout=PATIENCE)
-        self.assertLess(time.monotonic() - began, 25)  # the time-out of a statement is 30 s
         self.assertNotEqual(process.returncode, -signal.SIGKILL)
         with Archive(self.url_of_server) as archive:
             self.assertEqual(archive.check().blocks, archive.archived)
@@ -331,29 +339,25 @@ class Silence(Folder):
         self.proxy.is_silent.set()
         for line, number in (("archive", signal.SIGTERM), ("verify --offline", signal.SIGINT), ("restore", signal.SIGTERM), ("logs", signal.SIGINT),
                              ("mend", signal.SIGTERM)):  # fmt: skip
-            process = words(*line.split(), "--credentials", self.service.credentials_file(), "--url", self.silent_url)
+            process = patient(*line.split(), "--credentials", self.service.credentials_file(), "--url", self.silent_url)
             self.wait_until_it_asks(process.pid)
-            began = time.monotonic()
             process.send_signal(number)
             _, error = process.communicate(timeout=PATIENCE)
-            self.assertLess(time.monotonic() - began, 25, line)
             self.assertEqual((process.returncode, error.count("\n")), (128 + number, 1), (line, error))
 
     def test_what_is_cleaned_up_after_a_signal_waits_no_more(self) -> None:
         for ending in ("try: asks(); time.sleep(100)\nfinally: connection.rollback()", "asks(); time.sleep(100)"):
             self.proxy.is_silent.clear()
             code = ("import sys, time; sys.path.insert(0, sys.argv[1]); from pagelog.archive_engine import bound_waits, engine_of\n"
-                    "bound_waits(); connection = engine_of(sys.argv[2]).connect(); connection.exec_driver_sql('select 1')\n"
+                    f"bound_waits({20 * PATIENCE}); connection = engine_of(sys.argv[2]).connect(); connection.exec_driver_sql('select 1')\n"
                     "def asks(): print('asks', flush=True)\n" + ending)
             process = subprocess.Popen([sys.executable, "-B", "-c", code, str(SOURCE), self.silent_url], stdout=subprocess.PIPE,
                                        stderr=subprocess.PIPE, text=True)  # fmt: skip
             assert process.stdout is not None
             self.assertEqual(process.stdout.readline(), "asks\n")
             self.proxy.is_silent.set()
-            began = time.monotonic()
             process.send_signal(signal.SIGINT)
             process.communicate(timeout=PATIENCE)
-            self.assertLess(time.monotonic() - began, 25, ending)  # the time-out of a statement is 30 s
 
     def wait_until_it_asks(self, process: int) -> None:
         """Until it has a connection to the silent PostgreSQL, on which it waits."""

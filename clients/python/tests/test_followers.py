@@ -76,6 +76,8 @@ class Followers(Folder):
         try:
             before, until_told = 0, 1.0
             for at in range(kills):
+                while self.reader.status().hard <= before:
+                    time.sleep(0.01)  # else its first line may be of nothing new
                 began = time.monotonic()
                 process = self.follow(url, file)
                 assert process.stdout is not None

@@ -143,7 +143,7 @@ class Durable(Trailed):
     """What is durable has its lines, at once: they are of the same statement."""
 
     keepers = "a"
-    options = {"ttl": 60.0, "more": "trail = 3\n"}
+    options = {"ttl": 600.0, "more": "trail = 3\n"}
     """For an eighth of it blocks wait for lines that a thread has to see to."""
 
     def setUp(self) -> None:
@@ -267,15 +267,15 @@ class TwoKeepers(Trailed):
 
 
 class Released(Trailed):
-    options = {"ttl": 20.0, "more": "trail = 3\n"}
+    options = {"ttl": 120.0, "more": "trail = 3\n"}
 
     def test_who_takes_over_leaves_the_one_before_time_to_end_its_list(self) -> None:
-        with self.keeping.primary() as primary, psycopg.connect(self.keeping.url, autocommit=True) as session:
+        with self.keeping.primary() as primary:
             self.commit(primary, "1", durable=True)
             eventually(lambda: len(self.lists()) == 1, "the list")
 
             def is_followed() -> bool:
-                session.execute("NOTIFY pagelog_keeper")  # a look, without which it takes long
+                self.keeping.ring()
                 return 1 in self.keeping.standbys().values()
 
             eventually(is_followed, "a standby with all of it")
@@ -333,7 +333,7 @@ class OneKeeper(Trailed):
 
 class FirstLines(Trailed):
     keepers = "a"
-    options = {"ttl": 120.0, "more": "trail = 3\n"}
+    options = {"ttl": 1200.0, "more": "trail = 3\n"}
 
     def beat(self) -> int:
         keeper = self.keeping.referee.everything().keeper("a")
@@ -342,10 +342,9 @@ class FirstLines(Trailed):
 
     def looks(self, count: int) -> None:
         """Waits for so many looks of the keeper, each of which rings its archiver."""
-        with psycopg.connect(self.keeping.url, autocommit=True) as session:
-            for least in range(self.beat() + 1, self.beat() + count + 1):
-                session.execute("NOTIFY pagelog_keeper")
-                eventually(lambda: self.beat() >= least, "a look")
+        for least in range(self.beat() + 1, self.beat() + count + 1):
+            self.keeping.ring()
+            eventually(lambda: self.beat() >= least, "a look")
 
     def test_what_is_durable_first_in_a_generation_that_takes_over_has_its_lines(self) -> None:
         with self.keeping.primary() as primary, ThreadPoolExecutor(1) as writer:

@@ -71,7 +71,7 @@ class Folders(Kept):
 
 class Vanished(Kept):
     keepers = "a"
-    options = {"ttl": 8.0}
+    options = {"ttl": 120.0}
 
     def test_who_waits_for_a_database_that_the_referee_has_lost_is_told(self) -> None:
         with self.keeping.primary() as primary, psycopg.connect(self.keeping.url, autocommit=True) as session:
@@ -200,6 +200,8 @@ class WentBack(Kept):
 
 class InDoubt(Kept):
     keepers = "a"
+    options = {"ttl": 120.0}
+    """For so long it leaves the others time."""
 
     def test_a_switchover_to_any_other_whose_release_was_in_doubt_leaves_the_others_time(self) -> None:
         with self.keeping.primary() as primary:
@@ -214,6 +216,7 @@ class InDoubt(Kept):
         self.keeping.word("switchover", "shop")
 
         def is_left_to_others() -> bool:
+            self.keeping.ring()
             self.assertEqual(other.look().row("shop").generation, row.generation, self.keeping.said())  # type: ignore[union-attr]
             return "any other keeper is wanted" in self.keeping.said()
 

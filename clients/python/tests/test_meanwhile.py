@@ -34,6 +34,7 @@ from service import PATIENCE
 
 ROW = Row(1, "shop", generation=3, run="mine", holder="a", address="a:1", archived=5, chain=b"c" * 16)
 BLOCK = b"a block"
+RELEASED = replace(ROW, run=None, holder=None, address=None, generation=0, archived=0)
 OF_C = StandbyRow(1, "c", "c:1", "sc", 5)
 
 
@@ -239,12 +240,32 @@ class Fills(Meanwhile):
         self.assertEqual(self.database.row, seen)
 
     async def test_one_that_failed_tries_again_after_a_ttl_whatever_another_does(self) -> None:
-        released, takes, now = replace(ROW, run=None, holder=None, address=None, generation=0, archived=0), list[int](), [0.0]
+        takes, now = self.failing(), [0.0]
+        with patch("pagelog.keeper.database.seconds", lambda: now[0]):
+            for now[0], generation, taken in ((1.0, 0, [0]), (2.0, 2, [0]), (3.0 + PATIENCE, 4, [0, 4])):
+                self.see(replace(RELEASED, generation=generation))
+                await self.done(lambda: self.database._acting.done())  # type: ignore[union-attr]
+                self.assertEqual(takes, taken)
+
+    async def test_one_that_fails_again_after_a_ttl_of_stillness_rests_again(self) -> None:
+        takes, now = self.failing(), [0.0]
+        with patch("pagelog.keeper.database.seconds", lambda: now[0]):
+            self.see(RELEASED)
+            await self.done(lambda: self.database._acting.done())  # type: ignore[union-attr]
+            for quarter in range(5):  # nobody else does anything
+                now[0] = 1 + quarter * PATIENCE / 4
+                self.see(replace(RELEASED, generation=1))
+                await self.done(lambda: self.database._acting.done())  # type: ignore[union-attr]
+        self.assertEqual(takes, [0, 1])
+
+    def failing(self) -> list[int]:
+        """Services cannot be started. Returns the generations behind which it takes."""
+        takes: list[int] = []
 
         async def ask(call: object, *of: Any) -> object:
             if call is self.session.referee.take:
                 takes.append(of[0].generation)
-                return Kept(0, b"", of[0].generation + 1)
+                return Kept(0, b"", of[0].generation + 1) if len(takes) < 9 else None
             return 0
 
         def made(_: str) -> Mock:
@@ -258,11 +279,8 @@ class Fills(Meanwhile):
             return failing
 
         self.session.ask = ask
-        with patch.object(Database, "new_served", new=AsyncMock(side_effect=made)), patch("pagelog.keeper.database.seconds", lambda: now[0]):
-            for now[0], generation, taken in ((1.0, 0, [0]), (2.0, 2, [0]), (3.0 + PATIENCE, 4, [0, 4])):
-                self.see(replace(released, generation=generation))
-                await self.done(lambda: self.database._acting.done())  # type: ignore[union-attr]
-                self.assertEqual(takes, taken)
+        self.enterContext(patch.object(Database, "new_served", new=AsyncMock(side_effect=made)))
+        return takes
 
 
     async def test_one_that_is_filled_while_postgresql_is_away_goes_on_with_it(self) -> None:

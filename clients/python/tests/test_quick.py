@@ -141,7 +141,7 @@ class Pulls(unittest.TestCase):
         self.primary = self.enterContext(self.service.primary())
         self.reader = self.enterContext(self.service.reader())
         fill(self.primary, 20)
-        self.puller = Puller(self.service.address, self.reader.credentials, 0.5)
+        self.puller = Puller(self.service.address, self.reader.credentials, PATIENCE)
         self.addCleanup(self.puller.close)
 
     def pull(self, position: int, epoch: int = 1) -> list[bytes] | None:
@@ -168,7 +168,8 @@ class Pulls(unittest.TestCase):
     def test_a_service_that_hangs_or_is_gone(self) -> None:
         self.assertIsNotNone(self.pull(19))
         stand_still(self.service.process.pid)
-        self.assertIsNone(self.pull(19))
+        with patch.object(self.puller, "_timeout", 0.5):
+            self.assertIsNone(self.pull(19))
         self.service.process.send_signal(signal.SIGCONT)
         self.assertIsNotNone(self.pull(19))  # over another connection: the late answer is of nobody
         self.service.process.kill()

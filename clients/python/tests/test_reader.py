@@ -165,12 +165,12 @@ class PageServers(unittest.TestCase):
             self.assertEqual(reader.page(0, 5, exact=False).at, 1100)
             steps = [(entry.a, entry.b) for entry in operator.entries(1) if entry.operation == Operation.ADVANCE]
             self.assertEqual(steps, [(0, 1024), (0, 76), (2, 1024), (2, 76)])
-            before = operator.count_of_entries()
+            before, began = operator.count_of_entries(), time.monotonic()
             done = threading.Event()
             thread = threading.Thread(target=server.run, kwargs={"idle": 0.2, "stop": done.is_set})
             thread.start()
             time.sleep(0.8)
-            self.assertLess(operator.count_of_entries() - before, 60)
+            self.assertLess(operator.count_of_entries() - before, 50 + 2 * (time.monotonic() - began) / 0.2)
             primary.append(put(0, b"new"))
             lsn = primary.commit()
             deadline = time.monotonic() + PATIENCE

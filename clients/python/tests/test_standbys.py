@@ -162,20 +162,6 @@ class TwoKeepers(Two):
             eventually(lambda: reader.end() == 2, "the word of the holder")
             self.assertEqual(reader.page(0, 2).data[:3], b"<2>")
 
-    def test_while_postgresql_is_away_nobody_takes_over_and_nothing_is_durable(self) -> None:
-        with self.keeping.primary() as primary:
-            self.commit(primary, "1", durable=True)
-            self.standby(1)
-            before = self.keeping.place()
-            server = postgres()
-            server.run("pg_ctl", "-D", server.data, "-m", "fast", "-w", "-t", PATIENCE, "stop")
-            self.assertEqual(self.commit(primary, "2"), 2)
-            time.sleep(2.5 * self.keeping.ttl)  # longer than a beat may stand still
-            self.assertEqual(primary.durable_end, 1)
-            server.start()
-            primary.durable(2)
-            self.assertEqual((self.keeping.place().generation, self.texts()), (before.generation, [b"1", b"2"]))
-
     def test_a_standby_that_is_ahead_of_the_archive_is_thrown_away(self) -> None:
         with self.keeping.primary() as primary:
             self.commit(primary, "1", durable=True)
@@ -228,14 +214,29 @@ class TwoKeepers(Two):
                     connection.execute("DROP FUNCTION other CASCADE")
 
 
+class ForLong(Two):
+    options = {"ttl": 5.0}
+    """So much later than the other a keeper may find PostgreSQL again."""
+
+    def test_while_postgresql_is_away_nobody_takes_over_and_nothing_is_durable(self) -> None:
+        with self.keeping.primary() as primary:
+            self.commit(primary, "1", durable=True)
+            self.standby(1)
+            before = self.keeping.place()
+            server = postgres()
+            server.run("pg_ctl", "-D", server.data, "-m", "fast", "-w", "-t", PATIENCE, "stop")
+            self.assertEqual(self.commit(primary, "2"), 2)
+            time.sleep(1.2 * self.keeping.ttl)  # longer than a beat may stand still
+            self.assertEqual(primary.durable_end, 1)
+            server.start()
+            primary.durable(2)
+            self.assertEqual((self.keeping.place().generation, self.texts()), (before.generation, [b"1", b"2"]))
+
+
 class Heard(Two):
     """A keeper that has heard of a release, and has not looked since."""
 
     options = {"ttl": 120.0}
-
-    def look(self) -> None:
-        with psycopg.connect(self.keeping.url, autocommit=True) as session:
-            session.execute("NOTIFY pagelog_keeper")
 
     def answers(self, keeper: str, *questions: str) -> list[list[str]]:
         with self.keeping.line(keeper) as text:
@@ -245,9 +246,9 @@ class Heard(Two):
     def test_a_standby_is_told_as_it_is_taken_and_no_more_of_it_before(self) -> None:
         with self.keeping.primary() as primary:
             self.commit(primary, "1", durable=True)
-            eventually(lambda: self.look() or 1 in self.keeping.standbys().values(), "a standby")  # type: ignore[func-returns-value]
+            eventually(lambda: self.keeping.ring() or 1 in self.keeping.standbys().values(), "a standby")  # type: ignore[func-returns-value]
             target = self.other()
-            eventually(lambda: self.look() or self.answers(target, "standby shop")[0][4] == "1", "its word")  # type: ignore[func-returns-value]
+            eventually(lambda: self.keeping.ring() or self.answers(target, "standby shop")[0][4] == "1", "its word")  # type: ignore[func-returns-value]
             standby = self.keeping.keepers().standby()
             assert standby is not None
             [note] = self.keeping.folder.glob(f"{target}/shop.{standby.run}.json")
@@ -255,7 +256,7 @@ class Heard(Two):
             before = self.keeping.row().generation
             # It looks at what is before the release, and then hears of that.
             looking = Gate(self.keeping.url, f"NEW.name = '{target}'", "pagelog_keeper", lock=43)
-            self.look()
+            self.keeping.ring()
             looking.somebody_waits()
             for number in range(2, 32):
                 self.commit(primary, f"{number}")

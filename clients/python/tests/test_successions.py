@@ -21,6 +21,8 @@ from postgres import postgres
 from service import IS_LONG, PATIENCE, token
 
 CUTTING = Path(__file__).resolve().parent / "cutting.py"
+PATIENT = f"import pagelog.keeper.keeping; pagelog.keeper.keeping.HELD_BACK = {PATIENCE}; import pagelog.__main__"
+"""A keeper that holds answers back for as long as a test waits."""
 
 
 class Succeeding(Kept):
@@ -42,7 +44,7 @@ class Writer:
 
     def __init__(self, keeping: Keeping, before: int = 0) -> None:
         """`before` is how many commits there are already."""
-        self.primary, self.before = keeping.primary(), before
+        self.url, self.primary, self.before = keeping.url, keeping.primary(), before
         self.texts: list[bytes] = []
         self.fault: BaseException | None = None
         self._stops = threading.Event()
@@ -66,10 +68,14 @@ class Writer:
     def _write(self) -> None:
         try:
             while not self._stops.is_set():
+                self._may_go_on()
                 self._commit(durable=len(self.texts) % 3 == 0)
             self._commit(durable=True)
         except BaseException as fault:
             self.fault = fault
+
+    def _may_go_on(self) -> None:
+        """Waits, if the next commit has to."""
 
     def _commit(self, *, durable: bool) -> None:
         number = self.before + len(self.texts) + 1
@@ -215,6 +221,9 @@ class OneKeeper(Succeeding):
             self.assertEqual(self.keeping.place().base, 2)
 
     def test_a_where_is_held_back_until_the_next_generation_is_published(self) -> None:
+        self.keeping.kill("a")
+        self.keeping.keeper = ("-c", PATIENT)
+        self.keeping.start("a")
         with self.keeping.primary() as primary:
             self.commit(primary, "1", durable=True)
             gate = Gate(self.keeping.url, "NEW.generation > OLD.generation")
@@ -245,32 +254,50 @@ class OneKeeper(Succeeding):
             self.assertNotIn("went back", self.keeping.said())
 
     def test_what_nobody_asked_durable_is_in_the_next_generation(self) -> None:
+        mark = self.keeping.folder / "made"
+        self.keeping.kill("a")
+        self.keeping.keeper = (CUTTING, "made", "wait", mark)
+        self.keeping.start("a")
         with self.keeping.primary() as primary:
             self.commit(primary, "1", durable=True)
             before = self.succeed(waits=False)
-            with psycopg.connect(self.keeping.url, autocommit=True) as session:
-                numbered = "SELECT 1 FROM pagelog_log WHERE next_generation > generation + 1"
-                eventually(lambda: session.execute(numbered).fetchone() is not None, "the number of the next generation")
-            # A batch that waits there holds its row, for which a statement that gives a number would wait.
+            eventually(mark.exists, "the service of the next generation, which waits")
             gate = Gate(self.keeping.url, "NEW.archived > OLD.archived AND NEW.generation = OLD.generation")
             self.commit(primary, "2")
             gate.somebody_waits()
             for number in range(3, 32):
                 self.commit(primary, f"{number}")  # none of these was pulled when the present generation is closed
             primary.close()  # and nobody writes them again
+            mark.unlink()
             eventually(lambda: "is ready" in self.keeping.said(), "the service of the next generation")
             gate.open()
             self.keeping.place(least=before.generation + 1)
             self.assertEqual((self.texts(), self.keeping.row().base), ([b"%d" % number for number in range(1, 32)], 31))
 
 
+class Looked(Writer):
+    """Before its list is half full it goes on with looks of the keeper alone, so that it never fills the list between two of them."""
+
+    FREE = 1500
+    """So many commits fill less than half of it."""
+
+    def _may_go_on(self) -> None:
+        if len(self.texts) > self.FREE and len(self.texts) % 50 == 0:
+            beat = self._beat()
+            eventually(lambda: self._beat() > beat or self._stops.is_set(), "a look of the keeper")
+
+    def _beat(self) -> int:
+        with psycopg.connect(self.url) as session:
+            [[beat]] = session.execute("SELECT beat FROM pagelog_keeper WHERE name = 'a'").fetchall()
+            return int(beat)
+
+
 class Thresholds(Succeeding):
     options = {"audit": 16000, "ttl": 0.8}
 
     def test_at_half_of_the_list_the_next_generation_is_made(self) -> None:
-        with Writer(self.keeping) as writer:
+        with Looked(self.keeping) as writer:
             eventually(lambda: "% full" in self.keeping.said() or writer.fault is not None, "half of the list")
-        # On a quick machine it would fill the list before the next generation is made.
         eventually(lambda: self.keeping.place().base > 0, "a generation with images")
         with Writer(self.keeping, len(writer.texts)) as second:
             second.has(5)

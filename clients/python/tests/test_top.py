@@ -22,7 +22,7 @@ LIMIT = 8_000_000_000
 
 
 class NamedTop(Kept):
-    options = {"ttl": 1.0, "more": f"memory = {LIMIT}\n"}
+    options = {"ttl": 5.0, "more": f"memory = {LIMIT}\n"}
 
     def setUp(self) -> None:
         super().setUp()

@@ -25,7 +25,7 @@ from long_runs import STOP, LongRun, is_client, text_of, texts_of  # noqa: E402
 from pagelog import Block, Group, Lost, PagelogError, Primary, Put, Reader, Unwritten  # noqa: E402
 from pagelog.keeper.rows import Row  # noqa: E402
 from replicated import Pair  # noqa: E402
-from service import token  # noqa: E402
+from service import PATIENCE, token  # noqa: E402
 
 TTL = 2.0
 NAME = "shop"
@@ -268,7 +268,7 @@ class Torture(LongRun):
             time.sleep(self.chance.uniform(0.2, 2 * TTL))
         eventually(lambda: keeping.place() is not None)
         (keeping.folder / STOP).touch()
-        ended = [self.ended(client, 60) for client in clients]
+        ended = [self.ended(client, PATIENCE) for client in clients]
         return self.report(Check(keeping).violations() + self.faults(ended))
 
     def report(self, violations: list[str]) -> int:

@@ -434,6 +434,7 @@ class Database:
         served, row = self.own, self.row
         self.served = None
         self.row = replace(row, run=None, holder=None, address=None, archived=archived)
+        self._still_for = 0.0  # that was of the row before
         for line in self.waits.taken():
             line.say("over", row.name, row.generation, archived)
         if self.doing is Action.CLOSE:
