@@ -279,10 +279,11 @@ class Connection:
         ready = poll.poll(self.timeout * 1000)
         if not ready:
             raise TimedOut(f"{self.address}: nothing came in {self.timeout} s")
+        events = ready[0][1]
         try:
-            if self._out:
+            if events & select.POLLOUT:
                 del self._out[: self._socket.send(self._out)]
-            if ready[0][1] & ~select.POLLOUT:
+            if events & ~select.POLLOUT:
                 data = self._socket.recv(_RECEIVE_SIZE)
                 if not data:
                     raise ConnectionLost(f"{self.address}: the service ended the connection")
