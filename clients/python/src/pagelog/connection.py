@@ -122,10 +122,9 @@ class Connection:
             self._is_closed_by_other = True
             self._wake()
             return
-        if self._socket is not None:
-            self._socket.close()
-        self._socket = None
-        self._in_flight = 0
+        left, self._socket, self._in_flight = self._socket, None, 0
+        if left is not None:
+            left.close()
         self._out.clear()
         self._in.clear()
 
@@ -160,12 +159,12 @@ class Connection:
         if in_flight < 1:
             raise ValueError(f"{in_flight} requests in flight: at least 1 is")
         self._check_process()
+        source = map(_Waiting, requests)
         if self._in_use:
             raise RuntimeError("the connection is in use: end the exchange that was begun on it first")
-        self._in_use, self._thread, self._is_closed_by_other = True, threading.get_ident(), False
-        self._most = in_flight
-        source = map(_Waiting, requests)
+        self._in_use, self._thread, self._is_closed_by_other, self._most = True, threading.get_ident(), False, in_flight
         try:
+            self._leave_replies()  # of one that was interrupted as it ended
             while over is None or (over == self.connects and self.is_open):
                 self._waiting.extend(islice(source, in_flight - len(self._waiting)))
                 if not self._waiting:
@@ -176,9 +175,13 @@ class Connection:
                 yield Answer(reply, self._waiting.popleft().sent > 1)
         finally:
             self._in_use = False
-            if self._waiting:
-                self._waiting.clear()
-                self.close()
+            self._leave_replies()
+
+    def _leave_replies(self) -> None:
+        """Closes a connection over which a reply may come that nobody waits for any more."""
+        if self._waiting or self._in_flight or self._out or self._in:
+            self._waiting.clear()
+            self.close()
 
     def _check_process(self) -> None:
         """A child that a fork made would read replies to its parent."""
