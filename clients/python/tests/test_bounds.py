@@ -9,7 +9,8 @@ import threading
 import tracemalloc
 import unittest
 from pathlib import Path
-from typing import Callable, Iterable
+from typing import Any, Callable, Iterable
+from unittest.mock import Mock, patch
 
 import pagelog
 from pagelog import Block, Connection, Put
@@ -201,6 +202,28 @@ class OtherThreadsAndProcesses(unittest.TestCase):
             self.assertIn("another thread closed the connection", str(ended[0]))
             self.assertEqual(peer.asked, 1)
             peer.answer = lambda _: State(1, 2, 3, 0, 0)
+            self.assertEqual(reader.status().hard, 3)
+
+    def test_a_close_of_another_thread_ends_a_request_that_is_not_sent_yet(self) -> None:
+        """It comes while a connection is being made, or waited for."""
+        with Peer(lambda _: State(1, 2, 3, 0, 0)) as peer, peer.reader() as reader:
+
+            def close(*_: object) -> None:
+                thread = threading.Thread(target=reader.close)
+                thread.start()
+                thread.join()
+
+            def late(*arguments: Any) -> socket.socket:
+                close()
+                return made(*arguments)
+
+            made = socket.create_connection
+            with patch("socket.create_connection", late), self.assertRaisesRegex(pagelog.ConnectionLost, "another thread"):
+                reader.status()
+            refused = Mock(side_effect=ConnectionRefusedError)
+            with patch("socket.create_connection", refused), patch("pagelog.connection.time.sleep", close):
+                self.assertRaisesRegex(pagelog.ConnectionLost, "another thread", reader.status)
+            self.assertEqual((refused.call_count, peer.asked), (1, 0))
             self.assertEqual(reader.status().hard, 3)
 
     def test_a_child_does_not_use_the_connection_of_its_parent(self) -> None:

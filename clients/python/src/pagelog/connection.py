@@ -202,8 +202,7 @@ class Connection:
                 self.close()
                 self._most = max(1, self._most // 2)
                 self._end_in_doubt(error)
-                if self._is_closed_by_other:
-                    raise ConnectionLost(f"{self.address}: another thread closed the connection") from error
+                self._check_closed(error)
                 if stays and not isinstance(error, TimedOut):
                     return None
                 self._give_up_or_wait(error)
@@ -240,6 +239,7 @@ class Connection:
         time.sleep(wait)
 
     def _connect(self) -> None:
+        self._check_closed()
         try:
             made = socket.create_connection((self.address.host, self.address.port), self.timeout)
         except (OSError, UnicodeError) as error:  # UnicodeError: the host is no name that can be looked up
@@ -247,9 +247,14 @@ class Connection:
         made.setsockopt(socket.IPPROTO_TCP, socket.TCP_NODELAY, 1)
         made.setblocking(False)
         self._socket = made
+        self._check_closed()  # before, it had no socket to wake this thread by
         self.connects += 1
         if self.connects > 1:
             _logger.info("%s: connected again, for the %d. time", self.address, self.connects)
+
+    def _check_closed(self, cause: PagelogError | None = None) -> None:
+        if self._is_closed_by_other:
+            raise ConnectionLost(f"{self.address}: another thread closed the connection") from cause
 
     def _body(self) -> bytes:
         """The body of the next frame. What is to be sent is sent meanwhile, so that neither side waits for the other."""
