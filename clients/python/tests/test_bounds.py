@@ -117,6 +117,12 @@ class Hostile(unittest.TestCase):
             with Connection(f"127.0.0.1:{listener.getsockname()[1]}", timeout=PATIENCE, reply_timeout=PATIENCE) as connection:
                 self.assertEqual(sum(1 for _ in connection.exchange(asked, in_flight=count)), count)
 
+    def test_a_peer_that_is_silent_for_less_than_the_time_out(self) -> None:
+        """The time for a whole reply is over before that for silence."""
+        with self.peer(lambda _: None).reader(timeout=PATIENCE, reply_timeout=0.1) as reader:
+            with self.assertRaisesRegex(pagelog.TimedOut, "no whole reply came in 0.1 s"):
+                reader.status()
+
     def test_a_status_of_a_log_of_two_to_the_forty(self) -> None:
         peer = self.peer(lambda request: State(1, 2, 1 << 40, 0, 0) if isinstance(request.act, Status) else Done())
         with pagelog.PageServer.at(peer.address, 4, token(4)) as server:

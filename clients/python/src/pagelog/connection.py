@@ -263,9 +263,10 @@ class Connection:
             body = self._take_frame()
             if body is not None:
                 return body
-            if time.monotonic() > deadline:
+            left = deadline - time.monotonic()
+            if left <= 0:
                 raise TimedOut(f"{self.address}: no whole reply came in {self.reply_timeout} s")
-            self._move()
+            self._move(left)
 
     def _take_frame(self) -> bytes | None:
         if len(self._in) < 4:
@@ -279,12 +280,14 @@ class Connection:
         del self._in[: 4 + length]
         return body
 
-    def _move(self) -> None:
-        """Waits until bytes can go or have come, and moves them. Raises `TimedOut` or `ConnectionLost`."""
+    def _move(self, left: float) -> None:
+        """Waits until bytes can go or have come, for as long as there is left, and moves them. Raises `TimedOut` or `ConnectionLost`."""
         assert self._socket is not None
         poll = select.poll()
         poll.register(self._socket, select.POLLIN | (select.POLLOUT if self._out else 0))
-        ready = poll.poll(self.timeout * 1000)
+        ready = poll.poll(1000 * min(self.timeout, left))
+        if not ready and left < self.timeout:
+            return
         if not ready:
             raise TimedOut(f"{self.address}: nothing came in {self.timeout} s")
         events = ready[0][1]
