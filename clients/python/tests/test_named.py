@@ -2,15 +2,18 @@
 
 from __future__ import annotations
 
+import itertools
+import socket
+import threading
 import unittest
-from typing import Any
+from typing import Any, Callable
 from unittest.mock import Mock, patch
 
 import pagelog
 from pagelog import Credentials, InDoubt, Lost, NamedPrimary
 from pagelog.keeper.table import token_of
 from pagelog.place import Fate, Keepers, Place
-from service import PATIENCE, WIDE_TABLE, Service, put, token
+from service import PATIENCE, WIDE_TABLE, Service, accept_each, interrupted, put, token
 
 NARROW_TABLE = WIDE_TABLE.rpartition("[[row]]")[0]
 """By it a writer pulls nothing."""
@@ -104,6 +107,77 @@ class NarrowWriters(Named):
         for _ in range(3):
             self.assertRaises(InDoubt, writer.commit)
         self.assertEqual(self.texts(), [b"other", b"of it"])
+
+
+class Words(unittest.TestCase):
+    """Keepers that say what the test says, and clients of their lines."""
+
+    def setUp(self) -> None:
+        self.said: Callable[[list[str]], bytes] = lambda _: b""
+        self.keepers = Keepers("shop", [self.keeper(), self.keeper()], 0.0)
+        self.addCleanup(self.keepers.close)
+
+    def keeper(self) -> str:
+        def serve(client: socket.socket) -> None:
+            with client, client.makefile("rb") as lines:
+                try:
+                    for line in lines:
+                        client.sendall(self.said(line.decode().split()))
+                except OSError:
+                    pass
+
+        listener = self.enterContext(socket.create_server(("127.0.0.1", 0)))
+        accept_each(listener, serve)
+        return f"127.0.0.1:{listener.getsockname()[1]}"
+
+    def test_an_interrupt_anywhere_leaves_no_answer_to_the_next_question(self) -> None:
+        at_generation = "at shop {} r 127.0.0.1:1 5 127.0.0.1:2 0 0 0\n"
+        answers = {"next": at_generation.format(1), "where": at_generation.format(2), "block": "block shop 1 digest\n"}
+        self.said = lambda words: answers[words[0]].encode()
+        calls: list[Callable[[], object]] = [lambda: self.keepers.wait_for(1, 0), lambda: self.keepers.wait_for(9, 0), self.keepers.where,
+                                             lambda: self.keepers.block(1)]  # fmt: skip
+        for number, call in enumerate(calls):
+            at = 1
+            while interrupted(call, "place.py", at):
+                found = self.keepers.where()
+                self.assertEqual((number, at, found and found.generation), (number, at, 2))
+                at += 1
+            self.assertGreater(at, 10)
+
+    def test_words_that_are_none_are_no_answer(self) -> None:
+        for answer in ("at shop x r 127.0.0.1:1 5 127.0.0.1:2 0 0 0", "at shop 1 r nowhere 5 127.0.0.1:2 0 0 0", "at shop 1 r 127.0.0.1:1",
+                       "standby shop 127.0.0.1:1 r 5 x 0", "standby shop - - 5 0 0", "durable shop 1 x", "over", "", "\xff"):  # fmt: skip
+            self.said = lambda _, answer=answer: answer.encode("latin-1") + b"\n"  # type: ignore[misc]
+            with self.subTest(answer):
+                self.assertEqual((self.keepers.where(), self.keepers.standby()), (None, None))
+                self.assertRaises(pagelog.TimedOut, self.keepers.fate, 1, 5)
+
+    def test_what_became_of_another_generation_is_no_answer(self) -> None:
+        self.said = lambda _: b"over shop 1 5\n"
+        self.assertRaises(pagelog.TimedOut, self.keepers.fate, 2, 5)
+        self.assertEqual(self.keepers.fate(1, 7), Fate(5, True))
+
+    def test_an_answer_that_comes_byte_by_byte(self) -> None:
+        """The time for a whole answer is over, though a byte came each time within the time-out for silence."""
+        slow, goes_on = socket.create_server(("127.0.0.1", 0)), threading.Event()
+        self.addCleanup(goes_on.set)
+        self.enterContext(slow)
+        sent: list[int] = []
+
+        def serve(client: socket.socket) -> None:
+            while not goes_on.wait(0.001):
+                try:
+                    client.sendall(b"x")
+                    sent.append(1)
+                except OSError:
+                    return
+
+        accept_each(slow, serve)
+        keepers = Keepers("shop", [f"127.0.0.1:{slow.getsockname()[1]}"], 0.0)
+        self.addCleanup(keepers.close)
+        with patch("pagelog.place.time.monotonic", itertools.count(step=PATIENCE / 5).__next__):
+            self.assertEqual(keepers._ask(keepers._addresses[0], ("where", "shop"), PATIENCE), [])
+        self.assertLess(len(sent), 1000)
 
 
 if __name__ == "__main__":
