@@ -10,7 +10,7 @@ from typing import Any, Callable
 from unittest.mock import Mock, patch
 
 import pagelog
-from pagelog import Credentials, InDoubt, Lost, NamedPrimary
+from pagelog import Credentials, Group, InDoubt, Lost, NamedPrimary
 from pagelog.keeper.table import token_of
 from pagelog.place import Fate, Keepers, Place
 from service import PATIENCE, WIDE_TABLE, Service, accept_each, interrupted, put, token
@@ -107,6 +107,29 @@ class NarrowWriters(Named):
         for _ in range(3):
             self.assertRaises(InDoubt, writer.commit)
         self.assertEqual(self.texts(), [b"other", b"of it"])
+
+
+class Groups(unittest.TestCase):
+    def test_an_interrupt_anywhere_leaves_no_other_waiting(self) -> None:
+        at, came = 1, True
+        while came:
+            group = Group(Mock(NamedPrimary, pack=lambda commits: [1] * len(commits), durable_end=0))
+            came = interrupted(lambda: group.commit(put(0, b"1")), "group.py", at)
+            told: list[object] = []
+
+            def commit() -> None:
+                try:
+                    told.append(group.commit(put(0, b"2")))
+                except pagelog.PagelogError as error:
+                    told.append(error)
+
+            thread = threading.Thread(target=commit, daemon=True)
+            thread.start()
+            thread.join(PATIENCE)
+            self.assertEqual((at, len(told)), (at, 1))
+            at += 1
+        self.assertGreater(at, 10)
+        self.assertEqual(told, [1])
 
 
 class Words(unittest.TestCase):
