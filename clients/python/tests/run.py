@@ -45,6 +45,7 @@ PARTS = {
     "test_alerts": "alert rules, and scrapes where something hangs",
     "test_looking": "status, top, audit and metrics",
     "test_explaining": "explain, and help",
+    "test_named": "writers and readers of named databases, without keepers",
     "test_keepers": "named databases under a keeper",
     "test_group": "threads that share a writer of a named database",
     "test_successions": "successions, from images at the same positions",

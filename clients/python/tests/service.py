@@ -2,6 +2,7 @@
 
 from __future__ import annotations
 
+import inspect
 import os
 import random
 import resource
@@ -15,7 +16,9 @@ import tempfile
 import threading
 import time
 from pathlib import Path
+from types import FrameType
 from typing import Callable
+from unittest.mock import patch
 
 HERE = Path(__file__).resolve().parent
 TOP = HERE.parent.parent.parent
@@ -173,6 +176,30 @@ def fill(primary: pagelog.Primary, count: int, *, seed: int = 1, empties: bool =
 
     for _ in primary.stream(transactions()):
         pass
+
+
+def interrupted(call: Callable[[], object], file: str, at: int) -> bool:
+    """Calls with an interrupt at the place of this number, from 1, of those in a file of the package where Python lets the handler
+    of a signal run: as a function begins, and as one of C ends. Returns whether it came so far."""
+    left, name = at, str(SOURCE / "pagelog" / file)
+
+    def look(frame: FrameType, event: str, _: object) -> None:
+        nonlocal left
+        is_place = event in ("c_return", "c_exception") or (event == "call" and not frame.f_code.co_flags & inspect.CO_GENERATOR)
+        if is_place and frame.f_code.co_filename == name:
+            left -= 1
+            if left == 0:
+                raise KeyboardInterrupt
+
+    with patch.object(sys, "unraisablehook"):  # what ends a generator that nobody has any more is told of there
+        sys.setprofile(look)
+        try:
+            call()
+        except KeyboardInterrupt:
+            pass
+        finally:
+            sys.setprofile(None)
+    return left <= 0
 
 
 def all_that_is_drawn(main: int) -> str:

@@ -9,14 +9,15 @@ import threading
 import tracemalloc
 import unittest
 from pathlib import Path
-from typing import Callable, Iterable
+from typing import Any, Callable, Iterable
+from unittest.mock import Mock, patch
 
 import pagelog
 from pagelog import Block, Connection, Put
 from pagelog.archive import Archive
 from pagelog.archiving import Archiver
 from pagelog.reply import Blocks, Denied, Done, Entries, Entry, Page, Reply, State, encode_reply
-from pagelog.request import Audit, Operation, Pull, Request, Role, Status, decode_request
+from pagelog.request import Audit, Head, Operation, Pull, Request, Role, Status, Write, decode_request
 from service import PATIENCE, Service, accept_each, put, token
 
 Answer = Callable[[Request], "Reply | bytes | None"]
@@ -95,6 +96,32 @@ class Hostile(unittest.TestCase):
                 reader = pagelog.Reader(connection, pagelog.Credentials.of(3, token(3)))
                 with self.assertRaisesRegex(pagelog.TimedOut, "no whole reply came in 0.4 s"):
                     reader.status()
+
+    def test_a_peer_that_reads_no_more_until_its_replies_are_taken(self) -> None:
+        """Neither side waits for the other, however small what the system keeps between them."""
+        block, count = Block.of(1, [Put(page, 0, b"x" * 8000) for page in range(4)]), 400
+        asked = [Request(Head(2, bytes(16), Role.PRIMARY, 0, 1), Write(0, block))] * count
+
+        def serve(client: socket.socket) -> None:
+            head = client.recv(4, socket.MSG_WAITALL)
+            client.recv(int.from_bytes(head, "big"), socket.MSG_WAITALL)
+            page = encode_reply(Page(1, bytes(8192)))
+            client.sendall(count * (len(page).to_bytes(4, "big") + page))
+            while client.recv(65536):
+                pass
+
+        with socket.create_server(("127.0.0.1", 0)) as listener:
+            for side in (socket.SO_RCVBUF, socket.SO_SNDBUF):
+                listener.setsockopt(socket.SOL_SOCKET, side, 1 << 16)
+            accept_each(listener, serve)
+            with Connection(f"127.0.0.1:{listener.getsockname()[1]}", timeout=PATIENCE, reply_timeout=PATIENCE) as connection:
+                self.assertEqual(sum(1 for _ in connection.exchange(asked, in_flight=count)), count)
+
+    def test_a_peer_that_is_silent_for_less_than_the_time_out(self) -> None:
+        """The time for a whole reply is over before that for silence."""
+        with self.peer(lambda _: None).reader(timeout=PATIENCE, reply_timeout=0.1) as reader:
+            with self.assertRaisesRegex(pagelog.TimedOut, "no whole reply came in 0.1 s"):
+                reader.status()
 
     def test_a_status_of_a_log_of_two_to_the_forty(self) -> None:
         peer = self.peer(lambda request: State(1, 2, 1 << 40, 0, 0) if isinstance(request.act, Status) else Done())
@@ -181,6 +208,28 @@ class OtherThreadsAndProcesses(unittest.TestCase):
             self.assertIn("another thread closed the connection", str(ended[0]))
             self.assertEqual(peer.asked, 1)
             peer.answer = lambda _: State(1, 2, 3, 0, 0)
+            self.assertEqual(reader.status().hard, 3)
+
+    def test_a_close_of_another_thread_ends_a_request_that_is_not_sent_yet(self) -> None:
+        """It comes while a connection is being made, or waited for."""
+        with Peer(lambda _: State(1, 2, 3, 0, 0)) as peer, peer.reader() as reader:
+
+            def close(*_: object) -> None:
+                thread = threading.Thread(target=reader.close)
+                thread.start()
+                thread.join()
+
+            def late(*arguments: Any) -> socket.socket:
+                close()
+                return made(*arguments)
+
+            made = socket.create_connection
+            with patch("socket.create_connection", late), self.assertRaisesRegex(pagelog.ConnectionLost, "another thread"):
+                reader.status()
+            refused = Mock(side_effect=ConnectionRefusedError)
+            with patch("socket.create_connection", refused), patch("pagelog.connection.time.sleep", close):
+                self.assertRaisesRegex(pagelog.ConnectionLost, "another thread", reader.status)
+            self.assertEqual((refused.call_count, peer.asked), (1, 0))
             self.assertEqual(reader.status().hard, 3)
 
     def test_a_child_does_not_use_the_connection_of_its_parent(self) -> None:

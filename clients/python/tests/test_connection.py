@@ -2,18 +2,21 @@
 
 from __future__ import annotations
 
+import itertools
 import signal
 import socket
 import threading
 import time
 import unittest
+from contextlib import closing
+from typing import Callable
 from unittest import mock
 
 import pagelog
 from pagelog import Address, Block, Connection, Put
 from pagelog.reply import Done, Page, State
 from pagelog.request import Failover, Get, Head, Report, Request, Role, Status, Write
-from service import PATIENCE, CuttingProxy, Port, Service, put, stand_still, token
+from service import PATIENCE, CuttingProxy, Port, Service, interrupted, put, stand_still, token
 
 PRIMARY = Head(2, bytes.fromhex(token(2)), Role.PRIMARY, 0, 1)
 SECONDARY = Head(3, bytes.fromhex(token(3)), Role.SECONDARY, 0, 1)
@@ -143,6 +146,43 @@ class Cuts(unittest.TestCase):
             timer.join()
             # A service that is ending may still take a connection, and drop it.
             self.assertGreaterEqual(connection.connects, 2)
+
+
+class Interrupted(unittest.TestCase):
+    """An interrupt wherever one may come: no request gets the reply to another, and the connection is of use."""
+
+    def interrupt_anywhere(self, calls: Callable[[Connection, Callable[[], Request]], object]) -> None:
+        with Service() as service, service.connection() as connection:
+            hardened(connection, 20)
+            lsns = itertools.cycle(range(1, 21))
+
+            def request() -> Request:
+                return Request(SECONDARY, Get(0, next(lsns)))
+
+            at = 0
+            while interrupted(lambda: calls(connection, request), "connection.py", at := at + 1):
+                asked = request()
+                reply = connection.ask(asked)
+                assert isinstance(asked.act, Get) and isinstance(reply, Page)
+                self.assertEqual((at, int.from_bytes(reply.data[:8], "big")), (at, asked.act.lsn))
+            self.assertGreater(at, 10)
+
+    def test_one_that_asks(self) -> None:
+        self.interrupt_anywhere(lambda connection, request: connection.ask(request()))
+
+    def test_one_that_connects_and_asks(self) -> None:
+        def calls(connection: Connection, request: Callable[[], Request]) -> None:
+            connection.close()
+            connection.ask(request())
+
+        self.interrupt_anywhere(calls)
+
+    def test_one_that_leaves_replies(self) -> None:
+        def calls(connection: Connection, request: Callable[[], Request]) -> None:
+            with closing(connection.exchange([request() for _ in range(4)])) as replies:
+                next(replies)
+
+        self.interrupt_anywhere(calls)
 
 
 class Refused(unittest.TestCase):

@@ -8,7 +8,7 @@ import pagelog
 from pagelog import Block, Zero, faults
 from pagelog.primary import Primary
 from pagelog.request import Report, Write
-from service import WIDE_TABLE, Service, put, token
+from service import WIDE_TABLE, Service, interrupted, put, token
 
 
 class Commits(unittest.TestCase):
@@ -116,6 +116,22 @@ class Commits(unittest.TestCase):
                 primary.commit()
             self.assertEqual((primary.durable, self.reader.status().hard), (1, 1))
             self.assertFalse(primary._is_quorum_shown)
+
+
+class Interrupted(unittest.TestCase):
+    def test_an_interrupt_anywhere_leaves_each_commit_once(self) -> None:
+        with Service() as service, service.reader() as reader:
+            for file in ("primary.py", "in_flight.py", "packing.py"):
+                with service.primary(alone=True) as primary:
+                    at, first = 0, primary.commit() + 1
+                    came = True
+                    while came:
+                        at += 1
+                        primary.append(put(0, f"{at}".encode()))
+                        came = interrupted(primary.commit, file, at)
+                        self.assertEqual(primary.commit(), first + at - 1, (file, at))
+                    texts = [record.data for block in reader.blocks(first, follow=False) for record in block.records]  # type: ignore[union-attr]
+                    self.assertEqual(texts, [f"{number}".encode() for number in range(1, at + 1)])
 
 
 class Epochs(unittest.TestCase):

@@ -122,10 +122,9 @@ class Connection:
             self._is_closed_by_other = True
             self._wake()
             return
-        if self._socket is not None:
-            self._socket.close()
-        self._socket = None
-        self._in_flight = 0
+        left, self._socket, self._in_flight = self._socket, None, 0
+        if left is not None:
+            left.close()
         self._out.clear()
         self._in.clear()
 
@@ -160,12 +159,12 @@ class Connection:
         if in_flight < 1:
             raise ValueError(f"{in_flight} requests in flight: at least 1 is")
         self._check_process()
+        source = map(_Waiting, requests)
         if self._in_use:
             raise RuntimeError("the connection is in use: end the exchange that was begun on it first")
-        self._in_use, self._thread, self._is_closed_by_other = True, threading.get_ident(), False
-        self._most = in_flight
-        source = map(_Waiting, requests)
+        self._in_use, self._thread, self._is_closed_by_other, self._most = True, threading.get_ident(), False, in_flight
         try:
+            self._leave_replies()  # of one that was interrupted as it ended
             while over is None or (over == self.connects and self.is_open):
                 self._waiting.extend(islice(source, in_flight - len(self._waiting)))
                 if not self._waiting:
@@ -176,9 +175,13 @@ class Connection:
                 yield Answer(reply, self._waiting.popleft().sent > 1)
         finally:
             self._in_use = False
-            if self._waiting:
-                self._waiting.clear()
-                self.close()
+            self._leave_replies()
+
+    def _leave_replies(self) -> None:
+        """Closes a connection over which a reply may come that nobody waits for any more."""
+        if self._waiting or self._in_flight or self._out or self._in:
+            self._waiting.clear()
+            self.close()
 
     def _check_process(self) -> None:
         """A child that a fork made would read replies to its parent."""
@@ -199,8 +202,7 @@ class Connection:
                 self.close()
                 self._most = max(1, self._most // 2)
                 self._end_in_doubt(error)
-                if self._is_closed_by_other:
-                    raise ConnectionLost(f"{self.address}: another thread closed the connection") from error
+                self._check_closed(error)
                 if stays and not isinstance(error, TimedOut):
                     return None
                 self._give_up_or_wait(error)
@@ -237,6 +239,7 @@ class Connection:
         time.sleep(wait)
 
     def _connect(self) -> None:
+        self._check_closed()
         try:
             made = socket.create_connection((self.address.host, self.address.port), self.timeout)
         except (OSError, UnicodeError) as error:  # UnicodeError: the host is no name that can be looked up
@@ -244,9 +247,14 @@ class Connection:
         made.setsockopt(socket.IPPROTO_TCP, socket.TCP_NODELAY, 1)
         made.setblocking(False)
         self._socket = made
+        self._check_closed()  # before, it had no socket to wake this thread by
         self.connects += 1
         if self.connects > 1:
             _logger.info("%s: connected again, for the %d. time", self.address, self.connects)
+
+    def _check_closed(self, cause: PagelogError | None = None) -> None:
+        if self._is_closed_by_other:
+            raise ConnectionLost(f"{self.address}: another thread closed the connection") from cause
 
     def _body(self) -> bytes:
         """The body of the next frame. What is to be sent is sent meanwhile, so that neither side waits for the other."""
@@ -255,9 +263,10 @@ class Connection:
             body = self._take_frame()
             if body is not None:
                 return body
-            if time.monotonic() > deadline:
+            left = deadline - time.monotonic()
+            if left <= 0:
                 raise TimedOut(f"{self.address}: no whole reply came in {self.reply_timeout} s")
-            self._move()
+            self._move(left)
 
     def _take_frame(self) -> bytes | None:
         if len(self._in) < 4:
@@ -271,18 +280,21 @@ class Connection:
         del self._in[: 4 + length]
         return body
 
-    def _move(self) -> None:
-        """Waits until bytes can go or have come, and moves them. Raises `TimedOut` or `ConnectionLost`."""
+    def _move(self, left: float) -> None:
+        """Waits until bytes can go or have come, for as long as there is left, and moves them. Raises `TimedOut` or `ConnectionLost`."""
         assert self._socket is not None
         poll = select.poll()
         poll.register(self._socket, select.POLLIN | (select.POLLOUT if self._out else 0))
-        ready = poll.poll(self.timeout * 1000)
+        ready = poll.poll(1000 * min(self.timeout, left))
+        if not ready and left < self.timeout:
+            return
         if not ready:
             raise TimedOut(f"{self.address}: nothing came in {self.timeout} s")
+        events = ready[0][1]
         try:
-            if self._out:
+            if events & select.POLLOUT:
                 del self._out[: self._socket.send(self._out)]
-            if ready[0][1] & ~select.POLLOUT:
+            if events & ~select.POLLOUT:
                 data = self._socket.recv(_RECEIVE_SIZE)
                 if not data:
                     raise ConnectionLost(f"{self.address}: the service ended the connection")

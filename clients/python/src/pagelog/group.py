@@ -44,9 +44,12 @@ class Group:
     def __init__(self, primary: NamedPrimary) -> None:
         """Until it has ended nothing else is asked of the primary."""
         self._primary = primary
-        self._changed = threading.Condition(threading.Lock())
+        self._lock = threading.Lock()
+        self._changed = threading.Condition(self._lock)
         self._due: list[_Commit] = []
-        self._is_under_way = False
+        self._taken: list[_Commit] = []
+        self._leader: _Commit | None = None
+        """Whose thread commits what is taken, for all."""
         self._ended: BaseException | None = None
 
     def commit(self, *records: Record) -> int:
@@ -55,21 +58,38 @@ class Group:
         for record in records:
             Block.of(1, (record,))
         mine = _Commit(records)
-        with self._changed:
-            self._due.append(mine)
-            while self._is_under_way and not mine.is_settled:
-                self._changed.wait()
-            taken = [] if mine.is_settled else self._begun()
-        if taken:
-            self._lead(taken)
+        try:
+            try:
+                self._take_part(mine)
+            finally:
+                self._leave(mine)
+        finally:
+            self._leave(mine)  # where an interrupt came amid the first
         if mine.error is not None:
             raise mine.error
         return mine.position
 
-    def _begun(self) -> list[_Commit]:
-        """What is due, to be committed by the caller's thread."""
-        taken, self._due, self._is_under_way = self._due, [], True
-        return taken
+    def _take_part(self, mine: _Commit) -> None:
+        """Returns once this one is settled, by another thread or by this one, which then commits for all."""
+        with self._lock:
+            self._due.append(mine)
+            while self._leader is not None and not mine.is_settled:
+                self._changed.wait()
+            if not mine.is_settled:
+                self._leader, self._taken, self._due = mine, self._due, []
+        if self._leader is mine:
+            self._lead(self._taken)
+
+    def _leave(self, mine: _Commit) -> None:
+        """This one's thread commits for the others no more. What it leaves unsettled is in doubt."""
+        if self._leader is mine:
+            with self._lock:
+                for each in self._taken:
+                    if not each.is_settled:
+                        self._ended = self._ended or InDoubt("a thread that committed for all was interrupted")
+                        each.settle(InDoubt(f"the thread that committed for all was interrupted: {self._ended!r}"))
+                self._changed.notify_all()
+                self._leader = None
 
     def _lead(self, taken: Sequence[_Commit]) -> None:
         try:
@@ -80,13 +100,6 @@ class Group:
         except BaseException as error:
             self._ended = error
             raise
-        finally:
-            for each in taken:
-                if not each.is_settled:
-                    each.settle(InDoubt(f"the thread that committed for all was interrupted: {self._ended!r}"))
-            with self._changed:
-                self._is_under_way = False
-                self._changed.notify_all()
 
     def _commit(self, taken: Sequence[_Commit]) -> None:
         if self._ended is not None:

@@ -234,6 +234,7 @@ class NamedPrimary(Following):
         self._leave()
         credentials = self._account.of(place)
         witness = Reader(self._connection(place, 2), credentials)
+        primary = None
         try:
             is_next = self.place is not None and place.generation > self.place.generation
             known = 0
@@ -246,21 +247,23 @@ class NamedPrimary(Following):
                     known = hard + place.shift
                     self._settle_tail(place, witness, 0, known)
                 self._begin_epoch(place, credentials)
-            self._primary = self._begun(place, credentials, witness)
-            self._settle_tail(place, witness, known, self._primary.durable + place.shift)
+            primary = self._begun(place, credentials, witness)
+            self._settle_tail(place, witness, known, primary.durable + place.shift)
+            self.end, self.place, self._primary = primary.durable + place.shift, place, primary
         except _NotToBeKnown:
             raise
         except (OlderEpoch, OtherPrimary) as error:
             self._ended = error
-            witness.close()
             self._count_at(place)
             self._end_for(error)
             return True
         except (*GONE, TableRow, NoRowMatches):
-            self._leave()
-            witness.close()
             return False
-        self.end, self.place = self._primary.durable + place.shift, place
+        finally:
+            if self._primary is None:  # whatever has ended it, nothing is written before what became of the tail is settled
+                for client in (primary, witness):
+                    if client is not None:
+                        client.close()
         self._is_durable(place.archived)
         return True
 

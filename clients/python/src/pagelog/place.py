@@ -80,11 +80,12 @@ class _Line:
     def close(self) -> None:
         self._socket.close()
 
-    def ask(self, words: Sequence[object], timeout: float) -> list[str]:
-        """The words of the answer. Raises `OSError`."""
-        self.send(words, timeout)
+    def answer(self, timeout: float) -> list[str]:
+        """The words of the answer, however slowly they come. Raises `OSError`."""
+        deadline = time.monotonic() + timeout
         while (answer := self.take()) is None:
-            pass
+            if time.monotonic() > deadline:
+                raise TimeoutError("no whole answer came")
         return answer
 
     def send(self, words: Sequence[object], timeout: float) -> None:
@@ -121,7 +122,7 @@ class Keepers:
             Address.parse(address)
         self.name = name
         self.patience = patience
-        self._addresses = list(addresses)
+        self._addresses = list(dict.fromkeys(addresses))
         self._lines: dict[str, _Line] = {}
         self._process = os.getpid()
 
@@ -134,19 +135,18 @@ class Keepers:
     def _ask(self, address: str, words: Sequence[object], timeout: float = _ANSWER) -> list[str]:
         """The answer of one keeper; of no words where it does not answer. Its connection is made anew then."""
         self._forget_parent()
-        is_answered = False
+        line = self._asked(address, words, timeout)
+        if line is None:
+            return []
         try:
-            if address not in self._lines:
-                self._lines[address] = _Line(address)
-            answer = self._lines[address].ask(words, timeout)
-            is_answered = True
+            answer = line.answer(timeout)
+            self._lines[address] = line
             return answer
-        except (OSError, ValueError):
+        except OSError:
             return []
         finally:
-            # Where it was interrupted, too: the next question over it would get the answer to this one.
-            if not is_answered:
-                self._leave(address)
+            if address not in self._lines:
+                line.close()
 
     def where(self) -> Place | None:
         """The place of the highest generation that a keeper knows of; None where nobody serves it now.
@@ -179,14 +179,17 @@ class Keepers:
         All are asked, and hold their answers back until then. Where none does it waits for so many seconds.
         """
         self._forget_parent()
-        waiting = {line.fileno(): address for address in self._addresses if (line := self._asked(address, ("next", self.name, least)))}
-        deadline, poll = time.monotonic() + _HELD, select.poll()
-        for descriptor in waiting:
-            poll.register(descriptor, select.POLLIN)
+        waiting: dict[int, tuple[str, _Line]] = {}
+        poll = select.poll()
         try:
+            for address in self._addresses:
+                if (line := self._asked(address, ("next", self.name, least), _ANSWER)) is not None:
+                    waiting[line.fileno()] = address, line
+                    poll.register(line, select.POLLIN)
+            deadline = time.monotonic() + _HELD
             while waiting and (left := deadline - time.monotonic()) > 0:
                 for descriptor, _ in poll.poll(1000 * left):
-                    words = self._taken(waiting[descriptor])
+                    words = self._taken(*waiting[descriptor])
                     if words is None:
                         continue
                     poll.unregister(descriptor)
@@ -195,33 +198,33 @@ class Keepers:
                     if place is not None and place.generation >= least:
                         return
         finally:
-            for address in waiting.values():  # its answer would be taken for that of the next question
-                self._leave(address)
+            for _, line in waiting.values():
+                line.close()
         if not waiting:
             time.sleep(seconds)
 
-    def _asked(self, address: str, words: Sequence[object]) -> _Line | None:
-        """The line of a keeper, over which this was asked; None where it does not listen."""
+    def _asked(self, address: str, words: Sequence[object], timeout: float) -> _Line | None:
+        """The line of a keeper, over which this was asked; None where it does not listen. It is put back with its answer: where that is
+        interrupted, it would be taken for the answer to the next question."""
+        line = self._lines.pop(address, None)
         try:
-            if address not in self._lines:
-                self._lines[address] = _Line(address)
-            self._lines[address].send(words, _ANSWER)
-            return self._lines[address]
-        except OSError:
-            self._leave(address)
+            line = line or _Line(address)
+            line.send(words, timeout)
+            return line
+        except (OSError, ValueError):
+            if line is not None:
+                line.close()
             return None
 
-    def _taken(self, address: str) -> list[str] | None:
+    def _taken(self, address: str, line: _Line) -> list[str] | None:
         """The words that have come from it; none where its line has ended."""
         try:
-            return self._lines[address].take()
-        except (OSError, ValueError):
-            self._leave(address)
-            return []
-
-    def _leave(self, address: str) -> None:
-        if (line := self._lines.pop(address, None)) is not None:
+            if (words := line.take()) is not None:
+                self._lines[address] = line
+            return words
+        except OSError:
             line.close()
+            return []
 
     def _forget_parent(self) -> None:
         """A child that a fork made would read answers to its parent."""
@@ -238,8 +241,9 @@ class Keepers:
         """A standby of it, which has durable blocks alone; None where no keeper knows of one."""
         for address in self._addresses:
             words = self._ask(address, ("standby", self.name))
-            if len(words) == 7 and words[0] == "standby" and words[4].isdecimal():
-                return Place(0, words[3], words[2], int(words[4]), address, int(words[5]), int(words[6]))
+            found = _standby(words, address)
+            if found is not None:
+                return found
         return None
 
     def block(self, position: int) -> str | None:
@@ -266,7 +270,7 @@ class Keepers:
             for address in (*asked, *(address for address in self._addresses if address not in asked)):
                 left = min(_SILENCE, max(0.1, deadline - time.monotonic()))
                 answer = self._ask(address, ("durable", self.name, generation, position), left)
-                found = _fate(answer, position)
+                found = _fate(answer, generation, position)
                 if found is not None:
                     return found
             if time.monotonic() > deadline:
@@ -280,13 +284,30 @@ class Keepers:
 def _place(words: list[str]) -> Place | None:
     match words:
         case ["at", _, generation, run, address, archived, lines, base, shift, kept]:
-            return Place(int(generation), run, address, int(archived), lines, int(base), int(shift), int(kept))
+            return _read(generation, run, address, archived, lines, base, shift, kept)
         case _:
             return None
 
 
-def _fate(words: list[str], position: int) -> Fate | None:
-    if len(words) != 4 or not words[3].isdecimal():
+def _standby(words: list[str], lines: str) -> Place | None:
+    match words:
+        case ["standby", _, address, run, reached, base, shift]:
+            return _read("0", run, address, reached, lines, base, shift, "0")
+        case _:
+            return None
+
+
+def _read(generation: str, run: str, address: str, archived: str, lines: str, base: str, shift: str, kept: str) -> Place | None:
+    """The place of these words; None where one of them is none of its kind."""
+    try:
+        Address.parse(address)
+        return Place(int(generation), run, address, int(archived), lines, int(base), int(shift), int(kept))
+    except ValueError:
+        return None
+
+
+def _fate(words: list[str], generation: int, position: int) -> Fate | None:
+    if len(words) != 4 or words[2] != str(generation) or not words[3].isdecimal():
         return None
     end = int(words[3])
     if words[0] == "over":

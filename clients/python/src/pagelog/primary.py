@@ -170,6 +170,7 @@ class Primary(PageClient):
         """
         self._prepare()
         self._close_block()
+        self._hardened(self.durable)  # what an interrupt has left of the commit before
         left = [sent.block for sent in self._unhardened]
         for _ in self._harden((left[at : at + WINDOW] for at in range(0, len(left), WINDOW)), 2 * WINDOW):
             pass
@@ -207,8 +208,10 @@ class Primary(PageClient):
 
     def _close_block(self) -> None:
         if self._packer.records:
-            self._unhardened.append(Sent(Block.of(self.next_lsn, self._packer.records)))
-            self._packer = Packer()
+            sent, following = Sent(Block.of(self.next_lsn, self._packer.records)), Packer()
+            # No call is between these, and so no interrupt: the records would be committed twice.
+            self._unhardened += (sent,)
+            self._packer = following
 
     def _blocks_of(self, transactions: Iterable[Sequence[Record]]) -> Iterator[Block]:
         for records in transactions:
@@ -314,9 +317,9 @@ class Primary(PageClient):
         return all(sent.came_over(connection) for sent in takewhile(lambda sent: sent.block.lsn <= lsn, self._unhardened))
 
     def _hardened(self, lsn: int) -> int:
-        while self._unhardened and self._unhardened[0].block.lsn <= lsn:
-            self._unhardened.popleft()
         self.durable = max(self.durable, lsn)
+        while self._unhardened and self._unhardened[0].block.lsn <= self.durable:
+            self._unhardened.popleft()
         return lsn
 
     def _refusal(self, answer: Answer) -> Refusal | None:

@@ -1,0 +1,207 @@
+"""Writers and readers of named databases against services that the test starts, and keepers whose answers are the test's."""
+
+from __future__ import annotations
+
+import itertools
+import socket
+import threading
+import unittest
+from typing import Any, Callable
+from unittest.mock import Mock, patch
+
+import pagelog
+from pagelog import Credentials, Group, InDoubt, Lost, NamedPrimary
+from pagelog.keeper.table import token_of
+from pagelog.place import Fate, Keepers, Place
+from service import PATIENCE, WIDE_TABLE, Service, accept_each, interrupted, put, token
+
+NARROW_TABLE = WIDE_TABLE.rpartition("[[row]]")[0]
+"""By it a writer pulls nothing."""
+
+
+class Named(unittest.TestCase):
+    """A named database without keepers: `place` says where it is, as they would."""
+
+    table = WIDE_TABLE
+
+    def setUp(self) -> None:
+        self.places: list[Place] = []
+        self.keepers = Mock(Keepers, patience=PATIENCE)
+        self.keepers.name = "shop"
+        self.keepers.place.side_effect = self.keepers.after.side_effect = lambda *_: self.places[-1]
+        self.keepers.fate.side_effect = lambda generation, position, _: Fate(position, generation != self.places[-1].generation)
+
+    def begin(self, *, shift: int = 0, kept: int = 0) -> Service:
+        """The next generation."""
+        run = f"run{len(self.places)}"
+        text = self.table
+        for id in range(1, 6):
+            text = text.replace(token(id), self.token(id, run).hex())
+        service = self.enterContext(Service(table=text))
+        self.places.append(Place(len(self.places) + 1, run, service.address, kept, "", kept, shift, kept))
+        return service
+
+    def token(self, id: int, run: str) -> bytes:
+        return token_of(bytes.fromhex(token(id)), "shop", run)
+
+    def of_run(self, kind: type[Any], id: int) -> Any:
+        """A client of the service of the last generation."""
+        place = self.places[-1]
+        made = kind(pagelog.Connection(place.address, timeout=PATIENCE), Credentials(id, self.token(id, place.run)))
+        return self.enterContext(made)
+
+    def named(self, kind: type[Any], id: int, *options: Any, **more: Any) -> Any:
+        made = kind("shop", ["127.0.0.1:1"], id, token(id), *options, timeout=PATIENCE, **more)
+        made.keepers = self.keepers
+        return self.enterContext(made)
+
+    def writer(self) -> NamedPrimary:
+        made = self.named(NamedPrimary, 2, (1, token(1)))
+        assert isinstance(made, NamedPrimary)
+        return made
+
+    def texts(self) -> list[bytes]:
+        """The records of the log of the last generation."""
+        reader = self.of_run(pagelog.Reader, 3)
+        return [record.data for block in reader.blocks(1, follow=False) for record in block.records]
+
+
+class Writers(Named):
+    def test_one_that_was_interrupted_as_it_looked_for_its_blocks_looks_again(self) -> None:
+        self.begin()
+        writer = self.writer()
+        writer.append(put(0, b"1"))
+        writer.commit()
+        assert writer._primary is not None
+        with patch.object(writer._primary, "harden", side_effect=pagelog.ConnectionLost), patch.object(
+                NamedPrimary, "_first_other", side_effect=[KeyboardInterrupt, pagelog.OutOfMemory]):  # fmt: skip
+            writer.append(put(0, b"2"))
+            # It has the epoch no more, and another process of its principal goes on.
+            self.of_run(pagelog.Operator, 1).failover(2)
+            other = self.of_run(pagelog.Primary, 2)
+            other.append(put(0, b"other"))
+            other.commit()
+            self.assertRaises(KeyboardInterrupt, writer.commit)
+            self.assertRaises(pagelog.OutOfMemory, writer.commit)
+        with self.assertRaises(Lost) as raised:
+            writer.commit()
+        self.assertEqual(raised.exception.position, 2)
+        self.assertEqual(self.texts(), [b"1", b"other"])
+
+
+class NarrowWriters(Named):
+    table = NARROW_TABLE
+
+    def test_what_is_in_doubt_stays_so(self) -> None:
+        service = self.begin()
+        writer = self.writer()
+        writer.append(put(0, b"1"))
+        self.assertEqual(writer.commit(), 1)
+        self.begin()
+        service.stop()
+        other = self.of_run(pagelog.Primary, 2)
+        for text in (b"other", b"of it"):
+            other.append(put(0, text))
+            other.commit()
+        writer.append(put(0, b"2"))
+        for _ in range(3):
+            self.assertRaises(InDoubt, writer.commit)
+        self.assertEqual(self.texts(), [b"other", b"of it"])
+
+
+class Groups(unittest.TestCase):
+    def test_an_interrupt_anywhere_leaves_no_other_waiting(self) -> None:
+        at, came = 1, True
+        while came:
+            group = Group(Mock(NamedPrimary, pack=lambda commits: [1] * len(commits), durable_end=0))
+            came = interrupted(lambda: group.commit(put(0, b"1")), "group.py", at)
+            told: list[object] = []
+
+            def commit() -> None:
+                try:
+                    told.append(group.commit(put(0, b"2")))
+                except pagelog.PagelogError as error:
+                    told.append(error)
+
+            thread = threading.Thread(target=commit, daemon=True)
+            thread.start()
+            thread.join(PATIENCE)
+            self.assertEqual((at, len(told)), (at, 1))
+            at += 1
+        self.assertGreater(at, 10)
+        self.assertEqual(told, [1])
+
+
+class Words(unittest.TestCase):
+    """Keepers that say what the test says, and clients of their lines."""
+
+    def setUp(self) -> None:
+        self.said: Callable[[list[str]], bytes] = lambda _: b""
+        self.keepers = Keepers("shop", [self.keeper(), self.keeper()], 0.0)
+        self.addCleanup(self.keepers.close)
+
+    def keeper(self) -> str:
+        def serve(client: socket.socket) -> None:
+            with client, client.makefile("rb") as lines:
+                try:
+                    for line in lines:
+                        client.sendall(self.said(line.decode().split()))
+                except OSError:
+                    pass
+
+        listener = self.enterContext(socket.create_server(("127.0.0.1", 0)))
+        accept_each(listener, serve)
+        return f"127.0.0.1:{listener.getsockname()[1]}"
+
+    def test_an_interrupt_anywhere_leaves_no_answer_to_the_next_question(self) -> None:
+        at_generation = "at shop {} r 127.0.0.1:1 5 127.0.0.1:2 0 0 0\n"
+        answers = {"next": at_generation.format(1), "where": at_generation.format(2), "block": "block shop 1 digest\n"}
+        self.said = lambda words: answers[words[0]].encode()
+        calls: list[Callable[[], object]] = [lambda: self.keepers.wait_for(1, 0), lambda: self.keepers.wait_for(9, 0), self.keepers.where,
+                                             lambda: self.keepers.block(1)]  # fmt: skip
+        for number, call in enumerate(calls):
+            at = 1
+            while interrupted(call, "place.py", at):
+                found = self.keepers.where()
+                self.assertEqual((number, at, found and found.generation), (number, at, 2))
+                at += 1
+            self.assertGreater(at, 10)
+
+    def test_words_that_are_none_are_no_answer(self) -> None:
+        for answer in ("at shop x r 127.0.0.1:1 5 127.0.0.1:2 0 0 0", "at shop 1 r nowhere 5 127.0.0.1:2 0 0 0", "at shop 1 r 127.0.0.1:1",
+                       "standby shop 127.0.0.1:1 r 5 x 0", "standby shop - - 5 0 0", "durable shop 1 x", "over", "", "\xff"):  # fmt: skip
+            self.said = lambda _, answer=answer: answer.encode("latin-1") + b"\n"  # type: ignore[misc]
+            with self.subTest(answer):
+                self.assertEqual((self.keepers.where(), self.keepers.standby()), (None, None))
+                self.assertRaises(pagelog.TimedOut, self.keepers.fate, 1, 5)
+
+    def test_what_became_of_another_generation_is_no_answer(self) -> None:
+        self.said = lambda _: b"over shop 1 5\n"
+        self.assertRaises(pagelog.TimedOut, self.keepers.fate, 2, 5)
+        self.assertEqual(self.keepers.fate(1, 7), Fate(5, True))
+
+    def test_an_answer_that_comes_byte_by_byte(self) -> None:
+        """The time for a whole answer is over, though a byte came each time within the time-out for silence."""
+        slow, goes_on = socket.create_server(("127.0.0.1", 0)), threading.Event()
+        self.addCleanup(goes_on.set)
+        self.enterContext(slow)
+        sent: list[int] = []
+
+        def serve(client: socket.socket) -> None:
+            while not goes_on.wait(0.001):
+                try:
+                    client.sendall(b"x")
+                    sent.append(1)
+                except OSError:
+                    return
+
+        accept_each(slow, serve)
+        keepers = Keepers("shop", [f"127.0.0.1:{slow.getsockname()[1]}"], 0.0)
+        self.addCleanup(keepers.close)
+        with patch("pagelog.place.time.monotonic", itertools.count(step=PATIENCE / 5).__next__):
+            self.assertEqual(keepers._ask(keepers._addresses[0], ("where", "shop"), PATIENCE), [])
+        self.assertLess(len(sent), 1000)
+
+
+if __name__ == "__main__":
+    unittest.main()
