@@ -39,6 +39,7 @@ PARTS = {
     "test_zones": "six copies, and rows that end at an LSN",
     "test_trail": "trails of audit lists, kept and asked",
     "test_replay": "trails decided again by the plain model",
+    "test_at_rest": "trails and archives: times, missing pieces, and names that are given again",
     "test_console": "the console: its JSON, its events, and who may look",
     "test_console_board": "what the console makes of its looks, and browsers that take nothing",
     "test_console_page": "the console's page in a browser",

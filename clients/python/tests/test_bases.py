@@ -5,6 +5,7 @@ from __future__ import annotations
 import json
 import random
 from dataclasses import replace
+from typing import Any
 
 import psycopg
 
@@ -12,8 +13,9 @@ from keepers import Kept as KeptService
 from keepers import blocks, new_url
 from pagelog import Block, Put, Zero
 from pagelog.keeper.bases import NOTHING, Base, Bases, make_base
+from pagelog.keeper.history import begin_again
 from pagelog.keeper.images import MARK
-from pagelog.keeper.referee import BrokenArchive, Referee, digest
+from pagelog.keeper.referee import BrokenArchive, KeeperError, Referee, digest
 from pagelog.keeper.rows import Batch, Kept
 from pagelog.keeper.schema import script
 from pagelog.keeper.switch import Switch, number, release, succeed
@@ -139,6 +141,58 @@ class Pruning(Made):
         self.bases.prune(2)
         self.assertEqual(self.rows(), [(0, 2), (1093, 1), (1093, 3)])
         self.assertEqual(self.pages_of(self.bases.newest(2)), pages(self.blocks[:2]))
+
+
+class Again(Made):
+    """A position is begun again while keepers prune."""
+
+    def setUp(self) -> None:
+        super().setUp()
+        for _ in range(2):
+            self.write(100)
+            self.base()
+        self.other = Referee(self.url)
+        self.addCleanup(self.other.close)
+
+    def begin(self, position: int, name: str, before: str) -> bool:
+        """Before the first statement that has this word everything below the last base is pruned, by another connection."""
+        ask = self.referee._ask
+
+        def meanwhile(statement: str, *values: Any, **options: Any) -> list[Any]:
+            if before in statement and not self.is_pruned:
+                self.is_pruned = Bases(self.other, self.row.id).prune(200) == 200
+            return ask(statement, *values, **options)
+
+        self.is_pruned = False
+        self.referee._ask = meanwhile  # type: ignore[method-assign]
+        try:
+            return begin_again(self.referee, self.row, position, name)
+        finally:
+            self.referee._ask = ask  # type: ignore[method-assign]
+
+    def check_none_is_begun(self, position: int, before: str) -> None:
+        with self.assertRaisesRegex(KeeperError, f"position {position} of shop was pruned meanwhile"):
+            self.begin(position, "again", before)
+        self.assertTrue(self.is_pruned)
+        self.assertIsNone(self.referee.everything().row("again"))
+
+    def test_a_position_that_is_pruned_before_it_is_copied_is_not_begun(self) -> None:
+        self.check_none_is_begun(150, "INSERT INTO pagelog_log")
+
+    def test_nor_is_one_that_began_with_the_first_block(self) -> None:
+        self.check_none_is_begun(99, "INSERT INTO pagelog_log")
+
+    def test_what_is_pruned_while_it_is_looked_at_is_no_damage(self) -> None:
+        self.check_none_is_begun(150, "pagelog_image")
+
+    def test_a_position_that_is_kept_is_begun_whatever_is_pruned_below_it(self) -> None:
+        self.write(5)
+        self.assertTrue(self.begin(203, "again", "INSERT INTO pagelog_log"))
+        self.assertFalse(self.begin(203, "again", "never"))
+        row = self.referee.everything().row("again")
+        assert row is not None
+        self.assertEqual((row.archived, row.chain), (203, digest(b"", self.blocks[:203])))
+        self.assertEqual([len(piece) for piece in self.referee.blocks(row.id, 201, 203)], [3])
 
 
 class Switches(Made):

@@ -228,7 +228,7 @@ def trail_word(
 
 
 def _times(since: str | None, until: str | None) -> tuple[int | None, int | None]:
-    now = datetime.now().astimezone()
+    now = datetime.now()
     try:
         first = moment(since, None, now) if since else None
         last = moment(until, first, now) if until else None

@@ -7,7 +7,7 @@ from datetime import datetime
 
 import psycopg
 
-from pagelog.keeper.bases import NOTHING, Bases
+from pagelog.keeper.bases import Bases, snapshot
 from pagelog.keeper.referee import KeeperError, Referee, Refused, digest
 from pagelog.keeper.rows import Row
 from pagelog.keeper.schema import CHANNEL, FORMAT
@@ -25,7 +25,10 @@ SELECT COALESCE((SELECT min(lsn) - 1 FROM pagelog_block WHERE log = %(log)s AND 
 _MAKE = f"""
 WITH made AS (
   INSERT INTO pagelog_log (name, format, archived, epoch, chain, read_only)
-  VALUES (%(name)s, {FORMAT}, %(position)s, 1, %(chain)s, true) ON CONFLICT (name) DO NOTHING RETURNING id),
+  SELECT %(name)s, {FORMAT}, %(position)s, 1, %(chain)b::bytea, true
+  WHERE (%(base)s = 0 OR EXISTS (SELECT 1 FROM pagelog_base WHERE log = %(log)s AND base = %(base)s))
+    AND (SELECT count(*) FROM pagelog_block WHERE log = %(log)s AND lsn > %(base)s AND lsn <= %(position)s) = %(position)s - %(base)s
+  ON CONFLICT (name) DO NOTHING RETURNING id),
 tabled AS (INSERT INTO pagelog_table (log, text, secret) SELECT made.id, text, secret FROM made, pagelog_table WHERE log = %(log)s),
 based AS (
   INSERT INTO pagelog_base (log, base, chain, digest, pages, came)
@@ -78,19 +81,28 @@ def position_at(referee: Referee, row: Row, at: str) -> int:
 def begin_again(referee: Referee, row: Row, position: int, name: str) -> bool:
     """Makes a read-only database of this name from another one as it was at a kept position: its keepers start it.
 
-    All that it needs is copied in one statement. False where there is one of this name. Raises `BrokenArchive`.
+    All that it needs is copied in one statement. False where there is one of this name. Raises `BrokenArchive`, and `KeeperError` where
+    the position is pruned meanwhile.
     """
-    base = Bases(referee, row.id).newest(position)
-    chain = base.chain
-    for piece in referee.blocks(row.id, base.position + 1, position):
-        chain = digest(chain, piece)
-    if base is not NOTHING:
-        for _ in Bases(referee, row.id).images(base):
-            pass  # each is checked, and in the end all
+    with snapshot(referee):
+        base, chain = _checked(referee, row.id, position)
     try:
-        made = referee._ask(_MAKE, {"log": row.id, "name": name, "position": position, "base": base.position, "chain": chain})
+        made = referee._ask(_MAKE, {"log": row.id, "name": name, "position": position, "base": base, "chain": chain})
     except Refused as error:
         if isinstance(error.__cause__, psycopg.errors.UniqueViolation):
             return False
         raise
+    if not made and not referee._ask("SELECT 1 FROM pagelog_log WHERE name = %s", (name,)):
+        raise KeeperError(f"position {position} of {row.name} was pruned meanwhile")
     return bool(made)
+
+
+def _checked(referee: Referee, log: int, position: int) -> tuple[int, bytes]:
+    """The base from which a position is begun again, and the digest of all blocks up to it, once each of them is looked at."""
+    base = Bases(referee, log).newest(position)
+    chain = base.chain
+    for piece in referee.blocks(log, base.position + 1, position):
+        chain = digest(chain, piece)
+    for _ in Bases(referee, log).images(base):
+        pass  # each is checked, and in the end all
+    return base.position, chain

@@ -2,9 +2,10 @@
 
 from __future__ import annotations
 
+import re
 from collections import Counter
 from dataclasses import dataclass, field
-from datetime import datetime, time, timedelta
+from datetime import datetime, time, timedelta, tzinfo
 from typing import Iterable, Iterator
 
 from pagelog.reply import Entries, Entry, decode_reply, expect
@@ -14,6 +15,7 @@ from pagelog.trail.store import Piece, Trail, TrailList
 MINUTE = 60_000_000
 """Of microseconds."""
 _ENTRIES = b"\x03"
+_OF_DAY = re.compile(r"\d\d(:|$)")
 
 
 @dataclass(frozen=True)
@@ -61,20 +63,25 @@ def answer(trail: Trail, one: TrailList, question: Question, first: int = 1) -> 
 
 
 def moment(text: str, after: datetime | None, now: datetime) -> datetime:
-    """The time of a text as 14:05, 14:05:30 or 2026-11-28T14:05, in the zone of `now` unless it names one.
+    """The time of a text as 14:05, 14:05:30 or 2026-11-28T14:05, in the zone of `now` unless it names one. Where `now` has none, it is
+    this machine's, by the rules that it had at that time.
 
     A time of day is the last one that has passed, or with `after` the first one behind that. Raises `ValueError`.
     """
-    try:
-        of_day = time.fromisoformat(text)
-    except ValueError:
+    if _OF_DAY.match(text) is None:
         found = datetime.fromisoformat(text)
-        return found if found.tzinfo else found.replace(tzinfo=now.tzinfo)
-    base = after or now
-    found = datetime.combine(base.date(), of_day.replace(tzinfo=None), of_day.tzinfo or base.tzinfo)
+        return found if found.tzinfo else _in_zone(found, now.tzinfo)
+    of_day = time.fromisoformat(text)
+    zone = of_day.tzinfo or now.tzinfo
+    base = (after or now).astimezone(zone)
+    near = [datetime.combine(base.date() + timedelta(days), of_day.replace(tzinfo=None)) for days in (-1, 0, 1)]
     if after is None:
-        return found if found <= now else found - timedelta(days=1)
-    return found if found > after else found + timedelta(days=1)
+        return max(found for found in (_in_zone(each, zone) for each in near) if found <= base)
+    return min(found for found in (_in_zone(each, zone) for each in near) if found > base)
+
+
+def _in_zone(found: datetime, zone: tzinfo | None) -> datetime:
+    return found.astimezone() if zone is None else found.replace(tzinfo=zone)
 
 
 def micros(when: datetime) -> int:

@@ -301,42 +301,57 @@ class Trail:
     def pieces(
         self, one: TrailList, first: int = 1, *, since: int | None = None, until: int | None = None
     ) -> Iterator[Piece]:
-        """The pieces of a list that end at line `first` or behind it, of this time if one is given, each of them checked.
+        """The pieces of a list that end at line `first` or behind it, of this time if one is given, each of them checked, and the one
+        before them too. Those that are pruned meanwhile are left out.
 
         Raises `BrokenTrail` for the first that is missing or damaged.
         """
-        wanted = sql.select(_pieces).where(_pieces.c.list == one.id, _pieces.c.first <= one.kept)
-        if since is not None:
-            wanted = wanted.where(_pieces.c.seen >= since)
-        if until is not None:
-            wanted = wanted.where(_pieces.c.seen < until)
         last: Any = None
-        at = self._first_piece(one, first)
-        while True:
-            page = wanted.where(_pieces.c.first >= at).order_by(_pieces.c.first).limit(_PIECES)
-            try:
-                with self.engine.begin() as connection:
-                    rows = connection.execute(page).fetchall()
-            except _NO_ROWS as error:
-                raise BrokenTrail(max(at, 1), "it cannot be read") from error
+        at = self._first_piece(one, first, since)
+        while rows := self._rows(one, at):
             for row in rows:
-                if last is None and since is None and row.first > max(first, one.pruned + 1):
-                    raise BrokenTrail(max(first, one.pruned + 1), "it is missing")
-                yield _piece(row, last)
+                self._check_place(one, row, last, at == 0 and row.first > first)
+                piece = _piece(row)
+                if until is not None and piece.seen >= until:
+                    return
+                if since is None or piece.seen >= since:
+                    yield piece
                 last = row
+            at = last.first + 1
             if len(rows) < _PIECES:
                 break
-            at = rows[-1].first + 1
-        if last is None and since is None and until is None and one.kept > one.pruned and first <= one.kept:
+        if last is None and one.kept > one.pruned and first <= one.kept:
             raise BrokenTrail(one.pruned + 1, "it is missing")
-        if last is not None and until is None and bytes(last.digest) != one.digest:
+        if last is not None and bytes(last.digest) != one.digest:
             raise BrokenTrail(last.first + last.count, "what is behind it is missing")
 
-    def _first_piece(self, one: TrailList, line: int) -> int:
-        """The first number of the piece that this line is in."""
-        wanted = sql.select(sql.func.max(_pieces.c.first)).where(_pieces.c.list == one.id, _pieces.c.first <= line)
+    def _rows(self, one: TrailList, at: int) -> list[Any]:
+        """Some rows of a list's pieces, from this number on."""
+        wanted = sql.select(_pieces).where(_pieces.c.list == one.id, _pieces.c.first >= at, _pieces.c.first <= one.kept)
+        try:
+            with self.engine.begin() as connection:
+                return list(connection.execute(wanted.order_by(_pieces.c.first).limit(_PIECES)).fetchall())
+        except _NO_ROWS as error:
+            raise BrokenTrail(max(at, 1), "it cannot be read") from error
+
+    def _check_place(self, one: TrailList, row: Any, last: Any, is_late: bool) -> None:
+        """Raises where a piece is missing before this one, which comes behind `last` or is the first, and was not pruned meanwhile."""
+        if last is None and (not is_late or row.first <= one.pruned + 1):
+            return
+        if last is not None and row.first == last.first + last.count and row.before == last.digest:
+            return
         with self.engine.begin() as connection:
-            return int(connection.execute(wanted).scalar_one() or 0)
+            pruned = connection.execute(sql.select(_lists.c.pruned).where(_lists.c.id == one.id)).scalar_one()
+        wanted = one.pruned + 1 if last is None else last.first + last.count
+        if not wanted < row.first <= pruned + 1:
+            raise BrokenTrail(wanted, "it is missing" if last is None else "the next piece is not behind it")
+
+    def _first_piece(self, one: TrailList, line: int, since: int | None) -> int:
+        """The first number of the piece that this line is in, or of the last one that was seen before this time if that is later."""
+        latest = sql.select(sql.func.max(_pieces.c.first)).where(_pieces.c.list == one.id)
+        wanted = [latest.where(_pieces.c.first <= line)] + ([latest.where(_pieces.c.seen < since)] if since is not None else [])
+        with self.engine.begin() as connection:
+            return max(int(connection.execute(each).scalar_one() or 0) for each in wanted)
 
     def lines(self, one: TrailList, first: int) -> bytes:
         """The bytes of the lines from number `first` on, without the pruned ones."""
@@ -386,10 +401,8 @@ def _text(id: int, text: bytes, line: int) -> dict[str, Any]:
     return {"list": id, "line": line, "digest": hashlib.sha256(hidden).hexdigest(), "text": hidden}
 
 
-def _piece(row: Any, last: Any) -> Piece:
-    """The piece of a row, which comes behind the row `last`, if that was read."""
-    if last is not None and (row.first != last.first + last.count or row.before != last.digest):
-        raise BrokenTrail(last.first + last.count, "the next piece is not behind it")
+def _piece(row: Any) -> Piece:
+    """The piece of a row."""
     try:
         lines = zlib.decompress(bytes(row.data))
         is_whole = len(lines) == row.count * LINE_SIZE

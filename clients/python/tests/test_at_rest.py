@@ -1,0 +1,188 @@
+"""Trails and archives where clocks change, pieces are missing or taken away, and names are given again. No service is asked."""
+
+from __future__ import annotations
+
+import os
+import tempfile
+import time
+import unittest
+from dataclasses import dataclass, field
+from datetime import datetime, timedelta, timezone
+from pathlib import Path
+
+from pagelog.desk.trail_words import _times
+from pagelog.reply import LINE_SIZE, Entry, encode_entry
+from pagelog.request import AUDIT_MAX, Operation, Role
+from pagelog.trail import BrokenTrail, Trail, TrailKeeper, TrailList
+from pagelog.trail.keeper import DAY
+from pagelog.trail.question import Question, answer, moment
+from pagelog.trail.replay import NotReplayable, lines_of
+from pagelog.trail.store import _PIECES, _lists, _pieces, piece_behind
+
+SUMMER = timezone(timedelta(hours=2))
+WINTER = timezone(timedelta(hours=1))
+
+
+class Times(unittest.TestCase):
+    """The machine's zone has an hour more from the last Sunday of March to that of October."""
+
+    def setUp(self) -> None:
+        before = os.environ.get("TZ")
+        self.addCleanup(time.tzset)
+        self.addCleanup(lambda: os.environ.pop("TZ") if before is None else os.environ.update(TZ=before))
+        os.environ["TZ"] = "CET-1CEST,M3.5.0,M10.5.0/3"
+        time.tzset()
+
+    def test_a_time_of_another_season_is_by_the_rules_of_then(self) -> None:
+        both = [int(datetime(2026, month, 1, 14, 5, tzinfo=zone).timestamp() * 1_000_000) for month, zone in ((1, WINTER), (7, SUMMER))]
+        self.assertEqual(_times("2026-01-01T14:05", "2026-07-01T14:05"), tuple(both))  # whenever this is asked
+        winter = datetime(2026, 11, 28, 12, 0)
+        self.assertEqual(moment("2026-07-01T14:05", None, winter), datetime(2026, 7, 1, 14, 5, tzinfo=SUMMER))
+        self.assertEqual(moment("2026-01-31", None, datetime(2026, 7, 1, 14, 5)), datetime(2026, 1, 31, tzinfo=WINTER))
+        # The night before was summer still, and it begins again at 02:00.
+        changed = datetime(2026, 10, 25, 10, 0)
+        self.assertEqual(moment("23:00", None, changed), datetime(2026, 10, 24, 23, 0, tzinfo=SUMMER))
+        self.assertEqual(moment("09:59", None, changed), datetime(2026, 10, 25, 9, 59, tzinfo=WINTER))
+        self.assertEqual(moment("10:00", moment("23:00", None, changed), changed), datetime(2026, 10, 25, 10, 0, tzinfo=WINTER))
+
+    def test_a_time_of_day_in_a_zone_of_its_own_is_the_last_that_has_passed(self) -> None:
+        for now, text, wanted in (
+            (datetime(2026, 11, 28, 23, 30, tzinfo=timezone(-timedelta(hours=5))), "04:00Z", datetime(2026, 11, 29, 4, tzinfo=timezone.utc)),
+            (datetime(2026, 11, 29, 1, 0, tzinfo=SUMMER), "23:30Z", datetime(2026, 11, 27, 23, 30, tzinfo=timezone.utc)),
+        ):
+            self.assertEqual(moment(text, None, now), wanted)
+        since = datetime(2026, 11, 28, 23, 30, tzinfo=timezone(-timedelta(hours=5)))
+        self.assertEqual(moment("04:31Z", since, since), datetime(2026, 11, 29, 4, 31, tzinfo=timezone.utc))
+
+    def test_digits_are_a_date_and_not_a_time_of_day(self) -> None:
+        now = datetime(2026, 11, 28, 12, 0)
+        self.assertEqual(moment("20261127", None, now), datetime(2026, 11, 27, tzinfo=WINTER))
+        self.assertEqual(moment("11", None, now), datetime(2026, 11, 28, 11, 0, tzinfo=WINTER))
+        self.assertRaises(ValueError, moment, "2026-11", None, now)
+
+
+@dataclass
+class Listed:
+    """In the place of an operator: a service with an audit list, whose connection may be made again."""
+
+    entries: list[Entry] = field(default_factory=list)
+    connects: int = 1
+
+    @property
+    def connection(self) -> Listed:
+        return self
+
+    @property
+    def credentials(self) -> Listed:
+        return self
+
+    id = 1
+
+    def more(self, count: int) -> None:
+        for _ in range(count):
+            self.asked(2, Role.PRIMARY, Operation.STATUS, 0, 0)
+
+    def asked(self, principal: int, role: Role, operation: Operation, a: int, b: int) -> None:
+        self.entries.append(Entry(len(self.entries) + 1, 1, principal, role, 1, operation, a, b, 0, 0, 0))
+
+    def audit(self, first: int, max: int = AUDIT_MAX) -> tuple[Entry, ...]:
+        found = tuple(self.entries[first - 1 : first - 1 + max])
+        self.asked(self.id, Role.OPERATOR, Operation.AUDIT, first, max)
+        return found
+
+    def forget(self) -> None:
+        pass
+
+
+class Stored(unittest.TestCase):
+    def setUp(self) -> None:
+        self.folder = Path(self.enterContext(tempfile.TemporaryDirectory()))
+        self.url = f"sqlite:///{self.folder}/archive.db"
+        self.trail = self.enterContext(Trail(self.url, "shop", create=True))
+
+    def keep(self, times: list[int], count: int = 3) -> TrailList:
+        """A piece for each of these times."""
+        one, pieces = self.trail.begin(), []
+        for at in times:
+            numbers = range(one.kept + 1, one.kept + count + 1)
+            lines = (Entry(number, 1, 2, Role.PRIMARY, 1, Operation.STATUS, 0, 0, 0, 0, 0) for number in numbers)
+            piece, one = piece_behind(one, b"".join(map(encode_entry, lines)), at)
+            pieces.append(piece)
+        with self.trail.engine.begin() as connection:
+            connection.execute(_pieces.insert(), pieces)
+            connection.execute(_lists.update().values(kept=one.kept, seen=one.seen, digest=one.digest))
+        return one
+
+    def take_out(self, first: int) -> None:
+        with self.trail.engine.begin() as connection:
+            self.assertEqual(connection.execute(_pieces.delete().where(_pieces.c.first == first)).rowcount, 1)
+
+
+class Missing(Stored):
+    def test_a_piece_that_is_missing_in_a_time_is_found(self) -> None:
+        """Pieces of lines 1, 4, 7, 10 and 13, seen at 10 to 50: those of a time are 7 and 10."""
+        one = self.keep([10, 20, 30, 40, 50])
+        for times, pieces in ((dict(since=30, until=50), [7, 10]), (dict(since=30), [7, 10, 13]), (dict(until=30), [1, 4]), (dict(since=60), []),
+                              (dict(until=10), []), (dict(since=11, until=19), [])):  # fmt: skip
+            self.assertEqual([piece.first for piece in self.trail.pieces(one, **times)], pieces)
+        for gone, times in ((7, dict(since=30, until=50)), (7, dict(since=30)), (10, dict(since=30, until=50)), (4, dict(until=30)), (1, dict(until=20)),
+                            (13, dict(since=60)), (13, dict(since=30))):  # fmt: skip
+            with self.subTest(gone=gone, **times), self.trail.engine.begin() as connection:
+                kept = dict(connection.execute(_pieces.select().where(_pieces.c.first == gone)).one()._mapping)
+            self.take_out(gone)
+            with self.assertRaises(BrokenTrail) as raised:
+                list(self.trail.pieces(one, **times))
+            self.assertEqual(raised.exception.line, gone)
+            with self.trail.engine.begin() as connection:
+                connection.execute(_pieces.insert().values(kept))
+
+    def test_a_time_that_was_changed_is_found(self) -> None:
+        one = self.keep([10, 20, 30, 40])
+        for first, seen, times in ((7, 25, dict(since=30)), (7, 45, dict(since=30, until=40)), (4, 99, dict(until=30))):
+            with self.trail.engine.begin() as connection:
+                [[before]] = connection.execute(_pieces.select().with_only_columns(_pieces.c.seen).where(_pieces.c.first == first))
+                connection.execute(_pieces.update().where(_pieces.c.first == first).values(seen=seen))
+            with self.assertRaises(BrokenTrail):
+                list(self.trail.pieces(one, **times))
+            with self.trail.engine.begin() as connection:
+                connection.execute(_pieces.update().where(_pieces.c.first == first).values(seen=before))
+
+
+class Pruned(Stored):
+    def test_what_is_pruned_while_it_is_read_is_no_damage(self) -> None:
+        one = self.keep([5] * (_PIECES + 9) + [DAY + 5] * 3)
+        stale, reading = self.trail.lists()[0], answer(self.trail, one, Question())
+        self.assertEqual(next(reading).entry.number, 1)
+        replaying = lines_of(self.trail, one)
+        next(iter(replaying))
+        self.trail.prune(DAY)
+        days = [one.kept - 3 * 3 + 1 + at for at in range(9)]
+        for since in (None, 6):
+            self.assertEqual([found.entry.number for found in answer(self.trail, stale, Question(since=since))], days)
+        rest = [found.entry.number for found in reading]
+        self.assertEqual((rest[-9:], rest[:-9]), (days, list(range(2, 3 * _PIECES + 1))))
+        with self.assertRaisesRegex(NotReplayable, "taken away"):
+            list(replaying)
+        self.take_out(days[3])
+        with self.assertRaises(BrokenTrail):
+            list(answer(self.trail, stale, Question()))
+
+    def test_a_keeper_goes_on_over_a_new_connection_once_days_were_taken_away(self) -> None:
+        times = iter([5, DAY + 5, DAY + 6, DAY + 7])
+        service = Listed()
+        keeper = TrailKeeper(service, self.trail, clock=lambda: next(times))  # type: ignore[arg-type]
+        ends = iter([False, False, True])
+        service.more(3)
+        keeper.step()
+        service.more(3)
+        keeper.run(follow=True, idle=0, keep=1, stop=lambda: next(ends))
+        service.connects += 1
+        service.more(3)
+        keeper.step()
+        [one] = self.trail.lists()
+        self.assertEqual((one.ended, one.pruned, one.kept * LINE_SIZE), (None, 3, len(b"".join(map(encode_entry, service.entries[: one.kept])))))
+        self.assertGreater(one.kept, 9)
+
+
+if __name__ == "__main__":
+    unittest.main()
