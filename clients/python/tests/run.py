@@ -56,6 +56,7 @@ PARTS = {
     "test_kept_trails": "trails of named databases",
     "test_lives": "keepers that end, begin, and take a folder",
     "test_quick": "few blocks, pulled and kept without a thread",
+    "test_looks": "looks at services, without a thread each",
     "test_runs": "a run of a service, its tokens and its process",
     "test_machine": "what a keeper decides",
     "test_meanwhile": "what changes while a keeper waits for something",

@@ -45,7 +45,7 @@ def service(**facts: Any) -> Mock:
              "hangs": False, "went_back": False, "is_noted": False, "is_after_release": False, **facts}  # fmt: skip
     made = Mock(**known)
     made.share.return_value = 0.0
-    made.pulled_at_once = AsyncMock(return_value=[])
+    made.pulled_at_once, made.looked_at_once = AsyncMock(return_value=[]), AsyncMock(return_value=True)
     if made.process is not None:
         made.process.descriptor = made.process.memory = 0
     return made

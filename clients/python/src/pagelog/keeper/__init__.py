@@ -12,7 +12,7 @@ named database is and how far it is durable, and takes over what another keeper 
     run         one process of a service, its files, its adoption; their folder is locked by `folder`
     loading     fills a service from the archive, as frames
     machine     what a keeper decides, without any IO
-    puller      pulls a few blocks in the event loop
+    puller      pulls a few blocks in the event loop; looker looks at a service in it
     served      a service that this keeper has, and what is asked of it
     archiver    pulls what is hardened, in batches; committer keeps those of all databases in one statement
     recorder    keeps the audit lists beside the blocks

@@ -141,7 +141,8 @@ class Run:
     def memory(self) -> int:
         """Bytes of the machine's memory that it holds; 0 where it has ended."""
         try:
-            return int(Path(f"/proc/{self.facts.pid}/statm").read_text().split()[1]) * os.sysconf("SC_PAGE_SIZE")
+            with open(f"/proc/{self.facts.pid}/statm", "rb", buffering=0) as file:
+                return int(file.read().split()[1]) * os.sysconf("SC_PAGE_SIZE")
         except (OSError, IndexError, ValueError):
             return 0
 

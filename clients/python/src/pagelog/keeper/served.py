@@ -12,6 +12,7 @@ from pagelog.connection import Connection
 from pagelog.keeper.bases import NOTHING, Bases, snapshot
 from pagelog.keeper.images import blocks_of, labelled
 from pagelog.keeper.loading import EPOCH, GROUP, Loader
+from pagelog.keeper.looker import Looker
 from pagelog.keeper.machine import Kind
 from pagelog.keeper.puller import Puller
 from pagelog.keeper.referee import BrokenArchive, Referee, digest
@@ -23,6 +24,8 @@ from pagelog.reader import Reader
 from pagelog.reply import Entries, State, expect
 from pagelog.request import Audit, Status
 
+FEW = 16
+"""So many entries of an audit list a look may not have seen yet. Its own questions alone are two."""
 PULLS = 64
 """Pulls of one batch: 1,024 blocks at most, 32 MiB."""
 
@@ -30,8 +33,8 @@ PULLS = 64
 class Served:
     """The service of one run of a database. `reached` and `chain` are of the blocks that it was filled with, or that are
     archived of it. All blocks and positions here are the archive's: an LSN of the service is a position less `shift`. One
-    thread at a time calls each of its methods; `look`, `pulled` and the others may run side by side, and
-    `pulled_at_once` is the event loop's."""
+    thread at a time calls each of its methods; `look`, `pulled` and the others may run side by side, and what is done
+    `at_once` is the event loop's."""
 
     def __init__(self, name: str, run: str, text: str, secret: bytes, *, timeout: float, is_read_only: bool = False) -> None:
         self.database = name
@@ -60,12 +63,15 @@ class Served:
         """Whether another keeper has released the generation before: it may be ending its audit list still."""
         self.begun = 0
         """Bytes of memory that it held when it was filled, or opened."""
+        self.held = 0
+        """Those that it held when they were last measured: once in a look, and all that is decided until the next one rests on it."""
         self._is_read_only = is_read_only
         self.is_noted = False
         """Whether the referee is known to have noted it as a standby."""
         self.process: Run | None = None
+        self._quick_looker: Looker | None = None
         self._text, self._secret, self._timeout = text, secret, timeout
-        self._entries, self._step = 0, 1
+        self._entries, self._step = 0, FEW
         self._ahead: tuple[int, bytes] | None = None
         """How far it was loaded, and the digest of that, where it is loaded, or the archive went away meanwhile."""
         self._has_part = False
@@ -100,6 +106,7 @@ class Served:
         credentials = keeper_of(self._secret, self.database, self.run)
         self._operator = Operator(self._connection(process), credentials)
         self._looker = Operator(self._connection(process), credentials)
+        self._quick_looker = Looker(process.address, credentials, self._timeout)
         self._reader = Reader(self._connection(process), credentials)
         self._puller = Puller(process.address, credentials, self._timeout)
         self.process = process  # last: from now on the event loop asks it
@@ -230,18 +237,44 @@ class Served:
 
     # Looking.
 
+    async def looked_at_once(self) -> bool:
+        """As `look`, without a thread; False where `look` has to see to it. Raises `TimedOut`."""
+        while self._quick_looker is not None and (found := await self._quick_looker.look(self._probe)) is not None:
+            if not self._has_more(*found):
+                return True
+        return False
+
     def look(self) -> None:
         """Asks for its end, and how many entries its audit list has at least: two entries, and more where the list has grown."""
         has_more = True
         while has_more:
-            probe = self._entries + self._step
-            state, entries = self._looker._ask_all((Status(), Audit(probe, 1)))
-            self.hard = expect(State, state).hard + self.shift
-            has_more = bool(expect(Entries, entries).entries)
-            if has_more:
-                self._entries = probe
-            self._step = 2 * self._step if has_more else max(1, self._step // 2)
-        self.answers += 1
+            state, entries = self._looker._ask_all((Status(), Audit(self._probe, 1)))
+            has_more = self._has_more(expect(State, state), expect(Entries, entries))
+
+    @property
+    def _probe(self) -> int:
+        return self._entries + self._step
+
+    def _has_more(self, state: State, entries: Entries) -> bool:
+        """Takes an answer. Whether the list may have many more entries than are known."""
+        self.hard = state.hard + self.shift
+        has_more = bool(entries.entries)
+        if has_more:
+            self._entries = self._probe
+        else:
+            self.answers += 1
+        self._step = 2 * self._step if has_more else max(FEW, self._step // 2)
+        return has_more
+
+    def stop_looks(self) -> None:
+        """Nobody looks at it any more."""
+        if self._quick_looker is not None:
+            self._quick_looker.close()
+
+    def measure(self) -> int:
+        """How many bytes of memory it holds."""
+        self.held = 0 if self.process is None else self.process.memory
+        return self.held
 
     def share(self, audit: int, memory: int) -> float:
         """How full its audit list or its memory is, the greater of the two: 0 to 1.
@@ -249,7 +282,7 @@ class Served:
         Where it began with much, it is the growth since then that counts: a fresh service would hold as much again. Twice of
         what it began with counts as half.
         """
-        held = self.process.memory if memory and self.process is not None else 0
+        held = self.held if memory else 0
         grown = (held / self.begun - 1) / 2 if self.begun else 1.0
         return max(self._entries / audit, min(held / memory, grown) if held else 0.0)
 

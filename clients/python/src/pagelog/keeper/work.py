@@ -41,7 +41,8 @@ class Work:
 
     async def _look(self, served: Served) -> None:
         try:
-            await asyncio.to_thread(served.look)
+            if not await served.looked_at_once():
+                await asyncio.to_thread(served.look)
         except (AuditListFull, TurnsSpent):
             served.is_broken = True
             self._kick()
@@ -102,4 +103,6 @@ class Work:
         for task in (self._archiving, self._looking, self._recording):
             if task is not None:
                 task.cancel()
+        if self._served is not None:
+            self._served.stop_looks()
         self.archiver = self._archiving = self._looking = self.recorder = self._recording = self._served = None

@@ -1,0 +1,119 @@
+"""Looks at a service in the event loop, where all is as it should be: one that hangs takes no thread, and holds up no other look."""
+
+from __future__ import annotations
+
+import asyncio
+from typing import Sequence
+
+from pagelog.client import FIRST_EPOCH, reported_epoch
+from pagelog.connection import REPLY_SIZE, Address
+from pagelog.credentials import Credentials
+from pagelog.errors import Fault, TimedOut
+from pagelog.matching import mismatch
+from pagelog.reply import Entries, Reply, State, decode_reply
+from pagelog.request import Act, Audit, Head, Request, Role, Status
+
+
+class Looker:
+    """A connection for one look at a time. Whatever else than its state comes back, it says that it does not know: an `Operator` asks
+    again then, and finds out why."""
+
+    def __init__(self, address: str, credentials: Credentials, timeout: float) -> None:
+        self._address, self._credentials, self._timeout = Address.parse(address), credentials, timeout
+        self._line: _Line | None = None
+        self._epoch = FIRST_EPOCH
+        """The highest one that it was told of. In one process epochs only rise."""
+
+    async def look(self, probe: int) -> tuple[State, Entries] | None:
+        """Its state, and this entry of its audit list, if there is one; None where that is not known. Raises `TimedOut`.
+
+        Where another epoch has begun, as with each generation that of its writer, it asks again in that.
+        """
+        acts = (Status(), Audit(probe, 1))
+        replies = await self._replies(acts)
+        told = max((reported_epoch(reply) or 0 for reply in replies), default=0)
+        if told > self._epoch:
+            self._epoch = told
+            replies = await self._replies(acts)
+        match replies:
+            case [State() as state, Entries() as entries]:
+                fits = not any(mismatch(act, self._epoch, reply) for act, reply in zip(acts, replies))
+                return (state, entries) if fits else None
+        return None
+
+    def close(self) -> None:
+        """Closes the connection. The next look makes another."""
+        if self._line is not None:
+            self._line.close()
+        self._line = None
+
+    async def _replies(self, acts: Sequence[Act]) -> list[Reply]:
+        """What comes back; nothing where that is not whole."""
+        is_whole = False
+        try:
+            async with asyncio.timeout(self._timeout):
+                replies = [decode_reply(body) for body in await self._bodies(acts)]
+            is_whole = True
+            return replies
+        except TimeoutError as error:
+            raise TimedOut(f"{self._address}: nothing came in {self._timeout} s") from error
+        except (OSError, Fault):
+            return []
+        finally:
+            if not is_whole:
+                self.close()  # its replies would be taken for those of the next look
+
+    async def _bodies(self, acts: Sequence[Act]) -> list[bytes]:
+        head = Head(self._credentials.id, self._credentials.token, Role.OPERATOR, 0, self._epoch)
+        bodies = [Request(head, act).encode() for act in acts]
+        if self._line is None:
+            _, self._line = await asyncio.get_running_loop().create_connection(_Line, self._address.host, self._address.port)
+        return await self._line.ask(b"".join(len(body).to_bytes(4, "big") + body for body in bodies), len(bodies))
+
+
+class _Line(asyncio.Protocol):
+    """One connection."""
+
+    def __init__(self) -> None:
+        self._transport: asyncio.Transport | None = None
+        self._in = bytearray()
+        self._bodies: list[bytes] = []
+        self._wanted = 0
+        self._answered: asyncio.Future[None] | None = None
+
+    async def ask(self, frames: bytes, count: int) -> list[bytes]:
+        """The bodies of so many replies. Raises `OSError`."""
+        if self._transport is None:
+            raise ConnectionError("the service ended the connection")
+        self._bodies, self._wanted, self._answered = [], count, asyncio.get_running_loop().create_future()
+        self._transport.write(frames)
+        await self._answered
+        return self._bodies
+
+    def close(self) -> None:
+        """Ends it."""
+        if self._transport is not None:
+            self._transport.abort()
+
+    def connection_made(self, transport: asyncio.BaseTransport) -> None:
+        """Called by the loop."""
+        assert isinstance(transport, asyncio.Transport)
+        self._transport = transport
+
+    def connection_lost(self, error: Exception | None) -> None:
+        """Called by the loop: the service has ended it, or `close`."""
+        self._transport = None
+        if self._answered is not None and not self._answered.done():
+            self._answered.set_exception(ConnectionError("the service ended the connection"))
+
+    def data_received(self, data: bytes) -> None:
+        """Called by the loop. What nobody has asked for ends it."""
+        self._in += data
+        while len(self._in) >= 4 and len(self._in) >= (end := 4 + int.from_bytes(self._in[:4], "big")):
+            self._bodies.append(bytes(self._in[4:end]))
+            del self._in[:end]
+        is_asked = self._answered is not None and not self._answered.done()
+        if not is_asked or len(self._bodies) > self._wanted or len(self._in) > REPLY_SIZE:
+            self.close()
+        elif len(self._bodies) == self._wanted and self._answered is not None:
+            self._answered.set_result(None)
