@@ -75,6 +75,9 @@ class Looks(unittest.IsolatedAsyncioTestCase):
         shared = Mock(settings=Mock(ttl=PATIENCE), spawn=spawn, say=lambda _, sentence: self.said.append(sentence))
         return Work(shared, "shop", Waits("shop"), Mock())
 
+    async def asyncSetUp(self) -> None:
+        asyncio.get_running_loop().set_debug(False)
+
     async def asyncTearDown(self) -> None:
         for task in self.tasks:
             task.cancel()
@@ -131,10 +134,11 @@ class Looks(unittest.IsolatedAsyncioTestCase):
         served = self.served(timeout=PATIENCE)
         assert served.process is not None and served.process.facts.address is not None
         pid, credentials = served.process.facts.pid, keeper_of(SECRET, "shop", served.run)
-        looker = Looker(served.process.facts.address, credentials, 0.2)
+        looker = Looker(served.process.facts.address, credentials, PATIENCE)
         self.addCleanup(looker.close)
         self.assertIsNotNone(await looker.look(1))
         stand_still(pid)
+        looker._timeout = 0.2
         for _ in range(2):
             with self.assertRaises(TimedOut):
                 await looker.look(1)
