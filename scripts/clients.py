@@ -7,7 +7,7 @@ import subprocess
 
 from wire import frame
 
-PATIENCE = 20.0
+PATIENCE = 120.0
 
 
 def same(what, wanted, found):

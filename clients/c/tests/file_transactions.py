@@ -751,9 +751,10 @@ def test_faults_from_seeds():
     with Service(workers=64) as service, service.operator() as operator:
         for seed in range(4000 if LONG else 20 if MODEL else 300):
             numbers = random.Random(seed)
-            rule, principal = Fault(operator, numbers), numbers.choice([2, 5])
-            with Proxy(service.address, between=rule) as proxy, File(proxy.address, principal, operator=1,
-                                                                     patience_ms=1) as file:
+            of_proxy = service.operator()  # which may go on with what the file has sent when it is gone
+            rule, principal = Fault(of_proxy, numbers), numbers.choice([2, 5])
+            with of_proxy, Proxy(service.address, between=rule) as proxy, File(proxy.address, principal, operator=1,
+                                                                               patience_ms=1) as file:
                 outcome = file.open()
                 outcome, changed = write_until_refused(file, model, numbers) if outcome == DONE else (LOST, model)
                 is_undone = file.state.is_restarted

@@ -273,6 +273,7 @@ def test_a_turn_that_is_kept_and_in_use_is_not_passed_on():
         while keeper.turns._grace:
             fill(connection, 5, size=20000, first=count)
             count += 5
+            true("it says so", count < 1000)
         true("it has it still", keeper.turns._holder is holder)
         connection.execute("commit")
         same("both", (None, list(range(-1, count))), (waits(), rows(connection)))

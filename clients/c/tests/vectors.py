@@ -201,7 +201,7 @@ def answered(data, reply_ms):
         client, _ = listener.accept()
         exactly(client, struct.unpack(">I", exactly(client, 4))[0])
         client.sendall(data)
-        is_over.wait(20)
+        is_over.wait(120)
         client.close()
 
     thread = threading.Thread(target=answer)
@@ -215,12 +215,12 @@ def answered(data, reply_ms):
 
 def test_frames_that_are_none():
     """A length above that of any reply is refused at once; a frame that is cut is waited for, and no longer than said."""
-    same("too long", MALFORMED, answered(struct.pack(">I", 1048577), 10000))
-    same("far too long", MALFORMED, answered(b"\xff" * 4 + bytes(100), 10000))
+    same("too long", MALFORMED, answered(struct.pack(">I", 1048577), 60000))
+    same("far too long", MALFORMED, answered(b"\xff" * 4 + bytes(100), 60000))
     same("the longest", LOST, answered(struct.pack(">I", 1048576) + bytes(100), 200))
     same("cut", LOST, answered(struct.pack(">I", 33) + bytes(32), 200))
-    same("no reply", MALFORMED, answered(struct.pack(">I", 1) + b"\x0b", 10000))
-    same("a reply to something else", MALFORMED, answered(struct.pack(">I", 1) + b"\0", 10000))
+    same("no reply", MALFORMED, answered(struct.pack(">I", 1) + b"\x0b", 60000))
+    same("a reply to something else", MALFORMED, answered(struct.pack(">I", 1) + b"\0", 60000))
 
 
 def test_the_lines_of_the_page():

@@ -829,7 +829,7 @@ def test_another_writer_between_a_commit_in_doubt_and_its_failover():
                 return None if is_away[0] else frame
 
             with Proxy(service.address, between=between) as proxy:
-                writer = connect(proxy.address, patience=2000, check=check, async_commits=unwaited)
+                writer = connect(proxy.address, patience=6000, check=check, async_commits=unwaited)
                 writer.execute("create table t(a integer primary key, b)")
                 writer.execute("create index i on t(b)")
                 writer.execute("with recursive g(v) as (select 1 union all select v + 1 from g where v < 90)"

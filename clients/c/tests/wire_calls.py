@@ -962,15 +962,23 @@ def test_waits_that_look_for_their_reply():
 
 
 def test_a_wait_for_many_replies_looks_for_the_last_ones():
-    """They come some eight at a time, soon after each other. To look for all of them would take a processor all the time."""
-    between = lambda frame: time.sleep(0.002) or frame
+    """They come some eight at a time, soon after each other. To look for all of them would take a processor all the time. Its processor
+    time is looked at with each frame, so that it does not matter how long the last ones take."""
+    clock, seen = time.pthread_getcpuclockid(threading.get_ident()), []
+
+    def between(frame):
+        seen.append((time.monotonic(), time.clock_gettime(clock)))
+        time.sleep(0.002)
+        return frame
+
     with Service() as service, Proxy(service.address, between=between) as slow, Log(slow.address, 2, spin_us=1000000) as log:
         same("join", DONE, log.join())
         for _ in range(3):
             blocks = numbered(log.end + 1, 40, 8000)
-            start, used = time.monotonic(), time.thread_time()
-            same("append", DONE, log.append(blocks))
-            true("it sleeps first", time.thread_time() - used < (time.monotonic() - start) / 2)
+            seen.clear()
+            same("append", (DONE, 81), (log.append(blocks), len(seen)))
+            took, used = (last - first for first, last in zip(seen[10], seen[70]))
+            true(f"it sleeps first: {used} of {took}", used < took / 2)
 
 
 def test_a_joined_writer_without_the_role_of_a_secondary():
