@@ -36,7 +36,8 @@ class Server(Postgres):
         self.start()
 
     def start(self) -> None:
-        options = f"-k {self.folder} -c listen_addresses= -c max_connections=60 -c wal_level=replica -c max_wal_senders=8 -c hot_standby=on -c fsync={FSYNC}"
+        options = (f"-k {self.folder} -c listen_addresses= -c max_connections=60 -c wal_level=replica -c max_wal_senders=8 -c hot_standby=on "
+                   f"-c fsync={FSYNC}")  # fmt: skip
         self.run("pg_ctl", "-D", self.data, "-o", options, "-l", self.folder / "log", "-w", "-t", PATIENCE, "start")
 
     def kill(self) -> list[str]:

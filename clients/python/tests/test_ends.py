@@ -304,7 +304,8 @@ def patient(*arguments: object) -> subprocess.Popen[str]:
     """As `words`, with waits for PostgreSQL that have no end of their own, so that it is the signal that ends them."""
     code = f"from pagelog import archive_engine as of; of.bound_waits.__defaults__ = ({20 * PATIENCE},); import pagelog.__main__"
     command = [sys.executable, "-B", "-c", code, *map(str, arguments)]
-    return subprocess.Popen(command, stdout=subprocess.PIPE, stderr=subprocess.PIPE, text=True, env={**os.environ, "PYTHONPATH": str(SOURCE)})
+    variables = {**os.environ, "PYTHONPATH": str(SOURCE)}
+    return subprocess.Popen(command, stdout=subprocess.PIPE, stderr=subprocess.PIPE, text=True, env=variables)
 
 
 class Silence(Folder):
@@ -318,7 +319,8 @@ class Silence(Folder):
 
     def test_sigterm_ends_an_archiver(self) -> None:
         fill(self.primary, 5)
-        process = patient("archive", "--follow", "--idle", "0.1", "--credentials", self.service.credentials_file(), "--url", self.silent_url)
+        file = self.service.credentials_file()
+        process = patient("archive", "--follow", "--idle", "0.1", "--credentials", file, "--url", self.silent_url)
         assert process.stdout is not None
         self.assertIn("archived 5 of 5", process.stdout.readline())
         self.proxy.is_silent.set()

@@ -8,6 +8,7 @@ import signal
 import time
 import zlib
 from dataclasses import replace
+from typing import Callable
 from unittest.mock import patch
 
 import psycopg
@@ -238,6 +239,15 @@ class Heard(Two):
 
     options = {"ttl": 120.0}
 
+    def seen(self, condition: Callable[[], bool], what: str) -> None:
+        """Waits for what a look shows."""
+
+        def is_so() -> bool:
+            self.keeping.ring()
+            return condition()
+
+        eventually(is_so, what)
+
     def answers(self, keeper: str, *questions: str) -> list[list[str]]:
         with self.keeping.line(keeper) as text:
             print(*questions, sep="\n", file=text, flush=True)
@@ -246,9 +256,9 @@ class Heard(Two):
     def test_a_standby_is_told_as_it_is_taken_and_no_more_of_it_before(self) -> None:
         with self.keeping.primary() as primary:
             self.commit(primary, "1", durable=True)
-            eventually(lambda: self.keeping.ring() or 1 in self.keeping.standbys().values(), "a standby")  # type: ignore[func-returns-value]
+            self.seen(lambda: 1 in self.keeping.standbys().values(), "a standby")
             target = self.other()
-            eventually(lambda: self.keeping.ring() or self.answers(target, "standby shop")[0][4] == "1", "its word")  # type: ignore[func-returns-value]
+            self.seen(lambda: self.answers(target, "standby shop")[0][4] == "1", "its word")
             standby = self.keeping.keepers().standby()
             assert standby is not None
             [note] = self.keeping.folder.glob(f"{target}/shop.{standby.run}.json")
