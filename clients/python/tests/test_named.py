@@ -10,7 +10,7 @@ from typing import Any, Callable
 from unittest.mock import Mock, patch
 
 import pagelog
-from pagelog import Credentials, Group, InDoubt, Lost, NamedPrimary
+from pagelog import Credentials, Group, InDoubt, Lost, NamedPrimary, NamedReader
 from pagelog.keeper.table import token_of
 from pagelog.place import Fate, Keepers, Place
 from service import PATIENCE, WIDE_TABLE, Service, accept_each, interrupted, put, token
@@ -107,6 +107,31 @@ class NarrowWriters(Named):
         for _ in range(3):
             self.assertRaises(InDoubt, writer.commit)
         self.assertEqual(self.texts(), [b"other", b"of it"])
+
+
+class Readers(Named):
+    def test_blocks_that_are_lost_with_their_service_are_waited_for(self) -> None:
+        """It dies once the reader knows where its log ends, and the next generation lacks the last blocks."""
+        service = self.begin()
+        with self.of_run(pagelog.Primary, 2) as primary:
+            for _ in primary.stream([put(0, b"1")] for _ in range(5)):
+                pass
+        reader, deaths = self.named(NamedReader, 3), iter((True,))
+        end = reader.end
+
+        def ends() -> int:
+            found = end()
+            if next(deaths, False):
+                self.begin()
+                service.stop()
+            return int(found)
+
+        with patch.object(reader, "end", ends):
+            self.assertEqual(list(reader.blocks(4, follow=False)), [])
+        with self.of_run(pagelog.Primary, 2) as primary:
+            for _ in primary.stream([put(0, b"2")] for _ in range(4)):
+                pass
+        self.assertEqual([block.records[0].data for block in reader.blocks(4, follow=False)], [b"2"])
 
 
 class Groups(unittest.TestCase):
