@@ -192,6 +192,29 @@ class Words(unittest.TestCase):
                 at += 1
             self.assertGreater(at, 10)
 
+    def test_a_keeper_whose_machine_is_gone_is_asked_now_and_then(self) -> None:
+        """To connect to it takes a second. It is asked at once where no other is left."""
+        gone, made, tries = self.keepers._addresses[0], socket.create_connection, list[int]()
+
+        def connect(place: tuple[str, int], timeout: float) -> socket.socket:
+            tries.append(place[1])
+            if gone.endswith(f":{place[1]}"):
+                raise TimeoutError("timed out")
+            return made(place, timeout)
+
+        self.said = lambda words: b"at shop 1 r 127.0.0.1:1 5 127.0.0.1:2 0 0 0\n" if words[0] == "where" else b"nowhere shop\n"
+        clock = Mock(return_value=0.0)
+        with patch("socket.create_connection", connect), patch("pagelog.place.time.monotonic", clock):
+            for _ in range(3):
+                self.assertIsNotNone(self.keepers.where())
+                self.assertIsNone(self.keepers.standby())
+            self.assertEqual(len(tries), 2)
+            clock.return_value = 11.0
+            self.assertIsNotNone(self.keepers.where())
+            self.assertEqual(len(tries), 3)
+            self.keepers._left_out = dict.fromkeys(self.keepers._addresses, 20.0)
+            self.assertIsNotNone(self.keepers.where())
+
     def test_words_that_are_none_are_no_answer(self) -> None:
         for answer in ("at shop x r 127.0.0.1:1 5 127.0.0.1:2 0 0 0", "at shop 1 r nowhere 5 127.0.0.1:2 0 0 0", "at shop 1 r 127.0.0.1:1",
                        "standby shop 127.0.0.1:1 r 5 x 0", "standby shop - - 5 0 0", "durable shop 1 x", "over", "", "\xff"):  # fmt: skip
