@@ -6,7 +6,7 @@ import json
 import re
 import sys
 import unittest
-from typing import Iterator
+from typing import Any, Iterator
 
 import vectors
 from service import TOP, token
@@ -257,6 +257,10 @@ class Requests(unittest.TestCase):
         ]  # fmt: skip
         for act in acts:
             with self.subTest(act=act), self.assertRaises(faults.ArgumentOutOfRange):
+                Request(head, act).encode()
+        others: list[Any] = [Write(1.0, AA), Report(1.5), Get(1.5, 0), Get(0, "1"), Pull(1.0), Pull(1, 2.0), Advance(0, 1.0), Failover(2.0), Audit(None)]
+        for act in others:
+            with self.subTest(act=act), self.assertRaises(TypeError):
                 Request(head, act).encode()
         for principal, database, epoch in ((-1, 0, 0), (1 << 32, 0, 0), (0, 1 << 32, 0), (0, 0, 1 << 32)):
             with self.assertRaises(faults.ArgumentOutOfRange):

@@ -5,6 +5,7 @@ from __future__ import annotations
 import asyncio
 import json
 import socket
+import threading
 import unittest
 from dataclasses import replace
 from unittest import mock
@@ -17,13 +18,24 @@ from pagelog.console.door import Door
 from pagelog.console.events import Known, of_databases
 from pagelog.console.history import History, Sample
 from pagelog.console.outlook import Forecast, Scene, Spare, State, Use, forecast_of, sentence, state_of
-from pagelog.console.source import Source
+from pagelog.console.source import Look, NoLook, Seen, Source
+from pagelog.console.watcher import Watcher
 from pagelog.console.web import Pages
 from pagelog.keeper.rows import Row
 from service import PATIENCE
 
 ROW = Row(1, "shop", 3, "run", "a", "127.0.0.1:1", archived=1000, base=600)
 FREE = Row(1, "shop", 3, archived=1000)
+
+
+class Watchers(unittest.TestCase):
+    def test_a_look_that_fails_in_a_way_that_was_not_foreseen_is_told_and_is_not_the_last(self) -> None:
+        seen, told = threading.Event(), []
+        source = mock.Mock(Source, look=mock.Mock(side_effect=[TypeError("of another version"), NoLook("away"), Seen(Look()), SystemExit]))
+        with mock.patch("pagelog.console.watcher.IDLE", 0.0), mock.patch("pagelog.console.watcher.PACE", 0.0):
+            Watcher(source, lambda *_: seen.set(), lambda why, _: told.append(why)).start()
+            self.assertTrue(seen.wait(PATIENCE))
+        self.assertEqual(told, ["TypeError: of another version", "away"])
 
 
 class Sentences(unittest.TestCase):

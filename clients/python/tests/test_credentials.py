@@ -8,6 +8,7 @@ import unittest
 from pathlib import Path
 
 from pagelog import Address, Credentials, CredentialsError, Role, load
+from pagelog.tables import TableError, TableText
 from service import token
 
 GOOD = f'[primary]\nto = "127.0.0.1:7400"\nid = 2\ntoken = "{token(2)}"\n'
@@ -47,11 +48,15 @@ class Files(unittest.TestCase):
             "no section": 'primary = "x"\n', "an audit list of nothing": GOOD + "[service]\naudit = 0\n",
             "a quorum that is no whole number": GOOD + "[service]\nquorum = 2.0\n", "a quorum that is a list": GOOD + "[service]\nquorum = [2]\n",
         }  # fmt: skip
+        cases |= {"a number of many digits": "id = " + "9" * 5000, "brackets within brackets": "id = " + "[" * 5000}
         for name, text in cases.items():
             with self.subTest(name), self.assertRaises(CredentialsError):
                 load(self.write(text), {})
-        with self.assertRaises(CredentialsError):
-            load(self.file.parent / "none", {})
+            if "id = " in text[:5]:
+                self.assertRaises(TableError, TableText, text)
+        for file in ("none", "a\0b"):
+            with self.assertRaises(CredentialsError):
+                load(self.file.parent / file, {})
 
     def test_the_environment(self) -> None:
         environment = {"PAGELOG_CREDENTIALS": str(self.write(GOOD)), "PAGELOG_PRIMARY_TOKEN": token(9),

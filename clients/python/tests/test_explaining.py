@@ -2,6 +2,7 @@
 
 from __future__ import annotations
 
+import os
 import subprocess
 import sys
 import tempfile
@@ -124,6 +125,17 @@ class Help(unittest.TestCase):
             self.assertRegex(result.output, r"Examples?:")
         self.assertEqual(CliRunner().invoke(pagelogctl, ["completion", "bash"]).exit_code, 0)
         self.assertEqual(CliRunner().invoke(pagelogctl, ["nothing"]).exit_code, 2)
+
+    def test_an_output_that_is_closed_or_full(self) -> None:
+        """It has the status that it would have, and no line of the source is shown."""
+        word = [sys.executable, "-B", "-m", "pagelog", "completion", "bash"]
+        full = "pagelogctl: .*No space left on device\n"
+        for output, status, error in ((">&- <&-", 0, ""), ("2>&- >&-", 0, ""), (">/dev/full", 1, full)):
+            with self.subTest(output):
+                done = subprocess.run(["sh", "-c", f'exec "$@" {output}', "sh", *word], env={**os.environ, "PYTHONPATH": str(SOURCE)},
+                                      capture_output=True, text=True)  # fmt: skip
+                self.assertEqual(done.returncode, status)
+                self.assertRegex(done.stderr, f"^{error}$")
 
     def test_what_is_not_installed_is_named(self) -> None:
         code = "import sys; sys.path.insert(0, sys.argv[1]); sys.modules['sqlalchemy'] = None; sys.argv[:] = ['', 'verify', '--offline']; " \

@@ -10,7 +10,7 @@ from typing import Any, Callable
 from unittest.mock import Mock, patch
 
 import pagelog
-from pagelog import Credentials, Group, InDoubt, Lost, NamedPrimary
+from pagelog import Credentials, Group, InDoubt, Lost, NamedPrimary, NamedReader
 from pagelog.keeper.table import token_of
 from pagelog.place import Fate, Keepers, Place
 from service import PATIENCE, WIDE_TABLE, Service, accept_each, interrupted, put, token
@@ -109,6 +109,31 @@ class NarrowWriters(Named):
         self.assertEqual(self.texts(), [b"other", b"of it"])
 
 
+class Readers(Named):
+    def test_blocks_that_are_lost_with_their_service_are_waited_for(self) -> None:
+        """It dies once the reader knows where its log ends, and the next generation lacks the last blocks."""
+        service = self.begin()
+        with self.of_run(pagelog.Primary, 2) as primary:
+            for _ in primary.stream([put(0, b"1")] for _ in range(5)):
+                pass
+        reader, deaths = self.named(NamedReader, 3), iter((True,))
+        end = reader.end
+
+        def ends() -> int:
+            found = end()
+            if next(deaths, False):
+                self.begin()
+                service.stop()
+            return int(found)
+
+        with patch.object(reader, "end", ends):
+            self.assertEqual(list(reader.blocks(4, follow=False)), [])
+        with self.of_run(pagelog.Primary, 2) as primary:
+            for _ in primary.stream([put(0, b"2")] for _ in range(4)):
+                pass
+        self.assertEqual([block.records[0].data for block in reader.blocks(4, follow=False)], [b"2"])
+
+
 class Groups(unittest.TestCase):
     def test_an_interrupt_anywhere_leaves_no_other_waiting(self) -> None:
         at, came = 1, True
@@ -166,6 +191,29 @@ class Words(unittest.TestCase):
                 self.assertEqual((number, at, found and found.generation), (number, at, 2))
                 at += 1
             self.assertGreater(at, 10)
+
+    def test_a_keeper_whose_machine_is_gone_is_asked_now_and_then(self) -> None:
+        """To connect to it takes a second. It is asked at once where no other is left."""
+        gone, made, tries = self.keepers._addresses[0], socket.create_connection, list[int]()
+
+        def connect(place: tuple[str, int], timeout: float) -> socket.socket:
+            tries.append(place[1])
+            if gone.endswith(f":{place[1]}"):
+                raise TimeoutError("timed out")
+            return made(place, timeout)
+
+        self.said = lambda words: b"at shop 1 r 127.0.0.1:1 5 127.0.0.1:2 0 0 0\n" if words[0] == "where" else b"nowhere shop\n"
+        clock = Mock(return_value=0.0)
+        with patch("socket.create_connection", connect), patch("pagelog.place.time.monotonic", clock):
+            for _ in range(3):
+                self.assertIsNotNone(self.keepers.where())
+                self.assertIsNone(self.keepers.standby())
+            self.assertEqual(len(tries), 2)
+            clock.return_value = 11.0
+            self.assertIsNotNone(self.keepers.where())
+            self.assertEqual(len(tries), 3)
+            self.keepers._left_out = dict.fromkeys(self.keepers._addresses, 20.0)
+            self.assertIsNotNone(self.keepers.where())
 
     def test_words_that_are_none_are_no_answer(self) -> None:
         for answer in ("at shop x r 127.0.0.1:1 5 127.0.0.1:2 0 0 0", "at shop 1 r nowhere 5 127.0.0.1:2 0 0 0", "at shop 1 r 127.0.0.1:1",

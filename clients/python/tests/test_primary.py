@@ -58,6 +58,9 @@ class Commits(unittest.TestCase):
         for data in (bytearray(b"may change"), memoryview(b"twolongs").cast("I"), "text", None):
             with self.assertRaises(TypeError):
                 self.primary.append(put(0, data))  # type: ignore[arg-type]
+        for record in (b"text", None, [put(0, b"in a list")]):
+            with self.assertRaises(TypeError):
+                self.primary.append(record)  # type: ignore[arg-type]
         self.primary.append(put(0, b"good"))
         self.assertEqual(self.primary.commit(), 1)
 

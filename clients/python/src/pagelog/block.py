@@ -145,6 +145,8 @@ def _check_lsn(lsn: int) -> None:
 
 
 def _check_record(record: Record) -> None:
+    if not isinstance(record, (Put, Zero)):
+        raise TypeError(f"a record is a Put or a Zero, and not {type(record).__name__}")
     if not 0 <= record.page <= HIGHEST_PAGE:
         raise ValueError(f"page {record.page} is not 0 to {HIGHEST_PAGE}")
     if isinstance(record, Put):

@@ -133,7 +133,7 @@ def _read(file: Path) -> dict[str, Any]:
             return tomllib.load(opened)
     except OSError as error:
         raise CredentialsError(f"{file}: {error.strerror}") from error
-    except (tomllib.TOMLDecodeError, UnicodeDecodeError) as error:
+    except (ValueError, RecursionError) as error:  # also of a number of thousands of digits, and of brackets within brackets
         raise CredentialsError(f"{file.name}: {error}") from error
 
 

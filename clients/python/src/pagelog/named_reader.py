@@ -84,7 +84,10 @@ class NamedReader(Following):
             end, run = self.end(), self._run
             if end >= position:
                 first = position
-                span = self._asked(lambda reader: self._span_at(reader, first), first - 1)
+                try:
+                    span = self._asked(lambda reader: self._span_at(reader, first), first - 1)
+                except AboveTheEnd:
+                    continue  # it was lost with its service since
                 if self.durable_only and run != self._run:
                     continue  # it was read from another run than the one that the end is of
                 yield from (block for block in span.blocks if block.lsn <= end)

@@ -19,6 +19,8 @@ _HELD = 0.25
 """Seconds for which an answer that keepers hold back is waited for; then it is tried again where the database was."""
 _SILENCE = 3.0
 _LONGEST = 1024
+_LEFT_OUT = 10.0
+"""Seconds for which a keeper whose machine does not answer is not asked, as long as there is another."""
 
 
 class UnknownName(PagelogError):
@@ -124,6 +126,8 @@ class Keepers:
         self.patience = patience
         self._addresses = list(dict.fromkeys(addresses))
         self._lines: dict[str, _Line] = {}
+        self._left_out: dict[str, float] = {}
+        """Until when each is."""
         self._process = os.getpid()
 
     def close(self) -> None:
@@ -153,7 +157,7 @@ class Keepers:
 
         Raises `UnknownName` where all that answer say so.
         """
-        answers = [self._ask(address, ("where", self.name)) for address in self._addresses]
+        answers = [self._ask(address, ("where", self.name)) for address in self._asks()]
         places = [place for place in map(_place, answers) if place is not None]
         if places:
             return max(places, key=lambda place: place.generation)
@@ -182,7 +186,7 @@ class Keepers:
         waiting: dict[int, tuple[str, _Line]] = {}
         poll = select.poll()
         try:
-            for address in self._addresses:
+            for address in self._asks():
                 if (line := self._asked(address, ("next", self.name, least), _ANSWER)) is not None:
                     waiting[line.fileno()] = address, line
                     poll.register(line, select.POLLIN)
@@ -208,13 +212,25 @@ class Keepers:
         interrupted, it would be taken for the answer to the next question."""
         line = self._lines.pop(address, None)
         try:
-            line = line or _Line(address)
+            line = line or self._line(address)
             line.send(words, timeout)
             return line
         except (OSError, ValueError):
             if line is not None:
                 line.close()
             return None
+
+    def _line(self, address: str) -> _Line:
+        try:
+            return _Line(address)
+        except TimeoutError:
+            self._left_out[address] = time.monotonic() + _LEFT_OUT
+            raise
+
+    def _asks(self) -> list[str]:
+        """Those to ask: of a machine that is gone each question would take a second."""
+        now = time.monotonic()
+        return [address for address in self._addresses if self._left_out.get(address, 0.0) <= now] or self._addresses
 
     def _taken(self, address: str, line: _Line) -> list[str] | None:
         """The words that have come from it; none where its line has ended."""
@@ -239,7 +255,7 @@ class Keepers:
 
     def standby(self) -> Place | None:
         """A standby of it, which has durable blocks alone; None where no keeper knows of one."""
-        for address in self._addresses:
+        for address in self._asks():
             words = self._ask(address, ("standby", self.name))
             found = _standby(words, address)
             if found is not None:
@@ -250,7 +266,7 @@ class Keepers:
         """The SHA-256 of the block that the archive has at a position, of the keeper that answers first; None where it has none."""
         deadline, wait = time.monotonic() + self.patience, QUICKEST
         while True:
-            for address in self._addresses:
+            for address in self._asks():
                 match self._ask(address, ("block", self.name, position), _SILENCE):
                     case ["block", _, _, digest]:
                         return None if digest == "-" else digest
@@ -267,7 +283,7 @@ class Keepers:
         deadline, wait = time.monotonic() + self.patience, QUICKEST
         asked = [lines] if lines else []
         while True:
-            for address in (*asked, *(address for address in self._addresses if address not in asked)):
+            for address in (*asked, *(address for address in self._asks() if address not in asked)):
                 left = min(_SILENCE, max(0.1, deadline - time.monotonic()))
                 answer = self._ask(address, ("durable", self.name, generation, position), left)
                 found = _fate(answer, generation, position)

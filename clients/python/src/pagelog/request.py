@@ -67,6 +67,8 @@ class Operation(IntEnum):
 
 
 def _number(name: str, value: int, least: int, most: int, size: int) -> bytes:
+    if not isinstance(value, int):
+        raise TypeError(f"{name} is a whole number, and not {type(value).__name__}")
     if not least <= value <= most:
         raise ArgumentOutOfRange(f"{name} {value} is not {least} to {most}")
     return value.to_bytes(size, "big")

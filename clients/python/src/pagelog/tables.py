@@ -26,7 +26,7 @@ class TableText:
         """Raises `TableError` where it is no TOML document with principals and rows."""
         try:
             self.document: dict[str, Any] = tomllib.loads(text)
-        except tomllib.TOMLDecodeError as error:
+        except (ValueError, RecursionError) as error:
             raise TableError(f"the table is no TOML document: {error}") from error
         self.text = text
         self.principals = self._listed("principal")

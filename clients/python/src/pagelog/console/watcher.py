@@ -36,6 +36,8 @@ class Watcher(threading.Thread):
                 seen = self._source.look()
             except NoLook as error:
                 self._miss(str(error), time.time())
+            except Exception as error:  # as of another version's rows: else nobody would be told that it looks no more
+                self._miss(f"{type(error).__name__}: {error}", time.time())
             else:
                 self._take(seen, time.time())
             self._is_watched.wait(max(0.0, began + IDLE - time.monotonic()))
