@@ -3,21 +3,36 @@
 from __future__ import annotations
 
 import os
+import signal
 import tempfile
 import time
 import unittest
 from dataclasses import dataclass, field
 from datetime import datetime, timedelta, timezone
 from pathlib import Path
+from types import SimpleNamespace
+from unittest.mock import patch
 
+from click.testing import CliRunner
+
+from pagelog import Block, Put
+from pagelog.archive import Archive
+from pagelog.archive_care import drop
+from pagelog.archiving import Archiver
+from pagelog.desk.options import status_of
 from pagelog.desk.trail_words import _times
+from pagelog.desk.words import pagelogctl
+from pagelog.keeper.referee import Away, Doubt, KeeperError
 from pagelog.reply import LINE_SIZE, Entry, encode_entry
 from pagelog.request import AUDIT_MAX, Operation, Role
-from pagelog.trail import BrokenTrail, Trail, TrailKeeper, TrailList
+from pagelog.trail import BrokenTrail, Start, Trail, TrailKeeper, TrailList
 from pagelog.trail.keeper import DAY
 from pagelog.trail.question import Question, answer, moment
-from pagelog.trail.replay import NotReplayable, lines_of
+from pagelog.trail.replay import DENIED_TEXT, Difference, NotReplayable, lines_of, replay
+from pagelog.trail.seal import seal, sealed_blocks
 from pagelog.trail.store import _PIECES, _lists, _pieces, piece_behind
+from pagelog_model.table import read
+from service import TABLE
 
 SUMMER = timezone(timedelta(hours=2))
 WINTER = timezone(timedelta(hours=1))
@@ -146,6 +161,28 @@ class Missing(Stored):
                 list(self.trail.pieces(one, **times))
             with self.trail.engine.begin() as connection:
                 connection.execute(_pieces.update().where(_pieces.c.first == first).values(seen=before))
+
+
+class Named(Stored):
+    def test_a_list_that_has_another_name_by_now_is_ended_and_no_other(self) -> None:
+        old, new = (TrailKeeper(Listed(), self.trail, generation=generation) for generation in (1, 1))  # type: ignore[arg-type]
+        old.step()
+        with self.trail.engine.begin() as connection:  # as a drop does
+            connection.execute(_lists.update().values(log="shop!1"))
+        new.step()
+        old.end("generation 1 was released: the database was dropped")
+        with Trail(self.url, "shop!1") as dropped:
+            self.assertEqual([one.ended for one in (*dropped.lists(), *self.trail.lists())],
+                             ["generation 1 was released: the database was dropped", None])  # fmt: skip
+        new.step()
+        self.assertEqual(len(self.trail.lists()), 1)
+
+    def test_the_first_reason_stays(self) -> None:
+        one = self.keep([50])
+        self.trail.end(one, "one", 40)
+        self.trail.end(one, "other", 90)
+        [one] = self.trail.lists()
+        self.assertEqual((one.ended, one.ended_seen), ("one", 50))
 
 
 class Pruned(Stored):

@@ -226,9 +226,11 @@ class Trail:
         return self.lists()[-1]
 
     def end(self, one: TrailList, why: str, seen: int) -> None:
-        """The list gets no more lines, for this reason."""
+        """The list gets no more lines, for this reason. One that has ended keeps its own."""
+        latest = sql.case((_lists.c.seen > seen, _lists.c.seen), else_=seen)
         with self.engine.begin() as connection:
-            connection.execute(_lists.update().where(_lists.c.id == one.id).values(ended=why, ended_seen=max(seen, one.seen)))
+            is_open = (_lists.c.id == one.id, _lists.c.ended.is_(None))
+            connection.execute(_lists.update().where(*is_open).values(ended=why, ended_seen=latest))
 
     # Tables.
 
