@@ -185,6 +185,33 @@ class Named(Stored):
         self.assertEqual((one.ended, one.ended_seen), ("one", 50))
 
 
+class Texts(Stored):
+    """A table is set, and a text of the same length is denied later."""
+
+    def setUp(self) -> None:
+        super().setUp()
+        self.text = TABLE.read_bytes()
+        self.denied = self.text.replace(b"deny", b"dent", 1) if b"deny" in self.text else self.text.replace(b"allow", b"allot", 1)
+        self.code = read(self.denied)
+        self.assertIsInstance(self.code, int)
+        self.one = self.trail.begin(start=Start(self.text, 2), tables=[self.text])
+        lines = ((0, 0, 0), (3, 7, self.code), (3, 7, self.code))
+        entries = (Entry(number, 1, 1, Role.OPERATOR, 1, Operation.SET_TABLE, len(self.text), 0, *verdict)
+                   for number, verdict in enumerate(lines, 1))  # fmt: skip
+        self.one = self.trail.keep(self.one, b"".join(map(encode_entry, entries)), 5)
+
+    def test_a_denied_text_need_not_be_one_of_its_length_that_was_set(self) -> None:
+        self.assertEqual(replay(self.trail, self.one, None).unchecked, {DENIED_TEXT: 2})
+        self.trail.give_table(self.one, self.denied, 3)
+        self.assertEqual(replay(self.trail, self.one, None).unchecked, {DENIED_TEXT: 1})
+
+    def test_but_one_that_was_given_for_its_line_is(self) -> None:
+        self.trail.give_table(self.one, self.text, 3)
+        with self.assertRaises(Difference) as raised:
+            replay(self.trail, self.one, None)
+        self.assertEqual(raised.exception.line, 3)
+
+
 class Pruned(Stored):
     def test_what_is_pruned_while_it_is_read_is_no_damage(self) -> None:
         one = self.keep([5] * (_PIECES + 9) + [DAY + 5] * 3)
