@@ -212,6 +212,26 @@ class Texts(Stored):
         self.assertEqual(raised.exception.line, 3)
 
 
+class Logs(unittest.TestCase):
+    def test_a_log_that_is_archived_again_after_a_drop_is_sealed_anew(self) -> None:
+        url = f"sqlite:///{self.enterContext(tempfile.TemporaryDirectory())}/archive.db"
+        for what in (b"one", b"two"):
+            with Archive(url, "shop", create=True) as archive, Trail(url, "shop", create=True) as trail:
+                for first in (1, 4):
+                    archive.keep([Block.of(lsn, [Put(0, 0, what)]) for lsn in range(first, first + 3)], 1)
+                    seal(trail, archive)
+                self.assertEqual((len(list(sealed_blocks(trail, archive))), sorted(trail.seals())), (6, [3, 6]))
+                self.assertEqual(drop(archive), 6)
+        with Archive(url, "bare", create=True) as archive:
+            self.assertEqual(drop(archive), 0)
+
+    def test_a_drop_needs_no_trail(self) -> None:
+        url = f"sqlite:///{self.enterContext(tempfile.TemporaryDirectory())}/archive.db"
+        with Archive(url, "shop", create=True) as archive:
+            archive.keep([Block.of(1)], 1)
+            self.assertEqual(drop(archive), 1)
+
+
 class Pruned(Stored):
     def test_what_is_pruned_while_it_is_read_is_no_damage(self) -> None:
         one = self.keep([5] * (_PIECES + 9) + [DAY + 5] * 3)
