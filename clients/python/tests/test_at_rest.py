@@ -232,6 +232,46 @@ class Logs(unittest.TestCase):
             self.assertEqual(drop(archive), 1)
 
 
+class Ends(Stored):
+    """What a word says, and its exit status."""
+
+    def ends(self, status: int, *arguments: object) -> str:
+        done = CliRunner().invoke(pagelogctl, [*map(str, arguments)])
+        self.assertEqual((done.exit_code, done.exception.__class__), (status, SystemExit), (done.output, done.exc_info))
+        return done.output
+
+    def test_credentials_that_cannot_be_read_are_a_line(self) -> None:
+        for word in ("trail", "replay"):
+            self.assertIn("none.toml", self.ends(1, word, "shop", "--url", self.url, "--credentials", self.folder / "none.toml"))
+
+    def test_a_picture_that_cannot_be_written_is_a_line(self) -> None:
+        self.keep([5])
+        module = SimpleNamespace(draw=lambda *_: (self.folder / "none" / "shop.svg").write_text(""))
+        with patch.dict("sys.modules", {"pygal": SimpleNamespace(), "pagelog.desk.trail_plot": module}):
+            said = self.ends(1, "trail", "shop", "--url", self.url, "--plot", self.folder / "none" / "shop.svg")
+        self.assertIn("shop.svg: No such file or directory", said)
+
+    def test_an_archive_that_was_told_to_end_amid_it_is_not_done(self) -> None:
+        file = self.folder / "c.toml"
+        file.write_text("".join(f'[{role}]\nto = "127.0.0.1:1"\nid = {id}\ntoken = "{str(id) * 32}"\n'
+                                for role, id in (("secondary", 3), ("operator", 1))))  # fmt: skip
+        file.chmod(0o600)
+        for number in (signal.SIGTERM, signal.SIGINT):
+            def told(_: object, **__: object) -> int:
+                os.kill(os.getpid(), number)
+                return 5
+
+            with patch.object(Archiver, "run", told):
+                self.assertIn("archived 0 of 0", self.ends(128 + number, "archive", "--credentials", file, "--url", self.url))
+            with patch.object(TrailKeeper, "run", told), patch.object(TrailKeeper, "step", lambda _: None):
+                self.ends(128 + number, "record", "shop", "--credentials", file, "--url", self.url)
+
+    def test_a_postgresql_that_is_away_or_in_doubt_is_tried_again(self) -> None:
+        for kind in (Away, Doubt):
+            self.assertEqual(status_of(kind("PostgreSQL: it is silent")), 3)
+        self.assertEqual(status_of(KeeperError("there is none")), 1)
+
+
 class Pruned(Stored):
     def test_what_is_pruned_while_it_is_read_is_no_damage(self) -> None:
         one = self.keep([5] * (_PIECES + 9) + [DAY + 5] * 3)

@@ -41,6 +41,8 @@ class KeeperError(PagelogError):
 class Away(KeeperError):
     """PostgreSQL cannot be reached. Nothing was asked."""
 
+    may_pass = True
+
 
 class Refused(KeeperError):
     """PostgreSQL refused the statement, as for want of room on its disk. Nothing was changed."""
@@ -48,6 +50,8 @@ class Refused(KeeperError):
 
 class Doubt(KeeperError):
     """It is not known whether the statement was committed and replicated. Another statement that writes finds out."""
+
+    may_pass = True
 
 
 class OneDisk(Doubt):
