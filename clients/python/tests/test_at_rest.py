@@ -7,6 +7,7 @@ import signal
 import tempfile
 import time
 import unittest
+import zlib
 from dataclasses import dataclass, field
 from datetime import datetime, timedelta, timezone
 from pathlib import Path
@@ -22,6 +23,7 @@ from pagelog.archiving import Archiver
 from pagelog.desk.options import status_of
 from pagelog.desk.trail_words import _times
 from pagelog.desk.words import pagelogctl
+from pagelog.keeper.recorder import Recorder
 from pagelog.keeper.referee import Away, Doubt, KeeperError
 from pagelog.reply import LINE_SIZE, Entry, encode_entry
 from pagelog.request import AUDIT_MAX, Operation, Role
@@ -36,6 +38,7 @@ from service import TABLE
 
 SUMMER = timezone(timedelta(hours=2))
 WINTER = timezone(timedelta(hours=1))
+WEST = timezone(-timedelta(hours=5))
 
 
 class Times(unittest.TestCase):
@@ -62,11 +65,11 @@ class Times(unittest.TestCase):
 
     def test_a_time_of_day_in_a_zone_of_its_own_is_the_last_that_has_passed(self) -> None:
         for now, text, wanted in (
-            (datetime(2026, 11, 28, 23, 30, tzinfo=timezone(-timedelta(hours=5))), "04:00Z", datetime(2026, 11, 29, 4, tzinfo=timezone.utc)),
+            (datetime(2026, 11, 28, 23, 30, tzinfo=WEST), "04:00Z", datetime(2026, 11, 29, 4, tzinfo=timezone.utc)),
             (datetime(2026, 11, 29, 1, 0, tzinfo=SUMMER), "23:30Z", datetime(2026, 11, 27, 23, 30, tzinfo=timezone.utc)),
         ):
             self.assertEqual(moment(text, None, now), wanted)
-        since = datetime(2026, 11, 28, 23, 30, tzinfo=timezone(-timedelta(hours=5)))
+        since = datetime(2026, 11, 28, 23, 30, tzinfo=WEST)
         self.assertEqual(moment("04:31Z", since, since), datetime(2026, 11, 29, 4, 31, tzinfo=timezone.utc))
 
     def test_digits_are_a_date_and_not_a_time_of_day(self) -> None:
@@ -131,6 +134,25 @@ class Stored(unittest.TestCase):
     def take_out(self, first: int) -> None:
         with self.trail.engine.begin() as connection:
             self.assertEqual(connection.execute(_pieces.delete().where(_pieces.c.first == first)).rowcount, 1)
+
+
+class Long(Stored):
+    def test_a_piece_may_have_more_lines_than_a_reply(self) -> None:
+        """As the last one of a generation whose lines were behind."""
+        service = Listed()
+        service.more(2 * AUDIT_MAX + 1)
+        recorder = Recorder.__new__(Recorder)
+        recorder._operator, recorder._is_over, recorder._keeper = service, False, TrailKeeper(service, self.trail)  # type: ignore[assignment, arg-type]
+        recorder._keeper.resume(self.trail.begin())
+        lines = recorder.last_lines()
+        assert lines is not None
+        self.trail.keep(self.trail.lists()[0], zlib.decompress(lines.values["data"]), lines.one.seen)
+        [one] = self.trail.lists()
+        self.assertGreater(one.kept, 2 * AUDIT_MAX)
+        self.assertEqual([found.entry for found in answer(self.trail, one, Question())], service.entries[: one.kept])
+        service.connects += 1
+        TrailKeeper(service, self.trail).step()  # type: ignore[arg-type]
+        self.assertEqual(len(self.trail.lists()), 1)
 
 
 class Missing(Stored):
