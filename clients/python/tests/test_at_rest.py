@@ -3,24 +3,42 @@
 from __future__ import annotations
 
 import os
+import signal
 import tempfile
 import time
 import unittest
+import zlib
 from dataclasses import dataclass, field
 from datetime import datetime, timedelta, timezone
 from pathlib import Path
+from types import SimpleNamespace
+from unittest.mock import patch
 
+from click.testing import CliRunner
+
+from pagelog import Block, Put
+from pagelog.archive import Archive
+from pagelog.archive_care import drop
+from pagelog.archiving import Archiver
+from pagelog.desk.options import status_of
 from pagelog.desk.trail_words import _times
+from pagelog.desk.words import pagelogctl
+from pagelog.keeper.recorder import Recorder
+from pagelog.keeper.referee import Away, Doubt, KeeperError
 from pagelog.reply import LINE_SIZE, Entry, encode_entry
 from pagelog.request import AUDIT_MAX, Operation, Role
-from pagelog.trail import BrokenTrail, Trail, TrailKeeper, TrailList
+from pagelog.trail import BrokenTrail, Start, Trail, TrailKeeper, TrailList
 from pagelog.trail.keeper import DAY
 from pagelog.trail.question import Question, answer, moment
-from pagelog.trail.replay import NotReplayable, lines_of
+from pagelog.trail.replay import DENIED_TEXT, Difference, NotReplayable, lines_of, replay
+from pagelog.trail.seal import seal, sealed_blocks
 from pagelog.trail.store import _PIECES, _lists, _pieces, piece_behind
+from pagelog_model.table import read
+from service import TABLE
 
 SUMMER = timezone(timedelta(hours=2))
 WINTER = timezone(timedelta(hours=1))
+WEST = timezone(-timedelta(hours=5))
 
 
 class Times(unittest.TestCase):
@@ -47,11 +65,11 @@ class Times(unittest.TestCase):
 
     def test_a_time_of_day_in_a_zone_of_its_own_is_the_last_that_has_passed(self) -> None:
         for now, text, wanted in (
-            (datetime(2026, 11, 28, 23, 30, tzinfo=timezone(-timedelta(hours=5))), "04:00Z", datetime(2026, 11, 29, 4, tzinfo=timezone.utc)),
+            (datetime(2026, 11, 28, 23, 30, tzinfo=WEST), "04:00Z", datetime(2026, 11, 29, 4, tzinfo=timezone.utc)),
             (datetime(2026, 11, 29, 1, 0, tzinfo=SUMMER), "23:30Z", datetime(2026, 11, 27, 23, 30, tzinfo=timezone.utc)),
         ):
             self.assertEqual(moment(text, None, now), wanted)
-        since = datetime(2026, 11, 28, 23, 30, tzinfo=timezone(-timedelta(hours=5)))
+        since = datetime(2026, 11, 28, 23, 30, tzinfo=WEST)
         self.assertEqual(moment("04:31Z", since, since), datetime(2026, 11, 29, 4, 31, tzinfo=timezone.utc))
 
     def test_digits_are_a_date_and_not_a_time_of_day(self) -> None:
@@ -118,6 +136,25 @@ class Stored(unittest.TestCase):
             self.assertEqual(connection.execute(_pieces.delete().where(_pieces.c.first == first)).rowcount, 1)
 
 
+class Long(Stored):
+    def test_a_piece_may_have_more_lines_than_a_reply(self) -> None:
+        """As the last one of a generation whose lines were behind."""
+        service = Listed()
+        service.more(2 * AUDIT_MAX + 1)
+        recorder = Recorder.__new__(Recorder)
+        recorder._operator, recorder._is_over, recorder._keeper = service, False, TrailKeeper(service, self.trail)  # type: ignore[assignment, arg-type]
+        recorder._keeper.resume(self.trail.begin())
+        lines = recorder.last_lines()
+        assert lines is not None
+        self.trail.keep(self.trail.lists()[0], zlib.decompress(lines.values["data"]), lines.one.seen)
+        [one] = self.trail.lists()
+        self.assertGreater(one.kept, 2 * AUDIT_MAX)
+        self.assertEqual([found.entry for found in answer(self.trail, one, Question())], service.entries[: one.kept])
+        service.connects += 1
+        TrailKeeper(service, self.trail).step()  # type: ignore[arg-type]
+        self.assertEqual(len(self.trail.lists()), 1)
+
+
 class Missing(Stored):
     def test_a_piece_that_is_missing_in_a_time_is_found(self) -> None:
         """Pieces of lines 1, 4, 7, 10 and 13, seen at 10 to 50: those of a time are 7 and 10."""
@@ -146,6 +183,115 @@ class Missing(Stored):
                 list(self.trail.pieces(one, **times))
             with self.trail.engine.begin() as connection:
                 connection.execute(_pieces.update().where(_pieces.c.first == first).values(seen=before))
+
+
+class Named(Stored):
+    def test_a_list_that_has_another_name_by_now_is_ended_and_no_other(self) -> None:
+        old, new = (TrailKeeper(Listed(), self.trail, generation=generation) for generation in (1, 1))  # type: ignore[arg-type]
+        old.step()
+        with self.trail.engine.begin() as connection:  # as a drop does
+            connection.execute(_lists.update().values(log="shop!1"))
+        new.step()
+        old.end("generation 1 was released: the database was dropped")
+        with Trail(self.url, "shop!1") as dropped:
+            self.assertEqual([one.ended for one in (*dropped.lists(), *self.trail.lists())],
+                             ["generation 1 was released: the database was dropped", None])  # fmt: skip
+        new.step()
+        self.assertEqual(len(self.trail.lists()), 1)
+
+    def test_the_first_reason_stays(self) -> None:
+        one = self.keep([50])
+        self.trail.end(one, "one", 40)
+        self.trail.end(one, "other", 90)
+        [one] = self.trail.lists()
+        self.assertEqual((one.ended, one.ended_seen), ("one", 50))
+
+
+class Texts(Stored):
+    """A table is set, and a text of the same length is denied later."""
+
+    def setUp(self) -> None:
+        super().setUp()
+        self.text = TABLE.read_bytes()
+        self.denied = self.text.replace(b"deny", b"dent", 1) if b"deny" in self.text else self.text.replace(b"allow", b"allot", 1)
+        self.code = read(self.denied)
+        self.assertIsInstance(self.code, int)
+        self.one = self.trail.begin(start=Start(self.text, 2), tables=[self.text])
+        lines = ((0, 0, 0), (3, 7, self.code), (3, 7, self.code))
+        entries = (Entry(number, 1, 1, Role.OPERATOR, 1, Operation.SET_TABLE, len(self.text), 0, *verdict)
+                   for number, verdict in enumerate(lines, 1))  # fmt: skip
+        self.one = self.trail.keep(self.one, b"".join(map(encode_entry, entries)), 5)
+
+    def test_a_denied_text_need_not_be_one_of_its_length_that_was_set(self) -> None:
+        self.assertEqual(replay(self.trail, self.one, None).unchecked, {DENIED_TEXT: 2})
+        self.trail.give_table(self.one, self.denied, 3)
+        self.assertEqual(replay(self.trail, self.one, None).unchecked, {DENIED_TEXT: 1})
+
+    def test_but_one_that_was_given_for_its_line_is(self) -> None:
+        self.trail.give_table(self.one, self.text, 3)
+        with self.assertRaises(Difference) as raised:
+            replay(self.trail, self.one, None)
+        self.assertEqual(raised.exception.line, 3)
+
+
+class Logs(unittest.TestCase):
+    def test_a_log_that_is_archived_again_after_a_drop_is_sealed_anew(self) -> None:
+        url = f"sqlite:///{self.enterContext(tempfile.TemporaryDirectory())}/archive.db"
+        for what in (b"one", b"two"):
+            with Archive(url, "shop", create=True) as archive, Trail(url, "shop", create=True) as trail:
+                for first in (1, 4):
+                    archive.keep([Block.of(lsn, [Put(0, 0, what)]) for lsn in range(first, first + 3)], 1)
+                    seal(trail, archive)
+                self.assertEqual((len(list(sealed_blocks(trail, archive))), sorted(trail.seals())), (6, [3, 6]))
+                self.assertEqual(drop(archive), 6)
+        with Archive(url, "bare", create=True) as archive:
+            self.assertEqual(drop(archive), 0)
+
+    def test_a_drop_needs_no_trail(self) -> None:
+        url = f"sqlite:///{self.enterContext(tempfile.TemporaryDirectory())}/archive.db"
+        with Archive(url, "shop", create=True) as archive:
+            archive.keep([Block.of(1)], 1)
+            self.assertEqual(drop(archive), 1)
+
+
+class Ends(Stored):
+    """What a word says, and its exit status."""
+
+    def ends(self, status: int, *arguments: object) -> str:
+        done = CliRunner().invoke(pagelogctl, [*map(str, arguments)])
+        self.assertEqual((done.exit_code, done.exception.__class__), (status, SystemExit), (done.output, done.exc_info))
+        return done.output
+
+    def test_credentials_that_cannot_be_read_are_a_line(self) -> None:
+        for word in ("trail", "replay"):
+            self.assertIn("none.toml", self.ends(1, word, "shop", "--url", self.url, "--credentials", self.folder / "none.toml"))
+
+    def test_a_picture_that_cannot_be_written_is_a_line(self) -> None:
+        self.keep([5])
+        module = SimpleNamespace(draw=lambda *_: (self.folder / "none" / "shop.svg").write_text(""))
+        with patch.dict("sys.modules", {"pygal": SimpleNamespace(), "pagelog.desk.trail_plot": module}):
+            said = self.ends(1, "trail", "shop", "--url", self.url, "--plot", self.folder / "none" / "shop.svg")
+        self.assertIn("shop.svg: No such file or directory", said)
+
+    def test_an_archive_that_was_told_to_end_amid_it_is_not_done(self) -> None:
+        file = self.folder / "c.toml"
+        file.write_text("".join(f'[{role}]\nto = "127.0.0.1:1"\nid = {id}\ntoken = "{str(id) * 32}"\n'
+                                for role, id in (("secondary", 3), ("operator", 1))))  # fmt: skip
+        file.chmod(0o600)
+        for number in (signal.SIGTERM, signal.SIGINT):
+            def told(_: object, **__: object) -> int:
+                os.kill(os.getpid(), number)
+                return 5
+
+            with patch.object(Archiver, "run", told):
+                self.assertIn("archived 0 of 0", self.ends(128 + number, "archive", "--credentials", file, "--url", self.url))
+            with patch.object(TrailKeeper, "run", told), patch.object(TrailKeeper, "step", lambda _: None):
+                self.ends(128 + number, "record", "shop", "--credentials", file, "--url", self.url)
+
+    def test_a_postgresql_that_is_away_or_in_doubt_is_tried_again(self) -> None:
+        for kind in (Away, Doubt):
+            self.assertEqual(status_of(kind("PostgreSQL: it is silent")), 3)
+        self.assertEqual(status_of(KeeperError("there is none")), 1)
 
 
 class Pruned(Stored):

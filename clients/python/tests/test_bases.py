@@ -10,15 +10,17 @@ from typing import Any
 import psycopg
 
 from keepers import Kept as KeptService
-from keepers import blocks, new_url
+from keepers import blocks, new_database, new_url
 from pagelog import Block, Put, Zero
+from pagelog.desk.keeper_words import _drop_named
 from pagelog.keeper.bases import NOTHING, Base, Bases, make_base
 from pagelog.keeper.history import begin_again
 from pagelog.keeper.images import MARK
-from pagelog.keeper.referee import BrokenArchive, KeeperError, Referee, digest
+from pagelog.keeper.referee import BrokenArchive, Doubt, KeeperError, Referee, digest
 from pagelog.keeper.rows import Batch, Kept
 from pagelog.keeper.schema import script
 from pagelog.keeper.switch import Switch, number, release, succeed
+from pagelog.trail import Trail
 from test_images import pages
 from test_referee import Referees
 
@@ -193,6 +195,59 @@ class Again(Made):
         assert row is not None
         self.assertEqual((row.archived, row.chain), (203, digest(b"", self.blocks[:203])))
         self.assertEqual([len(piece) for piece in self.referee.blocks(row.id, 201, 203)], [3])
+
+
+class Dropped(Made):
+    def setUp(self) -> None:
+        super().setUp()
+        self.write(20)
+        self.base()
+        with Trail(self.url, "shop", create=True) as trail:
+            trail.begin(generation=1)
+
+    def left(self) -> list[int]:
+        return [len(self.rows(table)) for table in ("base", "image", "block")]
+
+    def lists(self, log: str) -> int:
+        with Trail(self.url, log, create=True) as trail:
+            return len(trail.lists())
+
+    def cut(self, word: str) -> None:
+        """The next statement with this word meets a connection that is lost."""
+        ask = self.referee._ask
+
+        def cutting(statement: str, *values: Any, **options: Any) -> list[Any]:
+            if word not in statement:
+                return ask(statement, *values, **options)
+            self.referee._ask = ask  # type: ignore[method-assign]
+            raise Doubt("lost")
+
+        self.referee._ask = cutting  # type: ignore[method-assign]
+
+    def test_nothing_of_its_pages_is_left(self) -> None:
+        self.assertTrue(self.referee.drop("shop"))
+        self.assertEqual(self.left(), [0, 0, 0])
+        self.assertFalse(self.referee.drop("shop"))
+
+    def test_one_that_was_broken_off_is_gone_on_with(self) -> None:
+        for word in ("FROM pagelog_base", "FROM pagelog_image", "FROM pagelog_block"):
+            self.cut(word)
+            self.assertRaises(Doubt, _drop_named, self.referee, "shop", True)
+            self.assertGreater(self.left()[-1], 0)
+            self.assertEqual((self.lists("shop"), self.lists(f"shop!{self.row.id}")), (0, 1))  # by the first statement
+        _drop_named(self.referee, "shop", True)
+        self.assertEqual(self.left(), [0, 0, 0])
+        self.assertRaises(SystemExit, _drop_named, self.referee, "shop", True)
+
+    def test_another_one_of_the_name_stays(self) -> None:
+        self.cut("FROM pagelog_base")
+        self.assertRaises(Doubt, self.referee.drop, "shop")
+        self.row = new_database(self.referee, "shop")
+        self.kept = self.taken("r1")
+        self.write(3)
+        self.referee.drop("other")
+        self.assertEqual(self.left()[-1], 23)
+        self.assertEqual(self.seen().archived, 3)
 
 
 class Switches(Made):

@@ -9,6 +9,7 @@ import signal
 import zlib
 from concurrent.futures import ThreadPoolExecutor
 from dataclasses import replace
+from types import SimpleNamespace
 
 import psycopg
 from click.testing import CliRunner
@@ -18,6 +19,7 @@ from keepers import Kept as KeptService
 from pagelog import Block
 from pagelog.desk.words import pagelogctl
 from pagelog.keeper.bases import Bases, make_base
+from pagelog.keeper.recorder import Recorder, Trails
 from pagelog.keeper.rows import Batch, Kept, Lines, Row
 from pagelog.keeper.switch import Switch, number, release, succeed
 from pagelog.reply import LINE_SIZE
@@ -26,7 +28,8 @@ from pagelog.trail.replay import lines_of
 from pagelog.trail.store import piece_behind
 from pagelog_model import wire
 from pagelog_model.rules import ALLOWED
-from service import put, token
+from service import TABLE, put, token
+from test_at_rest import Listed
 from test_referee import Referees
 
 
@@ -128,6 +131,35 @@ class Statement(Referees):
                 [piece] = trail.pieces(last.lines.one)
                 self.assertEqual((piece.first, piece.count), (1, 3))
                 trail.end(trail.lists()[-1], "it was enough", 6)
+
+    def test_a_recorder_leaves_a_name_that_was_given_again(self) -> None:
+        """Its database was dropped while it stood still, in doubt about its list, and another one of the name has begun."""
+        trails = Trails(self.url, 3, 9.0)
+        self.addCleanup(trails.close)
+        self.taken("r1")
+        self.assertEqual(self.referee.release(self.row.id, "r1"), 0)
+        old = self.recorder(trails, "r2")
+        self.assertTrue(old._keep())
+        assert old._keeper is not None
+        old._keeper.resume()
+        self.assertTrue(self.referee.drop("shop"))
+        self.row = new_database(self.referee, "shop")
+        new = self.recorder(trails, "r3")
+        self.assertTrue(new._keep())
+        self.assertFalse(old._keep())
+        old._tried(lambda: old._opened().end("it is over"))
+        self.assertTrue(new._keep())
+        with Trail(self.url, "shop") as trail, Trail(self.url, f"shop!{self.row.id - 1}") as dropped:
+            self.assertEqual([(one.generation, one.ended) for one in trail.lists()], [(1, None)])
+            self.assertEqual([one.generation for one in dropped.lists()], [2])
+        self.assertRegex(self.said[-1], "generation 2 of shop is not that of run r2")
+
+    def recorder(self, trails: Trails, run: str) -> Recorder:
+        """Of a run that takes the database."""
+        kept = self.taken(run)
+        served = SimpleNamespace(database="shop", run=run, generation=kept.generation, operator=Listed, texts=lambda: [TABLE.read_bytes()])
+        self.said: list[str] = []
+        return Recorder(trails, served, lambda _, sentence: self.said.append(sentence))  # type: ignore[arg-type]
 
     def succeeded(self, last: Batch) -> bool:
         following = number(self.referee, last.log, "r1", self.seen().generation)

@@ -15,6 +15,7 @@ from pagelog.archive_tables import logs as _logs
 from pagelog.block import Block
 from pagelog.comparing import OtherLog, Progress, all_blocks, no_progress
 from pagelog.reader import Reader
+from pagelog.trail.store import _seals
 
 _DROP_SIZE = 4096
 _BESIDE = 16
@@ -107,13 +108,15 @@ def _replace(archive: Archive, block: Block) -> None:
 
 
 def drop(archive: Archive) -> int:
-    """Removes the log with its blocks, some thousands in a transaction. Returns how many there were.
+    """Removes the log with its blocks, some thousands in a transaction, and the seals of these. Returns how many blocks there were.
 
     Its archived LSN is 0 first, so that a drop that is broken off leaves no log with a hole.
     """
     count = 0
     with archive.engine.begin() as connection:
         connection.execute(_logs.update().where(_logs.c.id == archive.id).values(archived=0))
+        if sql.inspect(connection).has_table(_seals.name):
+            connection.execute(_seals.delete().where(_seals.c.log == archive.log))
         highest = connection.execute(sql.select(sql.func.max(_blocks.c.lsn)).where(_blocks.c.log == archive.id)).scalar_one() or 0
     for first in range(0, highest + 1, _DROP_SIZE):
         with archive.engine.begin() as connection:

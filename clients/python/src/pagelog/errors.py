@@ -31,6 +31,9 @@ __all__ = [
 class PagelogError(Exception):
     """Whatever this package raises of its own."""
 
+    may_pass: ClassVar[bool] = False
+    """Whether the archive's database may be there again when it is tried later."""
+
 
 class Unreachable(PagelogError):
     """Nobody accepts connections at the address. Nothing was asked; it may be tried again later."""

@@ -75,6 +75,8 @@ def archive_word(
             with bar("archived") as told:
                 archiver.run(follow=False, told=told, stop=stop)
         _tell(archiver.archived, reader.hard_seen, as_json)
+        if not follow:
+            stop.end()
     sys.exit(LIST_FULL if guard is not None and guard.fenced is not None else 0)
 
 

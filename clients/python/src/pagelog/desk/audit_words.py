@@ -53,7 +53,9 @@ def audit_word(accounts: Accounts, db: int, first: int, follow: bool, idle: floa
                 continue
             click.echo(json.dumps(entry_fields(entry) | {"read": round(time.time(), 3)}) if as_json else entry_line(entry))
             if stop():
-                return
+                break
+        if not follow:
+            stop.end()
 
 
 def _followed(operator: Operator, first: int, idle: float, stop: Callable[[], bool]) -> Iterator[Entry]:

@@ -301,9 +301,10 @@ def drop_word(accounts: Accounts, url: str | None, log: str | None, name: str | 
 
 def _drop_named(referee: Referee, name: str, yes: bool) -> None:
     row = referee.everything().row(name)
-    if row is None:
+    if row is None and not referee.drop(name):  # one that was broken off has rows left
         fail(f"there is no database {name}")
-    if not yes:
+    if row is not None and not yes:
         click.confirm(f"remove {name}, with its {row.archived} archived blocks", abort=True)
-    referee.drop(name)
+    if row is not None:
+        referee.drop(name)
     click.echo(f"dropped {name}")

@@ -43,7 +43,7 @@ def status_of(error: PagelogError) -> int:
     """The exit status of a fault."""
     if isinstance(error, AuditListFull):
         return LIST_FULL
-    return AGAIN if isinstance(error, (Unreachable, ConnectionLost, InDoubt, OutOfMemory)) else FAULT
+    return AGAIN if error.may_pass or isinstance(error, (Unreachable, ConnectionLost, InDoubt, OutOfMemory)) else FAULT
 
 
 def hint_of(error: PagelogError) -> str:
@@ -239,13 +239,29 @@ class _Lines:
             click.echo(f"pagelogctl: {self.what} {done} of {total}{left}", err=True)
 
 
+class Stop:
+    """Whether SIGTERM or SIGINT has come: `came` has them."""
+
+    def __init__(self) -> None:
+        self.came: list[int] = []
+
+    def __call__(self) -> bool:
+        return bool(self.came)
+
+    def end(self) -> None:
+        """Ends with the status of the signal, if one has come: what was asked for is not done."""
+        if self.came:
+            sys.exit(128 + self.came[0])
+
+
 @contextmanager
-def stopping() -> Iterator[Callable[[], bool]]:
+def stopping() -> Iterator[Stop]:
     """Says whether SIGTERM or SIGINT has come, so that a piece of work ends between two steps.
 
     Where a step takes longer than four seconds after that, as where something is silent, `Ended` ends it.
     """
-    came: list[int] = []
+    stop = Stop()
+    came = stop.came
 
     def take(number: int, _: FrameType | None) -> None:
         if came and number == signal.SIGINT:
@@ -259,7 +275,7 @@ def stopping() -> Iterator[Callable[[], bool]]:
     handlers = {signal.SIGTERM: take, signal.SIGINT: take, signal.SIGALRM: give_up}
     before = {number: signal.signal(number, handler) for number, handler in handlers.items()}
     try:
-        yield lambda: bool(came)
+        yield stop
     finally:
         signal.setitimer(signal.ITIMER_REAL, 0)
         for number, handler in before.items():

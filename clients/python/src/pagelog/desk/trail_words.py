@@ -22,7 +22,7 @@ from pagelog.desk.options import (
     NOT_YET, URL_VARIABLE, _url, bar, client, credentials_option, db_option, fail, faults, first_line_of, is_lost_archive,
     is_of_the_archive, json_option, stopping, timeout, url_of,
 )  # fmt: skip
-from pagelog.errors import ConnectionLost, OutOfMemory, Unreachable
+from pagelog.errors import ConnectionLost, OutOfMemory, PagelogError, Unreachable
 from pagelog.following import NamedAccount
 from pagelog.keeping import all_blocks, compare
 from pagelog.operator import Operator
@@ -116,6 +116,8 @@ def record_word(
         finally:
             for one in trail.lists()[-1:]:
                 _say_recorded(one)
+        if not follow:
+            stop.end()
 
 
 def _follow(keeper: TrailKeeper, tell: _Told, run: Callable[[], int]) -> None:
@@ -175,7 +177,10 @@ def _say_recorded(one: TrailList) -> None:
 
 
 def _accounts(_: click.Context, __: click.Parameter, value: str | None) -> Accounts | None:
-    return load(value) if value else None
+    try:
+        return load(value) if value else None
+    except PagelogError as error:
+        fail(str(error))
 
 
 @click.command("trail")
@@ -219,7 +224,10 @@ def trail_word(
             if plot is not None:
                 from pagelog.desk.trail_plot import draw
 
-                draw(counted, f"Trail of {name}", plot)
+                try:
+                    draw(counted, f"Trail of {name}", plot)
+                except OSError as error:
+                    fail(f"{plot}: {error.strerror}")
             if summary:
                 _show_summary(counted, as_json)
             return

@@ -8,6 +8,8 @@ import time
 from concurrent.futures import Executor, ThreadPoolExecutor
 from typing import Callable, TypeVar
 
+import sqlalchemy as sql
+
 from pagelog.archive_engine import bound_waits, engine_of
 from pagelog.errors import AuditListFull
 from pagelog.keeper.referee import plain_url
@@ -25,6 +27,8 @@ FEW = 64
 _TTLS = 3
 _PATIENCE = 1 / 8
 """For so much of a ttl blocks wait for lines that a thread has to see to."""
+_IS_OF_THE_NAME = sql.text("SELECT 1 FROM pagelog_generation g JOIN pagelog_log l ON l.id = g.log "
+                           "WHERE l.name = :name AND g.generation = :generation AND g.run = :run")  # fmt: skip
 _STEPS = 4
 """How many questions one database asks before another has its turn."""
 
@@ -262,7 +266,17 @@ class Recorder:
             trail = Trail(self._trails.url, served.database, create=True, engine=self._trails.engine)
             tables = served.texts()
             self._keeper = TrailKeeper(self._operator, trail, generation=served.generation, start=Start(tables[0], KEEPER), tables=tables)
+        if self._keeper.list is None:
+            self._check_name()
         return self._keeper
+
+    def _check_name(self) -> None:
+        """A list is looked for by the name of the database, which may be another one's by now. Raises `OtherKeeper`."""
+        served = self._served
+        with self._trails.engine.begin() as connection:
+            known = {"name": served.database, "generation": served.generation, "run": served.run}
+            if connection.execute(_IS_OF_THE_NAME, known).first() is None:
+                raise OtherKeeper(f"generation {served.generation} of {served.database} is not that of run {served.run}")
 
     def _prune(self, keeper: TrailKeeper) -> None:
         today = now() // DAY

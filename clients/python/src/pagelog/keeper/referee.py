@@ -41,6 +41,8 @@ class KeeperError(PagelogError):
 class Away(KeeperError):
     """PostgreSQL cannot be reached. Nothing was asked."""
 
+    may_pass = True
+
 
 class Refused(KeeperError):
     """PostgreSQL refused the statement, as for want of room on its disk. Nothing was changed."""
@@ -48,6 +50,8 @@ class Refused(KeeperError):
 
 class Doubt(KeeperError):
     """It is not known whether the statement was committed and replicated. Another statement that writes finds out."""
+
+    may_pass = True
 
 
 class OneDisk(Doubt):
@@ -360,20 +364,20 @@ class Referee:
         return bool(made)
 
     def drop(self, name: str) -> bool:
-        """Ends a named database for good: its keeper ends its service, and its blocks are deleted.
+        """Ends a named database for good: its keeper ends its service, and its blocks and images are deleted. One that was broken off is
+        gone on with. False where there is nothing of it.
 
         Its row stays, under a name that no database can have, so that a keeper which held it knows; under that name its trail is kept.
         """
-        found = self._ask(
-            "WITH gone AS (UPDATE pagelog_log SET dropped = true, name = name || '!' || id, run = NULL, holder = NULL, "
-            "address = NULL WHERE name = %s AND format = %s AND NOT dropped RETURNING id) "
-            f"SELECT id, pg_notify('{CHANNEL}', '') FROM gone", (name, FORMAT))  # fmt: skip
-        if found and self._ask("SELECT to_regclass('pagelog_trail_list') IS NOT NULL") == [(True,)]:
-            self._ask("UPDATE pagelog_trail_list SET log = %s WHERE log = %s RETURNING id", (f"{name}!{found[0][0]}", name))
-        while found and self._ask("DELETE FROM pagelog_block WHERE (log, lsn) IN (SELECT log, lsn FROM pagelog_block "
-                                  "WHERE log = %s ORDER BY lsn LIMIT 10000) RETURNING lsn", (found[0][0],)):  # fmt: skip
-            pass
-        return bool(found)
+        has_trail = self._ask("SELECT to_regclass('pagelog_trail_list') IS NOT NULL") == [(True,)]
+        dropped = bool(self._ask(statements.DROP_WITH_TRAIL if has_trail else statements.DROP, {"name": name}))
+        old = "SELECT id FROM pagelog_log WHERE dropped AND name = %s || '!' || id"
+        gone = len(self._ask(f"DELETE FROM pagelog_base WHERE log IN ({old}) RETURNING base", (name,)))
+        for table, key, count in (("pagelog_image", "log, range, base", 1000), ("pagelog_block", "log, lsn", 10_000)):
+            some = f"SELECT {key} FROM {table} WHERE log IN ({old}) LIMIT {count}"
+            while found := self._ask(f"DELETE FROM {table} WHERE ({key}) IN ({some}) RETURNING log", (name,)):
+                gone += len(found)
+        return dropped or gone > 0
 
     def pause(self, name: str | None, paused: bool) -> int:
         """Keepers take nothing over while it is paused. Without a name it is for all. Returns how many there are."""

@@ -153,6 +153,16 @@ SELECT encode(sha256(b.data), 'hex') FROM pagelog_block b JOIN pagelog_log l ON 
 WHERE l.name = %(name)s AND l.format = {FORMAT} AND b.lsn = %(position)s AND b.lsn <= l.archived AND EXISTS (SELECT 1 FROM me)
 """
 
+_DROP = f"""
+WITH gone AS (
+  UPDATE pagelog_log SET dropped = true, name = name || '!' || id, run = NULL, holder = NULL, address = NULL
+  WHERE name = %(name)s AND format = {FORMAT} AND NOT dropped RETURNING id, name){{trail}}
+SELECT id, pg_notify('{CHANNEL}', '') FROM gone
+"""
+DROP = _DROP.format(trail="")
+DROP_WITH_TRAIL = _DROP.format(trail=""",
+renamed AS (UPDATE pagelog_trail_list t SET log = gone.name FROM gone WHERE t.log = %(name)s)""")
+
 PUBLISH = """
 WITH told AS (
   UPDATE pagelog_log SET address = %(address)s, shift = %(shift)s, images = %(images)s

@@ -75,14 +75,14 @@ class TrailKeeper:
             except LogWentBack:
                 is_same = False
             except AuditListFull:
-                self._end("the audit list is full: the database decides nothing any more")
+                self._end(one, "the audit list is full: the database decides nothing any more")
                 raise
             if is_same:
                 one = one or self.trail.begin(generation=self.generation, start=self.start, tables=self._tables)
                 self._list = self.trail.keep(one, b"".join(map(encode_entry, found)), self._clock())
                 return Step(len(found), all(map(self._is_own, found)))
             if is_same is False:
-                self._end("the service was restarted: what it decided behind the last line was not seen")
+                self._end(one, "the service was restarted: what it decided behind the last line was not seen")
                 self.operator.forget()
         raise ConnectionLost("no connection lasted for what is new")
 
@@ -98,8 +98,7 @@ class TrailKeeper:
 
     def end(self, why: str) -> None:
         """The list that is followed gets no more lines, for this reason."""
-        if self._open_list() is not None:
-            self._end(why)
+        self._end(self._open_list(), why)
 
     def resume(self, one: TrailList | None = None) -> None:
         """Takes up the list from the trail, after an error that leaves open whether lines were kept; or as somebody else has kept
@@ -119,7 +118,7 @@ class TrailKeeper:
         if last is not None and last.generation > self.generation:
             raise OtherKeeper(f"generation {last.generation} has a list by now")
         if last is not None and last.ended is None and last.generation < self.generation:
-            self._end(f"generation {self.generation} has begun: what was decided behind the last line was not seen")
+            self._end(last, f"generation {self.generation} has begun: what was decided behind the last line was not seen")
             return None
         if last is None or last.ended is not None:
             return None
@@ -148,10 +147,10 @@ class TrailKeeper:
         entries = [entry for piece in self.trail.pieces(one, first) for entry in entries_of(piece)]
         return tuple(filter(self._is_own, entries))[-1:] + (entries[-1],)
 
-    def _end(self, why: str) -> None:
-        [*_, last] = [None, *self.trail.lists()]
-        if last is not None and last.ended is None:
-            self.trail.end(last, why, self._clock())
+    def _end(self, one: TrailList | None, why: str) -> None:
+        """It is this very list: by now its name may be that of another database."""
+        if one is not None:
+            self.trail.end(one, why, self._clock())
         self.resume()
 
     def run(

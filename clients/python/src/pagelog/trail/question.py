@@ -8,8 +8,8 @@ from dataclasses import dataclass, field
 from datetime import datetime, time, timedelta, tzinfo
 from typing import Iterable, Iterator
 
-from pagelog.reply import Entries, Entry, decode_reply, expect
-from pagelog.request import Operation
+from pagelog.reply import LINE_SIZE, Entries, Entry, decode_reply, expect
+from pagelog.request import AUDIT_MAX, Operation
 from pagelog.trail.store import Piece, Trail, TrailList
 
 MINUTE = 60_000_000
@@ -47,8 +47,12 @@ class Question:
 
 
 def entries_of(piece: Piece) -> tuple[Entry, ...]:
-    """The lines of a piece."""
-    return expect(Entries, decode_reply(_ENTRIES + piece.count.to_bytes(2, "big") + piece.lines)).entries
+    """The lines of a piece, which has more than a reply where it is the last one of a generation."""
+    found: list[Entry] = []
+    for at in range(0, len(piece.lines), AUDIT_MAX * LINE_SIZE):
+        lines = piece.lines[at : at + AUDIT_MAX * LINE_SIZE]
+        found += expect(Entries, decode_reply(_ENTRIES + (len(lines) // LINE_SIZE).to_bytes(2, "big") + lines)).entries
+    return tuple(found)
 
 
 def answer(trail: Trail, one: TrailList, question: Question, first: int = 1) -> Iterator[Seen]:

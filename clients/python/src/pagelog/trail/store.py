@@ -226,9 +226,11 @@ class Trail:
         return self.lists()[-1]
 
     def end(self, one: TrailList, why: str, seen: int) -> None:
-        """The list gets no more lines, for this reason."""
+        """The list gets no more lines, for this reason. One that has ended keeps its own."""
+        latest = sql.case((_lists.c.seen > seen, _lists.c.seen), else_=seen)
         with self.engine.begin() as connection:
-            connection.execute(_lists.update().where(_lists.c.id == one.id).values(ended=why, ended_seen=max(seen, one.seen)))
+            is_open = (_lists.c.id == one.id, _lists.c.ended.is_(None))
+            connection.execute(_lists.update().where(*is_open).values(ended=why, ended_seen=latest))
 
     # Tables.
 
@@ -254,8 +256,9 @@ class Trail:
             if connection.execute(sql.select(_texts.c.line).where(*same)).first() is None:
                 connection.execute(_texts.insert().values(values))
 
-    def texts_for(self, one: TrailList) -> Callable[[int, int], list[bytes]]:
-        """The texts that a line may have set, by its number and length: the one that was given for it, or all of its length.
+    def texts_for(self, one: TrailList) -> tuple[Callable[[int, int], list[bytes]], set[int]]:
+        """The texts that a line may have set, by its number and length: the one that was given for it, or all of its length. And the
+        lines for which one was given.
 
         What is there now is looked up once: a statement takes as long as a hundred lines do.
         """
@@ -267,7 +270,7 @@ class Trail:
         def texts(line: int, length: int) -> list[bytes]:
             return self._texts(one, line) if line in given else [text for text in of_any if len(text) == length]
 
-        return texts
+        return texts, given
 
     def _texts(self, one: TrailList, line: int) -> list[bytes]:
         wanted = sql.select(_texts.c.digest, _texts.c.text).where(_texts.c.list == one.id, _texts.c.line == line)
