@@ -2,6 +2,7 @@
 
 from __future__ import annotations
 
+import os
 import sys
 
 LACKS = "apt-get install python3-click python3-rich python3-sqlalchemy python3-psycopg python3-psycopg2 python3-prometheus-client python3-aiohttp"
@@ -9,7 +10,9 @@ LACKS = "apt-get install python3-click python3-rich python3-sqlalchemy python3-p
 
 
 def main() -> None:
-    """Runs a word. `pagelogctl --help` has the exit statuses."""
+    """Runs a word. `pagelogctl --help` has the exit statuses. What it says is nowhere where an output was closed before."""
+    sys.stdout = sys.stdout or open(os.devnull, "w")
+    sys.stderr = sys.stderr or open(os.devnull, "w")
     try:
         from pagelog.desk.words import pagelogctl
 
