@@ -4,6 +4,8 @@ from __future__ import annotations
 
 import os
 import signal
+import subprocess
+import sys
 import tempfile
 import time
 import unittest
@@ -34,7 +36,7 @@ from pagelog.trail.replay import DENIED_TEXT, Difference, NotReplayable, lines_o
 from pagelog.trail.seal import seal, sealed_blocks
 from pagelog.trail.store import _PIECES, _lists, _pieces, piece_behind
 from pagelog_model.table import read
-from service import TABLE
+from service import PATIENCE, SOURCE, TABLE
 
 SUMMER = timezone(timedelta(hours=2))
 WINTER = timezone(timedelta(hours=1))
@@ -265,6 +267,14 @@ class Ends(Stored):
     def test_credentials_that_cannot_be_read_are_a_line(self) -> None:
         for word in ("trail", "replay"):
             self.assertIn("none.toml", self.ends(1, word, "shop", "--url", self.url, "--credentials", self.folder / "none.toml"))
+
+    def test_a_word_whose_output_is_closed_does_its_work(self) -> None:
+        with Archive(self.url, "0", create=True) as archive:
+            archive.keep([Block.of(1)], 1)
+        command = [sys.executable, "-B", "-m", "pagelog", "drop", "--log", "0", "--yes", "--url", self.url, "--credentials", os.devnull]
+        done = subprocess.run(["sh", "-c", '"$@" >&-', "sh", *command], stderr=subprocess.PIPE, timeout=PATIENCE,
+                              env={**os.environ, "PYTHONPATH": str(SOURCE)})  # fmt: skip
+        self.assertEqual((done.returncode, done.stderr), (0, b""))
 
     def test_a_picture_that_cannot_be_written_is_a_line(self) -> None:
         self.keep([5])
