@@ -2,7 +2,7 @@
 
 ghost use Rattle.std.specs.Prelude.{◌≡◌, ◌∷◌, [], codes, Ok, IfErr, IfOk, IfSome, IsErr, IsNone, map, string_bytes};
 ghost use Rattle.hex.specs.Hex.{decode_sized};
-ghost use Rattle.pl_program.specs.Asking.{ends, Exchanged, StopsExchange};
+ghost use Rattle.pl_program.specs.Operator.{ends, Exchanged, StopsExchange};
 
 use crate::run_fault::RunFault;
 use pl_core::Reply;

@@ -13,7 +13,7 @@ use Rattle.pl_conn.specs.declared.serving.Stop.{Stop}
 use Rattle.pl_conn.specs.declared.serving.Stop.TheVariants as stops
 use Rattle.pl_play.specs.declared.start.StartFault.{StartFault}
 use Rattle.pl_play.specs.declared.start.StartFault.TheVariants as starts
-use Rattle.pl_program.specs.Paging.{HasPaged}
+use Rattle.pl_program.specs.Pager.{HasPaged}
 use Rattle.pl_program.specs.declared.run_fault.RunFault.{RunFault}
 use Rattle.pl_program.specs.declared.run_fault.RunFault.TheVariants as faults
 use Rattle.pl_program.specs.declared.tally.Tally.{Tally}

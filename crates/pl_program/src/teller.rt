@@ -1,7 +1,7 @@
 //! What `serve` reports on standard error while it goes on.
 
 ghost use Rattle.std.specs.Prelude.{Some};
-ghost use Rattle.pl_program.specs.Telling.{crew_text};
+ghost use Rattle.pl_program.specs.Teller.{crew_text};
 
 use pl_conn::Watch;
 use std::{fmt, io};
