@@ -4,8 +4,8 @@ use Rattle.pl_desk.specs.Passes.{Knowledge}
 use Rattle.pl_wire.specs.Answering.{Calls}
 use Rattle.pl_conn.specs.Desks.{DesksCall}
 use Rattle.pl_conn.specs.Materialising.{Works, advance_at}
-use Rattle.pl_conn.specs.declared.materialising.Worked.{Worked}
-use Rattle.pl_conn.specs.declared.materialising.PageServer.{PageServer}
+use Rattle.pl_conn.specs.declared.page_server.Worked.{Worked}
+use Rattle.pl_conn.specs.declared.page_server.PageServer.{PageServer}
 use Rattle.pl_program.specs.declared.pager.Paging.{Paging}
 
 -- the databases from this number on, each in turn: its partition is advanced in this many rounds, and each

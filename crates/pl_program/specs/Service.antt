@@ -8,9 +8,9 @@ use Rattle.pl_core.specs.History.{History}
 use Rattle.pl_desk.specs.Passes.{Knowledge, DeskOrigin}
 use Rattle.pl_conn.specs.Desks.{ArePassesOf, DesksCall, all_fresh, fresh_at, terms_of_each}
 use Rattle.pl_conn.specs.Serving.{ServesConnections}
-use Rattle.pl_conn.specs.declared.materialising.PageServer.{PageServer}
-use Rattle.pl_conn.specs.declared.serving.Stop.{Stop}
-use Rattle.pl_conn.specs.declared.serving.Stop.TheVariants as stops
+use Rattle.pl_conn.specs.declared.page_server.PageServer.{PageServer}
+use Rattle.pl_conn.specs.declared.service.Stop.{Stop}
+use Rattle.pl_conn.specs.declared.service.Stop.TheVariants as stops
 use Rattle.pl_play.specs.declared.start.StartFault.{StartFault}
 use Rattle.pl_play.specs.declared.start.StartFault.TheVariants as starts
 use Rattle.pl_program.specs.Pager.{HasPaged}
