@@ -43,11 +43,11 @@
 #endif
 
 /* These numbers are smaller here. A room holds no more frames than MOST_FRAMES. */
-// resuming.rt: WRITES_A_TURN
+// conversation.rt: WRITES_A_TURN
                              // const WRITES_A_TURN: u32 = 4;
-// resuming.rt: MOST_WRITES
+// conversation.rt: MOST_WRITES
                              // const MOST_WRITES: u32 = 16_385;
-// resuming.rt: MOST_FRAMES
+// conversation.rt: MOST_FRAMES
                              // const MOST_FRAMES: u64 = 16_385;
 // inbox.rt: LONGEST_FRAME
                              // const LONGEST_FRAME: usize = 65_540;
@@ -56,7 +56,7 @@
 // outbox.rt: MANY_REPLIES
                              // const MANY_REPLIES: usize = 4_096;
 /* Of memory alone. */
-// resuming.rt: MOST_KEPT
+// conversation.rt: MOST_KEPT
                              // const MOST_KEPT: usize = 4_096;
 
 #define PARTS 2              /* the parts of a frame */
@@ -171,7 +171,7 @@ end_reads:
 
 /* A turn. */
 
-// answering.rt: write_ready
+// answers.rt: write_ready
 inline write_ready(count) {
                                                            // let mut count = 0;
     do                                                     // while count < bytes.len() {
@@ -193,7 +193,7 @@ inline write_ready(count) {
     od
 }
 
-// resuming.rt: Conversation::tell
+// conversation.rt: Conversation::tell
 inline tell() {
     write_ready(waiting[at])                               // let (count, end) = write_ready(writer,
                                                            // &self.waiting[self.sent..]); self.sent += count;
@@ -218,7 +218,7 @@ inline tell() {
 // outbox.rt: Outbox::may_gather
 #define MAY_GATHER (replies < GATHERS)                     // self.text.len() < MANY_BYTES && self.lens.len() < MANY_REPLIES
 
-// resuming.rt: hear
+// conversation.rt: hear
 inline hear() {
     if
     :: held >= PARTS -> heard = SOME                       // if !is_cut(inbox.as_slice()) { return Ok(Heard::Some); }
@@ -245,7 +245,7 @@ inline hear() {
     fi
 }
 
-// answering.rt: answer_first
+// answers.rt: answer_first
 inline answer_first() {
                                                            // let body = body_in(bytes)?;
                                                            // let read = outbox.request_of(body);
@@ -255,7 +255,7 @@ inline answer_first() {
 }
 
 /* A room holds no more frames than this loop answers. */
-// answering.rt: answer_whole
+// answers.rt: answer_whole
 inline answer_whole() {
     d_step {
                                                            // let mut taken = 0;
@@ -269,7 +269,7 @@ inline answer_whole() {
     }
 }
 
-// resuming.rt: speak
+// conversation.rt: speak
 inline speak() {
                                                            // let mut taken = 0;
     do                                                     // for _ in 0..writes {
@@ -296,10 +296,10 @@ inline speak() {
 }
 
 /* If memory is refused, all frames are answered. */
-// resuming.rt: end_of
+// conversation.rt: end_of
 // ..
 
-// resuming.rt: Conversation::keep_unread
+// conversation.rt: Conversation::keep_unread
 inline keep_unread() {
                                                            // let is_long = self.unread.capacity() > MOST_KEPT;
                                                            // if unread.is_empty() &&
@@ -314,7 +314,7 @@ inline keep_unread() {
                                                            // if end.is_err() { self.unread.clear(); } end
 }
 
-// resuming.rt: Conversation::keep
+// conversation.rt: Conversation::keep
 inline keep() {
     atomic {
 #ifdef READS_WHILE_REPLIES_WAIT
@@ -329,7 +329,7 @@ inline keep() {
     }
 }
 
-// resuming.rt: rest_after
+// conversation.rt: rest_after
 inline rest_after() {
     if
     :: waiting[at] > 0 -> rest = OUTPUT                    // if waiting > 0 { return Ok(Rest::Output); }
@@ -354,7 +354,7 @@ inline rest_after() {
     fi
 }
 
-// resuming.rt: Conversation::resume
+// conversation.rt: Conversation::resume
 inline resume() {
     tell();                                                // self.tell(room.alloc, writer)?;
     if

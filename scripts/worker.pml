@@ -56,12 +56,12 @@ byte awake;            /* how many workers poll awake */
                                                            // const WAKE: Token = Token(usize::MAX);
 // lines.rt: LINES
                                                            // const LINES: usize = 1_024;
-// polling.rt: AT_ONCE
+// lookout.rt: AT_ONCE
                                                            // const AT_ONCE: Duration = Duration::ZERO;
-// accepting.rt: PASSING
+// acceptor.rt: PASSING
                                                            // const PASSING: [i32; 14] = [1, 4, 12, 23, 24, 64, 71, 92,
                                                            // 100, 101, 103, 105, 112, 113];
-// accepting.rt: REST
+// acceptor.rt: REST
                                                            // const REST: u64 = 20;
 /* EVENTS and ROOM are smaller here. */
 // worker.rt: EVENTS
@@ -138,19 +138,19 @@ inline send(post) {
 #endif
 }
 
-// accepting.rt: offer
+// acceptor.rt: offer
                                                            // match posts.get_mut(place) {
                                                            // Some(post) => post.offer(rt, socket),
                                                            // None => Some(socket), }
 
 /* Any worker may be the one. */
-// accepting.rt: fewest
+// acceptor.rt: fewest
                                                            // let mut place = 0; let mut least = u64::MAX;
                                                            // for (at, post) in posts.iter().enumerate() {
                                                            // let open = post.open();
                                                            // if open < least { least = open; place = at; } } place
 
-// accepting.rt: hand_over
+// acceptor.rt: hand_over
 inline hand_over() {
     if                                                     // let place = fewest(posts);
     :: place = 0
@@ -172,10 +172,10 @@ inline hand_over() {
 }
 
 /* A listener that rests, or an error, is a rest of the accepting thread. */
-// accepting.rt: passes
+// acceptor.rt: passes
                                                            // match error.raw_os_error() {
                                                            // Some(code) => PASSING.contains(&code), None => false, }
-// accepting.rt: accept
+// acceptor.rt: accept
                                                            // let rest = AtomicU64::new(0); for _ in rt.forever() {
                                                            // match terms.listener.accept() {
                                                            // Ok((socket, _)) => return Ok(socket),
@@ -184,7 +184,7 @@ inline hand_over() {
                                                            // rest.park_timeout(rt, 0, Duration::from_millis(REST)); }
                                                            // Err(error) => return Err(error), } } unreachable!()
 
-// accepting.rt: accept_all
+// acceptor.rt: accept_all
 inline accept_all() {
                                                            // let mut is_reported = false;
     do                                                     // for accepted in 0..terms.connections {
@@ -208,7 +208,7 @@ inline close(post) {
 #endif
 }
 
-// serving.rt: accept_for
+// service.rt: accept_for
 inline accept_for() {
                                                            // let mut posts = posts;
     accept_all();                                          // let accepted = accept_all(rt, terms, posts.as_mut_slice());
@@ -219,10 +219,10 @@ inline accept_for() {
 }
 
 /* Each worker has a thread here. */
-// serving.rt: started_of
+// service.rt: started_of
                                                            // let mut posts = posts; posts.truncate(workers); posts
 
-// serving.rt: serve_in
+// service.rt: serve_in
 inline serve_in() {
                                                            // let asked = passes.len();
                                                            // let (Ok(workers), Ok(ended)) = (
@@ -293,17 +293,17 @@ inline poll() {
 #define NOTHING_WAS_TOLD (told == 0)
 #endif
 
-// polling.rt: Lookout::takes
+// lookout.rt: Lookout::takes
 inline takes() {
     atomic { ok = !taken; taken = true }                   // self.taken.swap(1, SeqCst) == 0
 }
 
-// polling.rt: Lookout::leaves
+// lookout.rt: Lookout::leaves
 inline leaves() {
     taken = false                                          // self.taken.store(0, SeqCst);
 }
 
-// polling.rt: poll_awake
+// lookout.rt: poll_awake
 inline poll_awake() {
     atomic { awake++; assert(awake == 1) };
     do                                                     // for _ in 0..idle_polls {
@@ -318,7 +318,7 @@ inline poll_awake() {
     atomic { polls = 0; awake-- }
 }
 
-// polling.rt: wait
+// lookout.rt: wait
 inline wait() {
     takes();                                               // if idle_polls > 0 && lookout.takes() {
     if

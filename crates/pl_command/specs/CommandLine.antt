@@ -149,18 +149,8 @@ abbrev pub Has : Text → List Row → CommandLine → Type 0
 Has name rows (lines.Help text) = ⊥
 Has name rows (lines.Play table primary) =
     (name ≡ codes "play") × HasPlay rows (string_bytes table) primary
-Has name rows (lines.Serve listen table primary dbs workers connections audit pager partition rounds idle_polls) =
-    (name ≡ codes "serve") × HasServe rows (string_bytes listen) (string_bytes table) (record {
-      primary = primary;
-      dbs = dbs;
-      workers = workers;
-      connections = connections;
-      audit = audit;
-      pager = pager;
-      partition = partition;
-      rounds = rounds;
-      idle_polls = idle_polls;
-    })
+Has name rows (lines.Serve listen table numbers) =
+    (name ≡ codes "serve") × HasServe rows (string_bytes listen) (string_bytes table) numbers
 Has name rows (lines.Ask to id token db epoch words) =
     (name ≡ codes "ask") × HasAsk rows (string_bytes to) id (string_bytes token) db epoch
     (map string_bytes words.items)
@@ -178,9 +168,8 @@ AsksFor words (lines.Help text) =
     IsAmong DisplayHelp (fault_of own_app words) ⊎ IsAmong DisplayVersion (fault_of own_app words)
 AsksFor words (lines.Play table primary) =
     Names (subcommand_of own_app words) (lines.Play table primary)
-AsksFor words (lines.Serve listen table primary dbs workers connections audit pager partition rounds idle_polls) =
-    Names (subcommand_of own_app words)
-    (lines.Serve listen table primary dbs workers connections audit pager partition rounds idle_polls)
+AsksFor words (lines.Serve listen table numbers) =
+    Names (subcommand_of own_app words) (lines.Serve listen table numbers)
 AsksFor words (lines.Ask to id token db epoch words_are) =
     Names (subcommand_of own_app words) (lines.Ask to id token db epoch words_are)
 

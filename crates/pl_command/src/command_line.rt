@@ -30,24 +30,8 @@ pub enum CommandLine {
         listen: String,
         /// The file with the text of the table, which each database begins with.
         table: String,
-        /// The id of the first primary.
-        primary: u32,
-        /// How many databases there are, 1 to 16.
-        dbs: u32,
-        /// How many threads answer connections, 1 to 64.
-        workers: u32,
-        /// How many connections are accepted before the end, at least 1.
-        connections: u32,
-        /// How many entries the audit list of a database holds, 1 to 16,777,216.
-        audit: u32,
-        /// The principal that advances a partition as page server, where `rounds` is not 0.
-        pager: u32,
-        /// The partition that it advances.
-        partition: u16,
-        /// How often it advances the partition of each database.
-        rounds: u32,
-        /// How often one worker at a time polls its sockets again before it sleeps, 0 to 10,000.
-        idle_polls: u32,
+        /// Its numbers.
+        numbers: ServeNumbers,
     },
     /// `ask`: send one request of an operator, and show the reply.
     Ask {
@@ -64,6 +48,29 @@ pub enum CommandLine {
         /// What is asked for, at least one word.
         words: Vec<String>,
     },
+}
+
+/// The numbers among the options of `serve`.
+#[derive(Clone, Copy, Debug, PartialEq, Eq)]
+pub struct ServeNumbers {
+    /// The id of the first primary.
+    pub primary: u32,
+    /// How many databases there are, 1 to 16.
+    pub dbs: u32,
+    /// How many threads answer connections, 1 to 64.
+    pub workers: u32,
+    /// How many connections are accepted before the end, at least 1.
+    pub connections: u32,
+    /// How many entries the audit list of a database holds, 1 to 16,777,216.
+    pub audit: u32,
+    /// The principal that advances a partition as page server, where `rounds` is not 0.
+    pub pager: u32,
+    /// The partition that it advances.
+    pub partition: u16,
+    /// How often it advances the partition of each database.
+    pub rounds: u32,
+    /// How often one worker at a time polls its sockets again before it sleeps, 0 to 10,000.
+    pub idle_polls: u32,
 }
 
 /// Why the arguments ask for nothing.
@@ -134,29 +141,7 @@ fn play_of(alloc: Global, found: &ArgMatches<'_>) -> Result<Option<CommandLine>,
     Ok(Some(CommandLine::Play { table, primary }))
 }
 
-/// The numbers among the options of `serve`, as [`CommandLine::Serve`] has them.
-#[derive(Clone, Copy)]
-pub struct ServeNumbers {
-    /// The id of the first primary.
-    pub primary: u32,
-    /// How many databases there are, 1 to 16.
-    pub dbs: u32,
-    /// How many threads answer connections, 1 to 64.
-    pub workers: u32,
-    /// How many connections are accepted before the end, at least 1.
-    pub connections: u32,
-    /// How many entries the audit list of a database holds, 1 to 16,777,216.
-    pub audit: u32,
-    /// The principal that advances a partition as page server, where `rounds` is not 0.
-    pub pager: u32,
-    /// The partition that it advances.
-    pub partition: u16,
-    /// How often it advances the partition of each database.
-    pub rounds: u32,
-    /// How often one worker at a time polls its sockets again before it sleeps, 0 to 10,000.
-    pub idle_polls: u32,
-}
-
+// The numbers of `serve`, where each is in its range.
 fn serve_numbers(found: &ArgMatches<'_>) -> Option<ServeNumbers>
     ensures some { IfSome result (HasNumbers (rows_of (found_of found.now))) }
     ensures none { IsNone result → GivesServe (rows_of (found_of found.now)) → ⊥ }
@@ -189,15 +174,7 @@ fn serve_of(alloc: Global, found: &ArgMatches<'_>) -> Result<Option<CommandLine>
     Ok(Some(CommandLine::Serve {
         listen: String::from_str(alloc, listen)?,
         table: String::from_str(alloc, table)?,
-        primary: numbers.primary,
-        dbs: numbers.dbs,
-        workers: numbers.workers,
-        connections: numbers.connections,
-        audit: numbers.audit,
-        pager: numbers.pager,
-        partition: numbers.partition,
-        rounds: numbers.rounds,
-        idle_polls: numbers.idle_polls,
+        numbers,
     }))
 }
 

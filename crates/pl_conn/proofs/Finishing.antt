@@ -15,8 +15,8 @@ use Rattle.pl_conn.specs.Conversation.{Ends, IsToldInPart, MayWait, Scene, Talk,
 use Rattle.pl_conn.specs.Resting.{Came, Goes, Middle, Rests, Resumes, TurnsAreAConversation, WaitsFirst, middle}
 use Rattle.pl_conn.specs.declared.cause.Cause.{Cause}
 use Rattle.pl_conn.specs.declared.cause.Cause.TheVariants as causes
-use Rattle.pl_conn.specs.declared.resuming.Rest.{Rest}
-use Rattle.pl_conn.specs.declared.resuming.Rest.TheVariants as rests
+use Rattle.pl_conn.specs.declared.conversation.Rest.{Rest}
+use Rattle.pl_conn.specs.declared.conversation.Rest.TheVariants as rests
 use Rattle.pl_conn.proofs.Talking.{cut_text, fewer_after}
 use Rattle.pl_conn.proofs.Turning.{resumes_then}
 

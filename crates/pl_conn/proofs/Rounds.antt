@@ -5,7 +5,7 @@ use Rattle.std.specs.List.{AllByRecursion}
 use Rattle.std.proofs.lemmas.List.Sums.{sum_by-cons}
 use Rattle.pl_table.specs.Request.{Query}
 use Rattle.pl_core.specs.declared.reply.Reply.{Reply}
-use Rattle.pl_conn.specs.declared.materialising.Worked.{Worked}
+use Rattle.pl_conn.specs.declared.page_server.Worked.{Worked}
 use Rattle.pl_conn.specs.Materialising.{is_done, reported_epoch, goes_on, last_reported_epoch, Asks, Round, Works}
 
 -- this many rounds, after each of which another may follow

@@ -22,8 +22,8 @@ use Rattle.pl_conn.specs.Serving.{Reaches}
 use Rattle.pl_conn.specs.declared.cause.Cause.{Cause}
 use Rattle.pl_conn.specs.declared.cause.Cause.TheVariants as causes
 use Rattle.pl_wire.specs.FrameReading.{IsCut, IsDecided, LacksFrame, length_at}
-use Rattle.pl_conn.specs.declared.resuming.Rest.{Rest}
-use Rattle.pl_conn.specs.declared.resuming.Rest.TheVariants as rests
+use Rattle.pl_conn.specs.declared.conversation.Rest.{Rest}
+use Rattle.pl_conn.specs.declared.conversation.Rest.TheVariants as rests
 use Rattle.pl_conn.proofs.Filling.{later}
 use Rattle.pl_conn.proofs.Reaching.{by_answers}
 use Rattle.pl_conn.proofs.Talking.{all_then, answered_then}

@@ -3,8 +3,8 @@ use Rattle.std.specs.Prelude.{◌≡◌, ◌==◌, ◌||◌, ℕ, ◌+◌, ◌-�
 use Rattle.slab.specs.Slab.{Slab, Updates, get}
 use Rattle.pl_conn.specs.declared.cause.Cause.{Cause}
 use Rattle.pl_conn.specs.declared.lines.Line.{Line}
-use Rattle.pl_conn.specs.declared.resuming.Rest.{Rest}
-use Rattle.pl_conn.specs.declared.resuming.Rest.TheVariants as rests
+use Rattle.pl_conn.specs.declared.conversation.Rest.{Rest}
+use Rattle.pl_conn.specs.declared.conversation.Rest.TheVariants as rests
 
 -- how often the place is in the list
 abbrev pub times : ℕ → List ℕ → ℕ

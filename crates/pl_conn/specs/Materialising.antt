@@ -9,7 +9,7 @@ use Rattle.pl_table.specs.Request.{Query}
 use Rattle.pl_core.specs.declared.reply.Reply.{Reply}
 use Rattle.pl_core.specs.declared.reply.Reply.TheVariants as replies
 use Rattle.pl_wire.specs.Answering.{Calls}
-use Rattle.pl_conn.specs.declared.materialising.Worked.{Worked}
+use Rattle.pl_conn.specs.declared.page_server.Worked.{Worked}
 
 -- the request of a round: an advance of the partition by 16 blocks, as page server at this epoch
 abbrev pub advance_at : ℕ → List ℕ → ℕ → ℕ → ℕ → Query

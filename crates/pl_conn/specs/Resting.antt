@@ -9,8 +9,8 @@ use Rattle.pl_wire.specs.FrameReading.{IsCut}
 use Rattle.pl_wire.specs.Frames.{frame, frames_of, longest_request}
 use Rattle.pl_conn.specs.Conversation.{Concludes, Ends, MayWait, Scene, replies_text}
 use Rattle.pl_conn.specs.declared.cause.Cause.{Cause}
-use Rattle.pl_conn.specs.declared.resuming.Rest.{Rest}
-use Rattle.pl_conn.specs.declared.resuming.Rest.TheVariants as rests
+use Rattle.pl_conn.specs.declared.conversation.Rest.{Rest}
+use Rattle.pl_conn.specs.declared.conversation.Rest.TheVariants as rests
 
 -- what a conversation keeps while it rests: bytes that were read and not taken, and replies that are not written
 pub record Middle : Type 0 where

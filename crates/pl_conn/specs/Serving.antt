@@ -5,8 +5,8 @@ use Rattle.std.specs.Ordering.{int_eq}
 use Rattle.pl_table.specs.Request.{Query}
 use Rattle.pl_core.specs.declared.reply.Reply.{Reply}
 use Rattle.pl_wire.specs.Answering.{Calls}
-use Rattle.pl_conn.specs.declared.serving.Stop.{Stop}
-use Rattle.pl_conn.specs.declared.serving.Stop.TheVariants as stops
+use Rattle.pl_conn.specs.declared.service.Stop.{Stop}
+use Rattle.pl_conn.specs.declared.service.Stop.TheVariants as stops
 
 -- these calls, one after the other: each is a request and its reply, and begins with the pass that the one before it left
 abbrev pub Chained : {P : Type 0} → Calls P → P → List (Query × Reply) → P → Type 0

@@ -151,13 +151,11 @@ impl<R> Desks<R> {
     where
         R: Drop,
         // 1 to 16 databases.
-        requires some_dbs { 1 ≤ vec_len dbs }
-        requires few_dbs { vec_len dbs ≤ 16 }
+        requires dbs { (1 ≤ vec_len dbs) × (vec_len dbs ≤ 16) }
         // At least one seat.
         requires seats { 1 ≤ seats }
         // 1 to 2^62 turns.
-        requires some { 1 ≤ turns }
-        requires few { turns ≤ 2 ^ 62 }
+        requires turns { (1 ≤ turns) × (turns ≤ 2 ^ 62) }
         // A desk for each database, in order, with this many seats and turns.
         ensures terms { IfOk result (λ r. map (λ desk. desk.terms) r.0 ≡
             terms_of_each seats turns dbs.items) }

@@ -5,36 +5,36 @@
 //! [`Desks`] from databases that many threads call. [`materialise`] applies the log to a partition.
 #![tactic(auto)]
 
-mod accepting;
-mod answering;
+mod acceptor;
+mod answers;
 mod cause;
-mod conversing;
+mod conversation;
 mod desks;
 mod inbox;
 mod lines;
-mod materialising;
+mod lookout;
 mod outbox;
-mod polling;
+mod page_server;
 mod post;
-mod resuming;
-mod serving;
+mod service;
 mod solo;
 mod source;
 mod staff;
 mod terms;
 mod turn_laws;
 mod watch;
+mod whole_conversation;
 mod worker;
 
 pub use cause::{Cause, ConnFault};
-pub use conversing::converse;
+pub use conversation::{Conversation, Rest, Room};
 pub use desks::{Desks, Passes};
-pub use materialising::{PageServer, Worked, materialise};
+pub use page_server::{PageServer, Worked, materialise};
 pub use pl_wire::Gate;
-pub use resuming::{Conversation, Rest, Room};
-pub use serving::{Served, Stop, serve, serve_watched};
+pub use service::{Served, Stop, serve, serve_watched};
 pub use solo::{Solo, SoloPass};
 pub use source::Source;
 pub use terms::Terms;
 pub use turn_laws::{turns_are_a_conversation, turns_join};
 pub use watch::{Unwatched, Watch};
+pub use whole_conversation::converse;

@@ -6,7 +6,7 @@ ghost use Rattle.pl_conn.specs.Lines.{ClosesIf, IsIdle, IsIdleAt, Keeps, Settles
 ghost use Rattle.pl_conn.specs.Serving.{Reaches};
 
 use crate::cause::Cause;
-use crate::resuming::{Conversation, Rest, Room};
+use crate::conversation::{Conversation, Rest, Room};
 use mio::event::Event;
 use mio::{Events, Interest, Poll, Token};
 use pl_wire::Gate;

@@ -1,6 +1,6 @@
 //! The workers of a service before their threads are started.
 
-use crate::polling::Lookout;
+use crate::lookout::Lookout;
 use crate::post::Post;
 use crate::terms::Terms;
 use crate::worker::Worker;

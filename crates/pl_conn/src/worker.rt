@@ -2,10 +2,10 @@
 
 ghost use Rattle.pl_conn.specs.Serving.{Reaches};
 
+use crate::conversation::Room;
 use crate::lines::Lines;
-use crate::polling::{AT_ONCE, Lookout, wait};
+use crate::lookout::{AT_ONCE, Lookout, wait};
 use crate::post::{Post, Shared};
-use crate::resuming::Room;
 use crate::terms::Terms;
 use crossbeam_channel::{Receiver, TryRecvError};
 use mio::{Events, Poll, Token, Waker};

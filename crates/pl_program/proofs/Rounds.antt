@@ -2,9 +2,9 @@
 use Rattle.std.proofs.Common.{◌≡◌, ℕ, ◌+◌, List, [], ◌∷◌, ◌++◌, length, refl, ap, subst, ◌∙◌, arith, length-append}
 use Rattle.pl_wire.specs.Answering.{Calls}
 use Rattle.pl_conn.specs.Materialising.{Works, advance_at}
-use Rattle.pl_conn.specs.declared.materialising.PageServer.{PageServer}
-use Rattle.pl_conn.specs.declared.materialising.Worked.{Worked}
-use Rattle.pl_program.specs.Paging.{Pages, PagesEach}
+use Rattle.pl_conn.specs.declared.page_server.PageServer.{PageServer}
+use Rattle.pl_conn.specs.declared.page_server.Worked.{Worked}
+use Rattle.pl_program.specs.Pager.{Pages, PagesEach}
 
 -- the rounds at the database of this number
 abbrev pub WorksAt : {P : Type 0} → Calls P → PageServer → ℕ → P → Worked → P → Type 0

@@ -1,5 +1,5 @@
-pub mod Asking
 pub mod Endings
-pub mod Paging
-pub mod Serving
-pub mod Telling
+pub mod Operator
+pub mod Pager
+pub mod Service
+pub mod Teller

@@ -7,24 +7,28 @@
 //! input and output of a process.
 #![tactic(auto)]
 
-mod asking;
+mod ask_command;
 mod causes;
 mod complaint;
 mod ending;
-mod noting;
+mod notes;
 mod opening;
+mod operator;
 mod pager;
+mod play_command;
+mod program;
 mod run_fault;
-mod running;
+mod serve_command;
 mod service;
 mod tally;
-mod telling;
+mod teller;
+mod texts;
 
-pub use asking::{credentials_of, exchange, file_of};
 pub use ending::{Ending, Failure};
 pub use opening::{Opening, databases_of, opening_of, pager_of, token_of};
+pub use operator::{credentials_of, exchange, file_of};
+pub use program::run;
 pub use run_fault::RunFault;
-pub use running::run;
 pub use service::{ServedDatabases, serve_databases};
 pub use tally::{Tally, result_of, tally_of};
-pub use telling::Crew;
+pub use teller::Crew;

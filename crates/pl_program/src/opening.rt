@@ -3,7 +3,7 @@
 ghost use Rattle.std.specs.Prelude.{◌≡◌, ◌≤◌, ◌⊎◌, Err, Ok, IfErr, IfOk, vec_len};
 ghost use Rattle.std.specs.List.{All};
 ghost use Rattle.pl_play.specs.Start.{start_of};
-ghost use Rattle.pl_program.specs.Serving.{pager_in, token_for};
+ghost use Rattle.pl_program.specs.Service.{pager_in, token_for};
 
 use pl_command::ServeNumbers;
 use pl_conn::PageServer;

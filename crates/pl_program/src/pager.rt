@@ -2,7 +2,7 @@
 
 ghost use Rattle.std.specs.Prelude.{◌≡◌, IfSome};
 ghost use Rattle.pl_conn.specs.Desks.{ArePassesOf, DesksCall};
-ghost use Rattle.pl_program.specs.Paging.{Pages};
+ghost use Rattle.pl_program.specs.Pager.{Pages};
 
 use pl_conn::{Desks, PageServer, Passes, materialise};
 use std::snapshot::Snapshot;

@@ -55,7 +55,7 @@ impl From<AllocError> for RunFault {
 }
 
 impl From<AdminFault> for RunFault {
-    ghost use Rattle.pl_program.specs.Asking.{fault_of_words};
+    ghost use Rattle.pl_program.specs.Operator.{fault_of_words};
 
     ghost from_gives = { λ fault e. e ≡ fault_of_words fault };
 
@@ -68,7 +68,7 @@ impl From<AdminFault> for RunFault {
 }
 
 impl From<WriteFault> for RunFault {
-    ghost use Rattle.pl_program.specs.Asking.{fault_of_write};
+    ghost use Rattle.pl_program.specs.Operator.{fault_of_write};
 
     ghost from_gives = { λ fault e. e ≡ fault_of_write fault };
 
@@ -81,7 +81,7 @@ impl From<WriteFault> for RunFault {
 }
 
 impl From<ReplyFault> for RunFault {
-    ghost use Rattle.pl_program.specs.Asking.{fault_of_reply};
+    ghost use Rattle.pl_program.specs.Operator.{fault_of_reply};
 
     ghost from_gives = { λ fault e. e ≡ fault_of_reply fault };
 

@@ -4,8 +4,8 @@ ghost use Rattle.std.specs.Prelude.{◌≡◌, ◌++◌, ◌∷◌, ◌≤◌, �
 ghost use Rattle.std.specs.List.{All};
 ghost use Rattle.pl_conn.specs.Desks.{ArePassesOf, DesksCall};
 ghost use Rattle.pl_conn.specs.Serving.{ServesConnections};
-ghost use Rattle.pl_program.specs.Paging.{AreLeftBy};
-ghost use Rattle.pl_program.specs.Serving.{ServesDatabases};
+ghost use Rattle.pl_program.specs.Pager.{AreLeftBy};
+ghost use Rattle.pl_program.specs.Service.{ServesDatabases};
 
 use crate::pager::{Paging, start_pager};
 use crate::run_fault::RunFault;

@@ -1,7 +1,7 @@
 //! What `serve` ends in: its last line, or the fault of its stop.
 
 ghost use Rattle.std.specs.Prelude.{◌≡◌, Some};
-ghost use Rattle.pl_program.specs.Serving.{result_of_stop, tally_at, tally_text};
+ghost use Rattle.pl_program.specs.Service.{result_of_stop, tally_at, tally_text};
 
 use crate::run_fault::RunFault;
 use pl_conn::{Passes, Served, Stop};

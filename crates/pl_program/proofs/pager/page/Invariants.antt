@@ -1,5 +1,5 @@
 use Rattle.pl_conn.specs.Desks.{ArePassesOf, DesksCall}
-use Rattle.pl_program.specs.Paging.{Pages}
+use Rattle.pl_program.specs.Pager.{Pages}
 use Rattle.pl_program.proofs.pager.page.Given as goal
 
 -- the passes are of the desks, and came of the rounds at the databases before this one

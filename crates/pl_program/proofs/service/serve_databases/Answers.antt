@@ -2,7 +2,7 @@ use Rattle.std.proofs.Common.{◌≡◌, ◌+◌, ◌∷◌, ◌++◌, [], lengt
 use Rattle.std.proofs.lemmas.List.FromFn.{map-range_with_len_more}
 use Rattle.pl_conn.specs.Desks.{ArePassesOf, DesksCall, all_fresh, fresh_at}
 use Rattle.pl_conn.specs.Serving.{ServesConnections}
-use Rattle.pl_program.specs.Paging.{HasPaged}
+use Rattle.pl_program.specs.Pager.{HasPaged}
 use Rattle.pl_program.proofs.Rounds.{ends_of}
 use Rattle.pl_program.proofs.service.serve_databases.Goals as goal
 use Rattle.pl_program.proofs.service.serve_databases.Goals.{in-Some, in-None}
