@@ -1,6 +1,8 @@
 """Parts of scripts/hostile: what a service takes of processors, memory and descriptors. Each bound is some five times what was
 measured."""
 
+import statistics
+
 from clients import asked, read_reply, same
 from hostile_limits import with_descriptors
 from hostile_service import EMPTY, NO_REQUEST, SPINNING, STATUS, Serve, at_most, grows, is_asleep, until, used
@@ -10,9 +12,8 @@ from wire import frame
 # by then. It keeps no buffer of these, and most often it holds some 10 or 70 KiB more. If a part is read in two pieces its
 # buffer grows, and leaves a hole in the heap: up to 440 KiB in 200 runs. A hundred buffers that are kept have 3,000 or 6,000.
 KEPT = 1024
-# A worker that polled awake this often has run for four milliseconds and more; one that answered a request, for a tenth of that.
-# In nanoseconds.
-IDLE_POLLS, AWAKE = 10000, 2500000
+# A worker that polled awake this often has run 230 to 400 times as long as most, which answered a request; others up to 15 times.
+IDLE_POLLS, AWAKE = 10000, 60
 
 
 def with_parts(service, honest, count, data, part):
@@ -100,7 +101,8 @@ def idle(workers, rounds):
         for client in clients:
             same("one of each worker", EMPTY, read_reply(client))
         until("workers that sleep", lambda: all(map(is_asleep, service.threads())))
-        awake.append(sum(used(thread) - ran > AWAKE for thread, ran in before.items()))
+        ran = [used(thread) - earlier for thread, earlier in before.items()]
+        awake.append(sum(each > AWAKE * statistics.median(ran) for each in ran))
     if not rounds // 2 <= sum(awake) <= rounds * workers // 3:
         raise SystemExit(f"of {workers} idle workers polled awake: {awake}")
     for client in clients:
