@@ -16,7 +16,7 @@ from pagelog.desk.keeper_words import _drop_named
 from pagelog.keeper.bases import NOTHING, Base, Bases, make_base
 from pagelog.keeper.history import begin_again
 from pagelog.keeper.images import MARK
-from pagelog.keeper.referee import BrokenArchive, Doubt, KeeperError, Referee, digest
+from pagelog.keeper.referee import BrokenArchive, Doubt, KeeperError, Referee, Refused, digest
 from pagelog.keeper.rows import Batch, Kept
 from pagelog.keeper.schema import script
 from pagelog.keeper.switch import Switch, number, release, succeed
@@ -51,7 +51,7 @@ class Made(Referees):
         return {number: page for image in self.bases.images(base) for number, page in image.pages()}
 
     def rows(self, table: str = "image") -> list[tuple[int, ...]]:
-        column = {"image": "range, base", "block": "lsn", "base": "base"}[table]
+        column = {"image": "range, base", "block": "lsn", "base": "base", "table": "log"}[table]
         with psycopg.connect(self.url) as connection:
             return connection.execute(f"SELECT {column} FROM pagelog_{table} ORDER BY {column}").fetchall()
 
@@ -224,13 +224,16 @@ class Dropped(Made):
 
         self.referee._ask = cutting  # type: ignore[method-assign]
 
-    def test_nothing_of_its_pages_is_left(self) -> None:
+    def test_nothing_of_its_pages_and_of_its_tokens_is_left(self) -> None:
+        self.assertEqual(len(self.rows("table")), 1)
         self.assertTrue(self.referee.drop("shop"))
-        self.assertEqual(self.left(), [0, 0, 0])
+        self.assertEqual((self.rows("table"), self.left()), ([], [0, 0, 0]))
         self.assertFalse(self.referee.drop("shop"))
+        with self.assertRaises(Refused):  # which a keeper says, and looks again
+            self.referee.table(self.row.id)
 
     def test_one_that_was_broken_off_is_gone_on_with(self) -> None:
-        for word in ("FROM pagelog_base", "FROM pagelog_image", "FROM pagelog_block"):
+        for word in ("FROM pagelog_table", "FROM pagelog_base", "FROM pagelog_image", "FROM pagelog_block"):
             self.cut(word)
             self.assertRaises(Doubt, _drop_named, self.referee, "shop", True)
             self.assertGreater(self.left()[-1], 0)

@@ -253,7 +253,7 @@ class Referee:
         """The text of the table of a database, and the secret of its keepers."""
         found = self._ask("SELECT text, secret FROM pagelog_table WHERE log = %s", (log,))
         if not found:
-            raise KeeperError(f"the referee has no table of database {log}")
+            raise Refused(f"the referee has no table of database {log}: it was dropped")
         return str(found[0][0]), bytes(found[0][1])
 
     # Who holds a database.
@@ -364,15 +364,16 @@ class Referee:
         return bool(made)
 
     def drop(self, name: str) -> bool:
-        """Ends a named database for good: its keeper ends its service, and its blocks and images are deleted. One that was broken off is
-        gone on with. False where there is nothing of it.
+        """Ends a named database for good: its keeper ends its service, and its table, blocks and images are deleted. One that was broken
+        off is gone on with. False where there is nothing of it.
 
         Its row stays, under a name that no database can have, so that a keeper which held it knows; under that name its trail is kept.
         """
         has_trail = self._ask("SELECT to_regclass('pagelog_trail_list') IS NOT NULL") == [(True,)]
         dropped = bool(self._ask(statements.DROP_WITH_TRAIL if has_trail else statements.DROP, {"name": name}))
         old = "SELECT id FROM pagelog_log WHERE dropped AND name = %s || '!' || id"
-        gone = len(self._ask(f"DELETE FROM pagelog_base WHERE log IN ({old}) RETURNING base", (name,)))
+        gone = sum(len(self._ask(f"DELETE FROM {table} WHERE log IN ({old}) RETURNING log", (name,)))
+                   for table in ("pagelog_table", "pagelog_base"))  # fmt: skip
         for table, key, count in (("pagelog_image", "log, range, base", 1000), ("pagelog_block", "log, lsn", 10_000)):
             some = f"SELECT {key} FROM {table} WHERE log IN ({old}) LIMIT {count}"
             while found := self._ask(f"DELETE FROM {table} WHERE ({key}) IN ({some}) RETURNING log", (name,)):
