@@ -113,7 +113,8 @@ class Database:
         lines = [line for each in ended for line in each]
         looks = [line for reader in self.readers for line in reader.end() if "end" in line]
         told = Counter(line["told"] for line in lines if "told" in line)
-        last = Client(self.keeping, self.name, 99, "ledger", 3, "durable")
+        highest = max((line["done"] for line in lines if "done" in line), default=0)
+        last = Client(self.keeping, self.name, 99, "ledger", 3, "durable", str(highest))
         found = {line["number"]: line["hash"] for line in last.end() if "number" in line}
         lost, excused = [], 0
         for each in ended:

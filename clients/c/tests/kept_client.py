@@ -1,7 +1,8 @@
 """A client of the torture (kept.py), in a process of its own: it goes on until its standard input ends, and says in lines of JSON what
 it was told. A reader that gets a line looks at all of the database.
 
-Usage: kept_client.py prepare|write|read|ledger KEEPERS NAME PRINCIPAL LEVEL [many]     (of many databases it reads now and then)
+Usage: kept_client.py prepare|write|read|ledger KEEPERS NAME PRINCIPAL LEVEL [many|LEAST]
+(of many databases it reads now and then; the ledger is read once it has this number)
 
 A writer moves money between two tables, and enters each transfer into a ledger, the rows of which have a hash of the row before.
 """
@@ -135,7 +136,11 @@ def read(connection, is_durable, is_alone):
     say(end=True, looks=looks, wholes=wholes, backwards=backwards, told=told)
 
 
-def ledger(connection):
+def ledger(connection, least):
+    """A durable reader may see what was acknowledged a look later. What it does not see in a minute is lost."""
+    until = time.monotonic() + 60
+    while one(connection, "select coalesce(max(number), 0) from ledger") < least and time.monotonic() < until:
+        time.sleep(0.05)
     for number, text in connection.execute("select number, text from ledger order by number"):
         say(number=number, hash=hash_of("", text))
     look(connection, True)
@@ -155,7 +160,7 @@ if __name__ == "__main__":
         connection = sqlite_of(keepers, name, int(principal), mode="ro", durable=1 if level == "durable" else 0, **more)
         connection.execute("pragma cache_size = 20")
         if kind == "ledger":
-            ledger(connection)
+            ledger(connection, int(many[0]))
             sys.exit()
         while not is_over.is_set() and code_of(lambda: one(connection, "select count(*) from ledger")):
             time.sleep(0.05)
