@@ -7,7 +7,9 @@ import argparse
 import contextlib
 import os
 import pathlib
+import select
 import signal
+import socket
 import statistics
 import subprocess
 import sys
@@ -25,7 +27,6 @@ import psycopg  # noqa: E402
 import service  # noqa: E402
 from keepers import Keeping, eventually  # noqa: E402
 from pagelog import Block, Group, Put  # noqa: E402
-from pagelog.place import Keepers  # noqa: E402
 from replicated import Pair, Server  # noqa: E402
 
 NAME = "shop"
@@ -134,22 +135,45 @@ def commits(pair, share):
 
 
 def many_writers(kept, primary, one, count):
-    """Threads of one process share a writer, as a group; then each waits for its own position over a line of its own."""
-    group, turn, place = Group(primary), threading.Lock(), primary.place
-    lines = threading.local()
-
-    def apart():
-        if not hasattr(lines, "own"):
-            lines.own = Keepers(NAME, kept.addresses, service.PATIENCE)
-        with turn:
-            primary.append(RECORD)
-            position = primary.commit()
-        assert lines.own.fate(place.generation, position, place.lines).end >= position
-
-    for what, commit, some in ("in a group", lambda: group.commit(RECORD), 5 * count), ("each with a line", apart, count):
-        rate, times = rate_of_threads(commit, some)
+    """Threads of one process share a writer, as a group; then as many commits wait at a time, each over a line of its own."""
+    group = Group(primary)
+    for what, (rate, times) in (("in a group", rate_of_threads(lambda: group.commit(RECORD), 5 * count)),
+                                ("each with a line", rate_of_lines(primary, count))):  # fmt: skip
         print(f"{WRITERS} writers {what}: {rate:,.0f} durable commits a second, {rate / one:.1f} times one writer's {one:,.0f}; "
               f"p50 {at(50, times):.2f} ms, p99 {at(99, times):.2f} ms")  # fmt: skip
+
+
+def rate_of_lines(primary, count):
+    """How many commits a second all lines have answered, and how long each took. One thread has them all: 64 would measure the lock of
+    the interpreter."""
+    place, times, poll, began = primary.place, [], select.poll(), {}
+    host, _, port = place.lines.rpartition(":")
+    lines = [socket.create_connection((host, int(port)), service.PATIENCE) for _ in range(WRITERS)]
+    by_number = {line.fileno(): line for line in lines}
+
+    def commit(line):
+        began[line] = time.perf_counter()
+        primary.append(RECORD)
+        line.sendall(f"durable {NAME} {place.generation} {primary.commit()}\n".encode())
+
+    for line in lines:
+        poll.register(line, select.POLLIN)
+    start = time.perf_counter()
+    for line in lines:
+        commit(line)
+    left = WRITERS * (count - 1)
+    while len(times) < WRITERS * count:
+        for number, _ in poll.poll():
+            assert by_number[number].recv(100).startswith(b"durable ")
+            times.append(time.perf_counter() - began[by_number[number]])
+            if left > 0:
+                left -= 1
+                commit(by_number[number])
+    took = time.perf_counter() - start
+    for line in lines:
+        line.close()
+    primary.durable(primary.end)
+    return len(times) / took, times
 
 
 def rate_of_threads(commit, count):

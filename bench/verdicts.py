@@ -103,7 +103,7 @@ def main():
     paths = {"now": programs.program("verdicts", "pl_table pl_decide")}
     if len(sys.argv) > 2:
         folder = pathlib.Path(sys.argv[2])
-        is_older = not (folder / "crates" / "pl_table" / "src" / "asking.rt").exists()
+        is_older = "Asking" not in (folder / "crates" / "pl_table" / "src" / "lib.rt").read_text()
         paths["before"] = programs.program("verdicts", "pl_table pl_decide", folder, is_older)
     running = {where: Program(path) for where, path in paths.items()}
     cases = [(table, where) for table in TABLES for where in paths]

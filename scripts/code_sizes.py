@@ -6,7 +6,7 @@ from crate_source import ROOT, end_of, test_files, without_comments, without_tes
 
 FUNCTION_LINES, PARAMETERS, CLAUSES, FILE_LINES, CLAUSE_COLUMNS = 40, 6, 6, 400, 100
 # How many are larger than that, in all crates but those of tests. These numbers only fall.
-MOST = {"functions": 0, "parameters": 0, "clauses": 19, "files": 0, "wide clause lines": 0}
+MOST = {"functions": 0, "parameters": 0, "clauses": 1, "files": 0, "wide clause lines": 0}
 
 
 class Sizes:

@@ -31,13 +31,13 @@
 #define VACANT 0   // const VACANT: u64 = 0;
 // queue.rt: TAKEN
 #define TAKEN 1    // const TAKEN: u32 = 1;
-// parking.rt: UNMARKED
+// parkers.rt: UNMARKED
 #define UNMARKED 0 // const UNMARKED: u64 = 0;
 // queue.rt: QUEUED
 #define QUEUED 1   // const QUEUED: u32 = 1;
 
 /* The parkers are fewer here, and all spins but the last have no step. The head of the queue may come back at any time. */
-// parking.rt: PARKERS
+// parkers.rt: PARKERS
                  // const PARKERS: u64 = 64;
 // queue.rt: SPINS
                  // const SPINS: u32 = 230;
@@ -112,7 +112,7 @@ inline system_wake_all(place) {
 
 /* The parkers. */
 
-// parking.rt: mark_of
+// parkers.rt: mark_of
 #ifdef NO_MARK
 #define MARK_OF(ticket) ((ticket) / PARKERS)
 #elif defined SAME_MARK
@@ -121,17 +121,17 @@ inline system_wake_all(place) {
 #define MARK_OF(ticket) ((ticket) / PARKERS + 1) // (ticket / PARKERS % u64::from(u32::MAX)) as u32 + 1
 #endif
 
-// parking.rt: Parker::announce
+// parkers.rt: Parker::announce
 inline announce(word, mark) {
     word = mark // self.word.store(u64::from(mark), SeqCst);
 }
 
-// parking.rt: Parker::park
+// parkers.rt: Parker::park
 inline park(word, mark, place) {
     system_park(word, mark, place) // self.word.park(rt, mark);
 }
 
-// parking.rt: Parker::take
+// parkers.rt: Parker::take
 inline take(word) {
     if
     :: word != UNMARKED ->                                          // self.word.load(SeqCst) != UNMARKED
@@ -143,7 +143,7 @@ inline take(word) {
     fi
 }
 
-// parking.rt: Parker::wake_all
+// parkers.rt: Parker::wake_all
 inline wake_all(word, place) {
     take(word);
     if
@@ -153,7 +153,7 @@ inline wake_all(word, place) {
     fi
 }
 
-// parking.rt: Parker::wake_one
+// parkers.rt: Parker::wake_one
 inline wake_one(word, place) {
     take(word);
     if
@@ -163,20 +163,20 @@ inline wake_one(word, place) {
     fi
 }
 
-// parking.rt: Parkers::of
+// parkers.rt: Parkers::of
 #define OF(ticket) tickets[(ticket) % PARKERS] // &self.tickets[(ticket % PARKERS) as usize]
 
-// parking.rt: Parkers::announce
+// parkers.rt: Parkers::announce
 inline announce_ticket() {
     announce(OF(ticket), MARK_OF(ticket)) // self.of(ticket).announce(mark_of(ticket));
 }
 
-// parking.rt: Parkers::park
+// parkers.rt: Parkers::park
 inline park_for_ticket() {
     park(OF(ticket), MARK_OF(ticket), AT_PARKER(ticket)) // self.of(ticket).park(rt, mark_of(ticket));
 }
 
-// parking.rt: Parkers::wake
+// parkers.rt: Parkers::wake
 inline wake(ticket) {
 #ifdef WAKES_ONE
     wake_one(OF(ticket), AT_PARKER(ticket))

@@ -361,9 +361,9 @@ end:
           fi;
           seen_generation = 0; seen_archived = 0 }
     /* With a standby that has all, its place is told by the same statement. */
-// database.py: _ready
+// beginning.py: _ready
                     // ..
-                    // await self._filled(served, row.archived, row.chain)
+                    // await self._database.filled(served, row.archived, row.chain)
                     // await asyncio.to_thread(served.check, row.archived, row.chain)
                     // return served.where
     :: d_step { seen_generation != 0 && seen_generation == generation && seen_archived == archived && standby != 0 && alive[standby] && HAS_ALL ->
@@ -371,9 +371,9 @@ end:
           hold(mine);
           publish(mine);
           seen_generation = 0; seen_archived = 0 }
-// database.py: _fill
+// beginning.py: fill
                     // ..
-                    // await self._filled(served, row.base, row.chain)
+                    // await database.filled(served, row.base, row.chain)
                     // await asyncio.to_thread(served.check, row.base, row.chain)
                     // await asyncio.to_thread(served.open)
                     // ..

@@ -104,14 +104,31 @@ static int connect_to(struct pagelog *log, const struct addrinfo *address, uint6
     return -1;
 }
 
+static unsigned count_of(const struct addrinfo *found) {
+    unsigned count = 0;
+    for (; found; found = found->ai_next)
+        count++;
+    return count;
+}
+
+/* A connected socket to the first of the addresses that can be had, or -1. One that is silent leaves the
+ * others their share of the time. */
+static int connect_to_any(struct pagelog *log, const struct addrinfo *found, uint64_t deadline) {
+    int fd = -1;
+    for (; found && fd < 0; found = found->ai_next) {
+        uint64_t now = pagelog_now(), left = now < deadline ? deadline - now : 0;
+        fd = connect_to(log, found, now + left / count_of(found));
+    }
+    return fd;
+}
+
 enum pagelog_outcome pagelog_ensure_connected(struct pagelog *log) {
     struct addrinfo hints = {.ai_family = AF_UNSPEC, .ai_socktype = SOCK_STREAM}, *found = NULL;
     if (log->waiter.is_given_up || !log->host) return pagelog_fail(log, PAGELOG_LOST);
     if (log->socket >= 0) return PAGELOG_DONE;
     uint64_t deadline = pagelog_after(log->options.connect_ms);
     if (getaddrinfo(log->host, log->port, &hints, &found) != 0) return pagelog_fail(log, PAGELOG_LOST);
-    for (struct addrinfo *address = found; address && log->socket < 0; address = address->ai_next)
-        log->socket = connect_to(log, address, deadline);
+    log->socket = connect_to_any(log, found, deadline);
     freeaddrinfo(found);
     if (log->socket < 0 || !may_wait(log->socket, log->options.reply_ms))
         return pagelog_fail(log, PAGELOG_LOST);

@@ -1,6 +1,8 @@
 /* One connection to a keeper: how it is opened, asked and read. */
 #include "pagelog_line.h"
 
+#include "pagelog_common.h"
+
 #include <errno.h>
 #include <netdb.h>
 #include <netinet/tcp.h>
@@ -8,6 +10,8 @@
 #include <string.h>
 #include <sys/socket.h>
 #include <unistd.h>
+
+enum { CONNECT_MS = 1000 }; /* for all addresses of a host together */
 
 /* Splits "HOST:PORT" or "[HOST]:PORT". */
 bool pagelog_line_set_address(struct pagelog_line *line, const char *text, size_t length) {
@@ -33,21 +37,31 @@ void pagelog_line_leave(struct pagelog_line *line) {
     line->length = 0;
 }
 
+static void connect_to(struct pagelog_line *line, const struct addrinfo *at) {
+    int one = 1;
+    line->socket = socket(at->ai_family, at->ai_socktype | SOCK_NONBLOCK | SOCK_CLOEXEC, at->ai_protocol);
+    if (line->socket < 0) return;
+    setsockopt(line->socket, IPPROTO_TCP, TCP_NODELAY, &one, sizeof one);
+    line->is_connecting = connect(line->socket, at->ai_addr, at->ai_addrlen) != 0;
+    if (line->is_connecting && errno != EINPROGRESS) pagelog_line_leave(line);
+}
+
 /* Begins to connect, to the first address of its host that has not refused yet. */
 static void begin_connect(struct pagelog_line *line) {
     struct addrinfo hints = {.ai_family = AF_UNSPEC, .ai_socktype = SOCK_STREAM}, *found = NULL;
     unsigned number = 0;
-    int one = 1;
     if (getaddrinfo(line->host, line->port, &hints, &found) != 0) return;
-    for (struct addrinfo *at = found; at && line->socket < 0; at = at->ai_next) {
-        if (number++ < line->refused) continue;
-        line->socket = socket(at->ai_family, at->ai_socktype | SOCK_NONBLOCK | SOCK_CLOEXEC, at->ai_protocol);
-        if (line->socket < 0) continue;
-        setsockopt(line->socket, IPPROTO_TCP, TCP_NODELAY, &one, sizeof one);
-        line->is_connecting = connect(line->socket, at->ai_addr, at->ai_addrlen) != 0;
-        if (line->is_connecting && errno != EINPROGRESS) pagelog_line_leave(line);
+    for (struct addrinfo *at = found; at; at = at->ai_next, number++) {
+        if (number < line->refused || line->socket >= 0) continue;
+        connect_to(line, at);
+        line->refused = number;
     }
+    line->until = pagelog_after(CONNECT_MS / number);
     freeaddrinfo(found);
+}
+
+uint64_t pagelog_line_ends(const struct pagelog_line *line, uint64_t deadline) {
+    return line->is_connecting && line->until < deadline ? line->until : deadline;
 }
 
 /* A connection is gone: it was refused, and the next address is tried, or the question goes unanswered. */

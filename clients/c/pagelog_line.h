@@ -11,6 +11,7 @@ struct pagelog_line {
     int socket;         /* -1: none */
     bool is_connecting; /* it is not open yet */
     bool is_asked;      /* its answer is awaited */
+    uint64_t until;     /* when the address that is connecting has had its share of the time */
     unsigned refused;   /* addresses of its host that have refused the connect that is being made */
     unsigned unheard;   /* answers before that, which nobody waits for any more */
     size_t sent;        /* bytes of the question that have left */
@@ -26,6 +27,10 @@ void pagelog_line_leave(struct pagelog_line *line);
 
 /* Begins a question: connects where it is not connected, or no longer. */
 void pagelog_line_ask(struct pagelog_line *line);
+
+/* When there is something to do about it at the latest, though nothing comes: at `deadline`, or where its
+ * host has an address that is silent before that. Then it is to be lost. */
+uint64_t pagelog_line_ends(const struct pagelog_line *line, uint64_t deadline);
 
 /* The connection is gone: it was refused, and the next address is tried, or the question goes unanswered. */
 void pagelog_line_lose(struct pagelog_line *line);

@@ -92,6 +92,7 @@ static bool wait_once(struct pagelog_keepers *keepers, const char *line, uint64_
     uint64_t now = pagelog_now();
     for (size_t i = 0; i <= PAGELOG_MOST_KEEPERS; i++) {
         struct pagelog_line *keeper = &keepers->keepers[i];
+        if (keeper->is_asked && pagelog_line_ends(keeper, UINT64_MAX) <= now) pagelog_line_lose(keeper);
         if (!keeper->is_asked) continue;
         bool has_more = keeper->is_connecting || keeper->sent < length;
         polled[count] = (struct pollfd){.fd = keeper->socket, .events = has_more ? POLLOUT : POLLIN};
@@ -182,6 +183,13 @@ static bool read_place(char **words, size_t count, struct pagelog_place *place) 
            read_shift(words[8], &place->shift);
 }
 
+/* Of two answers that of the higher generation; of one generation, of who knows most of its archive: one that
+ * has not looked for a while knows less of both. */
+static bool is_newer(const struct pagelog_place *told, const struct pagelog_place *place) {
+    if (told->generation != place->generation) return told->generation > place->generation;
+    return told->archived > place->archived;
+}
+
 enum pagelog_outcome pagelog_where(struct pagelog_keepers *keepers, uint64_t least,
                                    struct pagelog_place *place) {
     char line[PAGELOG_PLACE_BYTES + 16], answer[PAGELOG_LINE_BYTES], *words[MOST_WORDS];
@@ -200,7 +208,7 @@ enum pagelog_outcome pagelog_where(struct pagelog_keepers *keepers, uint64_t lea
         uint64_t soon = pagelog_after(is_here ? LATER_MS : SOON_MS);
         if (!is_unknown_here && soon < deadline) deadline = soon;
         if (!is_here) continue;
-        if (!is_found || told.generation > place->generation) *place = told;
+        if (!is_found || is_newer(&told, place)) *place = told;
         is_found = true;
     }
     stop_asking(keepers, line, true);

@@ -59,9 +59,10 @@ bool pagelog_keepers_wait_on(struct pagelog_keepers *keepers);
 /* For a child of fork(): closes the descriptors there, and nothing else. */
 void pagelog_keepers_abandon(struct pagelog_keepers *keepers);
 
-/* The place of the highest generation that a keeper knows of, where that is `least` or above. LOST: nobody
- * serves it now, no keeper answers, or those that do know of lower ones alone. DENIED: all that answer have
- * no database of this name. */
+/* The place of the highest generation that a keeper knows of, where that is `least` or above, as who knows
+ * most of its archive says, of those that answer soon after the first. LOST: nobody serves it now, no keeper
+ * answers, or those that do know of lower ones alone. DENIED: all that answer have no database of this name.
+ */
 enum pagelog_outcome pagelog_where(struct pagelog_keepers *keepers, uint64_t least,
                                    struct pagelog_place *place);
 

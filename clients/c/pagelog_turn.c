@@ -67,11 +67,11 @@ static bool say(struct pagelog_turn *turn, const char *word, const char *more) {
     turn->line.sent = 0;
     while (turn->line.socket >= 0 && turn->line.sent < (size_t)length) {
         struct pollfd fd = {.fd = turn->line.socket, .events = POLLOUT};
-        uint64_t now = pagelog_now();
-        int ready = poll(&fd, 1, now < until ? (int)(until - now) : 0);
-        if (ready == 0 || (ready < 0 && now >= until)) return false;
+        uint64_t now = pagelog_now(), ends = pagelog_line_ends(&turn->line, until);
+        int ready = poll(&fd, 1, now < ends ? (int)(ends - now) : 0);
+        if ((ready == 0 && ends == until) || (ready < 0 && now >= until)) return false;
         if (ready < 0) continue; /* a signal: it may not be open yet */
-        if (pagelog_line_send(&turn->line, text, (size_t)length)) continue;
+        if (ready > 0 && pagelog_line_send(&turn->line, text, (size_t)length)) continue;
         pagelog_line_lose(&turn->line);
         turn->line.sent = 0;
         if (now >= until) return false;

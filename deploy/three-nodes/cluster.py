@@ -11,7 +11,7 @@ from pathlib import Path
 from typing import Callable, Iterable
 
 from pagelog.keeper.referee import KeeperError, Referee, digest
-from pagelog.keeper.rows import Row
+from pagelog.keeper.rows import Look, Row
 from pagelog.place import Keepers
 
 from clients import NAME
@@ -77,8 +77,13 @@ class Cluster:
 
     def row(self) -> Row | None:
         """The database as the referee has it; None where PostgreSQL cannot say now."""
+        look = self._look()
+        return None if look is None else look.row(NAME)
+
+    def _look(self) -> Look | None:
+        """All that the referee has; None where PostgreSQL cannot say now."""
         try:
-            return self._referee.everything().row(NAME)
+            return self._referee.everything()
         except KeeperError:
             self._referee.close()
             return None
@@ -129,8 +134,8 @@ class Cluster:
         wanted, others = row.archived, set(ADDRESSES) - {row.holder}
         deadline = time.monotonic() + 5
         while time.monotonic() < deadline:
-            look = self._referee.everything()
-            if {each.keeper for each in look.standbys_of(row.id) if each.reached >= wanted} >= others:
+            look = self._look()
+            if look is not None and {each.keeper for each in look.standbys_of(row.id) if each.reached >= wanted} >= others:
                 return True
             time.sleep(0.2)
         return False

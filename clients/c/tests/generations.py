@@ -7,13 +7,14 @@ import hashlib
 import hmac
 import re
 import socket
+import subprocess
 import threading
 import time
 
 from binding import DENIED, DONE, LOST, Keepers
 from check import LONG, run, same, true
 from database import TOKENS, code_of, connect, named, numbers, one, sqlite_of, uri_of
-from service import CLIENT, Asker, wire
+from service import CLIENT, Asker, Service, plain_environment, wire
 from stub_keeper import Before, StubKeeper, later, token_of
 from vfs_forks import in_child
 
@@ -183,6 +184,47 @@ def test_two_keepers_the_higher_generation_counts():
                 pass  # the old one was quicker, by so much that nobody waits for
             for _ in range(20):
                 same("generation", 2, answered(keepers.where, 2)[1].generation)
+
+
+@contextlib.contextmanager
+def one_after_the_other(*answers):
+    """Keepers that answer each question in this order."""
+    with contextlib.ExitStack() as stack:
+        listeners = [stack.enter_context(socket.create_server(("127.0.0.1", 0))) for _ in answers]
+
+        def serve():
+            with contextlib.suppress(OSError):
+                lines = [listener.accept()[0].makefile("rwb", 0) for listener in listeners]
+                while all([line.readline() for line in lines]):
+                    for line, answer in zip(lines, answers):
+                        line.write(answer.encode() + b"\n")
+
+        threading.Thread(target=serve, daemon=True).start()
+        yield ",".join("%s:%d" % listener.getsockname() for listener in listeners)
+
+
+def test_two_keepers_of_one_generation_who_knows_most_of_the_archive_counts():
+    """One that has not looked for a while may say where a service was that was ended since."""
+    told = "at shop 2 run2 127.0.0.1:%d %d 127.0.0.1:2 0 0 0"
+    for order in ((11, 5), (12, 9), (13, 7)), ((12, 9), (11, 5), (13, 7)):
+        with one_after_the_other(*(told % of for of in order), "at shop 1 run1 127.0.0.1:14 99 127.0.0.1:2 0 0 0") as addresses:
+            with Keepers(addresses) as keepers:
+                places = (keepers.where()[1] for _ in range(100))  # who answers late is not waited for
+                true(order, any((place.archived, place.address) == (9, b"127.0.0.1:12") for place in places))
+
+
+def test_a_host_with_an_address_that_is_silent():
+    with StubKeeper() as keeper, Service() as service, contextlib.ExitStack() as stack:
+        full = stack.enter_context(socket.socket())
+        full.bind(("127.0.0.1", 0))
+        full.listen(0)
+        for _ in range(4):  # its queue is full: no connect is answered
+            waiting = stack.enter_context(socket.socket())
+            waiting.setblocking(False)
+            waiting.connect_ex(full.getsockname())
+        ran = subprocess.run([CLIENT / "out" / "checked" / "addresses", str(full.getsockname()[1]), service.address, keeper.address],
+                             capture_output=True, text=True, env=plain_environment())
+        same("reached", (0, ""), (ran.returncode, ran.stderr[-2000:]))
 
 
 def test_what_has_become_of_a_position():

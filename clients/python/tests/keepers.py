@@ -32,6 +32,7 @@ from pagelog.keeper.rows import Batch, Row
 from pagelog.keeper.run import end_orphans
 from pagelog.place import Keepers, Place
 from postgres import postgres
+from quick_library import build
 from service import PATIENCE, PROGRAM, SOURCE, TABLE, WIDE_TABLE, Port, put, stand_still, token
 
 _numbers = itertools.count(1)
@@ -201,6 +202,7 @@ class Keeping:
             assert line.split()[1] == f"127.0.0.1:{self.ports[name]}"
 
     def launch(self, *names: str, program: str = PROGRAM) -> None:
+        build()
         for name in names:
             if self.ports[name] == 0:
                 self.held.append(Port())

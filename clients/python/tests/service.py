@@ -228,6 +228,19 @@ def accept_each(listener: socket.socket, serve: Callable[[socket.socket], None])
     threading.Thread(target=accept, daemon=True).start()
 
 
+def silent_address(sockets: list[socket.socket]) -> tuple[str, int]:
+    """Where a connect is not answered, as of a machine that is gone, as long as these sockets are open: the queue is full."""
+    listener = socket.socket()
+    listener.bind(("127.0.0.1", 0))
+    listener.listen(0)
+    sockets.append(listener)
+    for _ in range(4):
+        sockets.append(socket.socket())
+        sockets[-1].setblocking(False)
+        sockets[-1].connect_ex(listener.getsockname())
+    return "127.0.0.1", int(listener.getsockname()[1])
+
+
 class CuttingProxy:
     """Passes bytes on to a service, and cuts each connection after a number of bytes, drawn from a seed."""
 

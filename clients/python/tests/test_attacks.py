@@ -20,9 +20,11 @@ from pathlib import Path
 from unittest.mock import patch
 
 import psycopg
+from click.testing import CliRunner
 
 from keepers import Gate, Kept, Keeping, Line, Trigger, batch_of, blocks, eventually, new_database, new_url
 from pagelog import Connection, ConnectionLost, OlderEpoch, OtherPrimary, Primary, Reader
+from pagelog.desk.words import pagelogctl
 from pagelog.keeper import referee as referee_module
 from pagelog.keeper.bases import Base, Bases
 from pagelog.keeper.committer import Committer, Fenced
@@ -376,6 +378,24 @@ class Away(unittest.TestCase):
             line.count_from_now(to=0)
             with self.assertRaises(Doubt):
                 read()
+
+    def test_a_word_of_a_person_that_hangs_is_cut(self) -> None:
+        url, connected, line = new_url(), Referee._connected, Line(stalls=True)
+        self.addCleanup(line.close)
+        file = Path(self.enterContext(tempfile.TemporaryDirectory())) / "keeper.toml"
+        file.touch(mode=0o600)
+        file.write_text(f'[archive]\nurl = "{line.url(url)}"\n')
+
+        def stands_still(referee: Referee) -> psycopg.Connection[tuple[object, ...]]:
+            made = connected(referee)
+            line.count_from_now(to=0)
+            return made
+
+        for word in (("kept",), ("where", "shop"), ("pause", "shop"), ("switchover", "shop"), ("succeed", "shop")):
+            line.count_from_now()
+            with patch.object(Referee, "_connected", stands_still), patch("pagelog.desk.keeper_words.LONGEST", 1.0):
+                done = CliRunner().invoke(pagelogctl, [*word, "--credentials", str(file)])
+            self.assertEqual((word, done.exit_code, done.output.partition(":")[2][:18]), (word, 3, " Doubt: PostgreSQL"), done.exception)
 
     def test_a_row_that_is_locked_holds_up_no_other_database(self) -> None:
         url = new_url()

@@ -16,6 +16,7 @@ import pagelog
 from pagelog import Block, Connection, Put
 from pagelog.archive import Archive
 from pagelog.archiving import Archiver
+from pagelog.dialing import dial
 from pagelog.reply import Blocks, Denied, Done, Entries, Entry, Page, Reply, State, encode_reply
 from pagelog.request import Audit, Head, Operation, Pull, Request, Role, Status, Write, decode_request
 from service import PATIENCE, Service, accept_each, put, token
@@ -223,11 +224,11 @@ class OtherThreadsAndProcesses(unittest.TestCase):
                 close()
                 return made(*arguments)
 
-            made = socket.create_connection
-            with patch("socket.create_connection", late), self.assertRaisesRegex(pagelog.ConnectionLost, "another thread"):
+            made = dial
+            with patch("pagelog.connection.dial", late), self.assertRaisesRegex(pagelog.ConnectionLost, "another thread"):
                 reader.status()
             refused = Mock(side_effect=ConnectionRefusedError)
-            with patch("socket.create_connection", refused), patch("pagelog.connection.time.sleep", close):
+            with patch("pagelog.connection.dial", refused), patch("pagelog.connection.time.sleep", close):
                 self.assertRaisesRegex(pagelog.ConnectionLost, "another thread", reader.status)
             self.assertEqual((refused.call_count, peer.asked), (1, 0))
             self.assertEqual(reader.status().hard, 3)

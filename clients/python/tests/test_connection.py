@@ -13,7 +13,7 @@ from typing import Callable
 from unittest import mock
 
 import pagelog
-from pagelog import Address, Block, Connection, Put
+from pagelog import Address, Block, Connection, Put, dialing
 from pagelog.reply import Done, Page, State
 from pagelog.request import Failover, Get, Head, Report, Request, Role, Status, Write
 from service import PATIENCE, CuttingProxy, Port, Service, interrupted, put, stand_still, token
@@ -189,9 +189,17 @@ class Refused(unittest.TestCase):
     def test_nobody_listens(self) -> None:
         port = Port()
         self.addCleanup(port.close)
-        with mock.patch("pagelog.connection.time.sleep") as slept, self.assertRaises(pagelog.Unreachable):
+        slept, own, sleep = list[float](), threading.get_ident(), time.sleep
+
+        def noted(seconds: float) -> None:
+            if threading.get_ident() == own:
+                slept.append(seconds)
+            else:
+                sleep(seconds)  # of a thread that a test before this one has left
+
+        with mock.patch("pagelog.connection.time.sleep", noted), self.assertRaises(pagelog.Unreachable):
             Connection(Address("127.0.0.1", port.number), attempts=3, pause=0.05).ask(Request(PRIMARY, Status()))
-        self.assertEqual(slept.call_args_list, [mock.call(0.05), mock.call(0.1)])
+        self.assertEqual(slept, [0.05, 0.1])
 
     def test_a_service_that_is_silent(self) -> None:
         """It is stopped amid its work, and goes on later. Its one worker then answers both connections."""
@@ -208,6 +216,29 @@ class Refused(unittest.TestCase):
                 second.timeout = PATIENCE
                 self.assertIsInstance(second.ask(Request(PRIMARY, Status())), State)
                 self.assertIsInstance(first.ask(Request(PRIMARY, Status())), State)
+
+    def test_an_address_of_a_host_that_is_silent_leaves_the_others_their_share_of_the_time(self) -> None:
+        listener = self.enterContext(socket.create_server(("127.0.0.1", 0)))
+        live, now, shares = listener.getsockname(), [0.0], list[float]()
+        made = dialing._connected
+
+        def connected(family: int, kind: int, protocol: int, address: object, timeout: float) -> socket.socket:
+            shares.append(timeout)
+            if address == live:
+                return made(family, kind, protocol, address, PATIENCE)
+            now[0] += timeout if address == "silent" else 0.1
+            raise TimeoutError if address == "silent" else ConnectionRefusedError
+
+        for addresses, wanted in ((("silent", live), [3.0, 3.0]), (("refused", "silent", live), [2.0, 2.95, 2.95]), (("silent", "refused"), [3.0, 3.0])):
+            found = [(socket.AF_INET, socket.SOCK_STREAM, 0, "", address) for address in addresses]
+            shares.clear()
+            with mock.patch("socket.getaddrinfo", return_value=found), mock.patch("pagelog.dialing._connected", connected), mock.patch(
+                    "pagelog.dialing.time.monotonic", lambda: now[0]):  # fmt: skip
+                if live in addresses:
+                    dialing.dial("host", 1, 6.0).close()
+                else:
+                    self.assertRaises(TimeoutError, dialing.dial, "host", 1, 6.0)
+            self.assertEqual([round(share, 6) for share in shares], wanted)
 
     def test_a_host_that_is_no_name(self) -> None:
         for host in ("a" * 64, "a..b"):

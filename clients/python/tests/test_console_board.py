@@ -10,7 +10,9 @@ import unittest
 from dataclasses import replace
 from unittest import mock
 
+import psycopg
 from aiohttp import web
+from psycopg.conninfo import conninfo_to_dict
 
 from consoles import Rows
 from pagelog.console.board import Board, Limits
@@ -18,6 +20,7 @@ from pagelog.console.door import Door
 from pagelog.console.events import Known, of_databases
 from pagelog.console.history import History, Sample
 from pagelog.console.outlook import Forecast, Scene, Spare, State, Use, forecast_of, sentence, state_of
+from pagelog.console.running import begin
 from pagelog.console.source import Look, NoLook, Seen, Source
 from pagelog.console.watcher import Watcher
 from pagelog.console.web import Pages
@@ -36,6 +39,32 @@ class Watchers(unittest.TestCase):
             Watcher(source, lambda *_: seen.set(), lambda why, _: told.append(why)).start()
             self.assertTrue(seen.wait(PATIENCE))
         self.assertEqual(told, ["TypeError: of another version", "away"])
+
+
+class Beginnings(unittest.TestCase):
+    def test_a_host_that_is_silent_is_not_the_only_one_that_is_asked(self) -> None:
+        source, hosts = Source("postgresql://a,b,c/shop?port=1,2,3"), list[tuple[str, str]]()
+
+        def connect(words: str, **_: object) -> object:
+            options = conninfo_to_dict(words)
+            hosts.append((options["host"], options["port"]))
+            if options["host"].startswith(("a", "b")):
+                raise psycopg.errors.ConnectionTimeout("connection timeout expired")
+            return made
+
+        made = mock.Mock(psycopg.Connection, closed=False)
+        with mock.patch("psycopg.connect", connect):
+            source._connected()
+            source.close()
+            source._connected()
+            self.assertEqual(hosts, [("a,b,c", "1,2,3"), ("b,c,a", "2,3,1"), ("c,a,b", "3,1,2"), ("c,a,b", "3,1,2")])
+            source.close()
+            source._options["host"] = "a,b"
+            self.assertRaises(psycopg.OperationalError, source._ask, "")
+
+    def test_a_keeper_whose_console_cannot_listen_is_told_so(self) -> None:
+        for host, error in (("a..b", UnicodeError), ("192.0.2.1", OSError)):
+            self.assertRaises(error, begin, mock.Mock(Source), Limits(), Door(None), host, 0)
 
 
 class Sentences(unittest.TestCase):

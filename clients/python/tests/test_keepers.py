@@ -7,6 +7,8 @@ import os
 import signal
 import socket
 
+import psycopg
+
 from keepers import Gate, Kept, Line, eventually
 from pagelog import Connection, Lost, OlderEpoch, PagelogError, Reader
 from pagelog.keeper.table import keeper_of
@@ -135,6 +137,19 @@ class OneKeeper(Kept):
                 one.durable(2)
             self.assertEqual(self.commit(other, "5", durable=True), 3)
             self.assertEqual(self.texts(), [b"1", b"2", b"5"])
+
+    def test_words_that_no_client_says_leave_the_connection_to_postgresql_alone(self) -> None:
+        self.keeping.place()
+        sessions = "SELECT pid FROM pg_stat_activity WHERE application_name = 'pagelog keeper a'"
+        with psycopg.connect(self.keeping.url, autocommit=True) as session, self.keeping.line() as line:
+            before = session.execute(sessions).fetchall()
+            for asked, told in (("block sh\0op 1", "block sh\0op 1 -"), ("block shop 99999999999999999999", "block shop 99999999999999999999 -"),
+                                ("durable shop 99999999999999999999 1", "elsewhere shop 99999999999999999999"), ("durable sh\0op 1 1", "unknown sh\0op"),
+                                ("durable shop 1 -5", "durable shop 1 0"), ("standby sh\0op", "standby sh\0op - - - - -"), ("", "what")):  # fmt: skip
+                line.write(f"{asked}\n")
+                line.flush()
+                self.assertEqual(line.readline(), f"{told}\n")
+                self.assertEqual(session.execute(sessions).fetchall(), before)
 
     def test_pause_drop_and_words(self) -> None:
         with self.keeping.primary() as primary:

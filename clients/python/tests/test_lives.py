@@ -8,7 +8,7 @@ import signal
 
 import psycopg
 
-from keepers import Kept, Line, Trigger, eventually
+from keepers import Kept, Line, Trigger, batch_of, eventually
 from pagelog import Reader
 from pagelog.archive import Archive
 from pagelog.connection import Connection
@@ -47,6 +47,31 @@ class Ends(Kept):
         trigger.close()
         self.assertEqual(self.keeping.processes["a"].wait(PATIENCE), 0)
         self.assertEqual((self.texts(), self.keeping.row().run), ([b"1", b"2"], None))
+
+
+class Filled(Kept):
+    keepers = ""
+    options = {"ttl": 0.8, "standby": False}
+
+    def test_one_that_gets_no_connection_to_fill_a_service_releases_it(self) -> None:
+        """Its looks go through, so that nobody else would take the database over."""
+        keeping, file = self.keeping, self.keeping.file
+        row = keeping.row()
+        kept = keeping.referee.take(row, "r0")
+        assert kept is not None
+        keeping.referee.keep([batch_of(row, kept, "r0")])
+        keeping.referee.release(row.id, "r0")
+        with psycopg.connect(keeping.url, autocommit=True) as session:
+            session.execute("CREATE ROLE few LOGIN CONNECTION LIMIT 1; GRANT ALL ON ALL TABLES IN SCHEMA public TO few")
+            session.execute("GRANT ALL ON ALL SEQUENCES IN SCHEMA public TO few")
+            file.write_text(file.read_text().replace("//pagelog@", "//few@"))
+            keeping.start("a")
+            eventually(lambda: "fill: PostgreSQL: " in keeping.said(), "a refusal")
+            eventually(lambda: "shop: it could not be filled: PostgreSQL: " in keeping.said(), "the word that it was given up")
+            eventually(lambda: "shop: nobody has it; it could not be filled here just now" in keeping.said(), "its release")
+            self.assertIn("too many connections", keeping.said())
+            session.execute("ALTER ROLE few CONNECTION LIMIT 9")
+            self.assertEqual(keeping.place().archived, 3)
 
 
 class Folders(Kept):

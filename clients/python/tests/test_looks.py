@@ -11,9 +11,9 @@ import unittest
 from concurrent.futures import ThreadPoolExecutor
 from pathlib import Path
 from typing import Any
-from unittest.mock import Mock, patch
+from unittest.mock import AsyncMock, Mock, patch
 
-from pagelog import Connection, Primary, Put
+from pagelog import Address, Connection, Primary, Put
 from pagelog.errors import AuditListFull, TimedOut
 from pagelog.keeper.looker import Looker
 from pagelog.keeper.run import Program, Run
@@ -22,7 +22,7 @@ from pagelog.keeper.session import Session
 from pagelog.keeper.table import keeper_of, token_of
 from pagelog.keeper.waits import Waits
 from pagelog.keeper.work import Work
-from service import PATIENCE, PROGRAM, WIDE_TABLE, accept_each, stand_still, token
+from service import PATIENCE, PROGRAM, WIDE_TABLE, accept_each, silent_address, stand_still, token
 
 SECRET = b"s" * 16
 
@@ -147,6 +147,17 @@ class Looks(unittest.IsolatedAsyncioTestCase):
         found = await looker.look(FEW * 100)
         assert found is not None
         self.assertEqual(found[1].entries, ())  # else it is the answer to the look before
+
+    async def test_an_address_of_its_host_that_is_silent_is_no_silence_of_its_own(self) -> None:
+        served, sockets = self.served(), list[socket.socket]()
+        self.addCleanup(lambda: [each.close() for each in sockets])
+        assert served.process is not None and served._quick_looker is not None
+        addresses = silent_address(sockets), ("127.0.0.1", int(served.process.address.rpartition(":")[2]))
+        found = [(socket.AF_INET, socket.SOCK_STREAM, 6, "", address) for address in addresses]
+        with patch.object(asyncio.get_running_loop(), "getaddrinfo", AsyncMock(return_value=found)), without_threads():
+            served._quick_looker._address = Address("host", 1)
+            self.assertTrue(await served.looked_at_once())
+        served.stop_looks()
 
     async def test_services_that_hang_hold_up_no_other_look_and_no_beat(self) -> None:
         asyncio.get_running_loop().set_default_executor(ThreadPoolExecutor(2))

@@ -3,6 +3,8 @@
 from __future__ import annotations
 
 import asyncio
+import socket
+import tempfile
 import threading
 import unittest
 from concurrent.futures import ThreadPoolExecutor
@@ -13,16 +15,18 @@ from unittest.mock import AsyncMock, Mock, patch
 
 import psycopg
 
-from pagelog.errors import PagelogError, Unreachable
+from pagelog.errors import Unreachable
 from pagelog.keeper import served as served_module
 from pagelog.keeper.archiver import Archiver, turn_of
 from pagelog.keeper.committer import Committer, Fenced
 from pagelog.keeper.database import Database
+from pagelog.keeper.fates import Questions, tell_block, tell_fate
+from pagelog.keeper.keeping import Keeper
+from pagelog.keeper.lines import Server
 from pagelog.keeper.machine import Action, Kind, Stage
 from pagelog.keeper.recorder import Recorder, Turn
-from pagelog.keeper.referee import Away, Doubt, Referee
-from pagelog.keeper.rows import Batch, Kept, Lines, Row, StandbyRow
-from pagelog.keeper.run import NotStarted
+from pagelog.keeper.referee import Away, Doubt, Referee, Refused
+from pagelog.keeper.rows import Batch, KeeperRow, Kept, Lines, Look, Row, StandbyRow
 from pagelog.keeper.served import Served
 from pagelog.keeper.session import Session
 from pagelog.keeper.settings import Settings
@@ -61,7 +65,7 @@ class Meanwhile(unittest.IsolatedAsyncioTestCase):
         settings = Settings.of("a", "", "", Path("."), "", "", {"standby": False, "ttl": PATIENCE})
         self.shared = Shared(settings, "life", self.session, self.committer, lambda _, sentence: self.said.append(sentence), Mock())
         self.database = Database(self.shared, ROW)
-        self.enterContext(patch.object(Database, "_watch"))
+        self.enterContext(patch.object(Database, "watch"))
         self.looks = 0.0
 
     async def asyncSetUp(self) -> None:
@@ -149,6 +153,18 @@ class Archives(Meanwhile):
         self.assertEqual((await keeping).archived, 6)
         running.cancel()
 
+    async def test_what_postgresql_refuses_the_archive_is_said_once_until_a_batch_is_kept(self) -> None:
+        said, refused = list[str](), Refused("PostgreSQL: too many connections")
+        answers = [Kept(5, b"c" * 16, 3), refused, Kept(5, b"c" * 16, 3)]
+        session = Mock(keep=AsyncMock(side_effect=[refused, frozenset({1}), refused]), ask=AsyncMock(side_effect=[refused, *answers]))
+        committer = Committer(session, PATIENCE, said.append)
+        running = self.shared.spawn(committer.run(), "the committer")
+        with patch("asyncio.sleep", new=AsyncMock()):
+            for _ in range(3):
+                await committer.keep(Batch(1, "mine", 3, 5, b"d" * 16, (BLOCK,)))
+        self.assertEqual(said, 2 * ["nothing is archived: PostgreSQL: too many connections"])
+        running.cancel()
+
     async def test_a_service_that_may_be_the_only_copy_stays_so_where_a_look_shows_its_run(self) -> None:
         served = self.held(has=Mock(return_value=False))
         served.pulled_at_once.return_value = [BLOCK]
@@ -162,9 +178,86 @@ class Archives(Meanwhile):
         process = Mock(descriptor=0)
         process.set_aside.side_effect = OSError(28, "no space"), OSError(28, "no space"), None
         with patch("asyncio.sleep", new=AsyncMock()) as waited:
-            await self.database._end_process(service(process=process, went_back=True))
+            await self.database.ending.end_process(service(process=process, went_back=True))
         self.assertEqual((process.set_aside.call_count, waited.await_count, self.shared.asides._facts), (3, 2, [process.facts]))
         self.assertFalse(process.end.called)
+
+
+class Names(unittest.IsolatedAsyncioTestCase):
+    async def asyncSetUp(self) -> None:
+        asyncio.get_running_loop().set_debug(False)
+
+    async def test_a_database_is_found_by_its_name_without_a_look_at_all_others(self) -> None:
+        folder = Path(self.enterContext(tempfile.TemporaryDirectory()))
+        keeper = Keeper(Settings.of("a", "", "", folder, "", "", {"standby": False, "ttl": PATIENCE}))
+        lines = KeeperRow("b", "life", "b:2", 1)
+        rows = tuple(replace(ROW, id=id, name=f"shop{id}", run="other", holder="b", address=f"b:{id}") for id in range(1, 9))
+        dropped, again = replace(rows[0], name="shop1!1", dropped=True), replace(rows[0], id=9, address="b:9")
+        for seen, told in ((rows, "b:1"), ((dropped, *rows[1:], again), "b:9"), (rows[1:], None)):
+            with patch.object(keeper._session, "ask", AsyncMock(return_value=Look(seen, (lines,)))):
+                await keeper._look()
+            with patch.object(keeper, "databases", None):
+                self.assertEqual([keeper.where(f"shop{id}")[4] for id in range(2, 9)], [f"b:{id}" for id in range(2, 9)])
+                self.assertEqual(keeper.where("shop1")[:1] if told is None else keeper.where("shop1")[4], told or ("unknown",))
+        for task in keeper._shared.tasks:
+            task.cancel()
+
+
+class Floods(unittest.IsolatedAsyncioTestCase):
+    async def test_a_client_with_very_many_lines_lets_others_have_their_turn(self) -> None:
+        asked, many = list[str](), 10_000
+        answers = Mock(where=lambda name: asked.append(name) or ("nowhere", name))
+        server = Server(answers)
+        host, _, port = (await server.start("127.0.0.1:0")).rpartition(":")
+        loop = asyncio.get_running_loop()
+        lines = [self.enterContext(socket.create_connection((host, int(port)), PATIENCE)) for _ in range(2)]
+        for line in lines:
+            line.setblocking(False)
+            await loop.sock_sendall(line, b"where first\n")
+            await loop.sock_recv(line, 100)
+        asked.clear()
+        lines[0].send(b"where many\n" * many)  # both are there before the server reads any of them
+        lines[1].send(b"where one\n")
+        await loop.sock_recv(lines[1], 100)
+        self.assertLess(asked.index("one"), many // 4)
+        left = many * len(b"nowhere many\n")
+        while left:
+            left -= len(await loop.sock_recv(lines[0], 1 << 16))
+        await server.stop()
+
+
+class Asked(Meanwhile):
+    """Clients ask very much."""
+
+    async def test_a_look_waits_for_few_of_their_questions(self) -> None:
+        session, lines, asked = Session(Mock(Referee, notified=[], me="a"), PATIENCE), [Mock() for _ in range(100)], list[int]()
+        session.referee.fate.side_effect = lambda *_: asked.append(1) or 5  # type: ignore[attr-defined]
+        session.referee._ask.side_effect = lambda *_: asked.append(1) or []  # type: ignore[attr-defined]
+        for tell in (tell_fate, tell_block):
+            asked.clear()
+            questions = Questions(session)
+            tasks = [asyncio.create_task(tell(questions, line, "shop", 1)) for line in lines]
+            await asyncio.sleep(0)
+            await session.ask(lambda: None)
+            self.assertLess(len(asked), 10)
+            with patch("pagelog.keeper.fates._MOST", 50):
+                late = Mock()
+                await tell(questions, late, "shop", 1)
+            late.say.assert_called_once_with("elsewhere", "shop", 1)
+            await asyncio.gather(*tasks)
+            self.assertEqual({len(line.say.mock_calls) for line in lines}, {1})
+            for line in lines:
+                line.reset_mock()
+
+    async def test_one_waits_for_no_more_than_some_positions(self) -> None:
+        self.held()
+        one, other = Mock(), Mock()
+        with patch("pagelog.keeper.waits._MOST", 3):
+            for line, position in ((one, 9), (one, 8), (one, 7), (one, 6), (other, 9)):
+                self.database.wait(line, 3, position)
+        one.say.assert_called_once_with("elsewhere", "shop", 3)
+        self.database.waits.tell(3, 9)
+        self.assertEqual((one.say.call_count, other.say.call_count, len(self.database.waits)), (2, 1, 0))
 
 
 class Closes(Meanwhile):
@@ -206,7 +299,7 @@ class Closes(Meanwhile):
         await self.rest()
         self.see(replace(ROW, wanted="c"), (OF_C,))
         await self.done(lambda: served.close.called and self.database.doing is Action.NOTHING)
-        self.assertIn(self.database._let_go, (-1, 3))
+        self.assertIn(self.database.let_go, (-1, 3))
 
     async def test_a_wish_for_another_that_came_meanwhile_is_not_taken_back(self) -> None:
         self.held()
@@ -219,121 +312,6 @@ class Closes(Meanwhile):
         self.see(replace(ROW, wanted="a"))
         await self.done(lambda: self.session.referee.wish.called)
         self.session.referee.wish.assert_called_once_with("shop", None, instead_of="a")
-
-
-class Fills(Meanwhile):
-    async def test_what_a_look_shows_while_it_is_opened_is_not_undone(self) -> None:
-        """It was taken with its place told, so that no statement finds out who has it by now."""
-        loop, seen = asyncio.get_running_loop(), replace(ROW, run="other", holder="b", generation=4, address="b:1")
-        self.database.served = served = service(is_open=False)
-
-        def opened() -> None:
-            done = threading.Event()
-            loop.call_soon_threadsafe(lambda: (self.see(seen), done.set()))
-            done.wait(PATIENCE)
-            served.is_open = True
-
-        served.open = opened
-        with patch.object(Database, "_end", new=AsyncMock(return_value=False)) as end:
-            self.see()
-            await self.done(lambda: end.await_count)
-        self.assertEqual(self.database.row, seen)
-
-    async def test_one_that_failed_tries_again_after_a_ttl_whatever_another_does(self) -> None:
-        takes, now = self.failing(), [0.0]
-        with patch("pagelog.keeper.database.seconds", lambda: now[0]):
-            for now[0], generation, taken in ((1.0, 0, [0]), (2.0, 2, [0]), (3.0 + PATIENCE, 4, [0, 4])):
-                self.see(replace(RELEASED, generation=generation))
-                await self.done(lambda: self.database._acting.done())  # type: ignore[union-attr]
-                self.assertEqual(takes, taken)
-
-    async def test_one_that_fails_again_after_a_ttl_of_stillness_rests_again(self) -> None:
-        takes, now = self.failing(), [0.0]
-        with patch("pagelog.keeper.database.seconds", lambda: now[0]):
-            self.see(RELEASED)
-            await self.done(lambda: self.database._acting.done())  # type: ignore[union-attr]
-            for quarter in range(5):  # nobody else does anything
-                now[0] = 1 + quarter * PATIENCE / 4
-                self.see(replace(RELEASED, generation=1))
-                await self.done(lambda: self.database._acting.done())  # type: ignore[union-attr]
-        self.assertEqual(takes, [0, 1])
-
-    def failing(self) -> list[int]:
-        """Services cannot be started. Returns the generations behind which it takes."""
-        takes: list[int] = []
-
-        async def ask(call: object, *of: Any) -> object:
-            if call is self.session.referee.take:
-                takes.append(of[0].generation)
-                return Kept(0, b"", of[0].generation + 1) if len(takes) < 9 else None
-            return 0
-
-        def made(_: str) -> Mock:
-            failing = service(run="new", process=None, reached=0)
-
-            def start(_: object) -> None:
-                failing.is_alive = False
-                raise NotStarted("no")
-
-            failing.start = start
-            return failing
-
-        self.session.ask = ask
-        self.enterContext(patch.object(Database, "new_served", new=AsyncMock(side_effect=made)))
-        return takes
-
-
-    async def test_one_that_is_filled_while_postgresql_is_away_goes_on_with_it(self) -> None:
-        self.database.served = served = service(reached=0, is_open=False)
-        with patch.object(Shared, "fill", new=AsyncMock(side_effect=(Away("gone"), None))) as fill:
-            for count in (1, 2):
-                self.see(replace(ROW, address=None))
-                await self.done(lambda: self.database._acting.done())  # type: ignore[union-attr]
-                self.assertEqual((fill.await_count, self.database.served, served.is_broken), (count, served, False))
-        self.assertTrue(served.open.called)
-
-
-class StandsBy(Meanwhile):
-    OTHER = replace(ROW, run="other", holder="b", address="b:1", wanted="a")
-
-    async def test_one_that_could_not_be_started_is_tried_again_with_the_next_look_and_not_before(self) -> None:
-        for error in (NotStarted("no"), RuntimeError("can't start new thread")):
-            self.setUp()
-            made = service(run="new", kind=Kind.HOLDER, process=None, reached=0)
-            made.start.side_effect = error
-            with patch.object(Database, "new_served", new=AsyncMock(return_value=made)) as new:
-                for count in (1, 2):
-                    self.see(self.OTHER)
-                    await self.done(lambda: self.database._acting.done())  # type: ignore[union-attr]
-                    self.assertEqual((new.await_count, self.database.served), (count, None))
-
-    async def test_one_that_cannot_be_filled_is_tried_again_with_the_next_look_and_not_before(self) -> None:
-        with patch.object(Database, "new_served", new=AsyncMock(side_effect=lambda _: service(run="new", reached=0))) as new:
-            with patch.object(Shared, "fill", new=AsyncMock(side_effect=PagelogError("broken"))):
-                for count in (1, 2):
-                    self.see(self.OTHER)
-                    await self.done(lambda: self.database._acting.done())  # type: ignore[union-attr]
-                    self.assertEqual((new.await_count, self.database.served), (count, None))
-
-    async def test_one_that_lacks_blocks_while_postgresql_is_away_goes_on_with_them(self) -> None:
-        for fresh in (service(run="new", reached=0), service(run="new", kind=Kind.STANDBY, reached=2, is_noted=True)):
-            for away in (Away("gone"), Doubt("cut")):
-                self.setUp()
-                self.database.served = fresh if fresh.is_noted else None
-                with patch.object(Database, "new_served", new=AsyncMock(return_value=fresh)) as new:
-                    with patch.object(Shared, "fill", new=AsyncMock(side_effect=(away, None))) as fill:
-                        for count in (1, 2):
-                            self.see(self.OTHER, is_noted=fresh.is_noted)
-                            await self.done(lambda: self.database._acting.done())  # type: ignore[union-attr]
-                            self.assertEqual((fill.await_count, self.database.served), (count, fresh))
-                self.assertLessEqual(new.await_count, 1)
-                fresh.process.end.assert_not_called()
-
-    async def test_one_whose_note_is_gone_is_noted_again(self) -> None:
-        self.database.served = service(run="new", kind=Kind.STANDBY, is_noted=True)
-        self.see(self.OTHER, is_noted=False)
-        await self.done(lambda: self.session.ask.await_count)
-        self.assertIs(self.session.ask.await_args_list[0].args[0], self.session.referee.stand_by)
 
 
 class Successions(Meanwhile):

@@ -6,10 +6,13 @@ import dataclasses
 import threading
 import time
 import unittest
+from unittest.mock import patch
 
 import pagelog
 from pagelog import Block, Put
 from pagelog.archive import Archive
+from pagelog.comparing import no_progress
+from pagelog.desk.move_words import _run
 from pagelog.keeping import Archiver, Move, NoRoom, NotFenced, OtherLog, SameDatabase, all_blocks
 from pagelog.moving import is_same_database
 from pagelog.tables import TableText
@@ -203,6 +206,25 @@ class Moving(Movers):
         _, error = process.communicate(timeout=PATIENCE)
         self.assertEqual(process.returncode, 1)
         self.assertIn("the source was fenced in epoch 2, and the move is not done: run it again", error)
+
+    def test_an_end_amid_the_fence_is_told(self) -> None:
+        """Its table is in place, and no reply comes to its failover: nobody may write at the source, and nobody would know why."""
+        fill(self.primary, 10)
+        move = self.mover(table=TableText.read(TABLE))
+        for error in (pagelog.InDoubt("the reply was lost"), KeyboardInterrupt()):
+            with patch.object(move.operator, "failover", side_effect=error), patch("click.echo") as said, self.assertRaises(type(error)):
+                _run(move, no_progress)
+            self.assertIn("the source may be fenced, and the move is not done: run it again", str(said.call_args))
+            with self.assertRaises(pagelog.Denial):
+                fill(self.primary, 1)
+        self.assertEqual(_run(move, no_progress).hard, 10)
+
+    def test_an_end_amid_an_earlier_fence_is_told(self) -> None:
+        fill(self.primary, 10)
+        move = self.mover(table=TableText.read(TABLE), source_limit=100)
+        with patch("pagelog.fencing.fence_for_archiver", side_effect=pagelog.InDoubt("the reply was lost")), patch("click.echo") as said:
+            self.assertRaises(pagelog.InDoubt, _run, move, no_progress)
+        self.assertIn("the source may be fenced", str(said.call_args))
 
     def test_the_check_finds_a_difference(self) -> None:
         fill(self.primary, 30)

@@ -6,13 +6,15 @@ import itertools
 import socket
 import threading
 import unittest
+from dataclasses import replace
 from typing import Any, Callable
 from unittest.mock import Mock, patch
 
 import pagelog
-from pagelog import Credentials, Group, InDoubt, Lost, NamedPrimary, NamedReader
+from pagelog import Credentials, Group, InDoubt, Lost, NamedPrimary, NamedReader, Unwritten
+from pagelog.dialing import dial
 from pagelog.keeper.table import token_of
-from pagelog.place import Fate, Keepers, Place
+from pagelog.place import Fate, Keepers, Place, _Line
 from service import PATIENCE, WIDE_TABLE, Service, accept_each, interrupted, put, token
 
 NARROW_TABLE = WIDE_TABLE.rpartition("[[row]]")[0]
@@ -134,27 +136,52 @@ class Readers(Named):
         self.assertEqual([block.records[0].data for block in reader.blocks(4, follow=False)], [b"2"])
 
 
+    def test_keepers_that_name_another_run_each_time_are_not_asked_for_ever(self) -> None:
+        self.begin()
+        reader, runs = self.named(NamedReader, 3, durable_only=True), itertools.count()
+        self.keepers.standby.return_value = None
+        self.keepers.where.side_effect = lambda: replace(self.places[-1], run=f"other{next(runs)}")
+        clock = itertools.count(step=PATIENCE / 9)
+        with patch("pagelog.named_reader.time.monotonic", lambda: next(clock)):
+            self.assertRaises(pagelog.TimedOut, reader.end)
+        self.keepers.where.side_effect = lambda: self.places[-1]
+        self.assertEqual(reader.end(), 0)
+
+
 class Groups(unittest.TestCase):
+    def told_another(self, group: Group) -> list[object]:
+        """What another thread is told that commits."""
+        told: list[object] = []
+
+        def commit() -> None:
+            try:
+                told.append(group.commit(put(0, b"2")))
+            except pagelog.PagelogError as error:
+                told.append(error)
+
+        thread = threading.Thread(target=commit, daemon=True)
+        thread.start()
+        thread.join(PATIENCE)
+        return told
+
     def test_an_interrupt_anywhere_leaves_no_other_waiting(self) -> None:
         at, came = 1, True
         while came:
             group = Group(Mock(NamedPrimary, pack=lambda commits: [1] * len(commits), durable_end=0))
             came = interrupted(lambda: group.commit(put(0, b"1")), "group.py", at)
-            told: list[object] = []
-
-            def commit() -> None:
-                try:
-                    told.append(group.commit(put(0, b"2")))
-                except pagelog.PagelogError as error:
-                    told.append(error)
-
-            thread = threading.Thread(target=commit, daemon=True)
-            thread.start()
-            thread.join(PATIENCE)
+            told = self.told_another(group)
             self.assertEqual((at, len(told)), (at, 1))
             at += 1
         self.assertGreater(at, 10)
         self.assertEqual(told, [1])
+
+    def test_nor_does_one_in_the_middle_of_what_an_interrupt_leaves_to_be_done(self) -> None:
+        for first, wanted in ((None, int), (KeyboardInterrupt, Unwritten)):
+            group = Group(Mock(NamedPrimary, pack=lambda commits: [1] * len(commits), durable_end=0, commit=Mock(side_effect=first)))
+            with patch.object(Group, "_leave", side_effect=KeyboardInterrupt):  # each time
+                self.assertRaises(KeyboardInterrupt, group.commit, put(0, b"1"))
+            with patch("pagelog.group._GONE", 0.001):
+                self.assertEqual(list(map(type, self.told_another(group))), [wanted])
 
 
 class Words(unittest.TestCase):
@@ -165,12 +192,12 @@ class Words(unittest.TestCase):
         self.keepers = Keepers("shop", [self.keeper(), self.keeper()], 0.0)
         self.addCleanup(self.keepers.close)
 
-    def keeper(self) -> str:
+    def keeper(self, said: Callable[[list[str]], bytes] | None = None) -> str:
         def serve(client: socket.socket) -> None:
             with client, client.makefile("rb") as lines:
                 try:
                     for line in lines:
-                        client.sendall(self.said(line.decode().split()))
+                        client.sendall((said or self.said)(line.decode().split()))
                 except OSError:
                     pass
 
@@ -192,19 +219,28 @@ class Words(unittest.TestCase):
                 at += 1
             self.assertGreater(at, 10)
 
+    def test_who_knows_most_of_the_newest_generation_is_believed(self) -> None:
+        """The place of one that has not looked for a while may be of a service that was ended since."""
+        answers = [b"at shop %d r 127.0.0.1:%d %d 127.0.0.1:2 0 0 0\n" % of for of in ((2, 11, 5), (2, 12, 9), (2, 13, 7), (1, 14, 99))]
+        for order in itertools.permutations(answers):
+            keepers = Keepers("shop", [self.keeper(lambda _, answer=answer: answer) for answer in order], 0.0)  # type: ignore[misc]
+            self.addCleanup(keepers.close)
+            place = keepers.where()
+            self.assertEqual(place and (place.generation, place.address, place.archived), (2, "127.0.0.1:12", 9))
+
     def test_a_keeper_whose_machine_is_gone_is_asked_now_and_then(self) -> None:
         """To connect to it takes a second. It is asked at once where no other is left."""
-        gone, made, tries = self.keepers._addresses[0], socket.create_connection, list[int]()
+        gone, tries = self.keepers._addresses[0], list[int]()
 
-        def connect(place: tuple[str, int], timeout: float) -> socket.socket:
-            tries.append(place[1])
-            if gone.endswith(f":{place[1]}"):
+        def connect(host: str, port: int, timeout: float) -> socket.socket:
+            tries.append(port)
+            if gone.endswith(f":{port}"):
                 raise TimeoutError("timed out")
-            return made(place, timeout)
+            return dial(host, port, timeout)
 
         self.said = lambda words: b"at shop 1 r 127.0.0.1:1 5 127.0.0.1:2 0 0 0\n" if words[0] == "where" else b"nowhere shop\n"
         clock = Mock(return_value=0.0)
-        with patch("socket.create_connection", connect), patch("pagelog.place.time.monotonic", clock):
+        with patch("pagelog.place.dial", connect), patch("pagelog.place.time.monotonic", clock):
             for _ in range(3):
                 self.assertIsNotNone(self.keepers.where())
                 self.assertIsNone(self.keepers.standby())
@@ -213,6 +249,27 @@ class Words(unittest.TestCase):
             self.assertIsNotNone(self.keepers.where())
             self.assertEqual(len(tries), 3)
             self.keepers._left_out = dict.fromkeys(self.keepers._addresses, 20.0)
+            self.assertIsNotNone(self.keepers.where())
+
+    def test_a_keeper_that_stands_still_is_asked_now_and_then(self) -> None:
+        """Each question to it takes a second. What becomes durable later is no silence."""
+        still, answer, asked = self.keepers._addresses[0], _Line.answer, list[int]()
+
+        def answered(line: _Line, timeout: float) -> list[str]:
+            if still.endswith(f":{line._socket.getpeername()[1]}"):
+                asked.append(1)
+                raise TimeoutError("no whole answer came")
+            return answer(line, timeout)
+
+        self.said = lambda words: b"at shop 1 r 127.0.0.1:1 5 127.0.0.1:2 0 0 0\n" if words[0] == "where" else b"nowhere shop\n"
+        with patch.object(_Line, "answer", answered):
+            self.assertRaises(pagelog.TimedOut, self.keepers.fate, 1, 9)
+            self.assertEqual((len(asked), self.keepers._left_out), (1, {}))
+            for _ in range(3):
+                self.assertIsNotNone(self.keepers.where())
+                self.assertIsNone(self.keepers.standby())
+            self.assertEqual(len(asked), 2)
+            self.keepers._left_out = dict.fromkeys(self.keepers._addresses, float("inf"))
             self.assertIsNotNone(self.keepers.where())
 
     def test_words_that_are_none_are_no_answer(self) -> None:

@@ -6,15 +6,20 @@ import asyncio
 import signal
 import unittest
 from dataclasses import replace
-from unittest.mock import patch
+from pathlib import Path
+from unittest.mock import Mock, patch
 
 from keepers import Line, Trigger, batch_of
-from pagelog.keeper import puller, quick
+from pagelog.keeper import puller, quick, quick_way
+from pagelog.keeper.keeping import Keeper
 from pagelog.keeper.puller import Puller
 from pagelog.keeper.quick import QuickReferee, QuickSession
+from pagelog.keeper.quick_way import QuickWays
 from pagelog.keeper.referee import Doubt, Refused
 from pagelog.keeper.rows import Batch, Kept
+from pagelog.keeper.settings import Settings
 from pagelog.request import PULL_MAX
+from quick_library import build
 from service import PATIENCE, Service, fill, stand_still
 from test_referee import Referees
 
@@ -183,3 +188,24 @@ class PullsOfTheLoop(Pulls):
     def setUp(self) -> None:
         self.enterContext(patch.object(puller, "_SELECTED", 0))
         super().setUp()
+
+
+class Library(unittest.TestCase):
+    """What is compiled of the quick way."""
+
+    def said(self, library: object, **section: object) -> list[str]:
+        """What a keeper says at its start that finds this one."""
+        settings = Settings.of("a", "", "", Path("."), "", "", section)
+        with patch.object(quick_way, "_library", return_value=library), patch.object(Keeper, "_say") as say:
+            Keeper(settings)
+        return [call.args[1] for call in say.call_args_list]
+
+    def test_it_is_found_where_it_was_built(self) -> None:
+        if not build():
+            self.skipTest("the quick way is not built")
+        self.assertTrue(QuickWays(Mock(QuickReferee), idle=1.0, deadline=1.0).is_there)
+
+    def test_a_keeper_says_that_it_is_not_there(self) -> None:
+        self.assertEqual(self.said(None), ["the quick way is not built: durable commits take longer"])
+        self.assertEqual(self.said(Mock()), [])
+        self.assertEqual(self.said(None, require_standby=True), [])  # it has no need of it

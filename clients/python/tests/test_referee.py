@@ -138,7 +138,7 @@ class Fences(Referees):
 
     def test_a_release_says_where_it_was(self) -> None:
         for chain in (b"", b"\x00\xab" * 8):
-            self.assertEqual(released_of(f"shop 3 17 {chain.hex()}"), ("shop", 3, 17, chain))
+            self.assertEqual(released_of(f"shop 3 17 {chain.hex()}"), ("shop", (3, 17, chain)))
         for other in ("", "shop 3 17", "shop 3 x ab", "shop 3 17 a", "shop 3 17 ab 1"):
             self.assertEqual(released_of(other)[0], "")
 

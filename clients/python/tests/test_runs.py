@@ -217,6 +217,24 @@ class Runs(unittest.TestCase):
         self.assertIsNone(Run.adopt(self.folder, "shop", run.name))
         self.assertEqual(list(self.folder.iterdir()), [])
 
+    def test_one_that_does_not_end_is_waited_for_no_longer_than_a_while(self) -> None:
+        """As one that waits for a disk. Its keeper goes on, and its next life ends it."""
+        run, open_before = self.start(), len(os.listdir("/proc/self/fd"))
+        with patch("signal.pidfd_send_signal"), patch("pagelog.keeper.run._END", 0.01):
+            self.assertFalse(run.end())
+        self.assertLess(len(os.listdir("/proc/self/fd")), open_before)
+        self.assertTrue((self.folder / run.facts.file_name).exists())
+        self.assertEqual(end_orphans(self.folder, set()), ["shop"])
+        self.assertEqual(list(self.folder.iterdir()), [])
+
+    def test_nor_is_one_that_did_not_come_to_listen(self) -> None:
+        script, kill = self.folder / "program", subprocess.Popen.kill
+        script.write_text("#!/bin/sh\nexec sleep 600\n")
+        script.chmod(0o700)
+        with patch.object(subprocess.Popen, "kill", lambda child: self.addCleanup(kill, child)), patch("pagelog.keeper.run._END", 0.01):
+            with self.assertRaisesRegex(NotStarted, "it said nothing"):
+                Run.start(replace(self.program, path=str(script), patience=0.01), "shop", "r", "")
+
     def later(self, run: Run) -> subprocess.Popen[bytes]:
         """A process that was started later than the run, by the system's clock of 10 ms: a number is not used again so soon."""
         while True:

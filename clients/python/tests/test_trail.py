@@ -9,15 +9,17 @@ import tempfile
 import unittest
 from datetime import datetime, timezone
 from pathlib import Path
+from unittest.mock import patch
 
 import pagelog
 from pagelog import Address, Operator
+from pagelog.desk.trail_words import _lines
 from pagelog.errors import AuditListFull
 from pagelog.reply import LINE_SIZE, Entry, encode_entry
 from pagelog.request import AUDIT_MAX
 from pagelog.trail import OtherKeeper, Start, Trail, TrailKeeper
 from pagelog.trail.keeper import DAY
-from pagelog.trail.question import Question, answer, moment
+from pagelog.trail.question import Question, Seen, answer, moment
 from pagelog.trail.replay import NotReplayable, replay
 from pagelog.trail.texts import TrailError, without_tokens
 from postgres import postgres
@@ -269,6 +271,23 @@ class Words(Folder):
         drawn = picture.read_text()
         for word in ("requests", "denials", "epoch 2", "generation 7"):
             self.assertIn(word, drawn)
+
+    def test_one_that_is_followed_up_to_a_time_ends_behind_it(self) -> None:
+        """Not at once: what was seen before may come into the trail a little later."""
+        seen, now, looks = [MORNING], [MORNING / 1e6], list[int]()
+        keeper = TrailKeeper(self.operator, self.trail, start=START, clock=lambda: seen[0])
+        fill(self.primary, 3)
+        keeper.step()
+        shown = _lines(self.trail, None, Question(until=MORNING + 2_000_000), True, lambda: len(looks) > 9)
+
+        def waits(_: float) -> None:
+            looks.append(len(looks))
+            seen[0], now[0] = MORNING + len(looks) * 1_000_000, MORNING / 1e6 + len(looks) * 2
+            keeper.step()
+
+        with patch("pagelog.desk.trail_words.time.sleep", waits), patch("pagelog.desk.trail_words.time.time", lambda: now[0]):
+            found = {line.seen for line in shown if isinstance(line, Seen)}
+        self.assertEqual((found, len(looks)), ({MORNING, MORNING + 1_000_000}, 4))
 
     def test_a_recorder_that_is_killed_or_told_to_end(self) -> None:
         file = self.service.credentials_file(url=self.url)

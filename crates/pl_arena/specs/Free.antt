@@ -1,9 +1,9 @@
 -- How an arena keeps which frames are out, and in which order the others are taken again.
-use Rattle.std.specs.Prelude.{◌≡◌, ℕ, ◌+◌, ◌*◌, ◌<◌, ◌≤◌, ◌⊎◌, ◌↔◌, zero, suc, Bool, false, List, [], ◌∷◌, length, Option, Some, None, slice_index_or, if◌then◌else◌}
+use Rattle.std.specs.Prelude.{◌≡◌, ℕ, ◌+◌, ◌*◌, ◌<◌, ◌≤◌, ◌⊎◌, ◌↔◌, zero, suc, Bool, true, false, List, [], ◌∷◌, ◌++◌, length, Option, Some, None, slice_index_or, if◌then◌else◌}
 use Rattle.std.specs.Int.{w32, from_le_bytes}
 use Rattle.std.specs.Ordering.{nat_cmp}
 use Rattle.std.specs.FinMap as maps
-use Rattle.pl_arena.specs.Arena.{Arena}
+use Rattle.pl_arena.specs.Arena.{Arena, zeros}
 
 -- the number in the first four bytes of a free frame: 0 at the end of the list, else one more than the
 -- frame that follows
@@ -47,6 +47,18 @@ pub record IsArena (frames : List (List ℕ)) (outs : List Bool) (head max_chunk
   pub some : 1 ≤ max_chunks
   pub few : max_chunks ≤ 65536
   pub list : (ids : List ℕ) × IsFreeList (links frames) outs head ids
+
+-- Each frame has a flag. There are no more of them than the chunks have room for, and no more than 65,536 chunks.
+pub record AreFlagged (frames : List (List ℕ)) (outs : List Bool) (max_chunks : ℕ) : Type 0 where
+  pub memory : length outs ≡ length frames
+  pub limit : length outs ≤ 64 * max_chunks
+  pub few : max_chunks ≤ 65536
+
+-- there is a frame of zeros more, and it is out; its number is how many frames there were
+pub record HasFrameMore (frames : List (List ℕ)) (outs : List Bool) (number : ℕ) (new_frames : List (List ℕ)) (new_outs : List Bool) : Type 0 where
+  pub number_is : number ≡ length outs
+  pub frame : new_frames ≡ frames ++ zeros ∷ []
+  pub flag : new_outs ≡ outs ++ true ∷ []
 
 -- the bytes of a frame, if it is out
 abbrev pub held : List (List ℕ) → List Bool → ℕ → Option (List ℕ)

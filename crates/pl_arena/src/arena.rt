@@ -1,9 +1,10 @@
 //! The arena: which frames are out, and which are taken again.
 
-ghost use Rattle.std.specs.Prelude.{◌≡◌, ◌<◌, ◌≤◌, ◌*◌, ◌↔◌, [], ◌∷◌, ◌++◌, None, Some, true, false, length, is_some, slice_index_or, IfOk, IfSome, OnErr, OnOk, IsErrOf, IsOk, vec_capacity};
+ghost use Rattle.std.specs.Prelude.{◌≡◌, ◌<◌, ◌≤◌, ◌*◌, ◌↔◌, None, Some, false, length, is_some, slice_index_or, IfOk, IfSome, OnErr, IsErrOf, IsOk, vec_capacity};
 ghost use Rattle.std.specs.FinMap as maps;
 ghost use Rattle.std.specs.Borrow.{sem};
 ghost use Rattle.pl_arena.specs.Arena.{IsFull, IsOut, capacity, frame_bytes, with_frame, without_frame, zeros};
+ghost use Rattle.pl_arena.specs.Free.{AreFlagged, HasFrameMore};
 ghost use Rattle.pl_arena.specs.Lends.{LendsFrame};
 ghost use Rattle.pl_arena.specs.Packed.{HasRoom};
 ghost use Rattle.pl_arena.specs.declared.arena.TakeFault.TheVariants.{Full};
@@ -203,13 +204,10 @@ fn flag_at(out: &[bool], place: usize) -> bool
 
 // Makes a frame of zeros that was never out, and marks it as out.
 fn push_frame(frames: &mut Frames, out: &mut Vec<bool>, max_chunks: u32) -> Result<u32, TakeFault>
-    requires memory { length out.old.items ≡ length frames.old }
-    requires limit { length out.old.items ≤ 64 * max_chunks }
-    requires few { max_chunks ≤ 65536 }
+    requires flags { AreFlagged frames.old out.old.items max_chunks }
     ensures full { IsErrOf result Full ↔ (length out.old.items ≡ 64 * max_chunks) }
-    ensures number { IfOk result (λ number. number ≡ length out.old.items) }
-    ensures frame { OnOk result (frames.new ≡ frames.old ++ zeros ∷ []) }
-    ensures flag { OnOk result (out.new.items ≡ out.old.items ++ true ∷ []) }
+    ensures ok { IfOk result (λ number.
+        HasFrameMore frames.old out.old.items number frames.new out.new.items) }
     ensures succeeds { HasRoom frames.old → length out.old.items < vec_capacity out.old →
         IsOk result }
     ensures err { OnErr result ((frames.new ≡ frames.old) × (out.new.items ≡ out.old.items)) }

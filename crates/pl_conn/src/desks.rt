@@ -202,12 +202,8 @@ impl<R: Wait> Gate for Desks<R> {
     // stays (`DesksCall`).
     ghost calls = { λ _. DesksCall };
 
-    fn call(&self, passes: &mut Passes, request: Request) -> Reply {
-        let place = request.head().database as usize;
-        let Some(pass) = passes.items.get_mut(place) else {
-            return Reply::NoDatabase;
-        };
-        self.desks[place].call(&self.rt, pass, request)
+    fn alloc(&self, _passes: &Passes) -> Global {
+        *self.desks.allocator()
     }
 
     fn call_onto(&self, passes: &mut Passes, request: Request, page: &mut Vec<u8>) -> Answer {

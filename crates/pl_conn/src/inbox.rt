@@ -44,7 +44,6 @@ fn put_front(room: &mut [u8], bytes: &[u8])
 #[tactic(auto, using(crate::proofs::Turning::heard_after))]
 fn read_after<R: Read>(from: &mut R, room: &mut [u8], count: usize) -> io::Result<usize>
     requires within { count ≤ length room.old }
-    ensures len { length room.new ≡ length room.old }
     ensures few { IfOk result (λ more. count + more ≤ length room.new) }
     ensures ok { IfOk result (λ more. Hears (R.remaining from.old) (take count room.old)
         (R.remaining from.new) (take (count + more) room.new)) }
@@ -52,7 +51,8 @@ fn read_after<R: Read>(from: &mut R, room: &mut [u8], count: usize) -> io::Resul
         → IsAtEnd (R.remaining from.new)) }
     ensures err { OnErr result (Hears (R.remaining from.old) (take count room.old)
         (R.remaining from.new) (take count room.new)) }
-    ensures kept { take count room.new ≡ take count room.old }
+    ensures kept { (length room.new ≡ length room.old)
+        × (take count room.new ≡ take count room.old) }
 {
     from.read(&mut room[count..])
 }

@@ -1,13 +1,15 @@
 //! Databases of one caller, with no thread.
 
 ghost use Rattle.std.specs.Prelude.{◌≡◌, ◌≤◌, length};
+ghost use Rattle.pl_core.specs.Appending.{AppendsTo, reply_in};
 ghost use Rattle.pl_core.specs.Reply.{FitsReply};
 ghost use Rattle.pl_core.specs.Step.{IsStep};
 ghost use Rattle.pl_conn.specs.Solo.{HasDatabases, SoloCall};
 
-use pl_core::{Db, Reply};
+use pl_core::{Answer, Db, Reply};
 use pl_table::Request;
 use pl_wire::Gate;
+use std::alloc::Global;
 use std::marker::Model;
 
 /// Databases, numbered from 0, and the number under which they are asked.
@@ -27,12 +29,14 @@ impl Model for SoloPass {
     ghost view = { λ p. record { dbs = p.dbs.items; number = p.number } };
 }
 
-// One step of the database.
-fn step(db: &mut Db, number: u64, request: Request) -> Reply
-    ensures step { IsStep number request db.old result db.new }
-    ensures fits { FitsReply result }
+// One step of the database, with the bytes of a page in the buffer.
+fn step(db: &mut Db, number: u64, request: Request, page: &mut Vec<u8>) -> Answer
+    ensures step { IsStep number request db.old
+        (reply_in result page.old.items page.new.items) db.new }
+    ensures fits { FitsReply (reply_in result page.old.items page.new.items) }
+    ensures page { AppendsTo result page.old page.new }
 {
-    db.step(number, request)
+    db.step_onto(number, request, page)
 }
 
 impl SoloPass {
@@ -61,15 +65,17 @@ impl SoloPass {
     }
 
     // One step of the database that the request names.
-    fn call(&mut self, request: Request) -> Reply
-        ensures call { SoloCall self.old request result self.new }
-        ensures fits { FitsReply result }
+    fn call_onto(&mut self, request: Request, page: &mut Vec<u8>) -> Answer
+        ensures call { SoloCall self.old request
+            (reply_in result page.old.items page.new.items) self.new }
+        ensures fits { FitsReply (reply_in result page.old.items page.new.items) }
+        ensures page { AppendsTo result page.old page.new }
     {
         let number = self.number;
         let database = request.head().database as usize;
         match self.dbs.get_mut(database) {
-            Some(db) => step(db, number, request),
-            None => Reply::NoDatabase,
+            Some(db) => step(db, number, request, page),
+            None => Answer::Whole(Reply::NoDatabase),
         }
     }
 }
@@ -93,7 +99,11 @@ impl Gate for Solo {
     // (`SoloCall`).
     ghost calls = { λ _. SoloCall };
 
-    fn call(&self, pass: &mut SoloPass, request: Request) -> Reply {
-        SoloPass::call(pass, request)
+    fn alloc(&self, pass: &SoloPass) -> Global {
+        *pass.dbs.allocator()
+    }
+
+    fn call_onto(&self, pass: &mut SoloPass, request: Request, page: &mut Vec<u8>) -> Answer {
+        SoloPass::call_onto(pass, request, page)
     }
 }

@@ -1,6 +1,6 @@
 -- How far partitions are applied, and the state of pages.
 use Rattle.std.proofs.Common.{◌≡◌, ℕ, ◌+◌, ◌≤◌, Bool, true, false, ◌==◌, cond, List, [], ◌∷◌, length, sym, ap, subst, ◌∙◌, arith}
-use Rattle.std.specs.Prelude.{min}
+use Rattle.std.specs.Prelude.{min, unwrap_or}
 use Rattle.pl_block.specs.Block.{Content}
 use Rattle.pl_pages.specs.State.{PagesState, FitsLog, applied_at}
 use Rattle.pl_pages.specs.Laws.{FitsLongerLogs}
@@ -14,7 +14,8 @@ use Rattle.pl_core.specs.Laws.{AppliedLsnsOnlyRise}
 use Rattle.pl_core.specs.Transition.{PagesFollow, with_unseen, applied_then}
 use Rattle.pl_decide.specs.Agreement.{AgreesWith}
 use Rattle.pl_decide.specs.Keys.{CachedVerdict}
-use Rattle.pl_audit.specs.Audit.{AuditList}
+use Rattle.pl_audit.specs.Audit.{AuditList, last_table}
+use Rattle.pl_table.specs.Table.{WrittenTable}
 use Rattle.pl_core.specs.Epoch.{table_of}
 use Rattle.pl_core.specs.Verdict.{epochs_of}
 use Rattle.pl_core.specs.Legal.{IsLegal}
@@ -100,3 +101,11 @@ still_sound start state after before audit verdicts sound after-is follow audit-
       agrees = subst (λ (h : History). AgreesWith verdicts (table_of h)) same sound.agrees;
     } in
     subst (λ (a : AuditList). PartsAgree start after a verdicts) (sym audit-is) (subst (λ (k : State). PartsAgree start k (record before { reserved = true }) verdicts) (sym after-is) here)
+
+-- the parts agree with other verdicts that are those of the table in force
+pub still_agree : (start : Start) (state : State) (audit : AuditList) (was now : List CachedVerdict) (table : WrittenTable) → PartsAgree start state audit was → table ≡ unwrap_or (last_table audit.entries) start.table → AgreesWith now table → PartsAgree start state audit now
+still_agree start state audit was now table sound table_is agrees = record {
+  history = sound.history;
+  limit = sound.limit;
+  agrees = subst (AgreesWith now) (table_is ∙ sound.history.table) agrees;
+}

@@ -20,6 +20,7 @@ use Rattle.pl_core.specs.Log.{hard_of}
 use Rattle.pl_core.specs.Verdict.{epochs_of, view_of, verdict_of}
 use Rattle.pl_core.specs.Reach.{IsAllowedTo}
 use Rattle.pl_core.specs.Laws.{RowsAllowTo, ReadsReachAsRowsAllow, ReachesAreHardened, ReadsAboveAreDenied}
+use Rattle.pl_table.specs.Laws.{LowerLsnsAreAllowed}
 use Rattle.pl_core.specs.Transition.{OrderLaws}
 
 -- the rows of the table in force allow the request at an LSN
@@ -102,15 +103,15 @@ reads_reach order h q reach reads allowed hard rows =
     }
 
 -- what it is asked at and allowed, it is allowed up to
-allowed_up : OrderLaws → (h : History) (q : Query) (k : ℕ) → reads_the_log (op_of q.act) ≡ true → verdict_of q h ≡ verdicts.Allowed → verdict_of (request_at q k) h ≡ verdicts.Allowed → IsAllowedTo h q k
-allowed_up order h q k reads allowed now = λ n low high.
+allowed_up : OrderLaws → LowerLsnsAreAllowed → (h : History) (q : Query) (k : ℕ) → reads_the_log (op_of q.act) ≡ true → verdict_of q h ≡ verdicts.Allowed → verdict_of (request_at q k) h ≡ verdicts.Allowed → IsAllowedTo h q k
+allowed_up order lower h q k reads allowed now = λ n low high.
     let free = free_at order h q k reads allowed now in
     let within : n ≤ hard_of h = let le = free.within in omega (arith, high, le) in
-    (asked_of q.head q.act h n order reads allowed).within (order.lower (table_of h).rows (asked_in q) k n high free.rows) within
+    (asked_of q.head q.act h n order reads allowed).within (lower (table_of h).rows (asked_in q) k n high free.rows) within
 
-pub reads_above : OrderLaws → ReadsAboveAreDenied
-reads_above order h q reach reads allowed is k above now =
-    let up = is.greatest k (allowed_up order h q k reads allowed now) in
+pub reads_above : OrderLaws → LowerLsnsAreAllowed → ReadsAboveAreDenied
+reads_above order lower h q reach reads allowed is k above now =
+    let up = is.greatest k (allowed_up order lower h q k reads allowed now) in
     omega (arith, up, above)
 
 -- its reach is hardened

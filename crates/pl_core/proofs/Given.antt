@@ -2,6 +2,7 @@
 use Rattle.std.proofs.Common.{◌≡◌, ℕ, ◌≤◌, Bool, List, ◌++◌, take, sym, ap, ◌∙◌, arith}
 use Rattle.pl_block.specs.Block.{Content}
 use Rattle.pl_pages.specs.Page.{page_of}
+use Rattle.pl_pages.specs.Laws.{PagesStay}
 use Rattle.pl_table.specs.declared.head.Head.{Head}
 use Rattle.pl_table.specs.declared.request.Act.TheVariants as acts
 use Rattle.pl_table.specs.declared.verdict.Verdict.TheVariants as verdicts
@@ -12,7 +13,7 @@ use Rattle.pl_core.specs.Epoch.{table_of}
 use Rattle.pl_core.specs.Log.{hardened_after, hardened_log, hard_of}
 use Rattle.pl_core.specs.Verdict.{epochs_of, view_of, verdict_of}
 use Rattle.pl_core.specs.Laws.{PagesAreReplays, GetsAreRepeatable}
-use Rattle.pl_core.specs.Transition.{OrderLaws, PageLaws}
+use Rattle.pl_core.specs.Transition.{OrderLaws}
 use Rattle.pl_core.proofs.Joining.{grown_log}
 use Rattle.pl_core.proofs.Replies.{answered_page}
 
@@ -42,8 +43,8 @@ are_replays order h head page lsn exact at bytes may =
       bytes_are = same_bytes _ _ _ _ serves.is ∙ ap (λ (n : ℕ). page_of page (take n (hardened_log h))) (sym here);
     }
 
-pub are_repeatable : OrderLaws → PageLaws → GetsAreRepeatable
-are_repeatable order laws h later added one two page lsn again at exact other bytes same from_one grew first second =
+pub are_repeatable : OrderLaws → PagesStay → GetsAreRepeatable
+are_repeatable order stay h later added one two page lsn again at exact other bytes same from_one grew first second =
     let log = hardened_log h in
     let before = are_replays order h one page lsn exact at bytes first in
     let after = are_replays order later two page again other at same second in
@@ -51,5 +52,5 @@ are_repeatable order laws h later added one two page lsn again at exact other by
     let whole : hardened_log later ≡ log ++ more.0 = ap (hardened_after later.start) grew ∙ more.1 ∙ ap (λ (l : List Content). l ++ more.0) (ap (λ (s : Start). hardened_after s h.entries) from_one) in
     after.bytes_are
     ∙ ap (λ (l : List Content). page_of page (take at l)) whole
-    ∙ laws.stay page at log more.0 before.to
+    ∙ stay page at log more.0 before.to
     ∙ sym before.bytes_are

@@ -9,7 +9,7 @@ ghost use Rattle.pl_core.specs.Laws.{OlderEpochsAreFenced, HistoriesStayLegal};
 ghost use Rattle.pl_core.specs.Laws.{NothingIsAboveTheWindow, RunsEndInTheWindow};
 ghost use Rattle.pl_core.specs.Laws.{FullListsAreReported, UnknownPrincipalsAreReported, NoMemoryChangesNothing, StepsReplyTheirOwn};
 
-use crate::lower::{order_laws, page_laws};
+use crate::lower::order_laws;
 
 /// After a denial the hardened log, its marks and their counts, each LSN's content, the copies it
 /// is in and whether it was offered, the LSN that each partition is applied to, the epoch, its
@@ -35,7 +35,7 @@ pub fn older_epochs_are_fenced()
     // A known principal's request of an older epoch is denied by row A2.
     ensures law { OlderEpochsAreFenced }
 {
-    order_laws();
+    pl_decide::laws::older_epochs_are_denied();
 }
 
 /// An allowed pull or get goes as far as the rows of the table in force allow it, up to the hardened
@@ -51,6 +51,7 @@ pub fn reads_reach_as_rows_allow()
     ensures only { ReadsAboveAreDenied }
 {
     order_laws();
+    pl_table::laws::lower_lsns_are_allowed();
 }
 
 /// No partition is applied above the hardened end, and no entry takes back what was applied.
@@ -76,7 +77,7 @@ pub fn gets_are_repeatable()
     ensures law { GetsAreRepeatable }
 {
     order_laws();
-    page_laws();
+    pl_pages::laws::pages_stay();
 }
 
 /// Each block that a pull of a legal history is answered is hardened, touches a partition that was
@@ -147,5 +148,5 @@ pub fn replies_tell_their_cause()
     // No step answers `Spent`, `NoDatabase` or `Malformed`.
     ensures never { StepsReplyTheirOwn }
 {
-    order_laws();
+    pl_decide::laws::unknown_principals_come_first();
 }

@@ -66,14 +66,20 @@ impl Outcome {
     pub(crate) fn plain(reply: Reply) -> Outcome
         ensures value { result ≡ record { answer = Answer.Whole reply; table = None } }
     {
-        Outcome::given(Answer::Whole(reply))
+        Outcome {
+            answer: Answer::Whole(reply),
+            table: None,
+        }
     }
 
     /// `Done`, once a change was made that sets no table.
     pub(crate) fn done(_change: ()) -> Outcome
         ensures value { result ≡ record { answer = Answer.Whole Reply.Done; table = None } }
     {
-        Outcome::plain(Reply::Done)
+        Outcome {
+            answer: Answer::Whole(Reply::Done),
+            table: None,
+        }
     }
 }
 
@@ -106,12 +112,10 @@ impl State {
         ensures ok { IfOk result (λ done. IsApplied verdict act self.old by
             (lines_of audit.now.entries) done page.old page.new self.new) }
         ensures err { OnErr result (IsRefused self.old page.old page.new self.new) }
-        ensures valid { IsLog self.old.log }
         ensures succeeds { NeedsNone verdict act self.old by page.old → IsOk result }
     {
-        let hard = self.log.hard();
         match verdict {
-            Verdict::Allowed => self.apply_allowed(act, by, audit, hard, page),
+            Verdict::Allowed => self.apply_allowed(act, by, audit, page),
             Verdict::Denied {
                 section,
                 row,
@@ -134,11 +138,9 @@ impl State {
         act: Act,
         by: ByTable,
         audit: &Audit,
-        hard: u64,
         page: &mut Vec<u8>,
     ) -> Result<Outcome, AllocError>
         requires can { CanApply Verdict.Allowed act self.old by }
-        requires hard { hard ≡ length self.old.log.hardened }
         ensures ok { IfOk result (λ done. IsApplied Verdict.Allowed act self.old by
             (lines_of audit.now.entries) done page.old page.new self.new) }
         ensures err { OnErr result (IsRefused self.old page.old page.new self.new) }
@@ -155,7 +157,7 @@ impl State {
             } => Ok(Outcome::given(self.get(number, lsn, exact, by, page)?)),
             Act::Pull { lo, hi, lsn, max } => Ok(Outcome::plain(self.pull(lo, hi, lsn, max, by)?)),
             Act::Advance { partition, steps } => Ok(Outcome::done(self.advance(partition, steps)?)),
-            Act::Status => Ok(Outcome::plain(self.status(hard))),
+            Act::Status => Ok(Outcome::plain(self.status())),
             Act::Failover { primary } => Ok(Outcome::done(self.fail_over(primary, by)?)),
             Act::SetTable { text } => Ok(set_table(text)),
             Act::Audit { first, max } => {
@@ -277,8 +279,7 @@ impl State {
     }
 
     // The epoch, its primary, and how many blocks are hardened.
-    fn status(&self, hard: u64) -> Reply
-        requires hard { hard ≡ length self.now.log.hardened }
+    fn status(&self) -> Reply
         ensures value { result ≡ Reply.Status self.now.epochs.epoch self.now.epochs.primary
             (length self.now.log.hardened)
             (count_by is_pending self.now.log.marks) (count_by is_landing self.now.log.marks) }
@@ -288,7 +289,7 @@ impl State {
         Reply::Status {
             epoch,
             primary,
-            hard,
+            hard: self.log.hard(),
             pending,
             landing,
         }

@@ -330,7 +330,7 @@ fn is_other_primary(head: &Head, primary: u32) -> bool
     ensures value { result ≡
         (same_role head.now.role Role.Primary && not (head.now.principal == primary)) }
 {
-    head.role.number() == Role::Primary.number() && head.principal != primary
+    matches!(head.role, Role::Primary) && head.principal != primary
 }
 
 // The verdict of sections B and C, where this is the first row of the table that matches.

@@ -9,7 +9,7 @@ ghost use Rattle.pl_desk.specs.Passes.{IsOf, IsSamePass, WasCalled, HasMet, fres
 
 use crate::boxed::{BoxedDb, unboxed};
 use crate::opening::{DeskTable, deal_all, open_table};
-use crate::parking::Parkers;
+use crate::parkers::Parkers;
 use crate::pass::Pass;
 use crate::queue::Queue;
 use crate::steps::{DB, NEXT, SERVING, ask, compare, draw, join};
@@ -55,8 +55,7 @@ impl Desk {
         // At least one seat.
         requires seats { 1 ≤ seats }
         // 1 to 2^62 turns.
-        requires some { 1 ≤ turns }
-        requires few { turns ≤ 2 ^ 62 }
+        requires turns { (1 ≤ turns) × (turns ≤ 2 ^ 62) }
         // The desk was made with these seats and turns, and the history of the database, its
         // opening.
         ensures terms { IfOk result (λ r. r.0.terms ≡

@@ -10,7 +10,7 @@ mod boxed;
 mod desk;
 pub mod laws;
 mod opening;
-mod parking;
+mod parkers;
 mod pass;
 mod plays;
 mod queue;

@@ -3,7 +3,7 @@
 
 ghost use Rattle.std.specs.Prelude.{◌≡◌};
 
-use crate::parking::Parker;
+use crate::parkers::Parker;
 use crate::steps::{DeskShared, NEXT, SERVING};
 use std::sync::Wait;
 use std::sync::atomic::AtomicU64;

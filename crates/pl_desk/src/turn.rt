@@ -10,7 +10,7 @@ ghost use Rattle.pl_desk.specs.Rule.{IsAhead};
 ghost use Rattle.pl_desk.specs.Steps.{at_stage, Grows, IsReplyOfStep, settled};
 
 use crate::boxed::BoxedDb;
-use crate::parking::Parkers;
+use crate::parkers::Parkers;
 use crate::steps::{DB, DeskSeat, DeskShared, count, look, serve};
 use crossbeam_utils::Backoff;
 use pl_core::Answer;

@@ -1,9 +1,10 @@
 -- What is kept of pages, as contracts see it, and when it fits a log.
-use Rattle.std.specs.Prelude.{◌≡◌, ℕ, ◌/◌, ◌<◌, ◌≤◌, ◌==◌, Bool, ◌&&◌, not, nat_le, All, List, [], length, map, filter, take, unwrap_or, slice_index_or, if◌then◌else◌}
+use Rattle.std.specs.Prelude.{◌≡◌, ◌≢◌, ℕ, ◌+◌, ◌/◌, ◌<◌, ◌≤◌, ◌==◌, Bool, ◌&&◌, not, nat_le, All, List, [], length, map, filter, min, take, unwrap_or, slice_index_or, if◌then◌else◌}
 use Rattle.std.specs.List.{list_any, AllByRecursion}
 use Rattle.std.specs.Ordering.{nat_cmp}
 use Rattle.std.specs.FinMap as maps
 use Rattle.pl_block.specs.Block.{Content, changed_page}
+use Rattle.pl_block.specs.Bounds.{page_size}
 use Rattle.pl_block.specs.Spelling.{IsBlock}
 use Rattle.pl_pages.specs.Page.{page_of}
 
@@ -74,3 +75,19 @@ pub record IsBlankThere (pages : PagesState) (log : List Content) (page lsn : �
 -- the applied LSNs are the same
 abbrev pub SameApplied : PagesState → PagesState → Type 0
 SameApplied old new = (partition : ℕ) → applied_at new partition ≡ applied_at old partition
+
+-- the pages fit the log, and may have as many chunks as before
+pub record StillFits (old new : PagesState) (log : List Content) : Type 0 where
+  pub fits : FitsLog new log
+  pub chunks : new.chunks ≡ old.chunks
+
+-- one partition was applied further by this many steps, but not above the end of the log; all others are as before
+pub record IsAdvanced (old new : PagesState) (partition steps hard : ℕ) : Type 0 where
+  pub applied : applied_at new partition ≡ min hard (applied_at old partition + steps)
+  pub others : (other : ℕ) → other ≢ partition → applied_at new other ≡ applied_at old other
+
+-- what a get gives: the LSN that is chosen, and the bytes of the page at that LSN of the log
+pub record GivesPage (pages : PagesState) (log : List Content) (page lsn : ℕ) (exact : Bool) (at : ℕ) (bytes : List ℕ) : Type 0 where
+  pub at_is : at ≡ chosen_lsn pages page lsn exact
+  pub bytes_are : bytes ≡ page_of page (take (chosen_lsn pages page lsn exact) log)
+  pub len : length bytes ≡ page_size

@@ -1,17 +1,12 @@
 //! The pages of one database.
 
-ghost use Rattle.std.specs.Prelude.{◌≡◌, ◌≢◌, ◌+◌, ◌-◌, ◌<◌, ◌≤◌, ℕ, List, length, min, IfOk, IfSome, IsOk, OnOk, OnErr, slice_index_or, take};
-ghost use Rattle.std.specs.List.{AllByRecursion};
+ghost use Rattle.std.specs.Prelude.{◌≡◌, ◌+◌, ◌-◌, ◌<◌, ◌≤◌, ℕ, List, length, min, IfOk, IfSome, IsOk, OnOk, OnErr, slice_index_or};
 ghost use Rattle.std.specs.Borrow.{sem};
 ghost use Rattle.pl_block.specs.Block.{Content};
-ghost use Rattle.pl_block.specs.Bounds.{page_size};
-ghost use Rattle.pl_block.specs.Numbered.{AreNumbered};
-ghost use Rattle.pl_block.specs.Spelling.{IsBlock};
-ghost use Rattle.pl_pages.specs.Index.{IsAfterChanges, IsIndex, count_before};
-ghost use Rattle.pl_pages.specs.Kept.{IsAt, version_at};
-ghost use Rattle.pl_pages.specs.Page.{page_of};
 ghost use Rattle.pl_pages.specs.Ends.{EndsFitting};
-ghost use Rattle.pl_pages.specs.State.{AreVersions, FitsLog, IsBlankThere, SameApplied, applied_at, chosen_lsn, lsns_of};
+ghost use Rattle.pl_pages.specs.Index.{IsAfterChanges, IsIndex, count_before};
+ghost use Rattle.pl_pages.specs.Replay.{AreLsnsOf, AreOfBlocks, AreOfLog, HasPage, IsTrueAfter, IsUpTo, KeepsVersions};
+ghost use Rattle.pl_pages.specs.State.{FitsLog, GivesPage, IsAdvanced, IsBlankThere, SameApplied, StillFits, applied_at, chosen_lsn, lsns_of};
 
 use crate::applied::{applied_in, choose, raise};
 use crate::changes::is_image;
@@ -95,20 +90,16 @@ impl Pages {
         requires fits { FitsLog self.old log.old.hardened }
         // The log is as before.
         ensures log { log.new ≡ log.old }
-        // The pages fit the log.
-        ensures fits { FitsLog self.new log.old.hardened }
-        // The applied LSN becomes the smaller of `hard` and what it was plus the steps.
-        ensures ok { OnOk result (applied_at self.new partition ≡
-            min (length log.old.hardened) (applied_at self.old partition + steps)) }
-        // No other partition's applied LSN changes.
-        ensures others { (other : ℕ) → other ≢ partition →
-            applied_at self.new other ≡ applied_at self.old other }
+        // The pages fit the log, and the number of chunks stays.
+        ensures fits { StillFits self.old self.new log.old.hardened }
+        // The applied LSN becomes the smaller of `hard` and what it was plus the steps, and no other
+        // partition's changes.
+        ensures ok { OnOk result
+            (IsAdvanced self.old self.new partition steps (length log.old.hardened)) }
         // After an error no applied LSN has changed.
         ensures err { OnErr result (SameApplied self.old self.new) }
         // An advance of a partition at or below one that was advanced before does not fail.
         ensures succeeds { partition < length self.old.applied → IsOk result }
-        // The number of chunks stays.
-        ensures chunks { self.new.chunks ≡ self.old.chunks }
     {
         let applied = self.applied(partition);
         let target = applied.saturating_add(steps).min(log.hard());
@@ -126,15 +117,13 @@ impl Pages {
         requires fits { FitsLog self.old log.old.hardened }
         // The log is as before.
         ensures log { log.new ≡ log.old }
-        // The pages fit the log.
-        ensures fits { FitsLog self.new log.old.hardened }
+        // The pages fit the log, and the number of chunks stays.
+        ensures fits { StillFits self.old self.new log.old.hardened }
         // 64 blocks more, or as many as there are, are in the index.
         ensures ok { OnOk result
             (self.new.indexed ≡ min (length log.old.hardened) (self.old.indexed + 64)) }
         // No applied LSN changes.
         ensures applied { SameApplied self.old self.new }
-        // The number of chunks stays.
-        ensures chunks { self.new.chunks ≡ self.old.chunks }
     {
         let entered = self.index.entered();
         let to = entered.saturating_add(MOST_FOLLOWED).min(log.hard());
@@ -167,13 +156,10 @@ impl Pages {
         // When the bytes are no longer lent, the pages fit the log, and the applied LSNs and the
         // number of chunks are as before, after an error too.
         ensures* fits { sem 𝓛 (EndsFitting self.entry log.old.hardened) }
-        // The LSN that is answered (`chosen_lsn`).
-        ensures at { IfOk result (λ given. given.0 ≡ chosen_lsn self.old page lsn exact) }
-        // The page at that LSN: the log up to it, replayed.
-        ensures page { IfOk result (λ given. given.1.now ≡
-            page_of page (take (chosen_lsn self.old page lsn exact) log.old.hardened)) }
-        // The page has 8,192 bytes.
-        ensures len { IfOk result (λ given. length given.1.now ≡ page_size) }
+        // The LSN that is answered (`chosen_lsn`), and the 8,192 bytes of the page at that LSN: the log
+        // up to it, replayed (`GivesPage`).
+        ensures page { IfOk result (λ given.
+            GivesPage self.old log.old.hardened page lsn exact given.0 given.1.now) }
         // The log is as before.
         ensures log { log.new ≡ log.old }
         // A get of a page that no block changes up to the LSN does not fail, once the index has the whole log
@@ -196,16 +182,12 @@ fn find_or_make(
     page: u32,
     lsn: u64,
 ) -> Result<usize, AllocError>
-    requires index { IsIndex index.old log.old.hardened }
-    requires truth { AreVersions versions.old.versions log.old.hardened }
+    requires of { AreOfLog index.old versions.old.versions log.old.hardened }
     requires hard { lsn ≤ length log.old.hardened }
-    ensures log { log.new ≡ log.old }
+    ensures kept { KeepsVersions log.old log.new versions.old versions.new }
     ensures index { IsIndex index.new log.old.hardened }
-    ensures truth { AreVersions versions.new.versions log.old.hardened }
-    ensures chunks { versions.new.chunks ≡ versions.old.chunks }
-    ensures within { IfOk result (λ place. place < length versions.new.versions) }
-    ensures page { IfOk result (λ place. (version_at versions.new.versions place).bytes ≡
-        page_of page (take lsn log.old.hardened)) }
+    ensures page { IfOk result (λ place.
+        HasPage versions.new.versions place page lsn log.old.hardened) }
     ensures succeeds { index.old.entered ≡ length log.old.hardened →
         0 < length versions.old.versions →
         count_before page log.old.hardened lsn ≡ 0 → IsOk result }
@@ -253,15 +235,10 @@ fn bring_up(
     lsns: &[u64],
     range: Range<usize>,
 ) -> Result<(), AllocError>
-    requires numbered { AreNumbered 1 log.old.hardened }
-    requires lsns { lsns.now ≡ lsns_of page log.old.hardened }
-    requires truth { AreVersions versions.old.versions log.old.hardened }
-    requires after { IsAfterChanges versions.old.versions place page log.old.hardened range.start }
-    requires rising { range.start ≤ range.end }
-    requires within { range.end ≤ length lsns.now }
-    ensures log { log.new ≡ log.old }
-    ensures truth { AreVersions versions.new.versions log.old.hardened }
-    ensures chunks { versions.new.chunks ≡ versions.old.chunks }
+    requires lsns { AreLsnsOf page lsns.now log.old.hardened }
+    requires after { IsTrueAfter versions.old.versions place page log.old.hardened range.start }
+    requires range { (range.start ≤ range.end) × (range.end ≤ length lsns.now) }
+    ensures kept { KeepsVersions log.old log.new versions.old versions.new }
     ensures after { OnOk result
         (IsAfterChanges versions.new.versions place page log.old.hardened range.end) }
     ensures succeeds { range.start ≡ range.end → IsOk result }
@@ -280,15 +257,10 @@ fn begin_at_image(
     page: u32,
     image: u64,
 ) -> Result<Found, AllocError>
-    requires numbered { AreNumbered 1 log.old.hardened }
-    requires blocks { AllByRecursion IsBlock log.old.hardened }
-    requires truth { AreVersions versions.old.versions log.old.hardened }
+    requires versions { AreOfBlocks versions.old.versions log.old.hardened }
     requires hard { image ≤ length log.old.hardened }
-    ensures log { log.new ≡ log.old }
-    ensures truth { AreVersions versions.new.versions log.old.hardened }
-    ensures chunks { versions.new.chunks ≡ versions.old.chunks }
-    ensures at { IfOk result (λ begun. IsAt versions.new.versions begun.place page begun.lsn) }
-    ensures below { IfOk result (λ begun. begun.lsn ≤ image) }
+    ensures kept { KeepsVersions log.old log.new versions.old versions.new }
+    ensures begun { IfOk result (λ begun. IsUpTo versions.new.versions page image begun) }
     ensures succeeds { image ≡ 0 → 0 < length versions.old.versions → IsOk result }
 {
     let place = versions.begin(page)?;
@@ -313,18 +285,11 @@ fn begin(
     image: u64,
     lsn: u64,
 ) -> Result<Found, AllocError>
-    requires numbered { AreNumbered 1 log.old.hardened }
-    requires blocks { AllByRecursion IsBlock log.old.hardened }
-    requires truth { AreVersions versions.old.versions log.old.hardened }
-    requires hard { lsn ≤ length log.old.hardened }
-    requires image { image ≤ lsn }
-    requires at { IfSome found (λ it. IsAt versions.old.versions it.place page it.lsn) }
-    requires below { IfSome found (λ it. it.lsn ≤ lsn) }
-    ensures log { log.new ≡ log.old }
-    ensures truth { AreVersions versions.new.versions log.old.hardened }
-    ensures chunks { versions.new.chunks ≡ versions.old.chunks }
-    ensures at { IfOk result (λ begun. IsAt versions.new.versions begun.place page begun.lsn) }
-    ensures below { IfOk result (λ begun. begun.lsn ≤ lsn) }
+    requires versions { AreOfBlocks versions.old.versions log.old.hardened }
+    requires image { (image ≤ lsn) × (lsn ≤ length log.old.hardened) }
+    requires found { IfSome found (λ it. IsUpTo versions.old.versions page lsn it) }
+    ensures kept { KeepsVersions log.old log.new versions.old versions.new }
+    ensures begun { IfOk result (λ begun. IsUpTo versions.new.versions page lsn begun) }
     ensures succeeds { image ≡ 0 → 0 < length versions.old.versions → IsOk result }
 {
     match found {
@@ -354,15 +319,10 @@ fn show(
     image: u64,
     lsn: u64,
 ) -> Result<usize, AllocError>
-    requires numbered { AreNumbered 1 log.old.hardened }
-    requires blocks { AllByRecursion IsBlock log.old.hardened }
+    requires versions { AreOfBlocks versions.old.versions log.old.hardened }
     requires lsns { lsns.now ≡ lsns_of page log.old.hardened }
-    requires truth { AreVersions versions.old.versions log.old.hardened }
-    requires hard { lsn ≤ length log.old.hardened }
-    requires image { image ≤ lsn }
-    ensures log { log.new ≡ log.old }
-    ensures truth { AreVersions versions.new.versions log.old.hardened }
-    ensures chunks { versions.new.chunks ≡ versions.old.chunks }
+    requires image { (image ≤ lsn) × (lsn ≤ length log.old.hardened) }
+    ensures kept { KeepsVersions log.old log.new versions.old versions.new }
     ensures after { IfOk result (λ place. IsAfterChanges versions.new.versions place page
         log.old.hardened (count_before page log.old.hardened lsn)) }
     ensures succeeds { 0 < length versions.old.versions →

@@ -6,12 +6,11 @@
 //! as the bytes that it has left, and a writer as the bytes that it holds, each where that is known.
 #![tactic(auto)]
 
-mod answering;
 mod fault;
 mod lines;
-mod one_database;
 mod operator_words;
 mod player;
+mod replies;
 mod reply_text;
 mod start;
 mod text;

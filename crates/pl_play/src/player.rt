@@ -5,9 +5,9 @@ ghost use Rattle.pl_play.specs.Answering.{PlayCall};
 ghost use Rattle.pl_play.specs.Lines.{longest_line};
 ghost use Rattle.pl_play.specs.Played.{Played, PlaysLine, moment};
 
-use crate::answering::{reply_to, write_reply};
 use crate::fault::PlayFault;
 use crate::lines::{is_at_end, take_line};
+use crate::replies::{reply_to, write_reply};
 use crate::text::bytes_of_line;
 use bytes::Bytes;
 use pl_core::Db;

@@ -1,8 +1,8 @@
 -- What the rows of a table look at in a request, and the same at another LSN.
 use Rattle.std.specs.Prelude.{ℕ, List, [], ◌∷◌, Option, option_map}
-use Rattle.pl_table.specs.declared.asking.Asking.{Asking}
-use Rattle.pl_table.specs.declared.asking.Partitions.{Partitions}
-use Rattle.pl_table.specs.declared.asking.Partitions.TheVariants.{Nowhere, One, Between, Listed}
+use Rattle.pl_table.specs.declared.request.Asking.{Asking}
+use Rattle.pl_table.specs.declared.partitions.Partitions.{Partitions}
+use Rattle.pl_table.specs.declared.partitions.Partitions.TheVariants.{Nowhere, One, Between, Listed}
 use Rattle.pl_table.specs.declared.op.Op.{Op}
 use Rattle.pl_table.specs.declared.op.Role.{Role}
 use Rattle.pl_table.specs.Request.{Query, op_of}

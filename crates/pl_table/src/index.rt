@@ -8,9 +8,9 @@ ghost use Rattle.pl_table.specs.Bounds.{most_rows};
 ghost use Rattle.pl_table.specs.Asking.{asked_at, asked_by};
 ghost use Rattle.pl_table.specs.FirstMatch.{first_match_from, rows_allow};
 
-use crate::asking::Asking;
 use crate::op::Op;
 use crate::reach::listed_reach;
+use crate::request::Asking;
 use crate::row::Row;
 use std::alloc::{AllocError, Global};
 

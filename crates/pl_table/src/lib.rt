@@ -6,13 +6,13 @@
 //! the text. What a denial by the table means for a database is decided in the crates above.
 #![tactic(auto)]
 
-mod asking;
 mod fault;
 mod head;
 mod index;
 mod known;
 pub mod laws;
 mod op;
+mod partitions;
 mod range;
 mod reach;
 mod request;
@@ -22,14 +22,14 @@ mod text;
 mod verdict;
 mod zone;
 
-pub use asking::{Asking, Partitions};
 pub use fault::{ReadFault, TableFault};
 pub use head::Head;
 pub use op::{Op, Role};
+pub use partitions::Partitions;
 pub use pl_block::NoMemory;
 pub use range::PartitionRange;
 pub use reach::LsnRange;
-pub use request::{Act, LONGEST_TEXT, MOST_LISTED, MOST_PULLED, MOST_STEPS, Request};
+pub use request::{Act, Asking, LONGEST_TEXT, MOST_LISTED, MOST_PULLED, MOST_STEPS, Request};
 pub use row::{Ops, Row};
 pub use table::{MOST_PRINCIPALS, MOST_ROWS, Principal, Table};
 pub use text::{TableText, read_table};

@@ -47,6 +47,51 @@ pub enum Op {
     Tidy = 11,
 }
 
+// What the functions of a numbered enum do, by its cases and their words.
+macro_rules! cases {
+    (all; $($case:path = $word:literal),*) => { [$($case),*] };
+    (name $of:expr; $($case:path = $word:literal),*) => { match $of { $($case => $word),* } };
+    (of_number $number:expr; $($case:path = $word:literal),*) => {
+        match $number {
+            $(number if number == $case as u8 => Some($case),)*
+            _ => None,
+        }
+    };
+}
+
+// The roles, in the order of their numbers.
+macro_rules! roles {
+    ($($what:tt)*) => {
+        cases!(
+            $($what)*;
+            Role::Primary = "primary",
+            Role::Secondary = "secondary",
+            Role::PageServer = "page_server",
+            Role::Operator = "operator"
+        )
+    };
+}
+
+// The operations, in the order of their numbers.
+macro_rules! ops {
+    ($($what:tt)*) => {
+        cases!(
+            $($what)*;
+            Op::Write = "write",
+            Op::Offer = "offer",
+            Op::Report = "report",
+            Op::Get = "get",
+            Op::Pull = "pull",
+            Op::Advance = "advance",
+            Op::Status = "status",
+            Op::Failover = "failover",
+            Op::SetTable = "set_table",
+            Op::Audit = "audit",
+            Op::Tidy = "tidy"
+        )
+    };
+}
+
 impl Role {
     /// The number of the role in a request, 1 to 4.
     pub fn number(self) -> u8
@@ -61,13 +106,7 @@ impl Role {
         // What has this number, `None` where nothing has it.
         ensures value { result ≡ role_of_number number }
     {
-        match number {
-            1 => Some(Role::Primary),
-            2 => Some(Role::Secondary),
-            3 => Some(Role::PageServer),
-            4 => Some(Role::Operator),
-            _ => None,
-        }
+        roles!(of_number number)
     }
 
     /// The word for the role, in lower case, as tables and texts have it.
@@ -75,12 +114,7 @@ impl Role {
         // Its word.
         ensures value { result.now ≡ role_name self }
     {
-        match self {
-            Role::Primary => "primary",
-            Role::Secondary => "secondary",
-            Role::PageServer => "page_server",
-            Role::Operator => "operator",
-        }
+        roles!(name self)
     }
 
     /// The role with this word, or `None` where there is none.
@@ -89,13 +123,7 @@ impl Role {
         // What has this word, `None` where nothing has it.
         ensures value { result ≡ role_of_name name.now }
     {
-        let roles = [
-            Role::Primary,
-            Role::Secondary,
-            Role::PageServer,
-            Role::Operator,
-        ];
-        roles.iter().copied().find(|role| role.name() == name)
+        roles!(all).iter().copied().find(|role| role.name() == name)
     }
 
     /// Whether the role has the operation at all, whatever the table allows.
@@ -132,20 +160,7 @@ impl Op {
         // What has this number, `None` where nothing has it.
         ensures value { result ≡ op_of_number number }
     {
-        match number {
-            1 => Some(Op::Write),
-            2 => Some(Op::Offer),
-            3 => Some(Op::Report),
-            4 => Some(Op::Get),
-            5 => Some(Op::Pull),
-            6 => Some(Op::Advance),
-            7 => Some(Op::Status),
-            8 => Some(Op::Failover),
-            9 => Some(Op::SetTable),
-            10 => Some(Op::Audit),
-            11 => Some(Op::Tidy),
-            _ => None,
-        }
+        ops!(of_number number)
     }
 
     /// The word for the operation, in lower case, as tables and texts have it.
@@ -153,19 +168,7 @@ impl Op {
         // Its word.
         ensures value { result.now ≡ op_name self }
     {
-        match self {
-            Op::Write => "write",
-            Op::Offer => "offer",
-            Op::Report => "report",
-            Op::Get => "get",
-            Op::Pull => "pull",
-            Op::Advance => "advance",
-            Op::Status => "status",
-            Op::Failover => "failover",
-            Op::SetTable => "set_table",
-            Op::Audit => "audit",
-            Op::Tidy => "tidy",
-        }
+        ops!(name self)
     }
 
     /// The operation with this word, or `None` where there is none.
@@ -181,19 +184,7 @@ impl Op {
     pub(crate) fn all() -> [Op; 11]
         ensures value { result ≡ all_ops }
     {
-        [
-            Op::Write,
-            Op::Offer,
-            Op::Report,
-            Op::Get,
-            Op::Pull,
-            Op::Advance,
-            Op::Status,
-            Op::Failover,
-            Op::SetTable,
-            Op::Audit,
-            Op::Tidy,
-        ]
+        ops!(all)
     }
 }
 

@@ -6,7 +6,7 @@ ghost use Rattle.pl_table.specs.FirstMatch.{rows_allow};
 ghost use Rattle.pl_table.specs.Index.{can_match, places_from};
 ghost use Rattle.pl_table.specs.Reach.{Narrows, NoEndBetween};
 
-use crate::asking::Asking;
+use crate::request::Asking;
 use crate::row::Row;
 
 /// The LSNs from `from` to `to`, both included.

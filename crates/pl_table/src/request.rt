@@ -5,10 +5,10 @@ ghost use Rattle.pl_table.specs.Request.{InRange, IsHead, IsRequest, is_in_range
 ghost use Rattle.pl_table.specs.Acts.{number_of, partitions_of};
 ghost use Rattle.pl_table.specs.Asking.{asked_by, asked_in, named_by};
 
-use crate::asking::{Asking, Partitions};
 use crate::head::Head;
 use crate::known::{act_fits, head_fits};
-use crate::op::Op;
+use crate::op::{Op, Role};
+use crate::partitions::Partitions;
 use crate::text::TableText;
 use pl_block::{Block, LAST_LSN, PAGES_PER_PARTITION};
 use std::marker::Model;
@@ -162,6 +162,22 @@ impl Act {
             Act::Audit { first, max } => 1 <= *first && 1 <= *max && *max <= MOST_LISTED,
         }
     }
+}
+
+/// What rows look at: who asks, in which role, for which operation, and the partitions and the LSN
+/// that are named. [`Request::asking`](crate::Request::asking) borrows it from a request.
+#[derive(Clone, Copy)]
+pub struct Asking<'a> {
+    /// The id of the principal.
+    pub principal: u32,
+    /// The role in which it asks.
+    pub role: Role,
+    /// The operation that is asked for.
+    pub op: Op,
+    /// The partitions that are named.
+    pub partitions: Partitions<'a>,
+    /// The LSN that is named, if any.
+    pub lsn: Option<u64>,
 }
 
 /// An act, and who asks for it. The act is in its ranges, and the block of a write or an offer is one

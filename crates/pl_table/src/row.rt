@@ -7,9 +7,10 @@ ghost use Rattle.pl_table.specs.Index.{is_asker, can_be, can_match};
 ghost use Rattle.pl_table.specs.Row.{is_about, range_matches, row_matches, through_matches};
 ghost use Rattle.pl_table.specs.Ops.{same_role, lists_op};
 
-use crate::asking::{Asking, Partitions};
 use crate::op::{Op, Role};
+use crate::partitions::Partitions;
 use crate::range::PartitionRange;
+use crate::request::Asking;
 use std::alloc::{AllocError, Global};
 use std::marker::Model;
 

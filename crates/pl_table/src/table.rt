@@ -10,10 +10,9 @@ ghost use Rattle.pl_table.specs.Row.{row_matches};
 ghost use Rattle.pl_table.specs.Table.{IsTable, token_of};
 ghost use Rattle.pl_table.specs.Zone.{copies_in, quorum_in};
 
-use crate::asking::Asking;
 use crate::index::RowIndex;
 use crate::reach::{LsnRange, lsns_between_ends};
-use crate::request::Request;
+use crate::request::{Asking, Request};
 use crate::row::Row;
 use crate::zone::Zone;
 use std::alloc::{AllocError, Global};

@@ -12,4 +12,3 @@ pub mod Listed
 pub mod ReplyLemmas
 pub mod Filling
 pub mod Stops
-pub mod Answers

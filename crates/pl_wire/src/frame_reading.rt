@@ -97,6 +97,7 @@ pub fn read_head<R: Read>(reader: &mut R, limit: u32) -> Result<Option<u32>, Fra
         Ok(0) => Ok(None),
         Ok(count) if count < LENGTH_BYTES => Err(FrameFault::Short),
         Ok(_) => {
+            // Proof only: this does nothing.
             each_is_byte(&head);
             let len = u32::from_be_bytes(head);
             if len > limit {

@@ -7,6 +7,7 @@ ghost use Rattle.pl_core.specs.declared.reply.Reply.{Reply as Told};
 
 use pl_core::{Answer, Reply};
 use pl_table::Request;
+use std::alloc::Global;
 
 /// What answers requests. Whoever asks has a pass, which a call changes.
 ///
@@ -22,19 +23,10 @@ pub trait Gate {
     // The calls that there may be: the pass before, the request, the reply, and the pass after.
     ghost calls: { Self → Self.Pass → Query → Told → Self.Pass → Type 0 };
 
-    /// Answers the request. The reply can be written.
-    fn call(&self, pass: &mut Self::Pass, request: Request) -> Reply
-        // The pass is the gate's.
-        requires own { owns self.now pass.old }
-        // The pass stays the gate's.
-        ensures own { owns self.now pass.new }
-        // It was one of the gate's calls.
-        ensures call { calls self.now pass.old request result pass.new }
-        // The reply can be written.
-        ensures fits { FitsReply result };
+    /// The memory of the page that `call` reads a reply with.
+    fn alloc(&self, pass: &Self::Pass) -> Global;
 
-    /// Answers the request, but a gate may put the bytes of a page after those in `page`, so that they are copied once. A gate
-    /// that has no such way answers by `call`.
+    /// Answers the request, but puts the bytes of a page after those in `page`, so that they are copied once.
     fn call_onto(&self, pass: &mut Self::Pass, request: Request, page: &mut Vec<u8>) -> Answer
         // The pass is the gate's.
         requires own { owns self.now pass.old }
@@ -48,9 +40,21 @@ pub trait Gate {
         ensures fits { FitsReply (reply_in result page.old.items page.new.items) }
         // The buffer keeps its bytes and its memory, and a page's bytes alone are appended
         // (`AppendsTo` of pl_core).
-        ensures page { AppendsTo result page.old page.new }
+        ensures page { AppendsTo result page.old page.new };
+
+    /// Answers the request. The reply can be written.
+    fn call(&self, pass: &mut Self::Pass, request: Request) -> Reply
+        // The pass is the gate's.
+        requires own { owns self.now pass.old }
+        // The pass stays the gate's.
+        ensures own { owns self.now pass.new }
+        // It was one of the gate's calls.
+        ensures call { calls self.now pass.old request result pass.new }
+        // The reply can be written.
+        ensures fits { FitsReply result }
     {
-        let _ = page;
-        Answer::Whole(self.call(pass, request))
+        let mut page = Vec::new(self.alloc(pass));
+        let answer = self.call_onto(pass, request, &mut page);
+        answer.into_reply(page)
     }
 }

@@ -26,12 +26,12 @@ impl Latest {
     fn of_bytes(&self, bytes: &[u8]) -> Option<Block>
         ensures some { IfSome result (λ block. block_reading bytes.now ≡ Ok block) }
     {
-        // Proof only: this does nothing.
-        one_spelling();
         let block = self.block.as_ref()?;
         if block.spelling()? != bytes {
             return None;
         }
+        // Proof only: this does nothing.
+        one_spelling();
         block.share().ok()
     }
 

@@ -4,11 +4,11 @@
 //! of its spelling. Of bytes that spell no request the fault of the least code is reported; of bytes
 //! that spell no reply, the fault that is met first. A frame is a length in four bytes, the high one
 //! first, and a body of this many bytes: [`read_frame`] and [`read_reply`] take one from a reader,
-//! [`body_in`] finds one where it lies, [`write_request`] and [`write_reply`] write one. [`answer`] is the reply of a
-//! [`Gate`] to what was read of a body.
+//! [`body_in`] finds one where it lies, [`write_request`] and [`write_reply`] write one. [`put_answer`] writes the
+//! reply of a [`Gate`] to what was read of a body.
 #![tactic(auto)]
 
-mod answering;
+mod answer;
 mod fault;
 mod fields;
 mod frame_in_place;
@@ -24,7 +24,7 @@ mod request_reading;
 mod request_writing;
 mod seen;
 
-pub use answering::{answer, put_answer};
+pub use answer::{put_answer, refusal};
 pub use fault::{BodyFault, WireFault};
 pub use frame_in_place::{body_in, is_cut};
 pub use frame_reading::{

@@ -5,7 +5,7 @@ ghost use Rattle.std.specs.List.{All};
 
 use crate::memory::{check, may_be_refused};
 use pl_conn::{Gate, Served, Stop as Stopped, serve};
-use pl_core::Reply;
+use pl_core::{Answer, Reply};
 use pl_table::{Act, Request};
 use std::alloc::Global;
 use std::io::{self, ErrorKind, Read, Write};
@@ -157,14 +157,16 @@ where
 /// turns. Its passes count their calls.
 #[derive(Drop)]
 pub(crate) struct Holds {
+    alloc: Global,
     entered: AtomicU64,
     answered: AtomicU64,
 }
 
 impl Holds {
     /// Such a gate, of which nothing was asked.
-    pub(crate) fn new() -> Holds {
+    pub(crate) fn new(alloc: Global) -> Holds {
         Holds {
+            alloc,
             entered: AtomicU64::new(0),
             answered: AtomicU64::new(0),
         }
@@ -189,18 +191,22 @@ impl Gate for Holds {
 
     ghost calls = { λ _ _ _ _ _. ⊤ };
 
-    fn call(&self, pass: &mut u64, request: Request) -> Reply {
+    fn alloc(&self, _pass: &u64) -> Global {
+        self.alloc
+    }
+
+    fn call_onto(&self, pass: &mut u64, request: Request, _page: &mut Vec<u8>) -> Answer {
         *pass = pass.saturating_add(1);
         if !matches!(request.act(), Act::Report { lsn: 1 }) {
             self.answered.store(1, Ordering::SeqCst);
-            return Reply::Done;
+            return Answer::Whole(Reply::Done);
         }
         self.entered.store(1, Ordering::SeqCst);
-        if comes(&self.answered) {
+        Answer::Whole(if comes(&self.answered) {
             Reply::Done
         } else {
             Reply::Spent
-        }
+        })
     }
 }
 
@@ -249,7 +255,7 @@ fn serve_both<R: Net<Listener = TcpListener, Stream = TcpStream> + Threads + Wai
     rt: &R,
     alloc: Global,
 ) -> Result<(), Stop> {
-    let gate = Holds::new();
+    let gate = Holds::new(alloc);
     let passes = Vec::from_array(alloc, [5_u64, 8])?;
     let (replies, passes) = serve_while(rt, alloc, &gate, passes, (2, 0, 2), |addr| {
         Ok(replies_to_both(rt, addr, &gate))
@@ -275,7 +281,7 @@ fn accept_none<R: Net<Listener = TcpListener, Stream = TcpStream> + Threads + Wa
     let (listener, _) = listen(rt)?;
     listener.set_nonblocking(true).map_err(stop_of)?;
     let passes = Vec::from_array(alloc, [5_u64, 8])?;
-    let served = serve(rt, alloc, &listener, &Holds::new(), passes, 3);
+    let served = serve(rt, alloc, &listener, &Holds::new(alloc), passes, 3);
     let is_refused = matches!(served.stop, Stopped::NoMemory | Stopped::Start);
     if is_refused || served.passes.len() < 2 {
         return Err(Stop::NoMemory);

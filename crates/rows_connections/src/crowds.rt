@@ -160,9 +160,14 @@ fn serve_crowd<R: Net<Listener = TcpListener, Stream = TcpStream> + Threads + Wa
     let passes = passes_of(alloc)?;
     let room = Vec::with_capacity(alloc, AT_ONCE)?;
     let counts = (CONNECTIONS, 0, WORKERS);
-    let (are_done, passes) = serve_while(rt, alloc, &Holds::new(), passes, counts, move |addr| {
-        asks_all(rt, addr, room)
-    })?;
+    let (are_done, passes) = serve_while(
+        rt,
+        alloc,
+        &Holds::new(alloc),
+        passes,
+        counts,
+        move |addr| { asks_all(rt, addr, room) },
+    )?;
     check(are_done)?;
     check_passes(&passes)
 }

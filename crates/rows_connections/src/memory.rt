@@ -4,7 +4,7 @@ ghost use Rattle.std.specs.Prelude.{take};
 ghost use Rattle.pl_conn.specs.Solo.{HasDatabases, SoloCall};
 
 use pl_conn::{Cause, ConnFault, Gate, Solo, SoloPass, Source};
-use pl_core::Reply;
+use pl_core::{Answer, Reply};
 use pl_table::Request;
 use pl_wire::{BodyFault, FrameFault, ReplyFault, read_reply};
 use std::alloc::Global;
@@ -184,11 +184,15 @@ impl Gate for Telling {
 
     ghost calls = { λ _. SoloCall };
 
-    fn call(&self, pass: &mut SoloPass, request: Request) -> Reply {
-        let reply = Solo.call(pass, request);
-        if matches!(reply, Reply::NoMemory) {
+    fn alloc(&self, pass: &SoloPass) -> Global {
+        Solo.alloc(pass)
+    }
+
+    fn call_onto(&self, pass: &mut SoloPass, request: Request, page: &mut Vec<u8>) -> Answer {
+        let answer = Solo.call_onto(pass, request, page);
+        if matches!(answer, Answer::Whole(Reply::NoMemory)) {
             self.refusals.store(1, Ordering::SeqCst);
         }
-        reply
+        answer
     }
 }

@@ -9,7 +9,7 @@ use crate::conversations::{FRAMES, dbs_of};
 use crate::memory::{check, is_refused, may_be_refused};
 use crate::talking::{TURNS, body_of, push_frame};
 use pl_conn::{Desks, Gate, Passes};
-use pl_core::Reply;
+use pl_core::{Answer, Reply};
 use pl_table::{Act, Request};
 use pl_wire::read_reply;
 use std::alloc::Global;
@@ -21,7 +21,9 @@ use transcripts::transcript::Stop;
 
 /// A gate that replies with the LSN of a report as the hardened end.
 #[derive(Drop)]
-struct Echoes;
+struct Echoes {
+    alloc: Global,
+}
 
 impl Gate for Echoes {
     type Pass = u64;
@@ -30,9 +32,13 @@ impl Gate for Echoes {
 
     ghost calls = { λ _ _ _ _ _. ⊤ };
 
-    fn call(&self, pass: &mut u64, request: Request) -> Reply {
+    fn alloc(&self, _pass: &u64) -> Global {
+        self.alloc
+    }
+
+    fn call_onto(&self, pass: &mut u64, request: Request, _page: &mut Vec<u8>) -> Answer {
         *pass = pass.saturating_add(1);
-        match request.act() {
+        Answer::Whole(match request.act() {
             Act::Report { lsn } => Reply::Status {
                 epoch: 1,
                 primary: 2,
@@ -41,7 +47,7 @@ impl Gate for Echoes {
                 landing: 0,
             },
             _ => Reply::Done,
-        }
+        })
     }
 }
 
@@ -137,7 +143,7 @@ fn serve_hundred<R: Net<Listener = TcpListener, Stream = TcpStream> + Threads + 
     let passes = Vec::from_array(alloc, [7_u64])?;
     let room = Vec::with_capacity(alloc, usize::from(SPEAKING))?;
     let counts = (u32::from(SPEAKING).saturating_add(2), 0, 1);
-    let ((), passes) = serve_while(rt, alloc, &Echoes, passes, counts, move |addr| {
+    let ((), passes) = serve_while(rt, alloc, &Echoes { alloc }, passes, counts, move |addr| {
         ask_beside_silent(rt, alloc, addr, room)
     })?;
     check(passes.as_slice() == [208].as_slice())

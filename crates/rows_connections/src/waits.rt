@@ -4,7 +4,7 @@ ghost use Rattle.std.specs.Prelude.{⊤, take};
 
 use crate::memory::{check, ended_in_refusal};
 use pl_conn::{Cause, ConnFault, Conversation, Gate, Rest, Room, Source, converse};
-use pl_core::Reply;
+use pl_core::{Answer, Reply};
 use pl_table::Request;
 use std::alloc::Global;
 use std::io::{self, ErrorKind, Read, Write};
@@ -71,6 +71,7 @@ fn add(word: &AtomicU64, more: u64) {
 /// A gate that counts its calls and replies a status.
 #[derive(Drop)]
 struct Counting<'a> {
+    alloc: Global,
     tally: &'a Tally,
 }
 
@@ -81,15 +82,19 @@ impl Gate for Counting<'_> {
 
     ghost calls = { λ _ _ _ _ _. ⊤ };
 
-    fn call(&self, _pass: &mut u64, _request: Request) -> Reply {
+    fn alloc(&self, _pass: &u64) -> Global {
+        self.alloc
+    }
+
+    fn call_onto(&self, _pass: &mut u64, _request: Request, _page: &mut Vec<u8>) -> Answer {
         add(&self.tally.calls, 1);
-        Reply::Status {
+        Answer::Whole(Reply::Status {
             epoch: 1,
             primary: 2,
             hard: 0,
             pending: 0,
             landing: 0,
-        }
+        })
     }
 }
 
@@ -187,7 +192,7 @@ fn talk(
         alloc,
         &mut reader,
         &mut writer,
-        &Counting { tally },
+        &Counting { alloc, tally },
         &mut pass,
     );
     if ended_in_refusal(&end) {
@@ -262,7 +267,7 @@ fn turns(
         match talk.resume(
             &mut reader,
             &mut writer,
-            &Counting { tally },
+            &Counting { alloc, tally },
             &mut pass,
             &mut turning,
         ) {

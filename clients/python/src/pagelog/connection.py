@@ -12,8 +12,9 @@ from collections import deque
 from dataclasses import dataclass
 from itertools import islice
 from types import TracebackType
-from typing import Generator, Iterable, NamedTuple
+from typing import Callable, Generator, Iterable, NamedTuple
 
+from pagelog.dialing import dial
 from pagelog.errors import ConnectionLost, InDoubt, PagelogError, TimedOut, Unreachable
 from pagelog.faults import FrameFault
 from pagelog.reply import Reply, decode_reply
@@ -93,6 +94,8 @@ class Connection:
         self.pause = pause
         self.connects = 0
         """How many connections were made so far. A service may have been restarted where it has grown."""
+        self.when_sent: Callable[[], None] | None = None
+        """Called where all requests are on their way, before their replies are waited for. It raises nothing."""
         self._socket: socket.socket | None = None
         self._out = bytearray()
         self._in = bytearray()
@@ -241,7 +244,7 @@ class Connection:
     def _connect(self) -> None:
         self._check_closed()
         try:
-            made = socket.create_connection((self.address.host, self.address.port), self.timeout)
+            made = dial(self.address.host, self.address.port, self.timeout)
         except (OSError, UnicodeError) as error:  # UnicodeError: the host is no name that can be looked up
             raise Unreachable(f"{self.address}: {error}") from error
         made.setsockopt(socket.IPPROTO_TCP, socket.TCP_NODELAY, 1)
@@ -294,6 +297,8 @@ class Connection:
         try:
             if events & select.POLLOUT:
                 del self._out[: self._socket.send(self._out)]
+                if not self._out and self.when_sent is not None:
+                    self.when_sent()
             if events & ~select.POLLOUT:
                 data = self._socket.recv(_RECEIVE_SIZE)
                 if not data:

@@ -43,6 +43,8 @@ class ListGuard:
         self.table = table
         self.fenced: int | None = None
         """The epoch that the fence began, once there was one."""
+        self.is_fencing = False
+        """Whether a fence was begun, which may be there though no reply has come."""
         self._warn = warn
         self._clock = clock
         self._warned = -_WARNING_SECONDS
@@ -69,6 +71,7 @@ class ListGuard:
             # What comes until the next look counts as gone.
             soon = grown + int(2 * (room.rate or 0.0))
             if self.table is not None and room.left - soon <= max(self.fence_at, wanted):
+                self.is_fencing = True
                 self.fenced = fence_for_archiver(self.room.operator, self.table, self.archiver.reader.credentials.id)
                 self._warn(f"the audit list has {room.left} entries left: the database is fenced in epoch {self.fenced}")
             elif self._is_near(room):

@@ -19,11 +19,17 @@ class Unwritten(PagelogError):
     """The group had ended before it came to this commit. Nothing of it is written."""
 
 
+_GONE = 1.0
+"""Seconds after which who waits looks whether the thread that commits for all is still at it."""
+
+
 class _Commit:
     """What one thread commits, and what became of it."""
 
     def __init__(self, records: Sequence[Record]) -> None:
         self.records = records
+        self.under_way = threading.Lock()
+        """Held by its thread until that has left, however often it is interrupted."""
         self.position = 0
         self.is_settled = False
         self.error: PagelogError | None = None
@@ -58,13 +64,11 @@ class Group:
         for record in records:
             Block.of(1, (record,))
         mine = _Commit(records)
-        try:
+        with mine.under_way:
             try:
                 self._take_part(mine)
             finally:
                 self._leave(mine)
-        finally:
-            self._leave(mine)  # where an interrupt came amid the first
         if mine.error is not None:
             raise mine.error
         return mine.position
@@ -74,22 +78,27 @@ class Group:
         with self._lock:
             self._due.append(mine)
             while self._leader is not None and not mine.is_settled:
-                self._changed.wait()
+                if not self._changed.wait(_GONE) and not self._leader.under_way.locked():
+                    self._end_lead()  # an interrupt came amid its `_leave`
             if not mine.is_settled:
                 self._leader, self._taken, self._due = mine, self._due, []
         if self._leader is mine:
             self._lead(self._taken)
 
     def _leave(self, mine: _Commit) -> None:
-        """This one's thread commits for the others no more. What it leaves unsettled is in doubt."""
+        """This one's thread commits for the others no more."""
         if self._leader is mine:
             with self._lock:
-                for each in self._taken:
-                    if not each.is_settled:
-                        self._ended = self._ended or InDoubt("a thread that committed for all was interrupted")
-                        each.settle(InDoubt(f"the thread that committed for all was interrupted: {self._ended!r}"))
-                self._changed.notify_all()
-                self._leader = None
+                self._end_lead()
+
+    def _end_lead(self) -> None:
+        """What the thread that committed for all has left unsettled is in doubt."""
+        for each in self._taken:
+            if not each.is_settled:
+                self._ended = self._ended or InDoubt("a thread that committed for all was interrupted")
+                each.settle(InDoubt(f"the thread that committed for all was interrupted: {self._ended!r}"))
+        self._changed.notify_all()
+        self._leader = None
 
     def _lead(self, taken: Sequence[_Commit]) -> None:
         try:
@@ -104,8 +113,8 @@ class Group:
     def _commit(self, taken: Sequence[_Commit]) -> None:
         if self._ended is not None:
             raise Unwritten(f"the group has ended: {self._ended}") from self._ended
-        for each, each.position in zip(taken, self._primary.pack([each.records for each in taken])):
-            pass
+        for each, position in zip(taken, self._primary.pack([each.records for each in taken])):
+            each.position = position
         self._primary.commit(durable=True)
         for each in taken:
             each.settle()

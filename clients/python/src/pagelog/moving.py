@@ -87,8 +87,14 @@ class Move:
     warn: Callable[[str], None] = lambda _: None
     fenced: int | None = field(default=None, init=False)
     """The epoch of the source that the fence began, once there was one."""
+    _is_fencing: bool = field(default=False, init=False)
     _began: float = field(default=0.0, init=False)
     _guard: ListGuard | None = field(default=None, init=False)
+
+    @property
+    def may_be_fenced(self) -> bool:
+        """Whether the fence was begun. Where that ended by an error or an interrupt, it is there, or a part of it, or it is not."""
+        return self._is_fencing or (self._guard is not None and self._guard.is_fencing)
 
     def run(self, told: Progress = no_progress) -> Moved:
         """Restore, follow, a comparison, the fence, the rest and its comparison. What is hardened is archived all the while.
@@ -185,7 +191,7 @@ class Move:
     def _fence(self) -> int:
         """Nobody writes at the source from now on. What its writers had in a quorum of copies is hardened."""
         if self.fenced is None:
-            self._began = time.monotonic()
+            self._began, self._is_fencing = time.monotonic(), True
             if self.table is not None:
                 self.operator.set_table(self.table.without_writes())
             self.fenced = self.operator.failover(self.fence_to)

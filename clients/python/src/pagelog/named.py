@@ -70,6 +70,8 @@ class NamedPrimary(Following):
         self._over: int | None = None
         """The generation of its place, once the keepers have said that it is over."""
         self._records: list[Record] = []
+        self._is_urgent = False
+        """Whether the archive is waited for once the blocks are in the log: then it is told of them before."""
         self._tail: list[Block] = []
         """Blocks above `durable_end` up to `end`, and those of a commit that is under way."""
 
@@ -97,6 +99,7 @@ class NamedPrimary(Following):
         self._begin()
         self._pack([self._records])
         self._records = []
+        self._is_urgent = durable
         self._write_all()
         self._told = self.end
         if durable or sum(len(block.data) for block in self._tail) > TAIL:
@@ -172,6 +175,10 @@ class NamedPrimary(Following):
             raise
         except (*GONE, *_DENIED) as error:
             self._move(error)
+
+    def _ring(self) -> None:
+        if self._is_urgent and self.place is not None:
+            self.keepers.ring(self.place.generation, self.place.lines)
 
     # Moving.
 
@@ -312,6 +319,7 @@ class NamedPrimary(Following):
     def _begun(self, place: Place, credentials: Credentials, witness: Reader) -> Primary:
         """The primary of the epoch that was begun, if it is that still: a writer without one begins none in another's way."""
         primary = Primary(self._connection(place, 2), credentials, epoch=self._epoch, alone=True, quorum=self._quorum, witness=witness)
+        primary.connection.when_sent = self._ring
         try:
             primary.begin()
         except BaseException:

@@ -6,6 +6,7 @@ import time
 from typing import Callable, Iterator, Sequence, TypeVar
 
 from pagelog.block import Block
+from pagelog.errors import TimedOut
 from pagelog.following import GONE, Following
 from pagelog.place import QUICKEST, SLOWEST, BelowBase
 from pagelog.reader import Reader, Span
@@ -44,7 +45,9 @@ class NamedReader(Following):
         return None if self.place is None else self.place.run
 
     def end(self) -> int:
-        """The position up to which it can be read now: of the log, or with `durable_only` what is durable."""
+        """The position up to which it can be read now: of the log, or with `durable_only` what is durable. Raises `TimedOut` where the
+        keepers name another run than the one that they led to, again and again."""
+        deadline, wait = time.monotonic() + self.keepers.patience, 0.0
         while True:
             hard = self._asked(lambda reader: reader.status().hard + self._shift)
             if not self.durable_only:
@@ -52,6 +55,10 @@ class NamedReader(Following):
             if self._is_confirmed():
                 return min(hard, self._durable)
             self._leave()
+            if time.monotonic() > deadline:
+                raise TimedOut(f"no keeper has confirmed in {self.keepers.patience} s where {self.keepers.name} is read")
+            time.sleep(wait)
+            wait = min(SLOWEST, 2 * wait or QUICKEST)
 
     def _is_confirmed(self) -> bool:
         """Whether the run that is read from is the holder's or a standby's still. How far its blocks are the archive's is known

@@ -10,6 +10,7 @@ from dataclasses import dataclass
 from typing import Sequence
 
 from pagelog.connection import Address
+from pagelog.dialing import dial
 from pagelog.errors import PagelogError, TimedOut
 
 QUICKEST, SLOWEST = 0.005, 0.2
@@ -19,8 +20,12 @@ _HELD = 0.25
 """Seconds for which an answer that keepers hold back is waited for; then it is tried again where the database was."""
 _SILENCE = 3.0
 _LONGEST = 1024
+_NO_RING = ["what", "ring"]
+"""What a keeper answers to a `ring` that knows none; one that does answers nothing."""
 _LEFT_OUT = 10.0
-"""Seconds for which a keeper whose machine does not answer is not asked, as long as there is another."""
+"""Seconds for which a keeper that does not answer, or its machine, is not asked, as long as there is another."""
+_AT_ONCE = ("where", "standby")
+"""What a keeper that lives answers at once; the rest may wait for PostgreSQL."""
 
 
 class UnknownName(PagelogError):
@@ -75,7 +80,7 @@ class _Line:
 
     def __init__(self, address: str) -> None:
         place = Address.parse(address)
-        self._socket = socket.create_connection((place.host, place.port), _ANSWER)
+        self._socket = dial(place.host, place.port, _ANSWER)
         self._socket.setsockopt(socket.IPPROTO_TCP, socket.TCP_NODELAY, 1)
         self._left = b""
 
@@ -102,11 +107,13 @@ class _Line:
             if not data or len(self._left) > _LONGEST:
                 raise ConnectionError("the keeper ended the connection")
             self._left += data
-        line, end, rest = self._left.partition(b"\n")
-        if not end:
-            return None
-        self._left = rest
-        return line.decode(errors="replace").split()
+        while True:
+            line, end, rest = self._left.partition(b"\n")
+            if not end:
+                return None
+            self._left = rest
+            if (words := line.decode(errors="replace").split()) != _NO_RING:
+                return words
 
     def fileno(self) -> int:
         """Its socket."""
@@ -146,21 +153,24 @@ class Keepers:
             answer = line.answer(timeout)
             self._lines[address] = line
             return answer
-        except OSError:
+        except OSError as error:
+            if isinstance(error, TimeoutError) and words[0] in _AT_ONCE:
+                self._leave_out(address)
             return []
         finally:
             if address not in self._lines:
                 line.close()
 
     def where(self) -> Place | None:
-        """The place of the highest generation that a keeper knows of; None where nobody serves it now.
+        """The place of the highest generation that a keeper knows of, as who knows most of its archive says; None where nobody serves
+        it now. One that has not looked for a while knows less of both.
 
         Raises `UnknownName` where all that answer say so.
         """
         answers = [self._ask(address, ("where", self.name)) for address in self._asks()]
         places = [place for place in map(_place, answers) if place is not None]
         if places:
-            return max(places, key=lambda place: place.generation)
+            return max(places, key=lambda place: (place.generation, place.archived))
         if any(answers) and all(words[:1] == ["unknown"] for words in answers if words):
             raise UnknownName(f"the keepers know of no database {self.name}")
         return None
@@ -224,8 +234,11 @@ class Keepers:
         try:
             return _Line(address)
         except TimeoutError:
-            self._left_out[address] = time.monotonic() + _LEFT_OUT
+            self._leave_out(address)
             raise
+
+    def _leave_out(self, address: str) -> None:
+        self._left_out[address] = time.monotonic() + _LEFT_OUT
 
     def _asks(self) -> list[str]:
         """Those to ask: of a machine that is gone each question would take a second."""
@@ -247,6 +260,17 @@ class Keepers:
         if self._process != os.getpid():
             self.close()
             self._process = os.getpid()
+
+    def ring(self, generation: int, lines: str) -> None:
+        """Tells the holder, if there is a connection to it, that new blocks of this generation are on their way."""
+        line = self._lines.get(lines)
+        if line is None or self._process != os.getpid():
+            return
+        try:
+            line.send(("ring", self.name, generation), _ANSWER)
+        except OSError:
+            del self._lines[lines]
+            line.close()
 
     def after(self, place: Place) -> Place:
         """The place of a later generation, if its keeper is about to publish one; else as `place`."""

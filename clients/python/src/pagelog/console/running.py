@@ -39,13 +39,16 @@ async def run(
 
 
 def begin(source: Source, limits: Limits, door: Door, host: str, port: int) -> int:
-    """Serves in a thread, with a loop of its own, for as long as the program runs. Returns the port. Raises `OSError`."""
+    """Serves in a thread, with a loop of its own, for as long as the program runs. Returns the port. Raises `OSError`, or
+    `UnicodeError` for a host that is no name."""
     listening: Future[int] = Future()
 
     def serve() -> None:
         try:
             asyncio.run(run(source, limits, door, host, port, listening.set_result, ()))
-        except OSError as error:
+        except BaseException as error:  # whatever it is: who began it waits for its word
+            if listening.done():
+                raise
             listening.set_exception(error)
 
     Thread(target=serve, name="console", daemon=True).start()

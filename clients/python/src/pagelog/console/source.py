@@ -16,7 +16,8 @@ from psycopg.rows import dict_row
 from pagelog.archive_engine import without_password
 from pagelog.console import statements
 from pagelog.errors import PagelogError
-from pagelog.keeper.referee import plain_url, shut_down
+from pagelog.keeper.hosts import shut_down, turn_hosts
+from pagelog.keeper.referee import plain_url
 from pagelog.keeper.rows import KeeperRow, Look, Row, StandbyRow, Synchronous
 from pagelog.reply import LINE_SIZE
 from pagelog.trail.store import FORMAT, Piece
@@ -77,6 +78,7 @@ class Source:
 
     def __init__(self, url: str) -> None:
         self._url = url
+        self._options: dict[str, Any] = {**_OPTIONS, **conninfo_to_dict(plain_url(url))}
         self._connection: psycopg.Connection[dict[str, Any]] | None = None
         self._generations: dict[int, int] = {}
         self._next: dict[int, int] = {}
@@ -110,11 +112,20 @@ class Source:
         return without_password(text, self._url)
 
     def _ask(self, statement: str, values: Mapping[str, Any] | None = None) -> list[dict[str, Any]]:
-        if self._connection is None or self._connection.closed:
-            words: dict[str, Any] = {**_OPTIONS, **conninfo_to_dict(plain_url(self._url))}
-            self._connection = psycopg.connect(make_conninfo(**words), autocommit=True, row_factory=dict_row)
-            self._connection.execute("SET default_transaction_read_only = on")
-        return self._connection.execute(statement, values).fetchall()
+        return self._connected().execute(statement, values).fetchall()
+
+    def _connected(self) -> psycopg.Connection[dict[str, Any]]:
+        left = 1 + str(self._options.get("host") or "").count(",")
+        while self._connection is None or self._connection.closed:
+            try:
+                self._connection = psycopg.connect(make_conninfo(**self._options), autocommit=True, row_factory=dict_row)
+                self._connection.execute("SET default_transaction_read_only = on")
+            except psycopg.Error:
+                self.close()
+                turn_hosts(self._options)
+                if (left := left - 1) == 0:
+                    raise
+        return self._connection
 
     def _look(self) -> Seen:
         [found] = self._ask(statements.LOOK)

@@ -46,8 +46,8 @@ def console_word(accounts: Accounts, listen: str, token_file: Path | None) -> No
     source = Source(url_of_referee(accounts))
     try:
         asyncio.run(run(source, limits, door, host.strip("[]"), port, lambda bound: click.echo(f"listening {host}:{bound}")))
-    except OSError as error:
-        fail(f"--listen: {listen}: {error.strerror or error}")
+    except (OSError, UnicodeError) as error:  # UnicodeError: the host is no name that can be looked up
+        fail(f"--listen: {listen}: {getattr(error, 'strerror', None) or error}")
 
 
 def begin_console(settings: Settings) -> str:
@@ -61,8 +61,8 @@ def begin_console(settings: Settings) -> str:
     limits = Limits(settings.ttl, settings.program.audit, settings.memory >> 20, settings.succeed or ROLL_AT)
     try:
         return f"{host}:{begin(Source(settings.url), limits, door, host.strip('[]'), port)}"
-    except OSError as error:
-        fail(f"[keeper] console: {settings.console}: {error.strerror or error}")
+    except (OSError, UnicodeError) as error:
+        fail(f"[keeper] console: {settings.console}: {getattr(error, 'strerror', None) or error}")
 
 
 def _place_of(listen: str, token_file: Path | None, option: str, token_option: str) -> tuple[str, int, Door]:

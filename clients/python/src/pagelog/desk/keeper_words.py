@@ -11,9 +11,10 @@ import os
 import secrets
 import signal
 import sys
+import threading
 from contextlib import contextmanager
 from pathlib import Path
-from typing import TYPE_CHECKING, Any, Callable, Iterator
+from typing import TYPE_CHECKING, Any, Callable, Iterator, Mapping, Sequence
 
 import click
 from click.core import ParameterSource
@@ -21,7 +22,7 @@ from click.core import ParameterSource
 from pagelog.credentials import Accounts
 from pagelog.desk.options import AGAIN, URL_VARIABLE, credentials_option, fail, faults, url_options
 from pagelog.keeper.aside import asides_of
-from pagelog.keeper.referee import NAME, Away, Doubt, Referee, Refused
+from pagelog.keeper.referee import LONGEST, NAME, Away, Doubt, Referee, Refused
 from pagelog.keeper.rows import Look, Row
 from pagelog.keeper.settings import Settings
 from pagelog.keeper.table import Form, read_table, table_of_run
@@ -52,16 +53,33 @@ def referee_word(word: Callable[..., Any]) -> Callable[..., Any]:
     @faults
     @functools.wraps(word)
     def run(accounts: Accounts, **options: Any) -> Any:
-        with referee_of(accounts) as referee:
+        with referee_of(accounts, _Asked) as referee:
             return word(referee, **options)
 
     return run
 
 
+class _Asked(Referee):
+    """For a person, who asks for little: a statement that hangs is cut."""
+
+    def _ask(self, statement: str, values: Mapping[str, Any] | Sequence[Any] = (), *, binary: bool = False) -> list[Any]:
+        done = threading.Event()
+
+        def cut() -> None:
+            while not done.wait(LONGEST):  # again where it was connecting, and hangs once it has
+                self.cut()
+
+        threading.Thread(target=cut, daemon=True).start()
+        try:
+            return super()._ask(statement, values, binary=binary)
+        finally:
+            done.set()
+
+
 @contextmanager
-def referee_of(accounts: Accounts) -> Iterator[Referee]:
+def referee_of(accounts: Accounts, kind: type[Referee] = Referee) -> Iterator[Referee]:
     """The referee. A fault of it is a line, and the exit status that the archive's database has for the like."""
-    referee = Referee(url_of_referee(accounts))
+    referee = kind(url_of_referee(accounts))
     try:
         yield referee
     except (Away, Doubt) as error:

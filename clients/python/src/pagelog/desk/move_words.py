@@ -81,9 +81,10 @@ def _run(move: Move, told: object) -> Moved:
     try:
         return move.run(told)  # type: ignore[arg-type]
     except BaseException:
-        if move.fenced is not None:
-            click.echo(f"pagelogctl: the source was fenced in epoch {move.fenced}, and the move is not done: run it again, or set the "
-                       "source's table again, and let a writer take it over", err=True)  # fmt: skip
+        if move.may_be_fenced:
+            how = "may be fenced" if move.fenced is None else f"was fenced in epoch {move.fenced}"
+            click.echo(f"pagelogctl: the source {how}, and the move is not done: run it again, or set the source's table again, and let a "
+                       "writer take it over", err=True)  # fmt: skip
         raise
 
 

@@ -52,6 +52,10 @@ list_option = click.option("--list", "run", metavar="N", type=click.IntRange(1),
                            "was restarted began a new one. [default: all]")  # fmt: skip
 
 
+_LATE = 5.0
+"""For how many seconds after its time a line may still come into a trail that is followed."""
+
+
 def start_of(table: Path | None, primary: int | None) -> Start | None:
     """What a database began from, as the two options say it."""
     if (table is None) != (primary is None):
@@ -196,7 +200,7 @@ def _accounts(_: click.Context, __: click.Parameter, value: str | None) -> Accou
 @click.option("--summary", is_flag=True, help="Count the lines by minute, principal and rule.")
 @click.option("--plot", metavar="FILE", type=click.Path(dir_okay=False), help="Draw requests and denials by minute, and epochs, as SVG. Needs python3-pygal.")
 @json_option
-@click.option("--follow", is_flag=True, help="Go on with what is recorded.")
+@click.option("--follow", is_flag=True, help="Go on with what is recorded, up to the time of --until.")
 @faults
 def trail_word(
     name: str, accounts: Accounts | None, url: str | None, run: int | None, since: str | None, until: str | None, principal: int | None, op: str | None,
@@ -261,13 +265,14 @@ def _lines(trail: Trail, run: int | None, question: Question, follow: bool, stop
     following = {one.id: 1 for one in chosen(trail, run)}
     is_ended: set[int] = set()
     while not stop():
+        is_last = not follow or (question.until is not None and 1e6 * (time.time() - _LATE) >= question.until)
         for one in chosen(trail, run):
             yield from answer(trail, one, question, following.get(one.id, 1))
             following[one.id] = one.kept + 1
             if one.ended is not None and one.id not in is_ended and _is_in_time(one, question):
                 is_ended.add(one.id)
                 yield one
-        if not follow:
+        if is_last:
             return
         time.sleep(0.5)
 

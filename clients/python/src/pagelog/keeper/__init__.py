@@ -18,6 +18,6 @@ named database is and how far it is durable, and takes over what another keeper 
     recorder    keeps the audit lists beside the blocks
     lines       the line protocol; waits has who waits
     shared      what the databases of a keeper share
-    database    one database of a keeper: does what is decided
+    database    one database of a keeper: does what is decided; beginning, standing and ending have how
     keeping     the loop around all of it
 """

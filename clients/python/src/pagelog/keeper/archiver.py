@@ -4,10 +4,11 @@ from __future__ import annotations
 
 import asyncio
 from contextlib import asynccontextmanager
-from typing import TYPE_CHECKING, AsyncIterator, Callable, Sequence
+from typing import TYPE_CHECKING, AsyncIterator, Callable, Literal, Sequence
 
 from pagelog.errors import AuditListFull, PagelogError, TurnsSpent
 from pagelog.keeper.committer import Committer, Fenced
+from pagelog.keeper.quick_way import End, QuickWay, QuickWays
 from pagelog.keeper.referee import digest
 from pagelog.keeper.rows import Batch, Kept, Lines, Row
 from pagelog.keeper.served import Served
@@ -27,13 +28,18 @@ class Archiver:
     """
 
     def __init__(
-        self, row: Row, served: Served, waits: Waits, committer: Committer, say: Callable[[str, str], None], changed: Callable[[], None]
-    ) -> None:
+        self, row: Row, served: Served, waits: Waits, committer: Committer, say: Callable[[str, str], None], changed: Callable[[], None],
+        ways: QuickWays | None = None,
+    ) -> None:  # fmt: skip
         self._row, self._served, self._waits, self._committer = row, served, waits, committer
         self._say, self._changed = say, changed
         self._doorbell, self._advanced = asyncio.Event(), asyncio.Event()
-        self.turn = asyncio.Lock()
+        self.turn = Turn(self._end_way)
         """Held for each batch, from its pull until its fate is known."""
+        self._ways = ways
+        self._way: QuickWay | None = None
+        self._is_asked = False
+        """Whether somebody waited for the last batch."""
         self._wait = 0.05
         self.recorder: Recorder | None = None
         """Who keeps the lines of its audit list, if they are kept."""
@@ -54,6 +60,8 @@ class Archiver:
     def ring(self) -> None:
         """There is something to archive, or somebody who waits."""
         self._doorbell.set()
+        if self._way is not None and not self._way.take(self._waits):
+            self._way.kick()
 
     def stir(self) -> None:
         """Wakes who waits in `reached`, to look again."""
@@ -61,6 +69,7 @@ class Archiver:
 
     async def reached(self, end: int) -> bool:
         """Returns once all up to `end` is archived; False where it never will be, or the service hangs."""
+        self.refresh()
         while self._served.reached < end:
             if self.is_over or not self._served.is_alive or self._served.hangs:
                 return False  # also where it was so before: nobody would wake this any more
@@ -84,7 +93,7 @@ class Archiver:
             await self._doorbell.wait()
             async with self.turn:
                 self._doorbell.clear()
-                if not await self.archived():
+                if not await self.archived() or not await self._quickly():
                     return
 
     async def archived(self) -> bool:
@@ -96,6 +105,7 @@ class Archiver:
 
     async def _archived(self, recorder: Recorder | None) -> bool:
         served, waited = self._served, self._waits.now()
+        self._is_asked = False
         try:
             batch = await self._next_batch(recorder)
         except (AuditListFull, TurnsSpent):
@@ -141,8 +151,13 @@ class Archiver:
             kept = await self._told(batch)
         except Fenced:
             return False  # the next look shows by whom
+        return await self._entered(kept, (batch.new, batch.chain))
+
+    async def _entered(self, kept: Kept, expected: tuple[int, bytes]) -> bool:
+        """Takes what is archived of the run, which may be what was expected. False where the archive has something else."""
+        served = self._served
         try:
-            is_known = (kept.archived, kept.chain) in ((batch.new, batch.chain), (batch.old, served.chain))
+            is_known = (kept.archived, kept.chain) in (expected, (served.reached, served.chain))
             # Else a batch that an earlier life of this keeper had sent has come late, or PostgreSQL went back.
             has = is_known or await asyncio.to_thread(self._served.has, kept.archived, kept.chain)
         except PagelogError:
@@ -156,10 +171,65 @@ class Archiver:
             self._say(self._row.name, f"the archive went back, to position {kept.archived}: what the service has after it is archived again")
         served.reached, served.chain = kept.archived, kept.chain
         self._advanced.set()
+        self._is_asked = len(self._waits) > 0
         self._waits.tell(served.generation, served.reached)
         if served.hard > served.reached or len(self._waits):
             self.ring()
         return True
+
+    # The quick way.
+
+    async def _quickly(self) -> bool:
+        """Where somebody waits for each batch, and few come at once, the quick way goes on as long as it can. False where the run holds
+        the database no more. The turn is the caller's."""
+        served = self._served
+        if self._ways is None or not self._is_asked or self.recorder is not None or served.hard > served.reached + FEW:
+            return True
+        way = None if self.turn.is_wanted else await self._ways.way_of(self._row, served, self._hear_way)
+        if way is None:
+            return True
+        self._way = way
+        way.take(self._waits)
+        if self._doorbell.is_set():
+            way.kick()  # it rang meanwhile: for who waits, and cannot be lent, or for a ring alone
+        if self.turn.is_wanted:
+            way.stop()
+        try:
+            end = await way.run()
+        finally:
+            self._way = None
+        self._take(way)
+        if end not in (End.NOT_KEPT, End.DOUBT):
+            return True
+        try:
+            kept = await self._committer.look_up(self._row.id, served.run)
+        except Fenced:
+            return False
+        return await self._entered(kept, way.last)
+
+    def _end_way(self) -> None:
+        """Somebody else wants the turn."""
+        if self._way is not None:
+            self._way.stop()
+
+    def _hear_way(self) -> None:
+        """The quick way has news: what was waited for here is archived, or is not there, which it does not say."""
+        self.refresh()
+        if len(self._waits):
+            self._end_way()
+
+    def refresh(self) -> None:
+        """How far the quick way has come is known from now on."""
+        if self._way is not None:
+            self._take(self._way)
+
+    def _take(self, way: QuickWay) -> None:
+        served = self._served
+        reached, chain = way.reached
+        if reached > served.reached:
+            served.reached, served.chain, served.hard = reached, chain, max(served.hard, reached)
+            self._advanced.set()
+            self._waits.tell(served.generation, reached)
 
     async def _told(self, batch: Batch) -> Kept:
         """What the committer says of it; its recorder knows then whether the lines are kept."""
@@ -174,6 +244,30 @@ class Archiver:
         """Whether lines are kept that a statement had with their blocks is known."""
         if lines is not None and self.recorder is not None:
             self.recorder.settle(lines, is_kept=is_kept)
+
+
+class Turn(asyncio.Lock):
+    """A lock whose holder is told that another waits for it."""
+
+    def __init__(self, wanted: Callable[[], None]) -> None:
+        super().__init__()
+        self._wanted = wanted
+        self._waiting = 0
+
+    @property
+    def is_wanted(self) -> bool:
+        """Whether another waits for it."""
+        return self._waiting > 0
+
+    async def acquire(self) -> Literal[True]:
+        """As of any lock."""
+        self._waiting += 1
+        try:
+            if self.locked():
+                self._wanted()
+            return await super().acquire()
+        finally:
+            self._waiting -= 1
 
 
 @asynccontextmanager

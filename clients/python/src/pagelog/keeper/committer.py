@@ -6,13 +6,18 @@ import asyncio
 from contextlib import suppress
 from dataclasses import dataclass, field
 from functools import partial
+from typing import Callable
 
-from pagelog.keeper.referee import Away, Doubt, KeeperError, Refused
+from pagelog.keeper.referee import Away, Doubt, KeeperError, OneDisk, Refused
 from pagelog.keeper.rows import Batch, Kept
 from pagelog.keeper.session import Session
 
 MOST = 16 << 20
 """The most bytes of one statement, unless one batch alone has more."""
+
+
+def _nothing(_: str) -> None:
+    """Says nothing."""
 
 
 class Fenced(KeeperError):
@@ -32,9 +37,10 @@ class Committer:
     by a statement that writes, for as long as that takes.
     """
 
-    def __init__(self, session: Session, idle: float) -> None:
-        """Without a batch for `idle` seconds the connection is closed."""
+    def __init__(self, session: Session, idle: float, say: Callable[[str], None] = _nothing) -> None:
+        """Without a batch for `idle` seconds the connection is closed. What PostgreSQL refuses is said, once."""
         self._session = session
+        self._say, self._said = say, ""
         self._idle = idle
         self._due: list[_Due] = []
         self._came = asyncio.Event()
@@ -80,15 +86,15 @@ class Committer:
                 continue
             try:
                 kept = await self._session.keep([due.batch for due in batches])
-            except (Doubt, Refused, Away):
+                self._said = ""
+            except (Doubt, Refused, Away) as error:
+                self._tell(error)
                 kept = frozenset()
             for due in batches:
                 if due.batch.log in kept:
                     self._answer(due, Kept(due.batch.new, due.batch.chain, due.batch.generation, is_told=True))
                 else:  # beside what comes next: a row that is locked holds up no other database
-                    looking = asyncio.create_task(self._look_up(due))
-                    self._looking.add(looking)
-                    looking.add_done_callback(partial(self._looked_up, due))
+                    self._begin_look_up(due)
 
     def _taken(self) -> list[_Due]:
         """Those of the next statement: one of a database, since two would be taken for one. What was given up is left out."""
@@ -108,21 +114,39 @@ class Committer:
             self._came.clear()
         return list(taken.values())
 
-    async def _look_up(self, due: _Due) -> None:
-        """What became of a batch that is in doubt, or was not kept."""
+    async def look_up(self, log: int, run: str) -> Kept:
+        """What is archived of a run, after a batch that is in doubt, or was not kept. Raises `Fenced`."""
         wait = 0.05
-        while not due.future.cancelled():
+        while True:
             try:
-                found = await self._session.ask(self._session.referee.kept, due.batch.log, due.batch.run)
-            except (Doubt, Refused, Away):
+                found = await self._session.ask(self._session.referee.kept, log, run)
+                self._said = ""
+            except (Doubt, Refused, Away) as error:
+                self._tell(error)
                 await asyncio.sleep(wait)
                 wait = min(1.0, 2 * wait)
                 continue
-            if found is not None:
-                self._answer(due, found)
-            elif not due.future.done():
-                due.future.set_exception(Fenced("the run holds its database no more"))
-            return
+            if found is None:
+                raise Fenced("the run holds its database no more")
+            return found
+
+    def _tell(self, error: KeeperError) -> None:
+        if str(error) != self._said and not isinstance(error, OneDisk):  # which is said with the looks
+            self._say(f"nothing is archived: {error}")
+        self._said = str(error)
+
+    def _begin_look_up(self, due: _Due) -> None:
+        looking = asyncio.create_task(self._look_up(due))
+        self._looking.add(looking)
+        looking.add_done_callback(partial(self._looked_up, due))
+        due.future.add_done_callback(lambda _: looking.cancel())  # it was given up, or is answered
+
+    async def _look_up(self, due: _Due) -> None:
+        try:
+            self._answer(due, await self.look_up(due.batch.log, due.batch.run))
+        except Fenced as error:
+            if not due.future.done():
+                due.future.set_exception(error)
 
     def _looked_up(self, due: _Due, looking: asyncio.Task[None]) -> None:
         self._looking.discard(looking)

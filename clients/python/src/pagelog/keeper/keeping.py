@@ -9,6 +9,7 @@ import logging
 import secrets
 import signal
 from concurrent.futures import ThreadPoolExecutor
+from functools import partial
 from typing import TYPE_CHECKING, Any
 
 from pagelog.keeper.committer import Committer
@@ -20,7 +21,8 @@ from pagelog.keeper.machine import Stillness
 from pagelog.keeper.notify import notify
 from pagelog.keeper.places import Places
 from pagelog.keeper.quick import QuickReferee, QuickSession
-from pagelog.keeper.referee import KeeperError, Referee, Superseded
+from pagelog.keeper.quick_way import QuickWays
+from pagelog.keeper.referee import NAME, KeeperError, Referee, Superseded
 from pagelog.keeper.rows import Look, StandbyRow, Synchronous, released_of
 from pagelog.keeper.run import end_orphans, has_services
 from pagelog.keeper.served import seconds
@@ -47,14 +49,16 @@ class Keeper:
         self._folder = Folder(settings.program.folder, settings.name)
         self.life = secrets.token_hex(8)
         self.databases: dict[int, Database] = {}
+        self._by_name: dict[str, Database] = {}
+        """Those that the last look has shown, and that were not dropped."""
         self.look = Look()
         self.lines = settings.lines
         self._session = Session(Referee(settings.url, settings.name, self.life, listens=True, requires_standby=settings.require_standby),
                                 settings.ttl)  # fmt: skip
         self._writer = QuickSession(QuickReferee(settings.url, settings.name, self.life, requires_standby=settings.require_standby),
                                     2 * settings.ttl)  # fmt: skip
-        self._shared = Shared(settings, self.life, self._session, Committer(self._writer, settings.ttl), self._say,
-                              self._changed, self._trails())  # fmt: skip
+        committer = Committer(self._writer, settings.ttl, partial(self._say, "the archive"))
+        self._shared = Shared(settings, self.life, self._session, committer, self._say, self._changed, self._trails(), self._ways())
         self._server = Server(self)
         self._places = Places(self.where)
         self._turns = AllTurns()
@@ -72,6 +76,15 @@ class Keeper:
         from pagelog.keeper.recorder import Trails
 
         return Trails(self.settings.url, self.settings.trail, self.settings.ttl)
+
+    def _ways(self) -> QuickWays | None:
+        settings = self.settings
+        if settings.require_standby or settings.trail:
+            return None  # each statement has a question after it, or lines of an audit list with it
+        ways = QuickWays(QuickReferee(settings.url, settings.name, self.life), idle=settings.ttl, deadline=2 * settings.ttl)
+        if not ways.is_there:
+            self._say("the keeper", "the quick way is not built: durable commits take longer")
+        return ways
 
     def _say(self, name: str, sentence: str) -> None:
         _log.info("%s: %s", name, sentence)
@@ -176,13 +189,15 @@ class Keeper:
         await self._writer.close()
         if self._shared.trails is not None:
             self._shared.trails.close()
+        if self._shared.ways is not None:
+            await self._shared.ways.close()
         self._folder.leave()
 
     # Looking.
 
     async def _hear(self) -> None:
         """Takes what a release has said for true, before a look shows it: what follows has its own conditions."""
-        heard = [(self._named(name), of) for name, *of in map(released_of, self._session.taken())]
+        heard = [(self._named(name), of) for name, of in map(released_of, self._session.taken())]
         acting = {task for database, of in heard if database is not None and (task := database.hear(*of)) is not None}
         if acting:  # a take goes before the look
             await asyncio.wait(acting, timeout=self.settings.ttl / LOOKS / 2)
@@ -203,11 +218,12 @@ class Keeper:
         self._say_of_referee(self.synchronous.meaning)
         self._see_lives()
         for row in self.look.rows:
-            database = self.databases.get(row.id)
-            if database is None and row.dropped:
+            if row.id not in self.databases and not row.dropped:
+                self.databases[row.id] = Database(self._shared, row)
+        self._by_name = {row.name: self.databases[row.id] for row in self.look.rows if not row.dropped}
+        for row in self.look.rows:
+            if (database := self.databases.get(row.id)) is None:
                 continue
-            if database is None:
-                database = self.databases[row.id] = Database(self._shared, row)
             holder = self.look.keeper(row.holder)
             is_noted = any(standby.keeper == self.settings.name for standby in self.look.standbys_of(row.id))
             database.see(row, None if holder is None else holder.beat, self._others(row.id), is_noted=is_noted, began=began)
@@ -241,7 +257,7 @@ class Keeper:
     # Answering.
 
     def _named(self, name: str) -> Database | None:
-        return next((each for each in self.databases.values() if each.row.name == name and each.is_known and not each.row.dropped), None)
+        return self._by_name.get(name)
 
     def where(self, name: str) -> tuple[object, ...]:
         """Where a database is, as the last look has shown it, or as it is here."""
@@ -253,6 +269,7 @@ class Keeper:
         is_closed = database.holds and served is not None and not served.is_open
         if row.address is None or is_closed or (holder is None and not database.holds):
             return ("nowhere", name)
+        database.work.refresh()
         archived = served.reached if served is not None and database.holds else row.archived
         lines = self.lines if database.holds or holder is None else holder.lines
         return ("at", name, row.generation, row.run, row.address, archived, lines, row.images, row.shift, row.base)
@@ -299,9 +316,18 @@ class Keeper:
         else:
             database.wait(line, generation, position)
 
+    def ring(self, name: str, generation: int) -> None:
+        """Looks for new blocks, if it is held here."""
+        if generation == self._held(name):
+            database = self._named(name)
+            assert database is not None
+            database.work.ring()
+
     def block(self, line: Line, name: str, position: int) -> None:
-        """Answers from the archive, once PostgreSQL has."""
-        self._shared.spawn(tell_block(self._session, line, name, position), name)
+        """Answers from the archive, once PostgreSQL has. For what is no name it is not asked: it would end the connection."""
+        if NAME.fullmatch(name) is None:
+            return line.say("block", name, position, "-")
+        self._shared.spawn(tell_block(self._shared.questions, line, name, position), name)
 
     def _held(self, name: str) -> int | None:
         """The generation of it that is held here."""

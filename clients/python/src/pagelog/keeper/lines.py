@@ -9,6 +9,7 @@ they answer.
                                     over NAME GENERATION END: all up to END is archived, and nothing above it will ever be
                                     above NAME GENERATION M: there is no N; the service ends at M
                                     elsewhere NAME GENERATION: ask `where` again
+    ring NAME GENERATION            nothing: there will be new blocks, and a `durable` after it
     block NAME N                    block NAME N DIGEST: the SHA-256 of the archived block at position N | block NAME N -: none is there
     turn NAME ..                    whose turn it is to write: turns.py
 
@@ -20,25 +21,120 @@ generation before ended: all up to there is durable, and of what it had above no
 from __future__ import annotations
 
 import asyncio
+import os
 from typing import Protocol
 
 LONGEST = 1024
+_AT_ONCE = 64
+"""Lines of one client that are answered before others have their turn."""
 
 
-class Line:
-    """One connection of a client, to which lines are written."""
+class Line(asyncio.Protocol):
+    """One connection of a client. Its lines are answered in the order in which they come; nothing is read of a client that does not read."""
 
-    def __init__(self, writer: asyncio.StreamWriter) -> None:
-        self._writer = writer
+    def __init__(self, answers: Answers, open: set[Line]) -> None:
+        self._answers, self._open = answers, open
+        self._transport: asyncio.Transport | None = None
+        self._left = b""
+        self._is_full = self._is_lent = self._is_behind = False
+
+    def connection_made(self, transport: asyncio.BaseTransport) -> None:
+        assert isinstance(transport, asyncio.Transport)
+        self._transport = transport
+        self._open.add(self)
+
+    def connection_lost(self, error: Exception | None) -> None:
+        self._transport = None
+        self._open.discard(self)
+        self._answers.gone(self)
+
+    def data_received(self, data: bytes) -> None:
+        self._left += data
+        self._hear()
+
+    def eof_received(self) -> None:
+        if self._left and not self._is_full:
+            self._answer(self._left)
+
+    def pause_writing(self) -> None:
+        self._is_full = True
+        self._read_or_not()
+
+    def resume_writing(self) -> None:
+        self._is_full = False
+        self._hear()
+
+    def _read_or_not(self) -> None:
+        """Reads on, unless there is something to be done or waited for before."""
+        if self._transport is None:
+            return
+        if self._is_full or self._is_lent or self._is_behind:
+            self._transport.pause_reading()
+        else:
+            self._transport.resume_reading()
+
+    def _hear(self) -> None:
+        """Answers some lines, and the next ones once others had their turn."""
+        for _ in range(_AT_ONCE):
+            if not self._has_line:
+                break
+            line, _, self._left = self._left.partition(b"\n")
+            self._answer(line)
+        if self._has_line and not self._is_behind:
+            asyncio.get_running_loop().call_soon(self._hear_on)
+        self._is_behind = self._has_line
+        if len(self._left) > LONGEST and not (self._is_full or self._is_lent or self._is_behind):
+            self.close()
+        self._read_or_not()
+
+    def _hear_on(self) -> None:
+        self._is_behind = False
+        self._hear()
+
+    @property
+    def _has_line(self) -> bool:
+        """Whether a whole line can be answered now."""
+        return self.is_open and not self._is_full and not self._is_lent and b"\n" in self._left[: LONGEST + 1]
+
+    def _answer(self, line: bytes) -> None:
+        try:
+            answer(self._answers, self, line.decode().split())
+        except ValueError:
+            self.close()  # it is no text, or a number is none
+
+    @property
+    def is_open(self) -> bool:
+        """Whether it is not known to be gone."""
+        return self._transport is not None and not self._transport.is_closing()
 
     def say(self, *words: object) -> None:
         """Writes a line. To one who is gone nothing is written."""
-        if not self._writer.is_closing():
-            self._writer.write(" ".join(map(str, words)).encode() + b"\n")
+        if self._transport is not None and not self._transport.is_closing():
+            self._transport.write(" ".join(map(str, words)).encode() + b"\n")
 
-    async def drained(self) -> None:
-        """Waits until the client has read enough of what was written."""
-        await self._writer.drain()
+    def close(self) -> None:
+        """Ends it, once what was written is sent."""
+        if self._transport is not None:
+            self._transport.close()
+
+    def lend(self) -> int | None:
+        """A descriptor of its socket, for one who reads it in place of this, and closes it; until `take_back`. None where something is left
+        to be read or written, or there is no descriptor to be had."""
+        transport = self._transport
+        if transport is None or transport.is_closing() or self._is_lent or self._is_full or self._left or transport.get_write_buffer_size():
+            return None
+        try:
+            descriptor = os.dup(transport.get_extra_info("socket").fileno())
+        except OSError:
+            return None
+        self._is_lent = True
+        self._read_or_not()
+        return descriptor
+
+    def take_back(self, data: bytes) -> None:
+        """Reads it again, after what was read meanwhile, and not answered."""
+        self._is_lent, self._left = False, data + self._left
+        self._hear()
 
 
 class Answers(Protocol):
@@ -59,6 +155,9 @@ class Answers(Protocol):
     def durable(self, line: Line, name: str, generation: int, position: int) -> None:
         """Writes the answer to `durable` once there is one."""
 
+    def ring(self, name: str, generation: int) -> None:
+        """There will be new blocks."""
+
     def block(self, line: Line, name: str, position: int) -> None:
         """Writes the answer to `block`."""
 
@@ -69,56 +168,47 @@ class Answers(Protocol):
         """The client is gone, and waits for nothing."""
 
 
+def answer(answers: Answers, line: Line, words: list[str]) -> None:
+    """Answers a line. Raises `ValueError` where a number is none."""
+    match words:
+        case ["where", name]:
+            line.say(*answers.where(name))
+        case ["where", name, least]:
+            answers.where_next(line, name, int(least))
+        case ["next", name, least]:
+            answers.next_place(line, name, int(least))
+        case ["standby", name]:
+            line.say(*answers.standby(name))
+        case ["durable", name, generation, position]:
+            answers.durable(line, name, int(generation), int(position))
+        case ["ring", name, generation]:
+            answers.ring(name, int(generation))
+        case ["block", name, position]:
+            answers.block(line, name, int(position))
+        case ["turn" | "back" | "hold", _, *_]:
+            answers.turn(line, words)
+        case _:
+            line.say("what", *words[:1])
+
+
 class Server:
     """Listens, and hands each line to who answers."""
 
     def __init__(self, answers: Answers) -> None:
         self._answers = answers
         self._server: asyncio.base_events.Server | None = None
-        self._open: set[asyncio.StreamWriter] = set()
+        self._open: set[Line] = set()
 
     async def start(self, address: str) -> str:
         """Listens at HOST:PORT, where port 0 is any free one. Returns the address."""
         host, _, port = address.rpartition(":")
-        self._server = await asyncio.start_server(self._serve, host.strip("[]"), int(port), limit=LONGEST)
+        loop = asyncio.get_running_loop()
+        self._server = await loop.create_server(lambda: Line(self._answers, self._open), host.strip("[]"), int(port))
         return f"{host}:{self._server.sockets[0].getsockname()[1]}"
 
     async def stop(self) -> None:
         """Ends all connections."""
         if self._server is not None:
             self._server.close()
-        for writer in list(self._open):
-            writer.close()
-
-    async def _serve(self, reader: asyncio.StreamReader, writer: asyncio.StreamWriter) -> None:
-        line = Line(writer)
-        self._open.add(writer)
-        try:
-            while data := await reader.readline():
-                self._answer(line, data.decode().split())
-                await line.drained()
-        except (ConnectionError, ValueError, UnicodeDecodeError):
-            pass  # it is gone, or its line is too long or no text: it is closed
-        finally:
-            self._answers.gone(line)
-            self._open.discard(writer)
-            writer.close()
-
-    def _answer(self, line: Line, words: list[str]) -> None:
-        match words:
-            case ["where", name]:
-                line.say(*self._answers.where(name))
-            case ["where", name, least]:
-                self._answers.where_next(line, name, int(least))
-            case ["next", name, least]:
-                self._answers.next_place(line, name, int(least))
-            case ["standby", name]:
-                line.say(*self._answers.standby(name))
-            case ["durable", name, generation, position]:
-                self._answers.durable(line, name, int(generation), int(position))
-            case ["block", name, position]:
-                self._answers.block(line, name, int(position))
-            case ["turn" | "back" | "hold", _, *_]:
-                self._answers.turn(line, words)
-            case _:
-                line.say("what", *words[:1])
+        for line in list(self._open):
+            line.close()

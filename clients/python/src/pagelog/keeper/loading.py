@@ -3,11 +3,11 @@
 from __future__ import annotations
 
 import select
-import socket
 from typing import Iterable, Iterator, Sequence
 
 from pagelog.connection import Address
 from pagelog.credentials import Credentials
+from pagelog.dialing import dial
 from pagelog.errors import ConnectionLost, PagelogError, TimedOut, UnexpectedReply, Unreachable
 from pagelog.reply import decode_reply, refusal_of
 from pagelog.request import QUORUM, Head, Operation, Role
@@ -33,7 +33,7 @@ class Loader:
         self._owed = 0
         place = Address.parse(address)
         try:
-            self._socket = socket.create_connection((place.host, place.port), timeout)
+            self._socket = dial(place.host, place.port, timeout)
         except OSError as error:
             raise Unreachable(f"{address}: {error}") from error
         self._socket.setblocking(False)

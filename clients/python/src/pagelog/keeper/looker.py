@@ -13,6 +13,9 @@ from pagelog.matching import mismatch
 from pagelog.reply import Entries, Reply, State, decode_reply
 from pagelog.request import Act, Audit, Head, Request, Role, Status
 
+_SILENT = 0.25
+"""Seconds after which the next address of a host is tried beside one that is silent."""
+
 
 class Looker:
     """A connection for one look at a time. Whatever else than its state comes back, it says that it does not know: an `Operator` asks
@@ -29,7 +32,7 @@ class Looker:
 
         Where another epoch has begun, as with each generation that of its writer, it asks again in that.
         """
-        acts = (Status(), Audit(probe, 1))
+        acts: tuple[Act, Act] = (Status(), Audit(probe, 1))
         replies = await self._replies(acts)
         told = max((reported_epoch(reply) or 0 for reply in replies), default=0)
         if told > self._epoch:
@@ -67,7 +70,8 @@ class Looker:
         head = Head(self._credentials.id, self._credentials.token, Role.OPERATOR, 0, self._epoch)
         bodies = [Request(head, act).encode() for act in acts]
         if self._line is None:
-            _, self._line = await asyncio.get_running_loop().create_connection(_Line, self._address.host, self._address.port)
+            host, port, loop = self._address.host, self._address.port, asyncio.get_running_loop()
+            _, self._line = await loop.create_connection(_Line, host, port, happy_eyeballs_delay=_SILENT)
         return await self._line.ask(b"".join(len(body).to_bytes(4, "big") + body for body in bodies), len(bodies))
 
 

@@ -28,6 +28,22 @@ class Prepared:
         if result.status != pq.ExecStatus.COMMAND_OK:
             raise psycopg.errors.error_from_result(result)
 
+    @property
+    def name(self) -> bytes:
+        """Its name on the connection."""
+        return self._name
+
+    @property
+    def names(self) -> list[str]:
+        """Those of its values, in their order."""
+        return self._names
+
+    @property
+    def connection(self) -> int | None:
+        """The address of libpq's connection."""
+        address: int | None = getattr(self._connection.pgconn, "pgconn_ptr")  # which the protocol of psycopg's types lacks
+        return address
+
     def _number(self, found: re.Match[str]) -> str:
         name, kind = found.groups()
         if name not in self._names:

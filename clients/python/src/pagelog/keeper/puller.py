@@ -74,10 +74,9 @@ class Puller:
 
     async def _asked(self, role: Role, epoch: int, act: Act) -> bytes | None:
         """The body of the reply, if one comes."""
-        body = Request(Head(self._credentials.id, self._credentials.token, role, 0, epoch), act).encode()
         is_whole = False
         try:
-            answer = await self._answer(len(body).to_bytes(4, "big") + body)
+            answer = await self._answer(self._frame(role, epoch, act))
             is_whole = True
             return answer
         except OSError:
@@ -85,6 +84,14 @@ class Puller:
         finally:
             if not is_whole:
                 self.close()  # its reply would be taken for that of the next one
+
+    def frame(self, epoch: int) -> bytes:
+        """A pull as a frame, in this epoch or a later one that it was told of. It ends with the LSN and how many blocks."""
+        return self._frame(Role.SECONDARY, max(epoch, self._epoch), Pull(1))
+
+    def _frame(self, role: Role, epoch: int, act: Act) -> bytes:
+        body = Request(Head(self._credentials.id, self._credentials.token, role, 0, epoch), act).encode()
+        return len(body).to_bytes(4, "big") + body
 
     def close(self) -> None:
         """Closes the connection. The next pull makes another."""
@@ -95,7 +102,9 @@ class Puller:
 
     async def _answer(self, frame: bytes) -> bytes:
         """The body of the reply. Raises `OSError`."""
-        line = self._socket = self._socket or await self._connected()
+        if self._socket is None:
+            self._socket = await asyncio.to_thread(connected, self._address, self._timeout)
+        line = self._socket
         if line.send(frame) < len(frame):  # it is short, and nothing else is on its way
             raise ConnectionError("the service takes nothing")
         if _is_soon(line):
@@ -109,12 +118,6 @@ class Puller:
         finally:
             timer.cancel()
 
-    async def _connected(self) -> socket.socket:
-        made = await asyncio.to_thread(socket.create_connection, (self._address.host, self._address.port), self._timeout)
-        made.setsockopt(socket.IPPROTO_TCP, socket.TCP_NODELAY, 1)
-        made.setblocking(False)
-        return made
-
     def _take(self, data: bytes) -> None:
         if not data:
             raise ConnectionError("the service ended the connection")
@@ -127,6 +130,14 @@ class Puller:
         body = bytes(self._in[4 : 4 + length])
         del self._in[: 4 + length]
         return body
+
+
+def connected(address: Address, timeout: float) -> socket.socket:
+    """A connection that does not block, made within so many seconds. Raises `OSError`."""
+    made = socket.create_connection((address.host, address.port), timeout)
+    made.setsockopt(socket.IPPROTO_TCP, socket.TCP_NODELAY, 1)
+    made.setblocking(False)
+    return made
 
 
 def _is_soon(line: socket.socket) -> bool:

@@ -31,6 +31,19 @@ class QuickReferee(Referee):
         is_open = connection is not None and connection is self._connection and not connection.closed
         return prepared if is_open and not self._requires_standby else None
 
+    def prepare_statement(self, statement: str) -> Prepared:
+        """The statement, prepared on the connection. Raises `Away`, `Refused` or `Doubt`."""
+        connection = self._connected()
+        known, prepared = self._prepared.get(statement, (None, None))
+        if known is connection and prepared is not None:
+            return prepared
+        try:
+            made = Prepared(connection, statement)
+        except psycopg.Error as error:
+            raise self._meaning(error) from error
+        self._prepared[statement] = connection, made
+        return made
+
     @property
     def is_prepared(self) -> bool:
         """Whether batches without lines can be sent at once."""

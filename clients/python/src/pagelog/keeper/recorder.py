@@ -6,7 +6,7 @@ from __future__ import annotations
 import asyncio
 import time
 from concurrent.futures import Executor, ThreadPoolExecutor
-from typing import Callable, TypeVar
+from typing import Any, Callable, TypeVar
 
 import sqlalchemy as sql
 
@@ -42,7 +42,7 @@ class Turn:
     def __init__(self, patience: float) -> None:
         self._lock = asyncio.Lock()
         self._patience = patience
-        self._work: asyncio.Future[object] | None = None
+        self._work: asyncio.Future[Any] | None = None
         self._is_late = False
 
     async def take(self) -> None:

@@ -8,9 +8,7 @@ has read. A plain SELECT would believe a primary that was cut off, or came back 
 from __future__ import annotations
 
 import hashlib
-import os
 import re
-import socket
 import threading
 import time
 import zlib
@@ -22,6 +20,7 @@ from psycopg.conninfo import conninfo_to_dict, make_conninfo
 from pagelog.errors import PagelogError
 from pagelog.keeper import statements
 from pagelog.keeper.batches import array_of, statement_of, values_of
+from pagelog.keeper.hosts import shut_down, turn_hosts
 from pagelog.keeper.refusal import is_refusal, line_of
 from pagelog.keeper.rows import Batch, Kept, Look, Row, Where, look_of
 from pagelog.keeper.schema import CHANNEL, FORMAT, script
@@ -113,10 +112,7 @@ class Referee:
 
     def turn_hosts(self) -> None:
         """The next connection tries the second host first. An old primary that still runs would be taken again and again."""
-        for key in ("host", "port", "hostaddr"):
-            first, comma, rest = str(self._options.get(key) or "").partition(",")
-            if comma:
-                self._options[key] = f"{rest},{first}"
+        turn_hosts(self._options)
 
     @property
     def descriptor(self) -> int | None:
@@ -394,16 +390,6 @@ class Referee:
             "WITH told AS (UPDATE pagelog_log SET wanted = %s WHERE name = %s AND format = %s AND NOT dropped "
             "AND wanted IS NOT DISTINCT FROM COALESCE(%s::text, wanted) RETURNING id) "
             f"SELECT id, pg_notify('{CHANNEL}', '') FROM told", (keeper, name, FORMAT, instead_of)))  # fmt: skip
-
-
-def shut_down(connection: psycopg.Connection[Any] | None) -> None:
-    """Ends what another thread waits for over this connection, if it has not ended."""
-    try:
-        if connection is not None and not connection.closed:
-            with socket.socket(fileno=os.dup(connection.fileno())) as line:
-                line.shutdown(socket.SHUT_RDWR)
-    except (OSError, psycopg.Error):
-        pass  # it is gone already
 
 
 def _session_name(keeper: str) -> str:

@@ -160,7 +160,7 @@ def look_of(keepers: list[Any], rows: list[Any], standbys: list[Any], names: str
                 tuple(StandbyRow(**found) for found in standbys), Synchronous(names, count))  # fmt: skip
 
 
-def released_of(notified: str) -> tuple[str, int, int, bytes]:
-    """The name, the generation, the archived position and the digest of a release, by what it has notified; of another one no name."""
+def released_of(notified: str) -> tuple[str, tuple[int, int, bytes]]:
+    """The name, and the generation, the archived position and the digest of a release, by what it has notified; of another one no name."""
     found = re.fullmatch(r"(\S+) (\d+) (\d+) ((?:[0-9a-f]{2})*)", notified)
-    return ("", 0, 0, b"") if found is None else (found[1], int(found[2]), int(found[3]), bytes.fromhex(found[4]))
+    return ("", (0, 0, b"")) if found is None else (found[1], (int(found[2]), int(found[3]), bytes.fromhex(found[4])))

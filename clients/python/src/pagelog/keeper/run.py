@@ -8,6 +8,7 @@ import secrets
 import select
 import signal
 import subprocess
+from contextlib import suppress
 from dataclasses import dataclass, replace
 from pathlib import Path
 from typing import Any, Iterator
@@ -17,6 +18,8 @@ from pagelog.keeper.table import KEEPER
 
 WORKERS = 4
 """Threads of a service."""
+_END = 10.0
+"""For how many seconds the end of a process that was killed is waited for."""
 
 
 class NotStarted(PagelogError):
@@ -103,7 +106,8 @@ class Run:
         except (OSError, NotStarted) as error:
             if child is not None:
                 child.kill()
-                child.wait()
+                with suppress(subprocess.TimeoutExpired):
+                    child.wait(_END)
                 if child.stdout is not None:
                     child.stdout.close()
             if descriptor is not None:
@@ -146,15 +150,21 @@ class Run:
         except (OSError, IndexError, ValueError):
             return 0
 
-    def end(self) -> None:
-        """Kills the process, waits for its end, and removes its files. It keeps nothing that would have to be saved."""
+    def end(self) -> bool:
+        """Kills the process, waits for its end, and removes its files. It keeps nothing that would have to be saved.
+
+        False where it has not ended after a while, as one that waits for a disk or was frozen: it answers nobody any more, and its
+        file stays for the keeper's next life.
+        """
         try:
             signal.pidfd_send_signal(self.descriptor, signal.SIGKILL)
         except ProcessLookupError:
             pass
-        _is_readable(self.descriptor)
+        has_ended = _is_readable(self.descriptor, _END)
         self.leave()
-        _forget(self.folder, self.facts.name, self.facts.run)
+        if has_ended:
+            _forget(self.folder, self.facts.name, self.facts.run)
+        return has_ended
 
     def leave(self) -> None:
         """Takes notice of a process that has ended, and closes its descriptors. One that runs goes on."""
@@ -250,11 +260,11 @@ def _facts_of(name: str, run: str, pid: int) -> Facts:
     return Facts(name, run, pid, int(fields[19]), Path("/proc/sys/kernel/random/boot_id").read_text().strip())
 
 
-def _is_readable(descriptor: int, patience: float | None = None) -> bool:
-    """Waits for it, in seconds, or for ever. A `select` would fail where a thousand files are open."""
+def _is_readable(descriptor: int, patience: float) -> bool:
+    """Waits for it, in seconds. A `select` would fail where a thousand files are open."""
     poll = select.poll()
     poll.register(descriptor, select.POLLIN)
-    return bool(poll.poll(None if patience is None else 1000 * patience))
+    return bool(poll.poll(1000 * patience))
 
 
 def _address(child: subprocess.Popen[bytes], patience: float) -> str:

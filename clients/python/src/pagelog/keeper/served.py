@@ -2,19 +2,20 @@
 
 from __future__ import annotations
 
+import asyncio
 import time
 from contextlib import nullcontext
 from itertools import islice
 from typing import Iterable, Iterator, Sequence
 
 from pagelog.block import Block
-from pagelog.connection import Connection
+from pagelog.connection import Address, Connection
 from pagelog.keeper.bases import NOTHING, Bases, snapshot
 from pagelog.keeper.images import blocks_of, labelled
 from pagelog.keeper.loading import EPOCH, GROUP, Loader
 from pagelog.keeper.looker import Looker
 from pagelog.keeper.machine import Kind
-from pagelog.keeper.puller import Puller
+from pagelog.keeper.puller import Puller, connected
 from pagelog.keeper.referee import BrokenArchive, Referee, digest
 from pagelog.keeper.rows import Where
 from pagelog.keeper.run import Program, Run
@@ -70,7 +71,9 @@ class Served:
         """Whether the referee is known to have noted it as a standby."""
         self.process: Run | None = None
         self._quick_looker: Looker | None = None
-        self._text, self._secret, self._timeout = text, secret, timeout
+        self._text, self._secret = text, secret
+        self.timeout = timeout
+        """Seconds for which an answer is waited for."""
         self._entries, self._step = 0, FEW
         self._ahead: tuple[int, bytes] | None = None
         """How far it was loaded, and the digest of that, where it is loaded, or the archive went away meanwhile."""
@@ -93,7 +96,7 @@ class Served:
     @property
     def hangs(self) -> bool:
         """Whether it has answered no look for as long as it may."""
-        return self.silent >= self._timeout
+        return self.silent >= self.timeout
 
     # Its beginning and its end.
 
@@ -106,9 +109,9 @@ class Served:
         credentials = keeper_of(self._secret, self.database, self.run)
         self._operator = Operator(self._connection(process), credentials)
         self._looker = Operator(self._connection(process), credentials)
-        self._quick_looker = Looker(process.address, credentials, self._timeout)
+        self._quick_looker = Looker(process.address, credentials, self.timeout)
         self._reader = Reader(self._connection(process), credentials)
-        self._puller = Puller(process.address, credentials, self._timeout)
+        self._puller = Puller(process.address, credentials, self.timeout)
         self.process = process  # last: from now on the event loop asks it
 
     def end(self) -> None:
@@ -126,7 +129,7 @@ class Served:
         return self._table(Form.READING).encode(), self._table(Form.OPEN).encode()
 
     def _connection(self, process: Run) -> Connection:
-        return Connection(process.address, timeout=self._timeout, attempts=2)
+        return Connection(process.address, timeout=self.timeout, attempts=2)
 
     def _table(self, form: Form) -> str:
         return table_of_run(self._text, self._secret, self.database, self.run, form)
@@ -159,7 +162,7 @@ class Served:
         """A connection that fills it. Raises `Unreachable`."""
         assert self.process is not None
         credentials = keeper_of(self._secret, self.database, self.run)
-        return Loader(self.process.address, credentials, quorum=quorum_of(self._text), timeout=self._timeout)
+        return Loader(self.process.address, credentials, quorum=quorum_of(self._text), timeout=self.timeout)
 
     def _begin(self, bases: Bases, archived: int, loader: Loader) -> None:
         """With the images of the newest base. Its last block of them then has the base's position."""
@@ -300,6 +303,12 @@ class Served:
             return None
         self.hard = max(self.hard, position + len(found))
         return labelled(found, position + 1) if self.shift else found
+
+    async def pulling_line(self) -> tuple[int, bytes]:
+        """A descriptor of a connection of its own to the service, which does not block, and a pull as a frame. Raises `OSError`."""
+        assert self.process is not None
+        made = await asyncio.to_thread(connected, Address.parse(self.process.address), self.timeout)
+        return made.detach(), self._puller.frame(self._reader.epoch)
 
     async def lines_at_once(self, first: int) -> bytes | None:
         """The bytes of the audit list's lines from this number on, without a thread; None where they are not to be had so."""

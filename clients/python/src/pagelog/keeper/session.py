@@ -49,19 +49,23 @@ class Session:
     def _leave(self, work: asyncio.Future[Any]) -> None:
         """Who asked has given up. The thread has the connection until it ends, and is cut where it hangs."""
 
+        loop = asyncio.get_running_loop()
+        timers: list[asyncio.TimerHandle] = []
+
         def hangs() -> None:
-            nonlocal timer
             self.cut()
-            timer = loop.call_later(self._deadline, hangs)
+            wait()
+
+        def wait() -> None:
+            timers[:] = [loop.call_later(self._deadline, hangs)]
 
         def ended(_: asyncio.Future[Any]) -> None:
-            timer.cancel()
+            timers[0].cancel()
             if not work.cancelled():
                 work.exception()  # it is told to nobody
             self._end_turn()
 
-        loop = asyncio.get_running_loop()
-        timer = loop.call_later(self._deadline, hangs)
+        wait()
         work.add_done_callback(ended)
 
     def _end_turn(self) -> None:

@@ -8,8 +8,10 @@ from typing import TYPE_CHECKING, Any, Callable, Coroutine
 
 from pagelog.keeper.aside import Asides
 from pagelog.keeper.committer import Committer
+from pagelog.keeper.fates import Questions, tell_fate
 from pagelog.keeper.lines import Line
-from pagelog.keeper.referee import PIECE, Away, Doubt, Referee, Refused
+from pagelog.keeper.quick_way import QuickWays
+from pagelog.keeper.referee import PIECE, Referee
 from pagelog.keeper.served import Served
 from pagelog.keeper.session import Session
 from pagelog.keeper.settings import Settings
@@ -30,12 +32,23 @@ class Shared:
     say: Callable[[str, str], None]
     changed: Callable[[str], None]
     trails: Trails | None = None
+    ways: QuickWays | None = None
     ending: bool = False
     tasks: set[asyncio.Task[None]] = field(default_factory=set)
     successions: asyncio.Semaphore = field(default_factory=lambda: asyncio.Semaphore(1))
 
     def __post_init__(self) -> None:
         self.asides = Asides(self.settings.program.folder)
+        self.questions = Questions(self.session)
+
+    @property
+    def referee(self) -> Referee:
+        """That of the keeper's looks."""
+        return self.session.referee
+
+    async def ask(self, call: Callable[..., Any], *arguments: Any) -> Any:
+        """What the call returns or raises, which asks the referee."""
+        return await self.session.ask(call, *arguments)
 
     async def fill(self, served: Served, log: int, archived: int, chain: bytes) -> None:
         """Fills it up to this position. Where much is missing, over a connection to the archive of its own."""
@@ -51,15 +64,8 @@ class Shared:
             referee.close()
 
     async def tell_fate(self, line: Line, name: str, generation: int) -> None:
-        """What became of a generation that is not this keeper's: by a statement that writes, as its end is final."""
-        try:
-            end = await self.session.ask(self.session.referee.fate, name, generation)
-        except (Away, Doubt, Refused):
-            end = None
-        if end is None:
-            line.say("elsewhere", name, generation)
-        else:
-            line.say("over", name, generation, end)
+        """Says what became of a generation that is not this keeper's."""
+        await tell_fate(self.questions, line, name, generation)
 
     def spawn(self, work: Coroutine[Any, Any, None], what: str) -> asyncio.Task[None]:
         """A task whose end by an error is said: a database that nobody keeps would be the result."""

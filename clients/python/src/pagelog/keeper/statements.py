@@ -77,6 +77,14 @@ SELECT id FROM fence
 """
 """As `KEEP`, of one batch, which is the usual case, and takes four fifths of the time."""
 
+KEEP_BLOCK = """
+WITH fence AS (
+  UPDATE pagelog_log SET archived = %(new)s, chain = %(chain)b
+  WHERE id = %(id)s AND run = %(run)s AND generation = %(generation)s AND archived = %(old)s RETURNING id)
+INSERT INTO pagelog_block (log, lsn, crc, data) SELECT id, %(new)s, %(crc)s, %(bytes)b FROM fence RETURNING log
+"""
+"""The same of a batch with one block."""
+
 _LINES = """
 lined AS (
   UPDATE pagelog_trail_list t SET kept = v.first + v.count - 1, seen = v.seen,

@@ -5,6 +5,10 @@ from __future__ import annotations
 from pagelog.keeper.lines import Line
 
 
+_MOST = 4096
+"""For how many positions of a database a connection may wait: each batch looks through all of them."""
+
+
 class Waits:
     """The waits for the generation that this keeper has, by the connection that they came over."""
 
@@ -15,9 +19,13 @@ class Waits:
     def __len__(self) -> int:
         return len(self._waits)
 
-    def add(self, line: Line, position: int) -> None:
-        """Somebody waits."""
-        self._waits.setdefault(line, []).append(position)
+    def add(self, line: Line, position: int) -> bool:
+        """Somebody waits. False where it waits for very many already."""
+        waits = self._waits.setdefault(line, [])
+        if len(waits) >= _MOST:
+            return False
+        waits.append(position)
+        return True
 
     def gone(self, line: Line) -> None:
         """Nobody waits over this connection any more."""

@@ -33,6 +33,7 @@ class Work:
     def see(self, served: Served) -> None:
         """Whether a service that was started still answers is asked with each look."""
         self._served = served
+        self.refresh()
         served.silent = self._silent.see((served.run, served.answers), seconds())
         if self.archiver is not None and served.hangs:
             self.archiver.stir()
@@ -57,7 +58,7 @@ class Work:
     def begin(self, row: Row, served: Served, *, records: bool = True) -> None:
         """From now on it is held: archived, and recorded, unless `record` is called later."""
         self._served = served
-        self.archiver = Archiver(row, served, self._waits, self._shared.committer, self._shared.say, self._news)
+        self.archiver = Archiver(row, served, self._waits, self._shared.committer, self._shared.say, self._news, self._shared.ways)
         self.archiver.recorder = self.recorder  # which goes on where the archiver is begun again
         self._archiving = self._shared.spawn(self.archiver.run(), self._name)
         if records:
@@ -80,6 +81,11 @@ class Work:
         """There is something to archive, or somebody who waits."""
         if self.archiver is not None:
             self.archiver.ring()
+
+    def refresh(self) -> None:
+        """How far it is archived is known from now on."""
+        if self.archiver is not None:
+            self.archiver.refresh()
 
     def stir(self) -> None:
         """The service has died, which who waits for its archive has to know."""

@@ -5,11 +5,11 @@ use Rattle.pl_pages.proofs.Touching.{next_listed, block_redone, later_block}
 use Rattle.pl_pages.proofs.pages.bring_up.Goals as goal
 
 pub read-requires-clause-first : goal.read-requires-clause-first
-read-requires-clause-first c = (next_listed c.args.page c.args.log.now.hardened c.requires.numbered c.args.lsns.now c.requires.lsns c.loop-i.i (omega arith)).some
+read-requires-clause-first c = (next_listed c.args.page c.args.log.now.hardened c.requires.lsns.numbered c.args.lsns.now c.requires.lsns.all c.loop-i.i (omega arith)).some
 
 pub read-requires-clause-last : goal.read-requires-clause-last
 read-requires-clause-last c =
-    let listed = next_listed c.args.page c.args.log.now.hardened c.requires.numbered c.args.lsns.now c.requires.lsns c.loop-i.i (omega arith) in
+    let listed = next_listed c.args.page c.args.log.now.hardened c.requires.lsns.numbered c.args.lsns.now c.requires.lsns.all c.loop-i.i (omega arith) in
     omega (arith, listed.last, ap (λ l. length l.hardened) c.loop-i.invariant.log)
 
 -- the next block makes its changes
@@ -23,7 +23,7 @@ loop-i-preserved c =
     let vs = c.loop-i.versions.versions in
     let inv = c.loop-i.invariant in
     let block = c.in_ok-block.block in
-    let listed = next_listed page log c.requires.numbered c.args.lsns.now c.requires.lsns i (omega arith) in
+    let listed = next_listed page log c.requires.lsns.numbered c.args.lsns.now c.requires.lsns.all i (omega arith) in
     let here : slice_get log (b - 1) ≡ Some block = ap (λ state. slice_get state.hardened (b - 1)) (sym inv.log) ∙ c.in_ok-block.ensures.block in
     record {
       log = c.read.ensures.same ∙ inv.log;

@@ -68,33 +68,33 @@ returns-in-Err-clause-full c =
 pub invariant_of-self-2 : goal.invariant_of-self-2
 invariant_of-self-2 c =
     let a = c.self.inside in
-    extended_kept a.frames a.out.items a.free a.max_chunks c.self.invariant c.in-Ok.number c.in-Ok.ensures.number (λ e. ok_is_no_fault _ _ (c.in-Ok.ensures.full.1 (sym c.in-Ok.ensures.number ∙ e)))
-    zeros c.push_frame.new.frames c.in-Ok.ensures.frame c.push_frame.new.out.items c.in-Ok.ensures.flag
+    extended_kept a.frames a.out.items a.free a.max_chunks c.self.invariant c.in-Ok.number c.in-Ok.ensures.ok.number_is (λ e. ok_is_no_fault _ _ (c.in-Ok.ensures.full.1 (sym c.in-Ok.ensures.ok.number_is ∙ e)))
+    zeros c.push_frame.new.frames c.in-Ok.ensures.ok.frame c.push_frame.new.out.items c.in-Ok.ensures.ok.flag
 
 pub returns-clause-fresh : goal.returns-clause-fresh
 returns-clause-fresh c =
     let a = c.self.inside in
     subst (λ (s : Arena). frame_bytes s c.in-Ok.number ≡ None) c.self.view_is
-    (place_fresh a.frames a.out.items a.free a.max_chunks c.self.invariant c.in-Ok.number c.in-Ok.ensures.number (λ e. ok_is_no_fault _ _ (c.in-Ok.ensures.full.1 (sym c.in-Ok.ensures.number ∙ e))))
+    (place_fresh a.frames a.out.items a.free a.max_chunks c.self.invariant c.in-Ok.number c.in-Ok.ensures.ok.number_is (λ e. ok_is_no_fault _ _ (c.in-Ok.ensures.full.1 (sym c.in-Ok.ensures.ok.number_is ∙ e))))
 
 pub returns-clause-taken : goal.returns-clause-taken
 returns-clause-taken c =
     let a = c.self.inside in
-    extended_is a.frames a.out.items a.free a.max_chunks c.self.invariant c.in-Ok.number c.in-Ok.ensures.number (λ e. ok_is_no_fault _ _ (c.in-Ok.ensures.full.1 (sym c.in-Ok.ensures.number ∙ e)))
-    zeros c.push_frame.new.frames c.in-Ok.ensures.frame c.push_frame.new.out.items c.in-Ok.ensures.flag
+    extended_is a.frames a.out.items a.free a.max_chunks c.self.invariant c.in-Ok.number c.in-Ok.ensures.ok.number_is (λ e. ok_is_no_fault _ _ (c.in-Ok.ensures.full.1 (sym c.in-Ok.ensures.ok.number_is ∙ e)))
+    zeros c.push_frame.new.frames c.in-Ok.ensures.ok.frame c.push_frame.new.out.items c.in-Ok.ensures.ok.flag
     ∙ ap (λ (s : Arena). with_frame s c.in-Ok.number zeros) c.self.view_is
 
 pub returns-clause-out : goal.returns-clause-out
 returns-clause-out c =
     let a = c.self.inside in
     now_out _ _ c.in-Ok.number _
-    (extended_is a.frames a.out.items a.free a.max_chunks c.self.invariant c.in-Ok.number c.in-Ok.ensures.number (λ e. ok_is_no_fault _ _ (c.in-Ok.ensures.full.1 (sym c.in-Ok.ensures.number ∙ e)))
-    zeros c.push_frame.new.frames c.in-Ok.ensures.frame c.push_frame.new.out.items c.in-Ok.ensures.flag)
+    (extended_is a.frames a.out.items a.free a.max_chunks c.self.invariant c.in-Ok.number c.in-Ok.ensures.ok.number_is (λ e. ok_is_no_fault _ _ (c.in-Ok.ensures.full.1 (sym c.in-Ok.ensures.ok.number_is ∙ e)))
+    zeros c.push_frame.new.frames c.in-Ok.ensures.ok.frame c.push_frame.new.out.items c.in-Ok.ensures.ok.flag)
 
 pub returns-clause-full : goal.returns-clause-full
 returns-clause-full c =
     let a = c.self.inside in (
       (λ e. absurd (ok_is_no_fault _ _ e)),
-      (λ f. absurd (place_not_full a.frames a.out.items a.free a.max_chunks c.self.invariant c.in-Ok.number c.in-Ok.ensures.number
-          (λ e. ok_is_no_fault _ _ (c.in-Ok.ensures.full.1 (sym c.in-Ok.ensures.number ∙ e))) (subst IsFull (sym c.self.view_is) f))),
+      (λ f. absurd (place_not_full a.frames a.out.items a.free a.max_chunks c.self.invariant c.in-Ok.number c.in-Ok.ensures.ok.number_is
+          (λ e. ok_is_no_fault _ _ (c.in-Ok.ensures.full.1 (sym c.in-Ok.ensures.ok.number_is ∙ e))) (subst IsFull (sym c.self.view_is) f))),
     )

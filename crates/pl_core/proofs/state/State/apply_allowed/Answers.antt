@@ -12,7 +12,7 @@ use Rattle.pl_core.specs.History.{failed_over}
 use Rattle.pl_core.specs.Transition.{state_after, with_unseen}
 use Rattle.pl_core.proofs.Unseen.{applied, applied_plain, none_moved, pages_as_before, all_as_before, same_pages}
 use Rattle.pl_core.proofs.Reading.{read_changes_nothing, read_follows}
-use Rattle.pl_core.proofs.Seen.{seen_same}
+use Rattle.pl_core.proofs.Seen.{seen_same, moved_so}
 use Rattle.pl_core.proofs.state.State.apply_allowed.Goals as goal
 
 pub returns-in-Write-clause-ok : goal.returns-in-Write-clause-ok
@@ -25,7 +25,7 @@ returns-in-Write-clause-ok c =
 pub returns-in_ok-offer-in-Offer-clause-ok : goal.returns-in_ok-offer-in-Offer-clause-ok
 returns-in_ok-offer-in-Offer-clause-ok c =
     applied_plain c.args.self.now (record c.args.self.now { log = c.offer.new.self }) c.args.by c.args.act (acts.Offer c.in-Offer.block) (audit_lines c.args.audit.now.entries) c.done-in-Offer.result replies.Done c.args.page.now c.in-Offer.is c.done-in-Offer.ensures.value refl
-    (ap (λ (l : LogState). record c.args.self.now { log = l }) (seen_same c.offer.new.self (offered_log c.args.self.now.log c.in-Offer.block) c.in_ok-offer-in-Offer.ensures.ok))
+    (ap (λ (l : LogState). record c.args.self.now { log = l }) (moved_so c.offer.new.self (offered_log c.args.self.now.log c.in-Offer.block) c.args.self.now.log.in_broker c.in_ok-offer-in-Offer.ensures.ok))
     (same_pages c.args.self.now c.args.self.now c.requires.can.fits refl)
     refl
 
@@ -87,6 +87,6 @@ returns-in_ok-list-in-Audit-clause-ok c =
 pub returns-in_ok-tidy-in-Tidy-clause-ok : goal.returns-in_ok-tidy-in-Tidy-clause-ok
 returns-in_ok-tidy-in-Tidy-clause-ok c =
     applied_plain c.args.self.now (record c.args.self.now { log = c.tidy.new.self }) c.args.by c.args.act (acts.Tidy) (audit_lines c.args.audit.now.entries) c.done-in-Tidy.result replies.Done c.args.page.now c.in-Tidy.is c.done-in-Tidy.ensures.value refl
-    (ap (λ (l : LogState). record c.args.self.now { log = l }) (seen_same c.tidy.new.self c.args.self.now.log c.tidy.ensures.same))
+    (ap (λ (l : LogState). record c.args.self.now { log = l }) (seen_same c.tidy.new.self c.args.self.now.log c.tidy.ensures.same.same))
     (same_pages c.args.self.now c.args.self.now c.requires.can.fits refl)
     refl

@@ -1,0 +1,151 @@
+"""How a database comes to this keeper: it is taken, and its service filled; or a service of an earlier life is adopted."""
+
+from __future__ import annotations
+
+import asyncio
+from dataclasses import replace
+from typing import TYPE_CHECKING
+
+from pagelog.errors import PagelogError
+from pagelog.keeper.machine import Kind, Stillness
+from pagelog.keeper.referee import PIECE, Away, Doubt, Refused
+from pagelog.keeper.rows import Row, Where
+from pagelog.keeper.run import Run, new_run
+from pagelog.keeper.served import Served
+
+if TYPE_CHECKING:
+    from pagelog.keeper.database import Database
+
+
+class Beginning:
+    """Of one database. What says so returns whether there are new facts to decide from."""
+
+    def __init__(self, database: Database) -> None:
+        self._database, self._shared = database, database.shared
+        self._stuck_at: tuple[str, int] | None = None
+        """Run and end of the service that could not be filled any further when that was tried last, as PostgreSQL was away for it."""
+        self._stuck = Stillness(database.shared.settings.ttl)
+        self._stuck_for = 0.0
+        """For how many seconds that is so while the looks go through: then it is not away."""
+
+    def see(self, now: float) -> None:
+        """A look has gone through."""
+        self._stuck_for = self._stuck.see(self._stuck_at, now)
+
+    async def take(self) -> bool:
+        """Makes this keeper the holder; its standby is published with that, if it has all that is archived."""
+        database = self._database
+        row, beat = database.row, database.beat  # as it was decided: a look that comes meanwhile may show a holder that is alive
+        served = database.served or await database.new_served(new_run())
+        try:
+            where = await self._ready(served, row)
+        except (Away, Doubt, Refused):
+            raise
+        except PagelogError as error:
+            return await database.standing.give_up(served, error)
+        kept = await self._shared.ask(self._shared.referee.take, row, served.run, beat, where)
+        if kept is None:
+            return False
+        served.kind, served.generation, database.served = Kind.HOLDER, kept.generation, served
+        served.is_after_release = row.run is None and row.generation not in (0, database.let_go)
+        database.row = replace(row, generation=kept.generation, run=served.run, holder=self._shared.settings.name, address=where.address,
+                           archived=kept.archived, base=kept.archived, shift=served.shift, images=served.images, chain=kept.chain,
+                           wanted=None)  # fmt: skip
+        return True
+
+    async def _ready(self, served: Served, row: Row) -> Where:
+        """Where a standby is, once it has all that is archived, so that its place can be told as it is taken; nowhere where it lacks
+        much, or is not there yet."""
+        if served.process is None or row.archived - served.reached > PIECE:
+            return Where()
+        await self._database.filled(served, row.archived, row.chain)
+        await asyncio.to_thread(served.check, row.archived, row.chain)
+        return served.where
+
+    async def fill(self) -> bool:
+        """Fills the service of the generation that was taken, opens it, and publishes where it is."""
+        database = self._database
+        served, row = database.own, database.row
+        served.kind, served.generation = Kind.HOLDER, row.generation
+        is_fresh = served.process is None
+        try:
+            if is_fresh:
+                await asyncio.to_thread(served.start, self._shared.settings.program)
+            database.watch(served)
+            # Else its place was told as it was taken, or PostgreSQL has lost its address alone, and the archiver finds out what else.
+            if row.address is None and not served.is_open:
+                await database.filled(served, row.base, row.chain)
+                await asyncio.to_thread(served.check, row.base, row.chain)
+            await asyncio.to_thread(served.open)
+        except PagelogError as error:
+            is_away = isinstance(error, (Away, Doubt))
+            if is_away and not self._is_stuck(served):
+                raise  # it goes on from there
+            self._shared.say(row.name, f"it could not be filled: {error}")
+            served.is_broken = True
+            if is_fresh or is_away:  # else it was a standby, and a fresh one may do better
+                database.has_failed()
+            return True
+        self._stuck_at = None
+        if database.work.archiver is None:
+            database.work.begin(database.row, served)  # first: whether the address is published may be in doubt
+        where = served.where
+        if row.address is None and not await self._shared.ask(self._shared.referee.publish, row.id, served.run, where):
+            return False
+        if not database.holds:
+            return True  # a look has shown meanwhile that another has it
+        database.row = replace(database.row, address=where.address, shift=served.shift, images=served.images)
+        self._shared.changed(row.name)
+        return True
+
+    def _is_stuck(self, served: Served) -> bool:
+        """Whether PostgreSQL has refused it for a ttl what it is to be filled with, and nothing to the looks: while this keeper beats,
+        nobody else would take the database over."""
+        at = served.run, served.loaded
+        if at != self._stuck_at:
+            self._stuck_at, self._stuck_for = at, 0.0
+        return self._stuck_for >= self._shared.settings.ttl
+
+    async def adopt(self) -> bool:
+        """Takes the service of an earlier life of this keeper for its own, or releases the generation where that has ended."""
+        database = self._database
+        row, settings = database.row, self._shared.settings
+        assert row.run is not None
+        served, kept = await database.new_served(row.run), await self._shared.ask(self._shared.referee.kept, row.id, row.run)
+        process = await asyncio.to_thread(Run.adopt, settings.program.folder, row.name, row.run)  # last: it opens a descriptor
+        if process is not None and row.address is None:
+            await self._put_away(served, process)
+            process = None
+        if process is None:
+            database.let_go = row.generation
+            await self._shared.ask(self._shared.referee.release, row.id, row.run)
+            database.row = replace(row, run=None, holder=None, address=None)
+            return True
+        archived, chain = (row.archived, row.chain) if kept is None else (kept.archived, kept.chain)
+        served.adopt(process, archived, chain)
+        served.generation, served.shift, served.images = row.generation, row.shift, row.images
+        database.served = served
+        database.watch(served)
+        if kept is None:
+            return False  # it holds the database no more: what is to become of it the next look shows
+        try:
+            await asyncio.to_thread(served.open)  # it may have been closed in its earlier life
+        except PagelogError as error:
+            self._shared.say(row.name, f"it could not be adopted: {error}")
+            served.is_broken = True
+            return True
+        database.work.begin(database.row, served)
+        return True
+
+    async def _put_away(self, served: Served, process: Run) -> None:
+        """Ends a service that was filled in an earlier life; where clients have written to it, PostgreSQL has lost its address since."""
+        served.serve(process)
+        try:
+            served.went_back = await asyncio.to_thread(served.was_written)
+        except PagelogError as error:
+            self._say(f"the service does not answer its keeper: {error}")
+        self._database.watch(served)
+        await self._database.ending.end_process(served)
+
+    def _say(self, sentence: str) -> None:
+        self._shared.say(self._database.row.name, sentence)

@@ -1,0 +1,87 @@
+"""A standby of a database that another keeper holds: a service that follows the archive."""
+
+from __future__ import annotations
+
+import asyncio
+from typing import TYPE_CHECKING
+
+from pagelog.errors import PagelogError
+from pagelog.keeper.machine import Kind, Stage
+from pagelog.keeper.referee import Away, Doubt
+from pagelog.keeper.rows import Row
+from pagelog.keeper.run import new_run
+from pagelog.keeper.served import Served
+
+if TYPE_CHECKING:
+    from pagelog.keeper.database import Database
+
+
+class Standing:
+    """Of one database. Each returns whether there are new facts to decide from."""
+
+    def __init__(self, database: Database) -> None:
+        self._database, self._shared = database, database.shared
+
+    async def stand_by(self) -> bool:
+        """Starts a service and has it follow the archive."""
+        database = self._database
+        served = await database.new_served(new_run())
+        served.kind = Kind.STANDBY
+        try:
+            await asyncio.to_thread(served.start, self._shared.settings.program)
+        except PagelogError as error:
+            self._say(f"the standby was given up: {error}")
+            return False
+        database.served = served  # not before: one that could not be started would be followed in vain
+        database.watch(served)
+        await self._catch_up(served)
+        return False
+
+    async def _catch_up(self, served: Served) -> bool:
+        """Has a standby follow the archive. One that cannot is given up, but not as PostgreSQL is away: it goes on from there."""
+        database = self._database
+        try:
+            await database.filled(served, database.row.archived, database.row.chain)
+        except (Away, Doubt):
+            raise
+        except PagelogError as error:
+            await self.give_up(served, error)
+            return False  # the next look has another made
+        if not served.is_noted:
+            await self._note_standby(served)
+        return True
+
+    async def _note_standby(self, served: Served) -> None:
+        assert served.process is not None
+        place = (served.process.address, served.run, served.reached, served.shift, served.images)
+        await self._shared.ask(self._shared.referee.stand_by, self._database.row.id, *place)
+        served.is_noted = self._database.is_noted = True
+        await self._shared.ask(self._shared.referee.take, Row(0, ""), "")  # changes nothing, and is quicker the next time
+
+    async def stand_down(self) -> bool:
+        """No standby of this keeper is noted any more."""
+        await self._shared.ask(self._shared.referee.stand_down, self._database.row.id)
+        self._database.is_noted = False
+        return True
+
+    async def follow(self) -> bool:
+        """A standby follows the archive, as far as a look has shown it, and never more."""
+        database = self._database
+        if database.row.paused and database.succession.stage in (Stage.MAKING, Stage.READY):
+            await database.succession.give_up()  # others wait for its turn, and a pause may last
+        served = database.served if database.is_known else None
+        if served is None or served.kind is not Kind.STANDBY:
+            return False
+        lacks = served.reached < database.row.archived
+        if (lacks or not served.is_noted) and await self._catch_up(served) and lacks:
+            served.went_back = False  # what it had is archived again
+        return False
+
+    async def give_up(self, served: Served, error: PagelogError) -> bool:
+        """Ends a standby that cannot follow."""
+        self._say(f"the standby was given up: {error}")
+        served.is_broken = True
+        return await self._database.ending.end()
+
+    def _say(self, sentence: str) -> None:
+        self._shared.say(self._database.row.name, sentence)
