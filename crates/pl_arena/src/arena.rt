@@ -173,7 +173,7 @@ impl VersionArena {
         // There are 8,192.
         ensures len { length result.now ≡ 8192 }
     {
-        // Looked at first, so that the length of what is lent is known.
+        // Proof only: this does nothing. The length of what is lent is known by it.
         let _bytes = self.bytes(id);
         let frame = self.frames.get_mut(id.number as usize);
         frame.as_mut_slice()

@@ -27,10 +27,12 @@ fn check_record(entry: &Record) -> Result<(), Fault>
             offset,
             bytes,
         } => {
+            // Proof only: this does nothing.
             is_u32(page);
             check_put(*offset, bytes.len())
         }
         Record::Zero { page } => {
+            // Proof only: this does nothing.
             is_u32(page);
             Ok(())
         }

@@ -189,6 +189,7 @@ fn parts_in(alloc: Global, input: Bytes) -> Result<Parts, BlockFault>
     ensures exact { Returns result (block_reading input) }
     ensures no_memory { result ≡ Err NoMemory → length input ≤ longest_block }
 {
+    // Proof only: this does nothing.
     each_is_byte(input.as_slice());
     let len = input.len();
     let spelling = another(&input);
@@ -216,6 +217,7 @@ pub fn decode(alloc: Global, input: Bytes) -> Result<Block, BlockFault>
     // Memory runs out only where the length fits.
     ensures no_memory { result ≡ Err NoMemory → length input ≤ longest_block }
 {
+    // Proof only: this does nothing.
     each_is_byte(input.as_slice());
     Block::of_parts(alloc, parts_in(alloc, input)?)
 }

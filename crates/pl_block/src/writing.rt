@@ -95,6 +95,7 @@ pub fn encoded_len(block: &Block) -> usize
     // What is a `Block` is one by the grammar (`IsBlock`).
     ensures valid { IsBlock block.now }
 {
+    // Proof only: this does nothing.
     let _lsn = block.lsn();
     block.spelled_len()
 }

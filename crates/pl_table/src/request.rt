@@ -212,6 +212,7 @@ impl Request {
         if !act.is_in_range() {
             return None;
         }
+        // Proof only: these do nothing.
         head_fits(&head);
         act_fits(&act);
         Some(Request { head, act })
