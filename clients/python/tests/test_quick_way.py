@@ -959,19 +959,21 @@ class Services(Hot):
 
 
 class Ends(Hot):
+    MANY = 20
+    """A connection or a thread that the keeper makes where it first needs it is no leak: one with each of so many is."""
+    FEW = 10
+
     def open(self) -> tuple[int, int]:
         gc.collect()  # what tests before this one have left
-        return len(os.listdir("/proc/self/fd")), threading.active_count()
+        return len(os.listdir("/proc/self/fd")), len(os.listdir("/proc/self/task"))
 
-    async def no_more_is_open_than(self, before: tuple[int, int]) -> None:
-        await self.until(lambda: all(now <= then for now, then in zip(self.open(), before)), f"no more than {before} are open")
+    async def few_more_are_open_than(self, before: tuple[int, int]) -> None:
+        await self.until(lambda: all(now < then + self.FEW for now, then in zip(self.open(), before)), f"few more than {before} are open")
 
-    async def test_a_hundred_of_them_leave_nothing(self) -> None:
+    async def test_many_of_them_leave_nothing(self) -> None:
         client = await self.hot()
-        self.archiver._end_way()
-        await self.hot(client)
         before, count = self.open(), 0
-        while count < 100:
+        while count < 3 * self.MANY:
             way = self.way
             if count % 3 == 0:
                 self.archiver._end_way()
@@ -985,7 +987,7 @@ class Ends(Hot):
             self.assertEqual(way._lent, {})
             count += 1
             await self.hot(client)
-        await self.no_more_is_open_than(before)
+        await self.few_more_are_open_than(before)
         self.assertLessEqual(set(self.ends), {End.STOPPED})
 
     async def test_one_that_cannot_begin_leaves_nothing(self) -> None:
@@ -995,12 +997,12 @@ class Ends(Hot):
             before = self.open()
             with refused as call:
                 self.archiver._end_way()
-                while not call.called:
+                while call.call_count < self.MANY:
                     await self.commit(client)
                     await asyncio.sleep(0.001)
                 await self.commit(client)
             await self.hot(client)
-            await self.no_more_is_open_than(before)
+            await self.few_more_are_open_than(before)
 
     async def test_a_keeper_that_ends_while_it_is_hot(self) -> None:
         client = await self.hot()
