@@ -1,6 +1,7 @@
 """Named databases under keepers, beside PostgreSQL's own commits and plain archiving: needs Debian's packages of clients/python/test.
 
-Usage: python3 -B bench/kept.py [--share SHARE] [--alone] [PART ..]     (parts: commits, archiving, kills, switchover, idle; by default all)
+Usage: python3 -B bench/kept.py [--share SHARE] [--alone] [--apart] [PART ..]
+(parts: commits, archiving, kills, switchover, idle; by default all)
 """
 
 import argparse
@@ -57,6 +58,28 @@ def timed(work, count):
     return times
 
 
+def put_on(processor, pid):
+    """Has a process, its threads, and all that it has started run on this processor alone, and all that they will start."""
+    for task in pathlib.Path(f"/proc/{pid}/task").iterdir():
+        os.sched_setaffinity(int(task.name), {processor})
+        for child in (task / "children").read_text().split():
+            put_on(processor, int(child))
+
+
+@contextlib.contextmanager
+def apart(pair, keeper):
+    """The client, a keeper with its service, and each PostgreSQL have a processor of their own, as on machines of their own."""
+    everywhere = os.sched_getaffinity(0)
+    servers = [int((server.data / "postmaster.pid").read_text().split()[0]) for server in pair.servers]
+    for processor, pid in zip(sorted(everywhere), (keeper, *servers)):
+        put_on(processor, pid)
+    os.sched_setaffinity(0, {max(everywhere)})
+    try:
+        yield
+    finally:
+        os.sched_setaffinity(0, everywhere)
+
+
 @contextlib.contextmanager
 def keeping(pair, names="a", **options):
     """Keepers of a new database, which somebody serves."""
@@ -83,6 +106,7 @@ class Alone:
     def __init__(self):
         self.leader = Server()
         self.leader.url("kept")
+        self.servers = [self.leader]
         self.url = f"postgresql://pagelog@/kept?host={self.leader.folder}"
 
     def stop(self):
@@ -106,9 +130,12 @@ class PlainCommits:
 
 def commits(pair, share):
     """One writer and PostgreSQL in turn, and 64 writers."""
-    rounds, count = 5, max(20, round(100 * share))
+    rounds, count = 25, max(4, round(40 * share))
     plain = PlainCommits(pair.url)
-    with keeping(pair, standby=False) as kept, kept.primary() as primary:
+    with keeping(pair, standby=False) as kept, kept.primary() as primary, contextlib.ExitStack() as placed:
+        pid, keeper, client = kept.processes["a"].pid, 0.0, 0.0
+        if pair.is_apart:
+            placed.enter_context(apart(pair, pid))
 
         def commit(durable):
             primary.append(RECORD)
@@ -116,7 +143,6 @@ def commits(pair, share):
 
         timed(lambda: commit(True), 10), timed(plain.commit, 10)
         times = {"PostgreSQL": [], "durable": [], "trip": []}
-        pid, keeper, client = kept.processes["a"].pid, 0.0, 0.0
         for _ in range(rounds):
             times["PostgreSQL"] += timed(plain.commit, count)
             keeper, client = keeper - processor_seconds(pid), client - time.process_time()
@@ -320,11 +346,15 @@ def main():
     parser.add_argument("parts", nargs="*", metavar="PART", help=", ".join(PARTS))
     parser.add_argument("--share", type=float, default=1.0, help="of the work of a whole run")
     parser.add_argument("--alone", action="store_true", help="one PostgreSQL, without a standby")
+    parser.add_argument("--apart", action="store_true", help="for commits: a processor for each part, as on machines of their own")
     words = parser.parse_args()
     unknown = set(words.parts) - set(PARTS)
     if unknown:
         parser.error(f"there is no part {', '.join(unknown)}")
+    if words.apart and len(os.sched_getaffinity(0)) < 4:
+        parser.error("--apart needs four processors")
     pair = Alone() if words.alone else Pair()
+    pair.is_apart = words.apart
     try:
         print(f"PostgreSQL {'without' if words.alone else 'with'} a synchronous standby on this machine; load {os.getloadavg()[0]:.1f} of {os.cpu_count()} processors")
         for name in words.parts or PARTS:

@@ -64,6 +64,11 @@ class Pair:
         self.folders: list[Any] = [self.leader.folder, self.standby.folder]
 
     @property
+    def servers(self) -> list[Server]:
+        """The leader, then its standby."""
+        return [self.leader, self.standby]
+
+    @property
     def url(self) -> str:
         """The hosts' folders have links of fixed names, so that a server made anew is found under an old one's."""
         return f"postgresql://pagelog@/kept?host={self.folders[0]},{self.folders[1]}"

@@ -14,8 +14,9 @@ STATEMENTS = (
         id serial PRIMARY KEY, name varchar(200) NOT NULL UNIQUE, format integer NOT NULL,
         archived bigint NOT NULL, epoch bigint NOT NULL)""",
     """CREATE TABLE IF NOT EXISTS pagelog_block (
-        log integer NOT NULL REFERENCES pagelog_log, lsn bigint NOT NULL, crc bigint NOT NULL, data bytea NOT NULL,
-        PRIMARY KEY (log, lsn))""",
+        log integer NOT NULL, lsn bigint NOT NULL, crc bigint NOT NULL, data bytea NOT NULL, PRIMARY KEY (log, lsn))""",
+    # To look for the log of each block again takes a fifth of a commit: the statement that inserts blocks has changed its row.
+    "ALTER TABLE pagelog_block DROP CONSTRAINT IF EXISTS pagelog_block_log_fkey",
     # run: of this generation, NULL where it was released. address: NULL until clients may come. base: the archived position
     # when the generation began. shift: a position less its LSN in the service of the address, which began with the images at
     # position `images`; 0: with the first block. chain: a digest of all blocks up to the archived position. wanted: the keeper
