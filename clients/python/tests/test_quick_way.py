@@ -507,6 +507,21 @@ class Lines(Hot):
         await self.hot(client)
         self.assert_whole()
 
+    async def test_what_else_is_said_to_a_client_that_reads_nothing_is_whole_or_the_last(self) -> None:
+        client, deaf = await self.hot(), self.client()
+        before = set(self.way._lent.values())
+        await self.commit(deaf)
+        [line] = set(self.way._lent.values()) - before
+        for _ in range(50_000):  # of what is more than two sockets hold
+            line.say("wanted", "x" * 500)
+        self.assertFalse(line.is_open)
+        said = await deaf.answer()
+        while said:
+            self.assertEqual(said, "wanted " + "x" * 500)
+            said = await deaf.answer()
+        await self.commit_quickly(client)
+        self.assertEqual((set(self.way._lent.values()), self.ends), (before, []))
+
 
 class Statements(Hot):
     async def test_one_that_is_refused_is_made_again_by_the_keepers_path(self) -> None:

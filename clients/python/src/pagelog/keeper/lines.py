@@ -22,6 +22,8 @@ from __future__ import annotations
 
 import asyncio
 import os
+import socket
+from contextlib import suppress
 from typing import Protocol
 
 LONGEST = 1024
@@ -108,9 +110,16 @@ class Line(asyncio.Protocol):
         return self._transport is not None and not self._transport.is_closing()
 
     def say(self, *words: object) -> None:
-        """Writes a line. To one who is gone nothing is written."""
-        if self._transport is not None and not self._transport.is_closing():
-            self._transport.write(" ".join(map(str, words)).encode() + b"\n")
+        """Writes a line. To one who is gone nothing is written. One that is lent, and takes not all of it, is ended: what the other says
+        would come amid this."""
+        transport = self._transport
+        if transport is None or transport.is_closing():
+            return
+        transport.write(" ".join(map(str, words)).encode() + b"\n")
+        if self._is_lent and transport.get_write_buffer_size():
+            with suppress(OSError):  # the client is gone
+                transport.get_extra_info("socket").shutdown(socket.SHUT_RDWR)
+            transport.abort()
 
     def close(self) -> None:
         """Ends it, once what was written is sent."""
