@@ -100,6 +100,8 @@ PLANTS = {
     "quick way, not lent": Plant("archiver", "        if len(self._waits):\n            self._end_way()", "        pass", "quick_way", "cannot_be_lent"),
     "quick way, rung": Plant("archiver", "            way.kick()  # it rang", "            pass  # it rang", "quick_way", "has_rung_as_it_begins"),
     "quick way, line": Plant("lines", "            self._transport.resume_reading()\n", "            pass\n", "quick_way", "other_words"),
+    "old primary": Plant("referee", "if not refuses or isinstance(error, psycopg.errors.LockNotAvailable):", "if not refuses:", "disks",
+                         "beside_the_new_one"),
     "quick way, said amid": Plant("lines", "if self._is_lent and transport.get_write_buffer_size():", "if False:", "quick_way", "whole_or_the_last"),
     "quick way, descriptor": Plant("quick_way", "        os.close(descriptor)\n        self._lent", "        self._lent", "quick_way", "many_of_them_leave"),
     "quick way, position": Plant("quick_way", " and positions[0] < _MOST", "", "quick_way", "64_bits"),

@@ -233,3 +233,25 @@ class StandbyRequired(Durable):
             self.assertEqual(self.commit(primary, "2", durable=True), 2)
             self.assertGreater(self.keeping.place().generation, place.generation)
             self.assertEqual(self.texts(), [b"1", b"2"])
+
+
+class TwoPrimaries(Kept):
+    def setUp(self) -> None:
+        self.pair = Pair()
+        self.addCleanup(self.pair.stop)
+        self.options = {"url": self.pair.url, "ttl": 3.0}
+        referee = Referee(self.pair.url)
+        referee.prepare()
+        referee.close()
+        super().setUp()
+
+    def test_an_old_one_that_goes_on_beside_the_new_one_holds_up_nothing(self) -> None:
+        texts = [str(number) for number in range(100)]
+        with self.keeping.primary() as primary:
+            for text in texts:
+                self.commit(primary, text, durable=True)
+                if text == "50":
+                    self.pair.standby.run("pg_ctl", "-D", self.pair.standby.data, "-w", "-t", PATIENCE, "promote")
+        self.pair.leader.kill()
+        self.keeping.referee.close()
+        self.assertEqual(self.texts(), [text.encode() for text in texts])

@@ -152,12 +152,14 @@ class QuickWays:
         return made
 
     def give_back(self, *, is_clean: bool) -> None:
-        """A database needs it no more. Where something of a statement may be left in the connection, that is closed."""
+        """A database needs it no more. Where something of a statement may be left in the connection, that is closed, and the next one tries
+        the second host first."""
         self._is_taken, self._at_work = False, None
         if is_clean:
             self._close_later()
         else:
             self._close()
+            self._referee.turn_hosts()
 
     def _close_later(self) -> None:
         if self._closing is not None:

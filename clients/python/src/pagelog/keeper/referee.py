@@ -181,12 +181,13 @@ class Referee:
             hangs.cancel()
 
     def _meaning(self, error: psycopg.Error) -> Refused | Doubt:
-        """What is to be raised for an error. After a doubt the next statement has another connection."""
-        if is_refusal(error) and self.descriptor is not None:
-            return Refused(f"PostgreSQL: {line_of(error)}")
-        self.close()
-        self.turn_hosts()
-        return Doubt(f"PostgreSQL: {line_of(error)}")
+        """What is to be raised for an error. After a doubt, or a lock that is not to be had, the next statement has another connection."""
+        refuses = is_refusal(error) and self.descriptor is not None
+        if not refuses or isinstance(error, psycopg.errors.LockNotAvailable):
+            # An old primary that goes on without its standby holds the locks of what waits for that, for ever.
+            self.close()
+            self.turn_hosts()
+        return (Refused if refuses else Doubt)(f"PostgreSQL: {line_of(error)}")
 
     def _check_warnings(self) -> None:
         if self._warnings:
