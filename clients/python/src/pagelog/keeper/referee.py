@@ -187,7 +187,8 @@ class Referee:
             # An old primary that goes on without its standby holds the locks of what waits for that, for ever.
             self.close()
             self.turn_hosts()
-        return (Refused if refuses else Doubt)(f"PostgreSQL: {line_of(error)}")
+        text = f"PostgreSQL: {line_of(error)}"
+        return Refused(text) if refuses else Doubt(text)
 
     def _check_warnings(self) -> None:
         if self._warnings:
