@@ -10,7 +10,8 @@ from dataclasses import dataclass
 from pathlib import Path
 from typing import Callable, Iterable
 
-from pagelog.keeper.referee import KeeperError, Referee, digest
+import psycopg
+from pagelog.keeper.referee import KeeperError, Referee, digest, plain_url
 from pagelog.keeper.rows import Look, Row
 from pagelog.place import Keepers
 
@@ -21,6 +22,8 @@ PATIENCE = 300.0
 """Seconds for what has to come: on a machine with much else to do anything may take its time."""
 NEAR = 1 << 20
 """Bytes of PostgreSQL's log that a server which follows may lack."""
+ONE_BLOCK = "%INSERT INTO pagelog_block (log, lsn, crc, data) SELECT id,%"
+"""As KEEP_BLOCK of the keeper's statements."""
 KEEPERS = [f"{address}:7500" for address in ADDRESSES.values()]
 
 
@@ -58,7 +61,8 @@ def server_of(member: dict[str, object]) -> Server:
 
 class Cluster:
     def __init__(self, keeper_file: Path) -> None:
-        self._referee = Referee(tomllib.loads(keeper_file.read_text())["archive"]["url"])
+        self._url = tomllib.loads(keeper_file.read_text())["archive"]["url"]
+        self._referee = Referee(self._url)
 
     # PostgreSQL.
 
@@ -87,6 +91,15 @@ class Cluster:
         except KeeperError:
             self._referee.close()
             return None
+
+    def has_quick_way(self) -> bool:
+        """Whether a session has asked last for what the quick way alone asks: to keep one block."""
+        try:
+            with psycopg.connect(plain_url(self._url), target_session_attrs="read-write") as connection:
+                found = connection.execute("SELECT count(*) FROM pg_stat_activity WHERE query LIKE %s AND pid <> pg_backend_pid()", (ONE_BLOCK,))
+                return found.fetchall() != [(0,)]
+        except psycopg.Error:
+            return False
 
     def generation(self) -> int:
         """Of the place that the keepers name; 0 where nobody serves it now."""
