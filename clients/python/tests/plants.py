@@ -108,7 +108,10 @@ PLANTS = {
     "quick way, unclean": Plant("quick_way", "ended.result() <= End.SERVICE", "True", "quick_way", "went_on_with"),
     "quick way, hangs": Plant("quick_way", "            self._referee.cut()\n            asyncio", "            asyncio", "quick_way",
                               "are_prepared_is_cut"),
-    "quick way, trail": Plant("keeping", "settings.require_standby or settings.trail", "settings.require_standby", "quick_way", "with_a_trail"),
+    "quick way, trail": Plant("keeping", "        if settings.trail:\n            return None  # each", "        if False:\n            return None  # each",
+                              "quick_way", "with_a_trail"),
+    "quick way, standby": Plant("keeping", "confirms=settings.require_standby)", "confirms=False)", "disks", "quick_way_waits"),
+    "quick way, behind": Plant("quick_way_referee.c", "way->standby < way->wanted", "way->standby == 0", "quick_way", "until_it_has_what"),
     "late pull": Plant("puller", "            if not is_whole:\n", "            if False:\n", "quick", "hangs_or_is_gone"),
     "late state": Plant("looker", "            if not is_whole:\n", "            if False:\n", "looks", "late_answer"),
     "look in a thread": Plant("work", "            if not await served.looked_at_once():\n                await", "            await", "looks",
@@ -177,7 +180,7 @@ def failure(plant: Plant) -> str | None:
         tables = Path(folder) / "crates" / "pagelog" / "data"
         tables.mkdir(parents=True)
         shutil.copy(PYTHON.parent.parent / "crates" / "pagelog" / "data" / "t0.toml", tables)
-        file = copy / "src" / "pagelog" / "keeper" / f"{plant.module}.py"
+        file = copy / "src" / "pagelog" / "keeper" / (plant.module if plant.module.endswith(".c") else f"{plant.module}.py")
         text = file.read_text()
         if text.count(plant.old) != 1:
             raise AssertionError(f"the edit of {plant.module} does not fit: {plant.old!r} is there {text.count(plant.old)} times")

@@ -12,11 +12,13 @@ from typing import Any
 import psycopg
 
 from keepers import Kept, batch_of, eventually, new_database
+from pagelog.keeper import quick_way
 from pagelog.keeper.referee import Doubt, OneDisk, Referee
 from pagelog.keeper.rows import Synchronous
 from replicated import Pair
 from service import PATIENCE
 
+IS_BUILT = quick_way._library() is not None
 _pairs: list[Pair] = []
 
 
@@ -218,6 +220,32 @@ class StandbyRequired(Durable):
             eventually(lambda: self.standbys() == 1, "the standby in the metric")
             self.assertEqual((self.keeping.place().generation, self.texts()), (generation, [b"1", b"2"]))
         self.assertEqual(self.keeping.said().count("a synchronous standby is required, and this role sees none"), 1)
+
+    def is_quick(self) -> bool:
+        return self.keeping.metrics()["pagelog_keeper_quick", "shop"] == 1
+
+    @unittest.skipUnless(IS_BUILT, "the quick way is not built")
+    def test_the_quick_way_waits_for_it_too(self) -> None:
+        with self.keeping.primary() as primary, boss() as session:
+            eventually(lambda: self.commit(primary, "x", durable=True) and self.is_quick(), "the quick way")
+            # What others write meanwhile a standby has not flushed yet where it is asked for.
+            session.execute("CREATE TABLE IF NOT EXISTS others (text text)")
+            for number in range(30):
+                session.execute("INSERT INTO others SELECT repeat('x', 10000) FROM generate_series(1, 20)")
+                self.commit(primary, f"{number} beside", durable=True)
+            self.assertTrue(self.is_quick())
+            end_standby("")
+            self.addCleanup(start_standby)
+            position = self.commit(primary, "the last")
+            with self.keeping.line() as text:
+                print(f"durable shop {self.keeping.place().generation} {position}", file=text, flush=True)
+                eventually(lambda: self.keeping.row().archived == position, "the batch on one disk")
+                self.two_looks()
+                self.assertEqual(primary.durable_end, position - 1)
+                print("where nobody", file=text, flush=True)
+                self.assertEqual(text.readline().split(), ["unknown", "nobody"])
+                start_standby()
+                self.assertEqual(text.readline().split()[::3], ["durable", f"{position}"])
 
     def test_nobody_takes_over_what_a_lost_disk_would_take_away(self) -> None:
         with self.keeping.primary() as primary:
