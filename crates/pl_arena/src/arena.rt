@@ -52,7 +52,7 @@ pub struct VersionArena {
     frames: Frames,
     /// Of each frame that was ever taken, whether it is out.
     out: Vec<bool>,
-    /// One more than the frame that was given back last, or 0 where there is none. A free frame has
+    /// One more than the frame that was given back last, or 0 if there is none. A free frame has
     /// the same of the one before it in its first four bytes.
     free: u32,
     max_chunks: u32,
@@ -103,9 +103,9 @@ impl VersionArena {
 
     /// Takes a frame that was not out, and fills it with zeros.
     ///
-    /// The frame that was given back last is taken first. A chunk is allocated where no frame is free
-    /// in those that there are. `Full` comes where all 64 frames of each of the chunks are out, and
-    /// `NoMemory` where an allocation failed; after either all is as before.
+    /// The frame that was given back last is taken first. A chunk is allocated if no frame is free
+    /// in those that there are. `Full` comes if all 64 frames of each of the chunks are out, and
+    /// `NoMemory` if an allocation failed; after either all is as before.
     pub fn take(&mut self) -> Result<FrameId, TakeFault>
         // The frame's number is below 64 times the chunks.
         ensures within { IfOk result (λ id. id < capacity self.old) }
@@ -115,7 +115,7 @@ impl VersionArena {
         ensures taken { IfOk result (λ id. self.new ≡ with_frame self.old id zeros) }
         // The frame is out.
         ensures out { IfOk result (λ id. IsOut self.new id) }
-        // The fault is `Full` exactly where all frames were out.
+        // The fault is `Full` exactly if all frames were out.
         ensures full { IsErrOf result Full ↔ IsFull self.old }
         // After a fault all is as before.
         ensures err { OnErr result (self.new ≡ self.old) }

@@ -41,7 +41,7 @@ impl Frames {
         }
     }
 
-    /// Makes a frame of zeros more. A chunk is allocated where the last has no room, and nowhere else.
+    /// Makes a frame of zeros more. A chunk is allocated only if the last has no room.
     pub(crate) fn push_zeros(&mut self) -> Result<(), AllocError>
         ensures ok { OnOk result (self.new ≡ self.old ++ zeros ∷ []) }
         ensures succeeds { HasRoom self.old → IsOk result }

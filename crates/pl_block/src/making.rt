@@ -59,7 +59,7 @@ fn record_len(entry: &Record) -> usize
     }
 }
 
-// The length of the spelling of a block with these partitions and records, where a block can
+// The length of the spelling of a block with these partitions and records, if a block can
 // have it; otherwise some length that no block can have.
 fn spelling_len(partitions: &[u16], records: &[Record]) -> usize
     ensures value { result ≤ longest_block →

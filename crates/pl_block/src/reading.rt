@@ -176,7 +176,7 @@ fn fields_of(alloc: Global, input: Bytes) -> Result<(u64, Few<u16>, Few<Record>)
     Ok((lsn, partitions, records))
 }
 
-// Another owner of the bytes. None where the owners can be counted no further.
+// Another owner of the bytes. None if the owners can be counted no further.
 fn another(bytes: &Bytes) -> Option<Bytes>
     ensures value { IfSome result (λ b. b ≡ bytes.now) }
 {
@@ -214,7 +214,7 @@ pub fn decode(alloc: Global, input: Bytes) -> Result<Block, BlockFault>
     ensures only { (b : Content) → IsBlock b → input ≡ block_spelling b → Returns result (Ok b) }
     // The block that the bytes spell, the first fault, or out of memory (`block_reading`).
     ensures exact { Returns result (block_reading input) }
-    // Memory runs out only where the length fits.
+    // Memory runs out only if the length fits.
     ensures no_memory { result ≡ Err NoMemory → length input ≤ longest_block }
 {
     // Proof only: this does nothing.

@@ -111,14 +111,14 @@ fn put_block(out: &mut Vec<u8>, block: &Block) -> Result<(), AllocError>
     put_records(out, records)
 }
 
-/// Appends the one spelling of the block to `out`: where the block was read, the bytes that it was read from, copied at once.
-/// Memory is asked for once, and only where `out` lacks room for the whole of it. Where the allocation fails, `out` has what it had.
+/// Appends the one spelling of the block to `out`: if the block was read, the bytes that it was read from, copied at once.
+/// Memory is asked for once, and only if `out` lacks room for the whole of it. If the allocation fails, `out` has what it had.
 pub fn encode_onto(out: &mut Vec<u8>, block: &Block) -> Result<(), AllocError>
     // The block's spelling is appended.
     ensures ok { OnOk result (out.new.items ≡ out.old.items ++ block_spelling block.now) }
     // After a failure nothing is appended.
     ensures err { OnErr result (out.new.items ≡ out.old.items) }
-    // It fails only where the vector lacks room for the spelling, and uses no more room.
+    // It fails only if the vector lacks room for the spelling, and uses no more room.
     ensures spare { UsesSpare result out.old out.new (length (block_spelling block.now)) }
     // The spelling has at most 32,768 bytes.
     ensures fits { length (block_spelling block.now) ≤ longest_block }

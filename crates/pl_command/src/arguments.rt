@@ -19,7 +19,7 @@ Usage: pagelog <COMMAND>
 For more information, try '--help'.
 ";
 
-/// What the arguments ask for, where they could be read. An argument that is not UTF-8 is a usage
+/// What the arguments ask for, if they could be read. An argument that is not UTF-8 is a usage
 /// error.
 pub fn asked(alloc: Global, arguments: io::Result<Vec<String>>) -> Result<CommandLine, CommandFault>
     // What is asked for follows from the arguments (`AsksFor`).

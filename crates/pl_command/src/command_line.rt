@@ -63,7 +63,7 @@ pub struct ServeNumbers {
     pub connections: u32,
     /// How many entries the audit list of a database holds, 1 to 16,777,216.
     pub audit: u32,
-    /// The principal that advances a partition as page server, where `rounds` is not 0.
+    /// The principal that advances a partition as page server, if `rounds` is not 0.
     pub pager: u32,
     /// The partition that it advances.
     pub partition: u16,
@@ -95,7 +95,7 @@ impl From<AllocError> for CommandFault {
     }
 }
 
-// The number that was found for this option, where it is in the range.
+// The number that was found for this option, if it is in the range.
 fn number_of(found: &ArgMatches<'_>, name: &str, least: u32, most: u32) -> Option<u32>
     ensures some { IfSome result (HasNumber (rows_of (found_of found.now)) name.now least most) }
     ensures none { IsNone result →
@@ -141,7 +141,7 @@ fn play_of(alloc: Global, found: &ArgMatches<'_>) -> Result<Option<CommandLine>,
     Ok(Some(CommandLine::Play { table, primary }))
 }
 
-// The numbers of `serve`, where each is in its range.
+// The numbers of `serve`, if each is in its range.
 fn serve_numbers(found: &ArgMatches<'_>) -> Option<ServeNumbers>
     ensures some { IfSome result (HasNumbers (rows_of (found_of found.now))) }
     ensures none { IsNone result → GivesServe (rows_of (found_of found.now)) → ⊥ }
@@ -229,7 +229,7 @@ fn line_of(alloc: Global, matches: &ArgMatches<'_>) -> Result<Option<CommandLine
     Ok(None)
 }
 
-// What the arguments ask for, where `clap` matches them.
+// What the arguments ask for, if `clap` matches them.
 fn match_arguments<'a>(
     alloc: Global,
     program: &mut Command<'a>,
@@ -301,7 +301,7 @@ fn asked_of<'a>(
 
 /// What the arguments ask for, the first of which is the program's name.
 ///
-/// `Usage` comes where `clap` does not take them, and `NoMemory` where an allocation failed.
+/// `Usage` comes if `clap` does not take them, and `NoMemory` if an allocation failed.
 pub fn command(alloc: Global, arguments: Vec<String>) -> Result<CommandLine, CommandFault>
     // What is asked for follows from the arguments (`AsksFor`), and each number is in its range.
     ensures ok { IfOk result (AsksFor (map string_bytes arguments.items)) }
@@ -311,7 +311,7 @@ pub fn command(alloc: Global, arguments: Vec<String>) -> Result<CommandLine, Com
 {
     let mut program = program(alloc)?;
     let asked = asked_of(alloc, &mut program, arguments.as_slice());
-    // By a call: where it went out of scope, its drop would be steps of this function's proof.
+    // By a call: if it went out of scope, its drop would be steps of this function's proof.
     drop(program);
     asked
 }

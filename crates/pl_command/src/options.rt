@@ -29,7 +29,7 @@ fn number<'a>(alloc: Global, name: &'a str, least: u32, most: u32, help: &'a str
     text(alloc, name, "N", help).value_parser(range)
 }
 
-// The option `--name N`, with a number from 0 on, which is this one where it is not given.
+// The option `--name N`, with a number from 0 on, which is this one if it is not given.
 fn number_or<'a>(
     alloc: Global,
     default: &'a str,
@@ -64,7 +64,7 @@ enum Takes<'a> {
     Text(&'a str),
     // A number of this range.
     Number(u32, u32),
-    // A number from 0 to this one, and the text where the option is not given.
+    // A number from 0 to this one, and the text if the option is not given.
     NumberOr(&'a str, u32),
     // The words after all options.
     Words,
@@ -83,7 +83,7 @@ fn option_of<'a>(alloc: Global, name: &'a str, takes: Takes<'a>, help: &'a str) 
     }
 }
 
-// A subcommand that is being made. Where an allocation failed, it stays so.
+// A subcommand that is being made. If an allocation failed, it stays so.
 #[derive(Drop)]
 struct Making<'a> {
     alloc: Global,
@@ -182,7 +182,7 @@ fn with_sub<'a>(command: Command<'a>, subcommand: Making<'a>) -> Result<Command<
     match made {
         Ok(made) => command.subcommand(made),
         Err(refused) => {
-            // By a call: where it went out of scope, its drop would be steps of this function's proof.
+            // By a call: if it went out of scope, its drop would be steps of this function's proof.
             drop(command);
             Err(refused)
         }

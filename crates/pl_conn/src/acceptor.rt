@@ -87,8 +87,8 @@ fn offer<R: Wait>(
     }
 }
 
-// Hands the socket to the worker that has the fewest connections. Where its channel is full, it goes to the first
-// that has room; where none has, to that worker, once it has.
+// Hands the socket to the worker that has the fewest connections. If its channel is full, it goes to the first
+// that has room; if none has, to that worker, once it has.
 fn hand_over<R: Wait>(rt: &R, posts: &mut [Post], socket: TcpStream) {
     let place = fewest(posts);
     let mut left = offer(rt, posts, place, socket);

@@ -11,7 +11,7 @@ use crate::outbox::Outbox;
 use pl_wire::{Gate, LENGTH_BYTES, body_in};
 use std::io::{ErrorKind, Write};
 
-// Answers the frame that the bytes begin with, where they hold all of it, and returns its length.
+// Answers the frame that the bytes begin with, if they hold all of it, and returns its length.
 pub(crate) fn answer_first<G: Gate>(
     bytes: &[u8],
     gate: &G,

@@ -32,7 +32,7 @@ pub struct ConnFault {
     pub answered: u64,
 }
 
-// Why a conversation ends where a frame was not read.
+// Why a conversation ends if a frame was not read.
 pub(crate) fn cause_of(fault: FrameFault) -> Cause
     ensures value { result ≡ cause_of fault }
 {

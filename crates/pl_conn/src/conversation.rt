@@ -51,7 +51,7 @@ pub struct Room {
     alloc: Global,
     inbox: Inbox,
     outbox: Outbox,
-    // Memory for what is unread of one conversation, where there is no other.
+    // Memory for what is unread of one conversation, if there is no other.
     spare: Vec<u8>,
 }
 
@@ -187,7 +187,7 @@ fn end_of<W: Write, G: Gate>(
     Cause::TooLong
 }
 
-// Puts the bytes in place of those that are there, in the same memory where they have room.
+// Puts the bytes in place of those that are there, in the same memory if they have room.
 fn put_all(to: &mut Vec<u8>, bytes: &[u8]) -> Result<(), AllocError>
     ensures ok { OnOk result (to.new.items ≡ bytes.now) }
 {
@@ -269,8 +269,8 @@ impl Conversation {
         end
     }
 
-    // Keeps what is unread, in memory of its own, or in the spare one. It is given back where nothing is unread: if it is long
-    // at once, else where nothing was unread before. The larger of both stays as the spare one.
+    // Keeps what is unread, in memory of its own, or in the spare one. It is given back if nothing is unread: at once if it
+    // is long, else if nothing was unread before. The larger of both stays as the spare one.
     fn keep_unread(
         &mut self,
         alloc: Global,
@@ -322,15 +322,15 @@ impl Conversation {
         self.keep_unread(alloc, unread, spare)
     }
 
-    /// One turn: writes the replies that wait; where the writer took them all, reads once, unless a whole frame
-    /// is there already, answers the frames that are whole, and writes their replies. It never waits where its reader
+    /// One turn: writes the replies that wait; if the writer took them all, reads once, unless a whole frame
+    /// is there already, answers the frames that are whole, and writes their replies. It never waits if its reader
     /// and its writer do not: one that would wait fails with `WouldBlock`, and that is where the conversation rests.
     /// It returns what it waits for. A turn answers what one read brought, at most 65,540 bytes of frames, and writes
     /// at most four times the replies that may wait together: less than 256 KiB and one reply more.
     ///
     /// What was read after the last frame that was answered, and the replies that the writer did not take, are
-    /// copied into memory of their own; where that is refused, the room has some for what is unread of one
-    /// conversation. Where that is refused too, all whole frames are answered before the end. After an error
+    /// copied into memory of their own; if that is refused, the room has some for what is unread of one
+    /// conversation. If that is refused too, all whole frames are answered before the end. After an error
     /// the conversation is over, and what it kept is lost: the
     /// input ended inside a frame (`Short`), a length is above 65,536 (`TooLong`), a read or a write failed, or
     /// there was no memory for what was read of the next frame (`NoMemory`), or for the replies that the writer

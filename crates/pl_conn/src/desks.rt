@@ -13,7 +13,7 @@ use std::marker::Model;
 use std::sync::Wait;
 
 /// A gate to several databases, which many threads call at the same time. A call goes to the desk of
-/// the database that the request names; where there is none, it is answered `NoDatabase` before any
+/// the database that the request names; if there is none, it is answered `NoDatabase` before any
 /// turn. It keeps the runtime by which its calls wait; to make it and to let passes meet waits for
 /// nothing.
 ///
@@ -139,7 +139,7 @@ fn meet_each(desks: &[Desk], passes: &mut [Pass], mut others: Vec<Pass>)
 impl<R> Desks<R> {
     /// A desk for each database, and the passes of all desks: the `Passes` with number `i` have pass
     /// `i` of each desk, in the order of the databases, and come in the order of their numbers, from 1.
-    /// There are 1 to 16 databases, at least 1 seat, and 1 to 2^62 turns at each desk. Where an
+    /// There are 1 to 16 databases, at least 1 seat, and 1 to 2^62 turns at each desk. If an
     /// allocation fails, the databases are dropped.
     pub fn new(
         alloc: Global,
@@ -198,7 +198,7 @@ impl<R: Wait> Gate for Desks<R> {
     ghost owns = { ArePassesOf };
 
     // The pass of the database that the head names was called, as `Desk::call` says, and the other
-    // passes stay. `NoDatabase` comes exactly where there is none of that number, and then all
+    // passes stay. `NoDatabase` comes exactly if there is none of that number, and then all
     // stays (`DesksCall`).
     ghost calls = { λ _. DesksCall };
 

@@ -53,11 +53,11 @@ impl Model for Lines {
     ghost invariant = { λ l. AreListed l.items l.due.items };
 }
 
-// A connection of this socket, which does not wait from now on. `None` where the system refuses that.
+// A connection of this socket, which does not wait from now on. `None` if the system refuses that.
 fn line_of(alloc: Global, socket: TcpStream) -> Option<Line>
     ensures idle { IfSome result (λ line. line.is_due ≡ false) }
 {
-    // Small replies are not held back where the system lets that be set.
+    // Small replies are not held back if the system lets that be set.
     let _is_set = socket.set_nodelay(true).is_ok();
     if socket.set_nonblocking(true).is_err() {
         return None;
@@ -190,7 +190,7 @@ impl Lines {
         self.faults
     }
 
-    // Adds a connection. `None` where there is no memory.
+    // Adds a connection. `None` if there is no memory.
     fn add(&mut self, line: Line) -> Option<usize>
         requires idle { line.is_due ≡ false }
         ensures open { IfSome result (λ place. IsIdle self.new place) }
@@ -215,7 +215,7 @@ impl Lines {
         self.items.try_remove(place);
     }
 
-    /// Takes a socket. It is closed where there is no memory for it, or the system refuses it.
+    /// Takes a socket. It is closed if there is no memory for it, or the system refuses it.
     pub(crate) fn take(&mut self, poll: &Poll, socket: TcpStream)
         ensures taken { self.old.taken < 2 ^ 64 - 1 → self.new.taken ≡ self.old.taken + 1 }
         ensures due { self.new.due ≡ self.old.due }

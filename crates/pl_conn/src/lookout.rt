@@ -11,7 +11,7 @@ use std::time::Duration;
 pub(crate) const AT_ONCE: Duration = Duration::ZERO;
 
 /// The place of the one worker of a service that polls awake. So idle polls cost a service one processor at most, and
-/// none where the workers have enough to do.
+/// none if the workers have enough to do.
 #[derive(Drop)]
 pub(crate) struct Lookout {
     taken: AtomicU64,

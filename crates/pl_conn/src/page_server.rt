@@ -16,7 +16,7 @@ const STEPS: u16 = 16;
 pub struct Worked {
     /// How many rounds were answered `Done`.
     pub done: u32,
-    /// The epoch that was reported last; 1 where none was.
+    /// The epoch that was reported last; 1 if none was.
     pub epoch: u32,
 }
 
@@ -108,7 +108,7 @@ impl PageServer {
         worked.learn(&reply)
     }
 
-    /// Advances its partition of this database by 16 blocks in each of its rounds, first at epoch 1. Where a
+    /// Advances its partition of this database by 16 blocks in each of its rounds, first at epoch 1. If a
     /// round is denied for its older epoch, the next one asks at the epoch that the denial reports. Any
     /// other reply than `Done` and such a denial ends it.
     ///

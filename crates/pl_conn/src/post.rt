@@ -12,7 +12,7 @@ use std::sync::{Arc, Wait};
 /// What a worker that has left has closed: more than it was ever given.
 const LEFT: u64 = u64::MAX;
 
-/// What a worker and the accepting thread share. A wake is lost where the waker is dropped before it is heard, so each of
+/// What a worker and the accepting thread share. A wake is lost if the waker is dropped before it is heard, so each of
 /// them keeps it.
 #[derive(Drop)]
 pub(crate) struct Shared {

@@ -237,18 +237,18 @@ where
 /// to the worker that has the fewest. So one that is silent, or does not read its replies, holds up no other; a call
 /// that waits for a turn holds up those of its worker.
 ///
-/// A connection has its turn where its socket has something for it. A turn answers what one read brought, at most 65,540
+/// A connection has its turn when its socket has something for it. A turn answers what one read brought, at most 65,540
 /// bytes of frames. One whose replies were not all taken is not read from until they are: less than 256 KiB and one
 /// reply more are kept for it. A silent one takes some hundred bytes.
 ///
-/// The passes that come back are those of the workers, in the order in which they were handed in. Where
+/// The passes that come back are those of the workers, in the order in which they were handed in. If
 /// a worker cannot be started, for lack of a thread, of descriptors or of memory, its pass and those after it are
-/// dropped; with no worker at all the stop is `Start`. It takes two descriptors, and is started only where one more is
+/// dropped; with no worker at all the stop is `Start`. It takes two descriptors, and is started only if one more is
 /// free for each worker, so that connections find as many.
 ///
 /// A worker has all that its connections need from its start, for 1,024 of them: room for the longest frame of a
-/// request, and for the replies that wait. A connection asks for memory of its own where a frame comes in pieces, or
-/// where its socket does not take the replies, and ends where there is none. So a connection that is accepted is
+/// request, and for the replies that wait. A connection asks for memory of its own if a frame comes in pieces, or
+/// if its socket does not take the replies, and ends if there is none. So a connection that is accepted is
 /// answered, whatever memory is left.
 ///
 /// Nothing is promised of how long it waits, or that it returns.

@@ -84,7 +84,7 @@ impl SoloPass {
 /// handle. The gate of `pagelog serve` is [`Desks`](crate::Desks).
 ///
 /// A request is one step of the database that its head names, under the pass's number. `NoDatabase`
-/// is replied where there is none of that number, and then nothing has changed.
+/// is replied if there is none of that number, and then nothing has changed.
 #[derive(Clone, Copy, Debug)]
 pub struct Solo;
 
@@ -95,7 +95,7 @@ impl Gate for Solo {
     ghost owns = { λ _ pass. HasDatabases pass };
 
     // One step of the database that the head names, under the pass's number, and the others stay.
-    // `NoDatabase` comes exactly where there is none of that number, and then all stays
+    // `NoDatabase` comes exactly if there is none of that number, and then all stays
     // (`SoloCall`).
     ghost calls = { λ _. SoloCall };
 

@@ -22,7 +22,7 @@ use std::io::Write;
 /// The most frames that one conversation answers.
 const MOST_FRAMES: u64 = 1 << 32;
 
-// The request that the body spells. A block keeps the bytes of the body, where the count of their
+// The request that the body spells. A block keeps the bytes of the body, if the count of their
 // owners finds memory, and else a copy.
 fn request_in(alloc: Global, body: Vec<u8>) -> Result<Request, BodyFault>
     ensures exact { Returns result (request_reading body.items) }
@@ -111,11 +111,11 @@ fn turn<R: Source, W: Write, G: Gate>(
 /// A body that is not a request is answered `Malformed` with its code, and one whose block or text finds
 /// no memory `NoMemory`, both without the gate; the conversation goes on. What is answered is written
 /// before the next wait for bytes, and before the conversation ends, whatever ends it. Replies to frames
-/// that are buffered are written together, in one write where the writer takes it at once.
+/// that are buffered are written together, in one write if the writer takes it at once.
 ///
 /// The replies that wait have their room, less than 256 KiB and one reply more, and eight bytes for each of
-/// 4,096, before a byte is read: where that is refused, nothing was read. A frame is read where the reader
-/// has all of it buffered; where it has not, its body takes memory, and where that is
+/// 4,096, before a byte is read: if that is refused, nothing was read. A frame is read in place if the reader
+/// has all of it buffered; if not, its body takes memory, and if that is
 /// refused, the conversation ends before it. So no request has its step whose reply finds no room.
 #[tactic(auto, using(crate::proofs::Blocking::converses_none))]
 pub fn converse<R: Source, W: Write, G: Gate>(

@@ -76,7 +76,7 @@ impl Worker {
         })
     }
 
-    /// A worker of a service, with all that it needs, and what the accepting thread has of it. `None` where there was no memory,
+    /// A worker of a service, with all that it needs, and what the accepting thread has of it. `None` if there was no memory,
     /// or no descriptor.
     pub(crate) fn new<R: Net, W>(
         rt: &R,

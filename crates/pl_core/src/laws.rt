@@ -39,7 +39,7 @@ pub fn older_epochs_are_fenced()
 }
 
 /// An allowed pull or get goes as far as the rows of the table in force allow it, up to the hardened
-/// end: asked at each LSN up to its reach, it is allowed, and at each LSN above it is denied. Where no
+/// end: asked at each LSN up to its reach, it is allowed, and at each LSN above it is denied. If no
 /// row ends at an LSN, the reach is the hardened end.
 pub fn reads_reach_as_rows_allow()
     // The reach of an allowed pull or get is the greatest LSN up to the hardened end at which the
@@ -61,7 +61,7 @@ pub fn applied_lsns_only_rise()
 {}
 
 /// Each page that is served is its database's hardened log, replayed to the answered LSN. That LSN is
-/// at least the one requested, and just that where the get is exact; it is at most the hardened end.
+/// at least the one requested, and just that if the get is exact; it is at most the hardened end.
 pub fn pages_are_replays()
     // A served page is the hardened log replayed to the answered LSN, at least the one asked for
     // and at most the hardened end.
@@ -105,7 +105,7 @@ pub fn pulls_miss_nothing()
 }
 
 /// Two pulls in a row, the second asked where the first said to go on, serve what one pull would, up to
-/// the reach of the second, also where the history has grown in between and another table is in force.
+/// the reach of the second, even if the history has grown in between and another table is in force.
 /// So whoever goes on pulling where the last reply says gets each hardened block of the partitions once,
 /// in order, as far as the last pull goes.
 pub fn pulls_join()
@@ -134,13 +134,13 @@ pub fn runs_end_in_the_window()
     order_laws();
 }
 
-/// What a reply says of the step that gave it: `AuditFull` comes exactly where the audit list is full,
-/// the denial of an unknown principal exactly where there is room and the principal is not known, and
+/// What a reply says of the step that gave it: `AuditFull` comes exactly if the audit list is full,
+/// the denial of an unknown principal exactly if there is room and the principal is not known, and
 /// `NoMemory` enters nothing. `Spent`, `NoDatabase` and `Malformed` never come.
 pub fn replies_tell_their_cause()
-    // `AuditFull` comes exactly where the audit list is full.
+    // `AuditFull` comes exactly if the audit list is full.
     ensures full { FullListsAreReported }
-    // The denial of an unknown principal comes exactly where the list has room and the principal is
+    // The denial of an unknown principal comes exactly if the list has room and the principal is
     // unknown.
     ensures unknown { UnknownPrincipalsAreReported }
     // `NoMemory` enters nothing.

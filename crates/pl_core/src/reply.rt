@@ -163,7 +163,7 @@ pub enum Reply {
     Entries {
         lines: Lines,
     },
-    /// The current epoch and its primary, the LSN of the last hardened block, 0 where there is
+    /// The current epoch and its primary, the LSN of the last hardened block, 0 if there is
     /// none, and how many blocks were hardened from the pending area and from the landing zone.
     Status {
         epoch: u32,
@@ -220,9 +220,9 @@ pub enum Answer {
 }
 
 impl Answer {
-    /// The reply, where all that is in the buffer was appended by this answer. Nothing is copied.
+    /// The reply, if all that is in the buffer was appended by this answer. Nothing is copied.
     pub fn into_reply(self, appended: Vec<u8>) -> Reply
-        // The reply that the answer is, where the buffer was empty (`reply_in`).
+        // The reply that the answer is, if the buffer was empty (`reply_in`).
         ensures value { result ≡ reply_in self [] appended.items }
     {
         match self {

@@ -22,7 +22,7 @@ fn last_first(requests: Vec<(u64, Request)>) -> Vec<(u64, Request)>
 
 impl Db {
     /// Takes one step for each request, each under the pass of its number, and returns the replies in
-    /// the same order. Room for them is made first: where that fails, no step is taken.
+    /// the same order. Room for them is made first: if that fails, no step is taken.
     pub fn run(&mut self, requests: Vec<(u64, Request)>) -> Result<Vec<Reply>, AllocError>
         // One reply a request, in order, each by one step (`IsRun`).
         ensures run { IfOk result (λ replies.

@@ -52,7 +52,7 @@ pub(crate) struct Outcome {
 }
 
 impl Outcome {
-    /// An answer, where no table was set.
+    /// An answer, if no table was set.
     pub(crate) fn given(answer: Answer) -> Outcome
         ensures value { result ≡ record { answer = answer; table = None } }
     {
@@ -62,7 +62,7 @@ impl Outcome {
         }
     }
 
-    /// A reply that is no page, where no table was set.
+    /// A reply that is no page, if no table was set.
     pub(crate) fn plain(reply: Reply) -> Outcome
         ensures value { result ≡ record { answer = Answer.Whole reply; table = None } }
     {
@@ -98,7 +98,7 @@ fn set_table(text: TableText) -> Outcome
 impl State {
     /// Applies what was decided, by a request that comes after those of the audit list. A denial
     /// changes nothing. What needs no memory never fails (`NeedsNone`). The state of pages, and where
-    /// the hardened blocks lie, may change too, also where it fails. The bytes of a page are put
+    /// the hardened blocks lie, may change too, even if it fails. The bytes of a page are put
     /// after those in `page`.
     pub(crate) fn apply(
         &mut self,
@@ -131,7 +131,7 @@ impl State {
     }
 
     // Applies an act that no row denies. The state of pages, and where the hardened blocks lie,
-    // may change too, also where it fails; the applied LSNs do so by an advance alone.
+    // may change too, even if it fails; the applied LSNs do so by an advance alone.
     #[tactic(auto, using(crate::proofs::Seen::seen_same, crate::proofs::Reading::read_changes_nothing, crate::proofs::Reading::read_follows))]
     fn apply_allowed(
         &mut self,
@@ -235,7 +235,7 @@ impl State {
         self.pages.follow(&mut self.log)
     }
 
-    // The page at the LSN that is chosen: not the applied one where that is above the reach. Memory for
+    // The page at the LSN that is chosen: not the applied one if that is above the reach. Memory for
     // its bytes is asked for once, before anything changes, and they are copied once, after those in `page`.
     fn get(
         &mut self,

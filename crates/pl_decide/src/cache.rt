@@ -40,7 +40,7 @@ pub(crate) fn look_at(
     verdicts.peek(&key).copied()
 }
 
-// Caches the verdict under the key, in the place of one that is there. Where there is no memory for it,
+// Caches the verdict under the key, in the place of one that is there. If there is no memory for it,
 // all stays as it is.
 pub(crate) fn keep(
     verdicts: &mut LruCache<VerdictKey, RowVerdict>,
@@ -75,7 +75,7 @@ fn is_of_rows(key: VerdictKey, verdict: RowVerdict, table: &Table) -> bool
     is_found_at(key, verdict, table) && has_end(table, key, verdict.allowed_through)
 }
 
-// Whether the rows give this verdict at each of its LSNs, which is so where they do at the first and at
+// Whether the rows give this verdict at each of its LSNs, which is so if they do at the first and at
 // the last of them.
 fn is_found_at(key: VerdictKey, verdict: RowVerdict, table: &Table) -> bool
     requires span { IsSpan (key, verdict) }

@@ -56,7 +56,7 @@ const FEW_ROWS: usize = 16;
 
 /// Decides on requests, one after the other. What was asked before makes no difference.
 ///
-/// It keeps what the rows of the table said of up to 1,024 keys, those used last, where many rows were
+/// It keeps what the rows of the table said of up to 1,024 keys, those used last, if many rows were
 /// looked at or none matched, and of each key at which LSNs they say so; and of a get or a pull that they
 /// allow, how far.
 #[derive(Debug, Drop)]
@@ -78,7 +78,7 @@ impl Model for Decider {
 }
 
 impl Decider {
-    /// A decider that was asked nothing, for any table. `Err` where an allocation failed.
+    /// A decider that was asked nothing, for any table. `Err` if an allocation failed.
     ///
     /// It allocates two entries of its cache; the others are allocated as verdicts are cached.
     pub fn new(alloc: Global) -> Result<Decider, AllocError>
@@ -125,11 +125,11 @@ impl Decider {
     }
 
     /// The verdict on any request: the denial of the first rule of the written order that denies it, or
-    /// `Allowed` where none does. The service calls [`decide_known`](Decider::decide_known), since it has looked the
+    /// `Allowed` if none does. The service calls [`decide_known`](Decider::decide_known), since it has looked the
     /// principal up.
     ///
     /// The rows of the table that can match are looked at, up to the first that does, or what they said
-    /// of the same key is looked up, at LSNs of which the request's is one. Where it is to be cached and an
+    /// of the same key is looked up, at LSNs of which the request's is one. If it is to be cached and an
     /// allocation fails, it is not.
     pub fn decide(
         &mut self,
@@ -142,7 +142,7 @@ impl Decider {
         requires agrees { AgreesWith self.old table.now }
         // The verdict is that of the written order (`decision`), whatever was asked before.
         ensures value { result ≡ decision request.now table.now epochs.now view.now }
-        // It is Allowed exactly where no rule of the order denies the request (`NoneStands`).
+        // It is Allowed exactly if no rule of the order denies the request (`NoneStands`).
         ensures allowed { (result ≡ Verdict.Allowed)
             ↔ NoneStands (order_of table.now) request.now table.now epochs.now view.now }
         // A denial is that of a rule that denies, with its section, number and value, and no rule
@@ -190,7 +190,7 @@ impl Decider {
     /// of an allowed one: the greatest LSN up to `hard` at which they do. A request that names no LSN they
     /// allow at each.
     ///
-    /// Where that is cached no row is looked at, else those that can match are, once. Nothing is allocated,
+    /// If that is cached no row is looked at, else those that can match are, once. Nothing is allocated,
     /// and what is cached stays as it is.
     ///
     /// [`decide`]: Decider::decide
@@ -226,8 +226,8 @@ impl Decider {
         lsn <= self.reach(table, lsn, request)
     }
 
-    // How far the rows allow a get or a pull, where that is cached. It never is where few rows can match,
-    // and where no row ends it is not needed.
+    // How far the rows allow a get or a pull, if that is cached. It never is if few rows can match,
+    // and if no row ends it is not needed.
     fn allowed_through(&self, table: &Table, request: &Request) -> Option<u64>
         requires agrees { AgreesWith self.now table.now }
         ensures exact { IfSome result (IsAllowedThrough table.now.rows (asked_in request.now)) }
@@ -312,8 +312,8 @@ impl Decider {
     }
 }
 
-// Whether it is to be cached: where no row matches, and, if many rows can, where the one that does comes
-// after many rows or where it ends and allows a get or a pull, whose reach has to look at those after it.
+// Whether it is to be cached: if no row matches; and, if many rows can, if the one that does comes
+// after many rows, or ends and allows a get or a pull, whose reach has to look at those after it.
 fn is_far(table: &Table, request: &Request, found: Found) -> bool {
     match found {
         Some((row, allows)) => {
@@ -333,7 +333,7 @@ fn is_other_primary(head: &Head, primary: u32) -> bool
     matches!(head.role, Role::Primary) && head.principal != primary
 }
 
-// The verdict of sections B and C, where this is the first row of the table that matches.
+// The verdict of sections B and C, if this is the first row of the table that matches.
 fn decide_by_table(
     found: Found,
     table: &Table,

@@ -21,7 +21,7 @@ pub struct VerdictKey {
 }
 
 impl VerdictKey {
-    // The key of what is asked, or `None` where it may name more than one partition.
+    // The key of what is asked, or `None` if it may name more than one partition.
     pub(crate) fn of(asking: &Asking<'_>) -> Option<VerdictKey>
         ensures some { IfSome result (λ key. IsKeyOf key (asked_by asking.now)) }
     {

@@ -3,12 +3,12 @@
 
 ghost use Rattle.pl_decide.specs.Laws.{AllowedExactly, DeniedByTheFirst, AllowedMeetsNoRule, AllowedMayBeServed, UnknownIsDenied, KnownIsNotUnknown, OlderEpochIsDenied, ViewsDecideAlike, ReadsReachTheEnd, RowsAllowTheAllowed, RequestsAskAt, OneKeyIsMatchedAlike, OneKeyOneVerdict};
 
-/// In any order of rules, a request is allowed exactly where no rule denies it. Elsewhere
+/// In any order of rules, a request is allowed exactly if no rule denies it. Otherwise
 /// the verdict is the denial of the first rule that does.
 pub fn the_first_rule_decides()
-    // A request is allowed exactly where no rule of the order denies it, for any order of rules.
+    // A request is allowed exactly if no rule of the order denies it, for any order of rules.
     ensures allowed { AllowedExactly }
-    // Where one does, the verdict is the denial of the first that does, for any order of rules.
+    // If one does, the verdict is the denial of the first that does, for any order of rules.
     ensures first { DeniedByTheFirst }
 {}
 
@@ -64,10 +64,10 @@ pub fn reads_reach_the_end()
 {}
 
 /// The same rows are about requests with one key, which have the principal, the role, the operation and
-/// the partition in common. So where they name one LSN, or none, the verdict of one is that of the other.
+/// the partition in common. So if they name one LSN, or none, the verdict of one is that of the other.
 pub fn one_key_has_one_verdict()
     // The same rows are about requests with one key.
     ensures rows { OneKeyIsMatchedAlike }
-    // Where requests with one key name one LSN, or none, the first row that matches is the same.
+    // If requests with one key name one LSN, or none, the first row that matches is the same.
     ensures first { OneKeyOneVerdict }
 {}

@@ -5,15 +5,15 @@ ghost use Rattle.pl_table.specs.Reach.{IsAtOne};
 
 use pl_table::LsnRange;
 
-// The first row that matches: its number, from 1, and whether it allows; `None` where no row matches.
+// The first row that matches: its number, from 1, and whether it allows; `None` if no row matches.
 pub(crate) type Found = Option<(u16, bool)>;
 
 /// What the rows of a table say of the requests with one key, at some LSNs.
 #[derive(Clone, Copy, Debug, PartialEq, Eq)]
 pub struct RowVerdict {
-    /// The first row that matches: its number, from 1, and whether it allows; `None` where none does.
+    /// The first row that matches: its number, from 1, and whether it allows; `None` if none does.
     pub found: Option<(u16, bool)>,
-    /// The LSNs of the requests of which this holds, or `None` where they name no LSN.
+    /// The LSNs of the requests of which this holds, or `None` if they name no LSN.
     pub lsns: Option<LsnRange>,
     /// The greatest LSN at which the rows allow a request with the key, whatever `lsns` are: they allow it
     /// at each up to this one, and at none above it. Kept for a get or a pull that they allow.

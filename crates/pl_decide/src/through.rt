@@ -73,7 +73,7 @@ fn end_of(
     }
 }
 
-// The greatest LSN at which the rows allow a request that they allow at each of these LSNs. Where these
+// The greatest LSN at which the rows allow a request that they allow at each of these LSNs. If these
 // go up to the greatest LSN there is, no row is looked at.
 fn last_allowed(table: &Table, request: &Request, lsns: LsnRange) -> u64
     requires allowed { rows_allow table.now.rows (asked_in request.now) ≡ true }

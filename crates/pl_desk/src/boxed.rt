@@ -23,7 +23,7 @@ impl Model for BoxedDb {
 }
 
 impl BoxedDb {
-    /// Moves the database there. Where memory is refused, it comes back.
+    /// Moves the database there. If memory is refused, it comes back.
     pub(crate) fn new(alloc: Global, db: Db) -> Result<BoxedDb, Db>
         ensures ok { IfOk result (λ boxed. boxed ≡ db) }
         ensures err { IfErr result (λ back. back ≡ db) }

@@ -29,7 +29,7 @@ pub struct Desk {
     pub(crate) table: DeskTable,
     pub(crate) queue: Queue,
     pub(crate) parkers: Parkers,
-    /// Where the next ticket is this or more, a call is answered Spent.
+    /// If the next ticket is this or more, a call is answered Spent.
     pub(crate) turns: u64,
 }
 
@@ -49,7 +49,7 @@ impl Model for Desk {
 
 impl Desk {
     /// A desk of the database, and its passes in the order of their numbers, from 1. All memory that
-    /// the desk and its calls need is allocated here, but for what the database takes; where that
+    /// the desk and its calls need is allocated here, but for what the database takes; if that
     /// fails, the database is given back.
     pub fn new(alloc: Global, db: Db, seats: u32, turns: u64) -> Result<(Desk, Vec<Pass>), Db>
         // At least one seat.
@@ -87,7 +87,7 @@ impl Desk {
     }
 
     /// Takes a ticket, waits until it is served, and makes one step of the database under the pass's
-    /// number. The reply is Spent where `turns` tickets had been given before; calls at the same moment
+    /// number. The reply is Spent if `turns` tickets had been given before; calls at the same moment
     /// may be given fewer than `seats` tickets more.
     ///
     /// Nothing is promised of how long it waits, or that a turn comes at all.
@@ -96,7 +96,7 @@ impl Desk {
         requires of { IsOf self.now pass.old }
         // It is the same pass.
         ensures same { IsSamePass pass.old pass.new }
-        // `Spent` comes exactly where the ticket read was `turns` or more, and then nothing has
+        // `Spent` comes exactly if the ticket read was `turns` or more, and then nothing has
         // changed. Else the call was one step (`IsStep` of pl_core) at a history that begins with
         // what the pass had seen, and what it has seen now is the history after that step
         // (`WasCalled`).
@@ -110,7 +110,7 @@ impl Desk {
     }
 
     /// The same call, but the bytes of a page are put after those in `page`, within the turn, and are not a part of the
-    /// answer. So they are copied once. Where `page` has no room for 8,192 bytes more, memory for them is asked for within
+    /// answer. So they are copied once. If `page` has no room for 8,192 bytes more, memory for them is asked for within
     /// the turn.
     pub fn call_onto(
         &self,
@@ -165,7 +165,7 @@ impl Desk {
         compare(shared, &mut pass.seat);
     }
 
-    /// Takes the database out, once all calls have returned. There is none where a call was left in
+    /// Takes the database out, once all calls have returned. There is none if a call was left in
     /// the middle, as in a thread that was never joined.
     pub fn close(self, pass: Pass) -> Option<Db>
         // The pass is of this desk.

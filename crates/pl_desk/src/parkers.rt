@@ -58,7 +58,7 @@ impl Parker {
         }
     }
 
-    /// Wakes one of those who park here. It announces again, where others are left.
+    /// Wakes one of those who park here. It announces again, if others are left.
     pub(crate) fn wake_one(&self) {
         if self.take() {
             self.word.wake_one();

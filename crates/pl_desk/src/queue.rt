@@ -17,10 +17,10 @@ const SPINS: u32 = 230;
 /// From which spin on it lets other threads run in between: the one inside may have lost its processor.
 const YIELDS_FROM: u32 = 30;
 
-/// How many times the processor pauses between two spins, where it does not let others run.
+/// How many times the processor pauses between two spins, if it does not let others run.
 const PAUSES: u32 = 4;
 
-/// How many microseconds the head of the queue parks at most, where somebody is inside when it becomes the head.
+/// How many microseconds the head of the queue parks at most, if somebody is inside when it becomes the head.
 const PARK_MICROS: u64 = 50;
 
 /// That nobody is inside, or the head of the queue.
@@ -71,7 +71,7 @@ impl Queue {
         }
     }
 
-    // Enters where nobody is inside and no ticket is out, and says whether it did.
+    // Enters if nobody is inside and no ticket is out, and says whether it did.
     fn try_enter(&self, shared: &DeskShared) -> bool
         requires shared { shared.now.table_id.words ≡ 3 }
     {
@@ -97,7 +97,7 @@ impl Queue {
         false
     }
 
-    /// Returns at once where nobody is inside, else soon after, or when the caller was the head of the queue.
+    /// Returns at once if nobody is inside, else soon after, or when the caller was the head of the queue.
     pub(crate) fn enter(&self, rt: &impl Wait, shared: &DeskShared)
         requires shared { shared.now.table_id.words ≡ 3 }
     {
@@ -106,7 +106,7 @@ impl Queue {
         }
     }
 
-    /// Says that the caller has passed its turn on, and wakes the head of the queue, where there is one.
+    /// Says that the caller has passed its turn on, and wakes the head of the queue, if there is one.
     pub(crate) fn leave(&self) {
         self.inside.store(VACANT, SeqCst);
         if self.head.load(SeqCst) != VACANT {

@@ -52,7 +52,7 @@ pub(crate) fn draw(shared: &DeskShared, seat: &mut DeskSeat) -> u64
     shared.fetch_add::<Draws>(seat, NEXT, 1)
 }
 
-/// Loads the ticket being served. Where it is the pass's own, the pass has the turn.
+/// Loads the ticket being served. If it is the pass's own, the pass has the turn.
 pub(crate) fn look(shared: &DeskShared, seat: &mut DeskSeat, ticket: u64) -> u64
     requires shared { (seat.old.table_id ≡ shared.now.table_id) × (shared.now.table_id.words ≡ 3) }
     requires waits { (seat.old.me.1 ≡ []) × (seat.old.me.0.stage ≡ Waiting ticket) }

@@ -109,7 +109,7 @@ impl fmt::Debug for Index {
     }
 }
 
-// The last of the first LSNs, or 0 where there is none.
+// The last of the first LSNs, or 0 if there is none.
 fn newest_of(lsns: &[u64], count: usize) -> u64 {
     match lsns.get(count.wrapping_sub(1)) {
         Some(lsn) => *lsn,

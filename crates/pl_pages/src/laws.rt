@@ -29,10 +29,10 @@ pub fn images_are_whole()
     ensures law { ImagesAreWhole }
 {}
 
-/// The LSN that a get is answered at is not below the one that was asked for, is that one where the
+/// The LSN that a get is answered at is not below the one that was asked for, is that one if the
 /// get is exact, and is not above the end of the log.
 pub fn answers_reach()
-    // The LSN of an answer is not below the one asked for, is that one where the get is exact, and
+    // The LSN of an answer is not below the one asked for, is that one if the get is exact, and
     // is not above the log's end.
     ensures law { AnswersReach }
 {}

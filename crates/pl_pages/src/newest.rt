@@ -30,7 +30,7 @@ impl Newest {
         self.places.get(slot).copied()
     }
 
-    /// Notes the place of the newest version of the page, where there is a slot for it.
+    /// Notes the place of the newest version of the page, if there is a slot for it.
     pub(crate) fn put(&mut self, page: u32, place: usize) {
         let Some(slot) = self.slot(page) else {
             return;
@@ -40,7 +40,7 @@ impl Newest {
         }
     }
 
-    /// Makes a slot for each version. Where memory lacks, there stay as few as there are.
+    /// Makes a slot for each version. If memory lacks, there stay as few as there are.
     pub(crate) fn grow(&mut self, kept: &[Kept]) {
         let len = self.places.len();
         if len >= kept.len() {

@@ -130,17 +130,17 @@ impl Pages {
         catch_up(log, &mut self.index, to)
     }
 
-    /// The bytes of the page at an LSN of the log, and that LSN: the one asked for where `exact` is
+    /// The bytes of the page at an LSN of the log, and that LSN: the one asked for if `exact` is
     /// set or the partition is applied no further, else the one that the partition is applied to.
     ///
     /// The LSN is at most `hard`. The 8,192 bytes are lent until the next call.
     ///
     /// A get enters the hardened blocks that are not in the index yet, each once. Besides, it costs two
-    /// searches, and where no version of the page is kept at the LSN a replay of the blocks that change
+    /// searches, and if no version of the page is kept at the LSN a replay of the blocks that change
     /// the page: from a copy of the newest version below it on, or from the newest block below it that
-    /// makes the whole page (a Zero, or a Put of 8,192 bytes), whichever is newer; where there is
+    /// makes the whole page (a Zero, or a Put of 8,192 bytes), whichever is newer; if there is
     /// neither, of all of them. A new version takes a frame; once all have versions, or there is no memory
-    /// for one more, that of the oldest. Where there is no memory to note where the version is, it is made
+    /// for one more, that of the oldest. If there is no memory to note where the version is, it is made
     /// again when it is asked for again. An error means that another allocation failed: no applied LSN has changed.
     pub fn get(
         &mut self,
@@ -250,7 +250,7 @@ fn bring_up(
     Ok(())
 }
 
-// A version of the page at the LSN of an image, or at LSN 0, where the block there is none.
+// A version of the page at the LSN of an image, or at LSN 0, if the block there is none.
 fn begin_at_image(
     log: &mut DbLog,
     versions: &mut Versions,
@@ -301,7 +301,7 @@ fn begin(
     }
 }
 
-// The LSN of the image to begin at: 0 where no block changes the page.
+// The LSN of the image to begin at: 0 if no block changes the page.
 fn image_after(changes: usize, image: u64) -> u64
     ensures within { result ≤ image }
     ensures none { changes ≡ 0 → result ≡ 0 }
@@ -309,7 +309,7 @@ fn image_after(changes: usize, image: u64) -> u64
     if changes == 0 { 0 } else { image }
 }
 
-// The place of a version that is the page at an LSN. Where the newest at or below it lacks blocks
+// The place of a version that is the page at an LSN. If the newest at or below it lacks blocks
 // that change the page, one of its own is brought up.
 fn show(
     log: &mut DbLog,

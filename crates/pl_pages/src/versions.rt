@@ -166,7 +166,7 @@ impl Versions {
         };
     }
 
-    /// Lets the version at a place be found. Where an allocation fails, it is not found.
+    /// Lets the version at a place be found. If an allocation fails, it is not found.
     pub(crate) fn enter(&mut self, place: usize)
         requires within { place < length self.old.versions }
         ensures same { self.new ≡ self.old }
@@ -206,7 +206,7 @@ impl Versions {
         }
     }
 
-    // A place with a frame of its own. An error where every frame has a version, or an allocation failed.
+    // A place with a frame of its own. An error if every frame has a version, or an allocation failed.
     fn add_place(&mut self) -> Result<usize, AllocError>
         ensures truth { StayTrue self.old.versions self.new.versions }
         ensures stay { StayInPlace self.old.versions self.new.versions }
@@ -228,7 +228,7 @@ impl Versions {
         }
     }
 
-    // The place of the oldest version, which is found no more. `None` where there is no version.
+    // The place of the oldest version, which is found no more. `None` if there is no version.
     fn free_oldest(&mut self) -> Option<usize>
         ensures same { self.new ≡ self.old }
         ensures within { IfSome result (λ place. place < length self.new.versions) }

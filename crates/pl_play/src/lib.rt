@@ -3,7 +3,7 @@
 //!
 //! What a database begins with, what [`play`] answers to any input and what [`admin`] asks for are
 //! contracts for any reader, writer and list of words. A contract sees a `Db` as its history, a reader
-//! as the bytes that it has left, and a writer as the bytes that it holds, each where that is known.
+//! as the bytes that it has left, and a writer as the bytes that it holds, each if that is known.
 #![tactic(auto)]
 
 mod fault;

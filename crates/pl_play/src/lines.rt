@@ -69,7 +69,7 @@ pub(crate) fn take_line<R: BufRead>(
     ensures fits { IfOk result (λ taken. IfSome taken (λ line. vec_len line ≤ longest_line)) }
     // There is no other line.
     ensures none { IfOk result (λ taken. IfNone taken (HasNoLine (R.remaining reader.old))) }
-    // `Long` comes only where the line has more.
+    // `Long` comes only if the line has more.
     ensures err { IfErr result (λ stop.
         stop ≡ InputFault.Long → BeginsLong (R.remaining reader.old)) }
 {
@@ -86,7 +86,7 @@ pub(crate) fn take_line<R: BufRead>(
 
 /// Whether the input is known to end here: it is looked at once, and a read that fails is not an end.
 pub(crate) fn is_at_end<R: BufRead>(reader: &mut R) -> bool
-    // Where it is true, the input has no other line.
+    // If it is true, the input has no other line.
     ensures end { IsTrue result → HasNoLine (R.remaining reader.old) }
 {
     match reader.fill_buf() {
@@ -121,7 +121,7 @@ fn take_piece<R: BufRead>(reader: &mut R, line: &mut Vec<u8>) -> Result<Piece, I
     Ok(Piece::Shown)
 }
 
-/// The place of the first line feed, or the length where there is none.
+/// The place of the first line feed, or the length if there is none.
 fn len_before_feed(shown: &[u8]) -> usize
     ensures fits { result ≤ length shown.now }
     ensures none { HasNoFeed (take result shown.now) }

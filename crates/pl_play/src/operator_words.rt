@@ -127,7 +127,7 @@ fn act_of(alloc: Global, words: &[String], text: Option<Vec<u8>>) -> Result<Opti
 /// The request that an operator's words ask for: `status`, `tidy`, `audit FIRST MAX`, `failover ID`
 /// or `set_table FILE`, where `text` is what the file has.
 ///
-/// `Words` comes where the words are none of these, a number is not a decimal number of its width or is
+/// `Words` comes if the words are none of these, a number is not a decimal number of its width or is
 /// out of its range, the text of `set_table` is missing or has more than 65,506 bytes. A text that
 /// is not a table is asked for all the same: the database denies it.
 pub fn admin(
@@ -140,7 +140,7 @@ pub fn admin(
     ensures head { IfOk result (λ q. q.head ≡ operator_head credentials) }
     // The act is the one that the words ask for (`AskFor`).
     ensures act { IfOk result (λ q. AskFor (map string_bytes words.now) (bytes_of text) q.act) }
-    // `Words` comes only where no act in its ranges is asked for.
+    // `Words` comes only if no act in its ranges is asked for.
     ensures words { result ≡ Err AdminFault.Words → (act : ActSeen) → InRange act →
         AskFor (map string_bytes words.now) (bytes_of text) act → ⊥ }
 {

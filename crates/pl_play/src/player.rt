@@ -23,7 +23,7 @@ const MOST_LINES: u64 = 4_294_967_296;
 /// The first fault ends it. The answers to the lines before it are written whole. After `Write`
 /// a beginning of the next answer may follow, and after `Write` or `NoMemory` the database may have
 /// taken that line's step. A step that runs out of memory is answered like any other, and ends
-/// nothing. An empty line is an empty body. Where the input goes on past 4,294,967,296 lines, `Read`
+/// nothing. An empty line is an empty body. If the input goes on past 4,294,967,296 lines, `Read`
 /// ends it.
 pub fn play<R: BufRead, W: Write>(
     alloc: Global,

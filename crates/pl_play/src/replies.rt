@@ -26,7 +26,7 @@ const NO_MEMORY: &[u8] = b"06\n";
 /// Replies to one body: by a step of the database, or by the fault that makes the body no request.
 ///
 /// A written block keeps the bytes of the body. A step that runs out of memory has a reply too.
-/// `AllocError` comes where the records of a block or a table's text found no memory, before any step.
+/// `AllocError` comes if the records of a block or a table's text found no memory, before any step.
 #[tactic(auto, using(crate::proofs::Read::called_as_read, crate::proofs::Read::refused_as_read))]
 pub(crate) fn reply_to(alloc: Global, body: Bytes, db: &mut Db) -> Result<Reply, AllocError>
     // The reply of a step under pass 1, or the code of the body's fault (`AnswersAsRead`).

@@ -129,14 +129,14 @@ fn text_of(read: io::Result<usize>, text: Vec<u8>) -> Result<Vec<u8>, FileFault>
     }
 }
 
-/// All that the reader has, where that is at most 65,506 bytes. `Long` comes where it has more, of
+/// All that the reader has, if that is at most 65,506 bytes. `Long` comes if it has more, of
 /// which at most one byte is read.
 pub fn read_text<R: Read + Drop>(alloc: Global, reader: R) -> Result<Vec<u8>, FileFault>
     // The whole of the file.
     ensures ok { IfOk result (λ text. IsWhole (R.remaining reader) text.items) }
     // It has at most 65,506 bytes.
     ensures fits { IfOk result (λ text. length text.items ≤ longest_table_text) }
-    // `Long` comes only where the file has more.
+    // `Long` comes only if the file has more.
     ensures long { result ≡ Err FileFault.Long → IsTooLongText (R.remaining reader) }
 {
     let mut text = Vec::new(alloc);

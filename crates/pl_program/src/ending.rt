@@ -99,7 +99,7 @@ impl Ending {
         }
     }
 
-    /// The ending of `ask`, where this was the reply.
+    /// The ending of `ask`, if this was the reply.
     pub fn of_reply(reply: &Reply) -> Ending
         // How `ask` ends at its reply.
         ensures value { result ≡ ending_of_reply reply.now }
@@ -110,7 +110,7 @@ impl Ending {
         }
     }
 
-    /// The exit status: 0 where all is done, 2 for a usage error, and else 1.
+    /// The exit status: 0 if all is done, 2 for a usage error, and else 1.
     pub fn status(&self) -> u8
         // The program's exit status.
         ensures value { result ≡ ending_status self.now }

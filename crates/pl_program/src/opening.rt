@@ -53,7 +53,7 @@ pub fn databases_of(
     Ok(dbs)
 }
 
-/// The token that the table of this text lists for the principal. `NotListed` where it lists none.
+/// The token that the table of this text lists for the principal. `NotListed` if it lists none.
 pub fn token_of(alloc: Global, text: &[u8], principal: u32) -> Result<[u8; 16], StartFault>
     // The token that the table of the text lists for the principal, or the first fault, or
     // `NoMemory`.
@@ -91,7 +91,7 @@ pub fn pager_of(
 pub struct Opening {
     /// Its databases, by their numbers from 0 on.
     pub dbs: Vec<Db>,
-    /// Its page server, where it has one.
+    /// Its page server, if it has one.
     pub pager: Option<PageServer>,
 }
 

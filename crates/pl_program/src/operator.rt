@@ -16,7 +16,7 @@ use std::io::{Read, Write};
 const TOKEN_BYTES: usize = 16;
 
 /// The credentials with the token that a text spells, two hexadecimal digits a byte, in either case.
-/// `Words` where it does not have 32 digits.
+/// `Words` if it does not have 32 digits.
 pub fn credentials_of(
     principal: u32,
     token: &str,
@@ -44,7 +44,7 @@ pub fn credentials_of(
     })
 }
 
-// The second of two words, where the first is `set_table`.
+// The second of two words, if the first is `set_table`.
 fn file_after<'a>(word: &str, file: &'a str) -> Option<&'a str>
     ensures some { IfSome result (λ found.
         word.now ∷ file.entry.now ∷ [] ≡ codes "set_table" ∷ found.now ∷ []) }

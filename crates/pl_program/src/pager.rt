@@ -47,7 +47,7 @@ fn page<R: Wait + Drop>(desks: &Desks<R>, paging: Paging) -> Passes
     passes
 }
 
-/// Starts the page server. `None` where its thread could not be started.
+/// Starts the page server. `None` if its thread could not be started.
 pub(crate) fn start_pager<'s, E, R: Wait + Sync + Drop>(
     scope: &Scope<'s, E>,
     desks: &'s Desks<R>,

@@ -32,7 +32,7 @@ fn play_by(
     match start_play(rt.alloc(), table, primary) {
         Ok(mut db) => {
             let played = play_all(rt, &mut db);
-            // By a call: where it went out of scope, its drop would be steps of this function's proof.
+            // By a call: if it went out of scope, its drop would be steps of this function's proof.
             drop(db);
             end_of(played)
         }
@@ -49,7 +49,7 @@ fn play_all(rt: &(impl Input + Print + AllocGlobal), db: &mut Db) -> Result<u64,
     play(alloc, &mut reader, &mut writer, db)
 }
 
-/// How the program ends where `play` ended so.
+/// How the program ends if `play` ended so.
 fn end_of(played: Result<u64, PlayFault>) -> Result<Ending, Failure> {
     match played {
         Ok(_) => Ok(Ending::Done),

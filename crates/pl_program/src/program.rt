@@ -16,12 +16,12 @@ use std::thread::Threads;
 
 /// Does what the arguments of the process ask for, and returns how the program ends. Help is written;
 /// `play` answers the lines of the standard input on the standard output; `serve` writes its address,
-/// answers connections until this many were accepted, and writes how many; where it has fewer workers than asked
+/// answers connections until this many were accepted, and writes how many; if it has fewer workers than asked
 /// for, or a connection has to wait to be accepted, it reports that on the standard error and goes on; `ask` sends one request and
 /// writes the text of the reply. Of most faults a line on the standard error says what they are about: the option, its value, the
 /// line of a table, the system's cause.
 ///
-/// `Refused` comes where the reply to `ask`, which is written too, is not Done, Status or Entries. Where
+/// `Refused` comes if the reply to `ask`, which is written too, is not Done, Status or Entries. If
 /// all else is done, `Done` comes.
 ///
 /// - `Command`: the arguments name nothing to do, or memory ran out while they were read.

@@ -28,7 +28,7 @@ pub struct ServedDatabases {
     pub pager: Option<Passes>,
 }
 
-// Serves connections, and at the same time lets the page server make its rounds, if there is one. `None` where the
+// Serves connections, and at the same time lets the page server make its rounds, if there is one. `None` if the
 // page server's thread could not be started.
 fn serve_in<'s, E, R: Threads + Wait + Net + Sync + Drop, W: Watch>(
     scope: &Scope<'s, E>,
@@ -43,7 +43,7 @@ fn serve_in<'s, E, R: Threads + Wait + Net + Sync + Drop, W: Watch>(
     ensures serves { IfSome result (λ s. ServesConnections DesksCall (ArePassesOf desks.now)
         passes.items terms.now.connections s.connections.accepted s.connections.stop
         s.connections.passes.items) }
-    // Where there is a page server, it was started and waited for.
+    // If there is a page server, it was started and waited for.
     ensures paged { IfSome result (λ s. AreLeftBy paging s.pager) }
     ensures none { IsNone result → IsSome paging }
 {
@@ -118,12 +118,12 @@ fn serve_over<R: Threads + Wait + Net + Sync + Drop, W: Watch>(
     )
 }
 
-/// Serves the databases to connections by these terms, with this many workers. Where
+/// Serves the databases to connections by these terms, with this many workers. If
 /// there is a page server, it works at the same time, in a thread of its own, and is waited for. One worker at a time that has
 /// nothing to do polls its sockets more before it sleeps, as the terms say. What the service cannot do while it goes on is
 /// reported to their watch.
 ///
-/// `NoMemory` where the desks found none, and `Threads` where the page server's thread could not be
+/// `NoMemory` if the desks found none, and `Threads` if the page server's thread could not be
 /// started.
 pub fn serve_databases<R: Threads + Wait + Net + Sync + Copy + Drop, W: Watch>(
     rt: &R,
@@ -143,7 +143,7 @@ pub fn serve_databases<R: Threads + Wait + Net + Sync + Copy + Drop, W: Watch>(
     // one, after its rounds at each database, in turn (`ServesDatabases`).
     ensures serves { IfOk result (λ s. ServesDatabases dbs.items workers terms.now.connections pager
         s.connections.accepted s.connections.stop s.connections.passes.items s.pager) }
-    // The fault is `NoMemory`, or `Threads` where there is a page server.
+    // The fault is `NoMemory`, or `Threads` if there is a page server.
     ensures err { IfErr result (λ fault. (fault ≡ RunFault.NoMemory)
         ⊎ ((fault ≡ RunFault.Threads) × IsSome pager)) }
 {

@@ -7,9 +7,9 @@ use crate::run_fault::RunFault;
 use pl_conn::{Passes, Served, Stop};
 use std::fmt;
 
-/// Whether a stop of the service is a fault: all is done where all connections were accepted.
+/// Whether a stop of the service is a fault: all is done if all connections were accepted.
 pub fn result_of(stop: Stop) -> Result<(), RunFault>
-    // The stop of the service as a fault: none where all connections were accepted.
+    // The stop of the service as a fault: none if all connections were accepted.
     ensures value { result ≡ result_of_stop stop }
 {
     match stop {
@@ -31,7 +31,7 @@ pub struct Tally {
 
 /// The last line of a service that ended so, or the fault of its stop.
 pub fn tally_of(served: &Served<Passes>) -> Result<Tally, RunFault>
-    // The numbers of the last line where all connections were accepted, else the fault of the stop.
+    // The numbers of the last line if all connections were accepted, else the fault of the stop.
     ensures value { result ≡ tally_at served.now.stop served.now.accepted served.now.faults }
 {
     result_of(served.stop)?;

@@ -24,7 +24,7 @@ impl fmt::Display for Crew {
     }
 }
 
-/// Reports on the standard error of the process. Where that is closed, nothing is reported.
+/// Reports on the standard error of the process. If that is closed, nothing is reported.
 #[derive(Clone, Copy)]
 pub(crate) struct Teller<'a, R> {
     pub(crate) rt: &'a R,

@@ -145,7 +145,7 @@ fn places_in(alloc: Global, rows: &[Row], asker: Option<u32>, op: Op) -> Result<
     Ok(list)
 }
 
-// The place of the id, where it and the names before it follow one another without a gap.
+// The place of the id, if it and the names before it follow one another without a gap.
 fn place_in_a_row(names: &[u32], id: u32) -> Option<usize>
     ensures found { IfSome result (λ place. slice_get names.now place ≡ Some id) }
 {
@@ -157,7 +157,7 @@ fn place_in_a_row(names: &[u32], id: u32) -> Option<usize>
     }
 }
 
-// The place of the asker: one step where ids follow one another, else about log n steps for n names.
+// The place of the asker: one step if ids follow one another, else about log n steps for n names.
 fn place_of(names: &[u32], id: u32) -> usize
     requires { IsStrictlyIncreasing names.now }
     ensures value { slice_get (askers names.now) result ≡ Some (asker_of id names.now) }
@@ -171,7 +171,7 @@ fn place_of(names: &[u32], id: u32) -> usize
     }
 }
 
-// The first row that matches, where these are the places of all that can match: its number, from 1,
+// The first row that matches, if these are the places of all that can match: its number, from 1,
 // and whether it allows.
 fn first_listed(list: &[u8], rows: &[Row], asking: &Asking<'_>) -> Option<(u16, bool)>
     requires listed { list.now ≡ places_from 0 (can_match (asked_by asking.now)) rows.now }

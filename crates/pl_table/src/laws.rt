@@ -3,12 +3,12 @@
 
 ghost use Rattle.pl_table.specs.Laws.{LowerLsnsAreAllowed, RowsAreAboutSetting, SomebodyIsAllowed, TextsReadAsTables};
 
-/// A table has no fault 12 exactly where some listed principal is allowed to set the table: the first
+/// A table has no fault 12 exactly if some listed principal is allowed to set the table: the first
 /// row that matches its set_table as operator allows it.
 pub fn setting_is_a_first_match()
-    // A row is about a principal's set_table exactly where it matches that request.
+    // A row is about a principal's set_table exactly if it matches that request.
     ensures row { RowsAreAboutSetting }
-    // Somebody may set the table exactly where a listed principal's set_table as operator is
+    // Somebody may set the table exactly if a listed principal's set_table as operator is
     // allowed by the first row that matches it.
     ensures table { SomebodyIsAllowed }
 {}
@@ -19,7 +19,7 @@ pub fn texts_read_as_tables()
     ensures law { TextsReadAsTables }
 {}
 
-/// Where the rows allow a request at an LSN, they allow it at each lower one.
+/// If the rows allow a request at an LSN, they allow it at each lower one.
 pub fn lower_lsns_are_allowed()
     // Rows that allow a request at an LSN allow it at each lower one.
     ensures law { LowerLsnsAreAllowed }

@@ -101,9 +101,9 @@ impl Role {
         self as u8
     }
 
-    /// The role with this number, or `None` where there is none.
+    /// The role with this number, or `None` if there is none.
     pub fn of_number(number: u8) -> Option<Role>
-        // What has this number, `None` where nothing has it.
+        // What has this number, `None` if nothing has it.
         ensures value { result ≡ role_of_number number }
     {
         roles!(of_number number)
@@ -117,10 +117,10 @@ impl Role {
         roles!(name self)
     }
 
-    /// The role with this word, or `None` where there is none.
+    /// The role with this word, or `None` if there is none.
     #[tactic(auto, unfolding(crate::specs::Part::role_of_name))]
     pub fn of_name(name: &str) -> Option<Role>
-        // What has this word, `None` where nothing has it.
+        // What has this word, `None` if nothing has it.
         ensures value { result ≡ role_of_name name.now }
     {
         roles!(all).iter().copied().find(|role| role.name() == name)
@@ -155,9 +155,9 @@ impl Op {
         self as u8
     }
 
-    /// The operation with this number, or `None` where there is none.
+    /// The operation with this number, or `None` if there is none.
     pub fn of_number(number: u8) -> Option<Op>
-        // What has this number, `None` where nothing has it.
+        // What has this number, `None` if nothing has it.
         ensures value { result ≡ op_of_number number }
     {
         ops!(of_number number)
@@ -171,10 +171,10 @@ impl Op {
         ops!(name self)
     }
 
-    /// The operation with this word, or `None` where there is none.
+    /// The operation with this word, or `None` if there is none.
     #[tactic(auto, unfolding(crate::specs::Part::op_of_name))]
     pub fn of_name(name: &str) -> Option<Op>
-        // What has this word, `None` where nothing has it.
+        // What has this word, `None` if nothing has it.
         ensures value { result ≡ op_of_name name.now }
     {
         Op::all().iter().copied().find(|op| op.name() == name)

@@ -22,9 +22,9 @@ pub enum Partitions<'a> {
 }
 
 impl Partitions<'_> {
-    /// The only partition, if there is one; `None` where there are several.
+    /// The only partition, if there is one; `None` if there are several.
     pub fn at_most_one(&self) -> Option<Option<u16>>
-        // The one partition or none; `None` where there are several (`named_by`).
+        // The one partition or none; `None` if there are several (`named_by`).
         ensures value { IfSome result
             (λ one. option_map_or (λ p. p ∷ []) one [] ≡ named_by self.now) }
     {

@@ -3,7 +3,7 @@
 ghost use Rattle.std.specs.Prelude.{◌≡◌, ◌≤◌, ◌+◌, ◌-◌};
 ghost use Rattle.std.specs.List.{list_all, list_any, range_with_len};
 
-/// The partitions from `from` to `to`, both included. The range is empty where `from` is above `to`.
+/// The partitions from `from` to `to`, both included. The range is empty if `from` is above `to`.
 #[derive(Clone, Copy, Debug, PartialEq, Eq)]
 pub struct PartitionRange {
     /// The first partition.

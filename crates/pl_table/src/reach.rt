@@ -86,7 +86,7 @@ impl Reach {
     }
 }
 
-// How far the rows allow a request that they allow, where these are the places of all that can match:
+// How far the rows allow a request that they allow, if these are the places of all that can match:
 // the greatest LSN up to `most` at which they do.
 pub(crate) fn listed_reach(list: &[u8], rows: &[Row], asking: &Asking<'_>, most: u64) -> u64
     requires listed { list.now ≡ places_from 0 (can_match (asked_by asking.now)) rows.now }

@@ -41,7 +41,7 @@ pub enum Act {
     Report {
         lsn: u64,
     },
-    /// Read the page as it is at an LSN: at `lsn`, 0 to 2^48, where `exact` holds; else at `lsn` or
+    /// Read the page as it is at an LSN: at `lsn`, 0 to 2^48, if `exact` holds; else at `lsn` or
     /// above it. At 0 every page is zeros.
     Get {
         page: u32,
@@ -103,7 +103,7 @@ impl Act {
     }
 
     /// The LSN that the act names: that of its block, the one hardened up to, the one read at, or the first
-    /// one pulled. `None` where it names none.
+    /// one pulled. `None` if it names none.
     pub fn lsn(&self) -> Option<u64>
         // The LSN that the act names, if any (`number_of`).
         ensures value { result ≡ number_of self.now }
@@ -199,10 +199,10 @@ impl Model for Request {
 }
 
 impl Request {
-    /// The request of this principal for this act. `None` where the act is not in its ranges; the
+    /// The request of this principal for this act. `None` if the act is not in its ranges; the
     /// arguments are dropped then.
     pub fn new(head: Head, act: Act) -> Option<Request>
-        // It is `None` exactly where the act is not in its ranges (`InRange`).
+        // It is `None` exactly if the act is not in its ranges (`InRange`).
         ensures found { IsSome result ↔ InRange act }
         // The head and the act are those given.
         ensures some { IfSome result (λ r. (r.head ≡ head) × (r.act ≡ act)) }

@@ -121,7 +121,7 @@ impl Row {
         })
     }
 
-    // Whether the row matches what is asked, where it can match by its principal and its operations.
+    // Whether the row matches what is asked, if it can match by its principal and its operations.
     pub(crate) fn matches_listed(&self, asking: &Asking<'_>) -> bool
         requires listed { IsTrue (can_match (asked_by asking.now) self.now) }
         ensures value { result ≡ row_matches self.now (asked_by asking.now) }
@@ -129,7 +129,7 @@ impl Row {
         self.is_about(asking) && matches_through(self.allows, self.through, asking.lsn)
     }
 
-    // Whether the row is about what is asked, whatever LSN that names, where it can match by its
+    // Whether the row is about what is asked, whatever LSN that names, if it can match by its
     // principal and its operations.
     pub(crate) fn is_about(&self, asking: &Asking<'_>) -> bool
         requires listed { IsTrue (can_match (asked_by asking.now) self.now) }

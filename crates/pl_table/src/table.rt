@@ -146,9 +146,9 @@ impl Table {
         self.zone.quorum()
     }
 
-    /// An equal table, in memory of its own. `Err` where an allocation failed.
+    /// An equal table, in memory of its own. `Err` if an allocation failed.
     pub fn clone_table(&self) -> Result<Table, AllocError>
-        // Where no allocation fails, an equal table.
+        // If no allocation fails, an equal table.
         ensures ok { IfOk result (λ t. t ≡ self.now) }
     {
         let alloc = *self.rows.allocator();
@@ -158,14 +158,14 @@ impl Table {
     }
 
     /// The first row that matches the request: its number, from 1, and whether it allows. `None`
-    /// where no row matches. Only the rows are tested that can match a request of the principal for
+    /// if no row matches. Only the rows are tested that can match a request of the principal for
     /// the operation, each once, up to that one. Nothing is allocated.
     pub fn first_match(&self, request: &Request) -> Option<(u16, bool)>
         // The number of the first row that matches, and whether it allows (`first_match_from`).
         ensures value { result ≡ first_match_from 1 self.now.rows (asked_in request.now) }
         // That row matches, and no row above it does.
         ensures some { IfSome result (IsFirstMatch self.now.rows (asked_in request.now)) }
-        // Where it is `None`, no row matches.
+        // If it is `None`, no row matches.
         ensures none { IfNone result
             (All (λ row. row_matches row (asked_in request.now) ≡ false) self.now.rows) }
         // The table keeps its rules (`IsTable`).
@@ -184,7 +184,7 @@ impl Table {
     }
 
     /// How far the rows allow a request that they allow: the greatest LSN up to `most` at which they
-    /// do. They allow it at each lower LSN too. Where no row ends, and where the request names no LSN,
+    /// do. They allow it at each lower LSN too. If no row ends, or the request names no LSN,
     /// that is `most`. [`Table::first_match`] reports whether they allow it. Nothing is allocated.
     pub fn reach(&self, request: &Request, most: u64) -> u64
         // The rows allow the request.
@@ -231,10 +231,10 @@ impl Table {
     }
 
     /// A range of LSNs around that of the request, at each of which [`Table::first_match`] finds for it
-    /// what it finds at its own: no row ends between two of them. `None` where the request names no
-    /// LSN. Where no row ends at all no row is looked at.
+    /// what it finds at its own: no row ends between two of them. `None` if the request names no
+    /// LSN. If no row ends at all no row is looked at.
     pub fn lsns_alike(&self, request: &Request) -> Option<LsnRange>
-        // A range with the request's LSN, or `None` where the request names none (`IsAtOne`).
+        // A range with the request's LSN, or `None` if the request names none (`IsAtOne`).
         ensures own { IsAtOne result (number_of request.now.act) }
         // At each LSN of the range `first_match` finds the same (`AreAlike`).
         ensures alike { IfSome result (AreAlike self.now.rows (asked_in request.now)) }
@@ -258,11 +258,11 @@ impl Table {
         self.index.count(&request.asking())
     }
 
-    /// The token listed for the id, or `None` where the id is not listed.
+    /// The token listed for the id, or `None` if the id is not listed.
     pub fn token(&self, id: u32) -> Option<[u8; 16]>
         // The token listed for the id (`token_of`).
         ensures value { result ≡ token_of id self.now.principals }
-        // It is `None` exactly where the id is not listed.
+        // It is `None` exactly if the id is not listed.
         ensures found { IsSome result ↔ Contains (map (λ p. p.id) self.now.principals) id }
 
         // An id has one token, since no two principals have the same id.

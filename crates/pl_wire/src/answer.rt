@@ -70,7 +70,7 @@ fn begin_whole(out: &mut Vec<u8>, before: usize, reply: &Reply)
     out.truncate(before + HEAD_BYTES);
 }
 
-// Puts the frame of a reply that is no page, where there is room for its head after this many bytes.
+// Puts the frame of a reply that is no page, if there is room for its head after this many bytes.
 fn put_whole(out: &mut Vec<u8>, before: usize, reply: &Reply)
     requires fits { FitsReply reply.now }
     requires within { before + 13 ≤ vec_len out.old }

@@ -22,7 +22,7 @@ pub enum WireFault {
     UnknownRole,
     /// The number of an operation is not 1 to 11, or the kind of a reply is above 10: code 3.
     UnknownKind,
-    /// The body ends inside a field: code 4. Where the block of a request is cut, the fault is the
+    /// The body ends inside a field: code 4. If the block of a request is cut, the fault is the
     /// block's.
     EndsInField,
     /// Bytes follow the last field: code 5.
@@ -73,7 +73,7 @@ impl From<WireFault> for BodyFault {
     }
 }
 
-// Why there is no body where there is no block.
+// Why there is no body if there is no block.
 pub(crate) fn of_block(fault: BlockFault) -> BodyFault
     ensures value { result ≡ of_block fault }
 {

@@ -81,7 +81,7 @@ pub(crate) fn take_op(rest: &mut &[u8]) -> Result<Op, WireFault>
     Op::of_number(number).ok_or(WireFault::UnknownKind)
 }
 
-/// The section with this number, or `None` where there is none.
+/// The section with this number, or `None` if there is none.
 pub(crate) fn section_of(number: u8) -> Option<Section>
     ensures value { result ≡ section_of_number number }
 {

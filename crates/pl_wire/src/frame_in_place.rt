@@ -7,10 +7,10 @@ ghost use Rattle.pl_wire.specs.Frames.{frame, longest_request};
 use crate::frame_reading::{LENGTH_BYTES, LONGEST_REQUEST};
 use bytes::Buf;
 
-/// The body of the request's frame that the bytes begin with, where they hold all of it. It takes the same time whatever
+/// The body of the request's frame that the bytes begin with, if they hold all of it. It takes the same time whatever
 /// the bytes are.
 ///
-/// `None` where they are less than a frame, or the length is above the limit: [`is_cut`] says which.
+/// `None` if they are less than a frame, or the length is above the limit: [`is_cut`] says which.
 pub fn body_in(bytes: &[u8]) -> Option<&[u8]>
     // The bytes begin with the frame of this body.
     ensures some { IfSome result (λ body. (4 + length body.now ≤ length bytes.now)

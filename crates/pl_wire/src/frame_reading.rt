@@ -78,8 +78,8 @@ fn fill<R: Read>(reader: &mut R, buffer: &mut [u8]) -> Result<usize, usize>
 /// Reads the length that a frame begins with: four bytes, the high one first. `None` at the end of
 /// input before the first of them.
 ///
-/// `Short` where the input ends inside them, `TooLong` where the length is above the limit, and `Io`
-/// where a read failed. No memory is asked for.
+/// `Short` if the input ends inside them, `TooLong` if the length is above the limit, and `Io`
+/// if a read failed. No memory is asked for.
 pub fn read_head<R: Read>(reader: &mut R, limit: u32) -> Result<Option<u32>, FrameFault>
     // A length within the limit, whose bytes were read and nothing after them.
     ensures some { IfOk result (λ head. IfSome head (λ len. (len ≤ limit)
@@ -112,7 +112,7 @@ pub fn read_head<R: Read>(reader: &mut R, limit: u32) -> Result<Option<u32>, Fra
 /// Reads a body of this many bytes. Memory is asked for once, before a byte is read; a body of length 0
 /// takes none.
 ///
-/// `Short` where the input ends inside the body, `Io` where a read failed, and `NoMemory` where the
+/// `Short` if the input ends inside the body, `Io` if a read failed, and `NoMemory` if the
 /// allocation did: then nothing is read.
 pub fn read_body<R: Read>(alloc: Global, reader: &mut R, len: u32) -> Result<Vec<u8>, FrameFault>
     // This many bytes were read, and nothing after them.
@@ -140,7 +140,7 @@ pub fn read_body<R: Read>(alloc: Global, reader: &mut R, len: u32) -> Result<Vec
 /// follows the frame is left unread.
 ///
 /// The reader is read at most once for each byte of the frame, and once more. A length is tested
-/// before any memory is asked for. `Short` where the input ends inside the frame, `TooLong` where its length is above the limit, `Io` where a read failed, and `NoMemory` where there
+/// before any memory is asked for. `Short` if the input ends inside the frame, `TooLong` if its length is above the limit, `Io` if a read failed, and `NoMemory` if there
 /// is no memory for the body: then the length is read and the body is not.
 pub fn read_frame<R: Read>(
     alloc: Global,
@@ -168,15 +168,15 @@ pub fn read_frame<R: Read>(
 
 /// Reads a frame, and the reply that its body spells. What follows the frame is left unread.
 ///
-/// `Ended` at the end of input before the frame's first byte, `Frame` where no frame was read, and
-/// `Body` where a whole frame was read whose body is not a reply, or whose reply finds no memory. Memory
+/// `Ended` at the end of input before the frame's first byte, `Frame` if no frame was read, and
+/// `Body` if a whole frame was read whose body is not a reply, or whose reply finds no memory. Memory
 /// is asked for the body, and for what the reply keeps.
 pub fn read_reply<R: Read>(alloc: Global, reader: &mut R) -> Result<Reply, ReplyFault>
     // The reply whose frame was read, and nothing after it was read.
     ensures ok { IfOk result (λ reply. IsReply reply
         × Consumes (R.remaining reader.old) (R.remaining reader.new) (reply_frame reply)) }
     // `Ended` at the end of input before a frame; `Frame` as `read_frame` with a limit of 2^20
-    // bytes; `Body` where the body of a whole frame is not a reply, or its reply asks for memory
+    // bytes; `Body` if the body of a whole frame is not a reply, or its reply asks for memory
     // (`StopsReply`).
     ensures err { IfErr result (λ fault.
         StopsReply (R.remaining reader.old) (R.remaining reader.new) fault) }

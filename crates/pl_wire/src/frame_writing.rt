@@ -37,7 +37,7 @@ pub struct Unwritten {
 /// The most bytes of the frame of a reply: of one with 16 blocks of 32,768 bytes.
 pub const LARGEST_REPLY_FRAME: usize = 524_367;
 
-/// Writes all of the bytes, in one write where the writer takes them at once.
+/// Writes all of the bytes, in one write if the writer takes them at once.
 ///
 /// `Err` says how many were written, fewer than there are, before a write took none or failed,
 /// whatever made it fail: an interruption too. There is at most one write for each byte.
@@ -78,7 +78,7 @@ fn put_frame(out: &mut Vec<u8>, len: usize, reply: &Reply) -> Result<(), AllocEr
 /// a block or of a page is copied once.
 ///
 /// [`Reply::fits`] tests the condition. The only error is a failed allocation: then `out` has what it
-/// had. Where `out` has room for [`LARGEST_REPLY_FRAME`] bytes more, there is no allocation.
+/// had. If `out` has room for [`LARGEST_REPLY_FRAME`] bytes more, there is no allocation.
 pub fn put_reply(out: &mut Vec<u8>, reply: &Reply) -> Result<(), AllocError>
     // The reply fits its format (`Reply::fits`).
     requires { FitsReply reply.now }
@@ -86,7 +86,7 @@ pub fn put_reply(out: &mut Vec<u8>, reply: &Reply) -> Result<(), AllocError>
     ensures ok { OnOk result (out.new.items ≡ out.old.items ++ reply_frame reply.now) }
     // Out of memory, nothing is appended.
     ensures err { OnErr result (out.new.items ≡ out.old.items) }
-    // It takes no more of the room than the frame, and fails only where the room is less.
+    // It takes no more of the room than the frame, and fails only if the room is less.
     ensures room { UsesSpare result out.old out.new (length (reply_frame reply.now)) }
     // The frame has at most 524,367 bytes.
     ensures fits { length (reply_frame reply.now) ≤ largest_reply_frame }
@@ -96,9 +96,9 @@ pub fn put_reply(out: &mut Vec<u8>, reply: &Reply) -> Result<(), AllocError>
     put_frame(out, len, reply)
 }
 
-/// Writes the frame of the reply, in one write where the writer takes it at once.
+/// Writes the frame of the reply, in one write if the writer takes it at once.
 ///
-/// [`Reply::fits`] tests the condition. Out of memory, nothing is written; where a write fails, a
+/// [`Reply::fits`] tests the condition. Out of memory, nothing is written; if a write fails, a
 /// beginning of the frame may be.
 pub fn write_reply<W: Write>(alloc: Global, writer: &mut W, reply: &Reply) -> Result<(), WriteFault>
     // The reply fits its format (`Reply::fits`).
@@ -126,9 +126,9 @@ fn framed(alloc: Global, request: &Request) -> Result<Vec<u8>, AllocError>
     Ok(bytes)
 }
 
-/// Writes the frame of the request, in one write where the writer takes it at once.
+/// Writes the frame of the request, in one write if the writer takes it at once.
 ///
-/// Out of memory, nothing is written; where a write fails, a beginning of the frame may be.
+/// Out of memory, nothing is written; if a write fails, a beginning of the frame may be.
 pub fn write_request<W: Write>(
     alloc: Global,
     writer: &mut W,

@@ -50,7 +50,7 @@ impl ReplyKind {
         self as u8
     }
 
-    /// The kind of the replies with this first byte, or `None` where there is none.
+    /// The kind of the replies with this first byte, or `None` if there is none.
     pub(crate) fn of_number(number: u8) -> Option<ReplyKind>
         ensures value { result ≡ kind_of_number number }
     {

@@ -9,7 +9,7 @@ use pl_block::laws::one_spelling;
 use pl_block::{Block, BlockFault, decode};
 use std::alloc::Global;
 
-/// The block that was read last. A primary writes a block to one copy after the other: where it comes again, byte for byte, it is
+/// The block that was read last. A primary writes a block to one copy after the other: if it comes again, byte for byte, it is
 /// shared, and neither read again nor kept twice.
 #[derive(Drop)]
 pub struct Latest {
@@ -22,7 +22,7 @@ impl Latest {
         Latest { block: None }
     }
 
-    // The block, where it was read from these bytes.
+    // The block, if it was read from these bytes.
     fn of_bytes(&self, bytes: &[u8]) -> Option<Block>
         ensures some { IfSome result (λ block. block_reading bytes.now ≡ Ok block) }
     {

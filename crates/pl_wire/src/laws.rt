@@ -12,7 +12,7 @@ pub fn frames_end_themselves()
     ensures law { FramesEndThemselves }
 {}
 
-/// Where bytes begin with the frames of this many bodies, they begin with those of no others: the
+/// If bytes begin with the frames of this many bodies, they begin with those of no others: the
 /// bodies that are read from an input, and what follows them, do not depend on how it is read.
 pub fn frames_of_one_input()
     // Bytes that begin with the frames of n bodies begin with those of no other n bodies, so the

@@ -117,7 +117,7 @@ pub(crate) fn verdict_under(row: &Value) -> Option<bool>
     }
 }
 
-// The role of the row, which may be absent. `None` where it is there and is not a role.
+// The role of the row, which may be absent. `None` if it is there and is not a role.
 #[tactic(auto, unfolding(crate::specs::Part::role_under, crate::specs::Part::if_there))]
 pub(crate) fn role_under(row: &Value) -> Option<Option<Role>>
     ensures value { result ≡ role_under (view row.now) }
@@ -188,7 +188,7 @@ pub(crate) fn has_ops(row: &Value) -> bool
     }
 }
 
-// The operations of the row, which may be absent. `None` where they are there and are none.
+// The operations of the row, which may be absent. `None` if they are there and are none.
 #[tactic(auto, unfolding(crate::specs::Part::ops_under, crate::specs::Part::if_there))]
 fn ops_under(alloc: Global, row: &Value) -> Result<Option<Option<Ops>>, AllocError>
     ensures ok { IfOk result (λ ops. ops ≡ ops_under (view row.now)) }
@@ -214,7 +214,7 @@ fn listed_in(principals: &[Principal], value: &Value) -> Option<u32>
     is_listed(principals, id).then_some(id)
 }
 
-// The principal of the row, which may be absent. `None` where it is there and is not listed.
+// The principal of the row, which may be absent. `None` if it is there and is not listed.
 #[tactic(auto, unfolding(crate::specs::Part::who_under, crate::specs::Part::if_there))]
 pub(crate) fn who_under(principals: &[Principal], row: &Value) -> Option<Option<u32>>
     ensures value { result ≡ who_under principals.now (view row.now) }
@@ -242,7 +242,7 @@ fn range_between(from: &Value, to: &Value) -> Option<PartitionRange>
     }
 }
 
-// The range of the row, which may be absent. `None` where only one end is there, or an end is not a
+// The range of the row, which may be absent. `None` if only one end is there, or an end is not a
 // partition, or the first is above the last.
 #[tactic(auto, unfolding(crate::specs::Part::range_under, crate::specs::Part::range_from))]
 pub(crate) fn range_under(row: &Value) -> Option<Option<PartitionRange>>
@@ -255,7 +255,7 @@ pub(crate) fn range_under(row: &Value) -> Option<Option<PartitionRange>>
     }
 }
 
-// The LSN that the row ends at, which may be absent. `None` where it is there and is not an LSN.
+// The LSN that the row ends at, which may be absent. `None` if it is there and is not an LSN.
 #[tactic(auto, unfolding(crate::specs::Part::through_under, crate::specs::Part::if_there))]
 pub(crate) fn through_under(row: &Value) -> Option<Option<u64>>
     ensures value { result ≡ through_under (view row.now) }
@@ -284,7 +284,7 @@ pub(crate) fn has_numbers(principals: &[Principal], row: &Value) -> bool
         && through_under(row).is_some()
 }
 
-// The row, where each of its parts reads.
+// The row, if each of its parts reads.
 #[tactic(auto, unfolding(crate::specs::Part::row_of))]
 pub(crate) fn row_of(
     alloc: Global,
@@ -353,7 +353,7 @@ fn zone_in(copies: Option<&Value>, quorum: Option<&Value>) -> Option<Zone>
     }
 }
 
-// The zone of a table: three copies where neither number is there. `None` where one of them is missing, or
+// The zone of a table: three copies if neither number is there. `None` if one of them is missing, or
 // no zone has these numbers.
 pub(crate) fn zone_under(tree: &Tree) -> Option<Zone>
     ensures value { result ≡ zone_read (get_member (codes "copies") (table_view tree.now))

@@ -25,12 +25,12 @@ use toml::{Table as Tree, Value};
 /// `token`, an array of tables `row`, each with `verdict` and any of `who`, `role`, `op`, `from` with
 /// `to`, and `through`; and the numbers `copies` and `quorum`, or neither. `Malformed` has the fault
 /// of the least code, whichever principal or row it is in.
-/// `NoMemory` is returned where an allocation failed. The text may have any length.
+/// `NoMemory` is returned if an allocation failed. The text may have any length.
 #[tactic(auto, unfolding(crate::specs::TableText::table_reading))]
 pub fn read_table(alloc: Global, text: &[u8]) -> Result<Table, ReadFault>
     // The table that the text reads as, or its first fault (`table_reading`), or out of memory.
     ensures exact { Gives (λ t. t) result (table_reading text.now) }
-    // Memory runs out only where the text is UTF-8.
+    // Memory runs out only if the text is UTF-8.
     ensures no_memory { result ≡ Err NoMemory → IsUtf8 text.now }
 {
     let tree = tree::read_tree(alloc, text)?;

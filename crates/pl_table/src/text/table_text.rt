@@ -78,10 +78,10 @@ fn reading_of(read: Result<Table, ReadFault>) -> Result<Result<Table, TableFault
 }
 
 impl TableText {
-    /// Reads the text. `Err` where an allocation of the reader failed; the text is dropped then. A
+    /// Reads the text. `Err` if an allocation of the reader failed; the text is dropped then. A
     /// text with a fault is a `TableText` too: [`reading`](TableText::reading) has the fault.
     pub fn new(alloc: Global, text: Vec<u8>) -> Result<TableText, AllocError>
-        // Where no allocation fails, a text with these bytes.
+        // If no allocation fails, a text with these bytes.
         ensures ok { IfOk result (λ t. t ≡ text.items) }
     {
         let reading = reading_of(read_table(alloc, &text))?;

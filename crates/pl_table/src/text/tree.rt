@@ -109,7 +109,7 @@ fn tables_in(value: &Value) -> Option<&[Value]>
     }
 }
 
-// The tables under the key: none where the key is absent.
+// The tables under the key: none if the key is absent.
 #[tactic(auto, unfolding(crate::specs::Tree::tables_under))]
 pub(crate) fn tables_under<'a>(tree: &'a Tree, key: &str) -> Option<&'a [Value]>
     ensures value { option_map (λ vs. map view vs.now) result
