@@ -32,7 +32,8 @@ impl Model for Chunk {
 
     ghost view = { λ c. c.items.items };
 
-    ghost invariant = { λ c. IsMemoryBlock c.start c.items c.deed 64 c.alloc × (c.used ≡ length c.items.items) };
+    ghost invariant = { λ c. IsMemoryBlock c.start c.items c.deed 64 c.alloc
+        × (c.used ≡ length c.items.items) };
 }
 
 impl Drop for Chunk {

@@ -47,7 +47,8 @@ impl Model for Lines {
 
     ghost Value = { Roll };
 
-    ghost view = { λ l. record { lines = l.items; due = l.due.items; taken = l.taken; faults = l.faults } };
+    ghost view = { λ l.
+        record { lines = l.items; due = l.due.items; taken = l.taken; faults = l.faults } };
 
     // One that is due is listed once, and one that is closed is not.
     ghost invariant = { λ l. AreListed l.items l.due.items };

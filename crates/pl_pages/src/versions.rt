@@ -52,7 +52,8 @@ impl Model for Versions {
 
     ghost coded = { versions_code };
 
-    ghost view = { λ v. record { versions = versions_in v.arena v.kept.items; chunks = v.arena.max_chunks } };
+    ghost view = { λ v.
+        record { versions = versions_in v.arena v.kept.items; chunks = v.arena.max_chunks } };
 
     ghost invariant = { λ v. AreKept v.arena (frame_ids v.kept.items) v.oldest };
 }

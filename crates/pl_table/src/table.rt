@@ -75,7 +75,8 @@ impl Model for Table {
 
     ghost Value = { WrittenTable };
 
-    ghost view = { λ t. record { principals = t.principals.items; rows = t.rows.items; zone = t.zone } };
+    ghost view = { λ t.
+        record { principals = t.principals.items; rows = t.rows.items; zone = t.zone } };
 
     ghost invariant = { λ t.
         IsTable (record { principals = t.principals.items; rows = t.rows.items; zone = t.zone })
