@@ -33,7 +33,7 @@ abbrev pub number_option : Text → ℕ → ℕ → Rule
 number_option name least most =
     record (text_option name) { parser = Some (Signed (pos least) (pos most)) }
 
--- a number from 0 on, which is this one where the option is not given
+-- a number from 0 on, which is this one if the option is not given
 abbrev pub number_or : Text → Text → ℕ → Rule
 number_or default name most =
     record (number_option name 0 most) { required = false; defaults = default ∷ [] }
@@ -66,7 +66,7 @@ abbrev pub play_app : App
 play_app = subcommand_with (codes "play")
     (text_option (codes "table") ∷ number_option (codes "primary") 0 most_u32 ∷ [])
 
--- `serve` with its options, of which the last four have a number where they are not given
+-- `serve` with its options, of which the last four have a number if they are not given
 abbrev pub serve_app : App
 serve_app = subcommand_with (codes "serve")
     (text_option (codes "listen") ∷ text_option (codes "table")

@@ -92,7 +92,7 @@ abbrev pub Converses : {P : Type 0} → Calls P → Scene P → Scene P → Resu
 Converses calls before after (Ok count) = Concludes StopsThere calls before after (Ok count) × (count ≤ 2 ^ 32) × (count < 2 ^ 32 → IsAtEnd after.input)
 Converses calls before after (Err fault) = Concludes StopsThere calls before after (Err fault)
 
--- why a conversation ends where a frame was not read
+-- why a conversation ends if a frame was not read
 abbrev pub cause_of : FrameFault → Cause
 cause_of frame_faults.Short = causes.Short
 cause_of frame_faults.TooLong = causes.TooLong

@@ -15,7 +15,7 @@ pub record ArePassesOf (desks : List DeskOrigin) (passes : List Knowledge) : Typ
   pub each : (i : ℕ) (desk : DeskOrigin) (pass : Knowledge)
       → slice_get desks i ≡ Some desk → slice_get passes i ≡ Some pass → IsOf desk pass
 
--- a call with the pass of its database: that pass was called, and the others are the same; where
+-- a call with the pass of its database: that pass was called, and the others are the same; if
 -- there is no such pass, there is no such database, and nothing has changed
 abbrev pub CalledWith : Option Knowledge → List Knowledge → Query → Reply → List Knowledge → Type 0
 CalledWith None before request reply after = (reply ≡ replies.NoDatabase) × (after ≡ before)

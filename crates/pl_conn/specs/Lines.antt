@@ -59,7 +59,7 @@ Waits end is_closing = (end ≡ Ok rests.Output) ⊎ ((end ≡ Ok rests.Input) �
 abbrev pub IsOver : Result Rest Cause → Type 0
 IsOver end = (end ≡ Ok rests.Over) ⊎ IsErr end
 
--- How a worker goes on after the turn of a connection. One that is due again is listed, after the others, or closed where the
+-- How a worker goes on after the turn of a connection. One that is due again is listed, after the others, or closed if the
 -- list has no room; one that waits stays as it is; one that is over is closed.
 pub record Settles (old : Roll) (place : ℕ) (end : Result Rest Cause) (new : Roll) : Type 0 where
   pub again : (line : Line) → get old.lines place ≡ Some line → IsDueAgain end line.is_closing

@@ -33,7 +33,7 @@ abbrev pub is_older_epoch : Section → ℕ → Bool
 is_older_epoch sections.A row = row == 2
 is_older_epoch _ row = false
 
--- the current epoch, where the reply is a denial for an older one and the epoch is below 2^32
+-- the current epoch, if the reply is a denial for an older one and the epoch is below 2^32
 abbrev pub reported_epoch : Reply → Option ℕ
 reported_epoch (replies.Denied section row now) =
     if is_older_epoch section row && nat_lt now (2 ^ 32) then Some now else None
@@ -43,7 +43,7 @@ reported_epoch _ = None
 abbrev pub goes_on : Reply → Bool
 goes_on reply = is_done reply || is_some (reported_epoch reply)
 
--- the epoch that was reported last, where the newest reply is first; 1 where none was
+-- the epoch that was reported last, where the newest reply is first; 1 if none was
 abbrev pub last_reported_epoch : List Reply → ℕ
 last_reported_epoch [] = 1
 last_reported_epoch (reply ∷ earlier) = unwrap_or (reported_epoch reply) (last_reported_epoch earlier)

@@ -78,7 +78,7 @@ pub record Speaks {P : Type 0} (calls : Calls P) (before : P) (old : Option (Lis
 abbrev pub HasFrame : List ℕ → Type 0
 HasFrame bytes = (body : List ℕ) × (length body ≤ longest_request) × (4 + length body ≤ length bytes) × (take (4 + length body) bytes ≡ frame body)
 
--- How a turn ends. Where another is due at once, it heard a byte at least, or answered a frame. Where it is over by a fault,
+-- How a turn ends. If another is due at once, it heard a byte at least, or answered a frame. If it is over by a fault,
 -- what is lost is the last that it would have kept.
 abbrev pub Rests : {P : Type 0} → Calls P → Scene P → Middle → Scene P → Middle → Result Rest Cause → Type 0
 Rests calls before old after new (Ok rests.Again) = (turn : Resumes calls before old after new) × (0 < length turn.heard + length turn.replies.bodies) × (new.waiting ≡ [])

@@ -16,8 +16,8 @@ pub record HasDatabases (pass : HeldDatabases) : Type 0 where
   pub some : 1 ≤ length pass.dbs
   pub few : length pass.dbs ≤ 16
 
--- The call, where this is the history of the database that is named. The reply is that of one step, and
--- the other databases stay; where there is no database of that number, NoDatabase, and all stays.
+-- The call, if this is the history of the database that is named. The reply is that of one step, and
+-- the other databases stay; if there is no database of that number, NoDatabase, and all stays.
 abbrev pub SoloCallAt : Option History → HeldDatabases → Query → Reply → HeldDatabases → Type 0
 SoloCallAt None before q reply after = (reply ≡ replies.NoDatabase) × (after ≡ before)
 SoloCallAt (Some found) before q reply after =

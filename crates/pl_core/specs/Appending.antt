@@ -6,7 +6,7 @@ use Rattle.pl_core.specs.declared.reply.Answer.TheVariants as answers
 use Rattle.pl_core.specs.declared.reply.Reply.{Reply}
 use Rattle.pl_core.specs.declared.reply.Reply.TheVariants as replies
 
--- the reply, where the buffer had these bytes before, and has these now: a page's bytes are those that came after them
+-- the reply, if the buffer had these bytes before, and has these now: a page's bytes are those that came after them
 abbrev pub reply_in : Answer → List ℕ → List ℕ → Reply
 reply_in (answers.Whole reply) before now = reply
 reply_in (answers.Page at) before now = replies.Page at (drop (length before) now)

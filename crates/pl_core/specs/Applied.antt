@@ -8,7 +8,7 @@ use Rattle.pl_core.specs.History.{Effect, wrote, offered, hardened, advanced, fa
 use Rattle.pl_core.specs.Epoch.{table_of}
 use Rattle.pl_core.specs.Log.{hard_of}
 
--- The applied LSN of a partition after an effect, where this many blocks are hardened. An advance of the
+-- The applied LSN of a partition after an effect, if this many blocks are hardened. An advance of the
 -- partition makes it the smaller of the hardened end and what it was plus the steps.
 abbrev pub applied_by : Effect → ℕ → ℕ → ℕ → ℕ
 applied_by (wrote copy block) hard partition before = before
@@ -20,7 +20,7 @@ applied_by (failed_over primary) hard partition before = before
 applied_by (set table) hard partition before = before
 applied_by nothing hard partition before = before
 
--- the applied LSN of a partition after these entries: 0 where there are none
+-- the applied LSN of a partition after these entries: 0 if there are none
 abbrev pub applied_after : Start → List Entry → ℕ → ℕ
 applied_after start [] partition = 0
 applied_after start (e ∷ es) partition =
@@ -31,7 +31,7 @@ applied_after start (e ∷ es) partition =
 abbrev pub applied_of : History → ℕ → ℕ
 applied_of h partition = applied_after h.start h.entries partition
 
--- The LSN that a get of the page is answered at: the applied one where that is not below its own, the
+-- The LSN that a get of the page is answered at: the applied one if that is not below its own, the
 -- get is not exact, and the rows of the table in force allow the request at it; else its own.
 abbrev pub choice_of : History → Query → ℕ → ℕ → Bool → ℕ
 choice_of h q page lsn exact =

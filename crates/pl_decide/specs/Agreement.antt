@@ -22,7 +22,7 @@ IsAllowedThrough rows a end = (lsn : ℕ) → lsn < 2 ^ 64 → rows_allow rows (
 abbrev pub IsFoundAt : List Row → CachedVerdict → Type 0
 IsFoundAt rows e = (lsn : Option ℕ) → IsAtOne e.1.lsns lsn → first_match_from 1 rows (asked_with e.0 lsn) ≡ e.1.found
 
--- The verdict is that of the rows, whatever is asked with the key at the LSNs. Where it has an end, that is how
+-- The verdict is that of the rows, whatever is asked with the key at the LSNs. If it has an end, that is how
 -- far they allow what is asked with the key at an LSN.
 pub record IsOfRows (rows : List Row) (e : CachedVerdict) : Type 0 where
   pub found : IsFoundAt rows e
@@ -32,7 +32,7 @@ pub record IsOfRows (rows : List Row) (e : CachedVerdict) : Type 0 where
 unfoldable pub AgreesWith : List CachedVerdict → WrittenTable → Type 0
 AgreesWith verdicts t = All (IsOfRows t.rows) verdicts
 
--- the LSNs of a verdict, where it has some, are those from one on, up to another
+-- the LSNs of a verdict, if it has some, are those from one on, up to another
 unfoldable pub IsSpan : CachedVerdict → Type 0
 IsSpan e = IfSome e.1.lsns (λ lsns. lsns.from ≤ lsns.to)
 

@@ -100,7 +100,7 @@ abbrev pub fault_code : Result WrittenTable TableFault → ℕ
 fault_code (Ok table) = 0
 fault_code (Err fault) = fault_number fault
 
--- the act at another LSN, where it names one
+-- the act at another LSN, if it names one
 abbrev pub act_at : Act → ℕ → Act
 act_at (acts.Write copy block) n = acts.Write copy (record { lsn = n; records = block.records })
 act_at (acts.Offer block) n = acts.Offer (record { lsn = n; records = block.records })

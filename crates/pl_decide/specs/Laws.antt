@@ -31,18 +31,18 @@ abbrev pub OneKeyIsMatchedAlike : Type 0
 OneKeyIsMatchedAlike = (key : VerdictKey) (a b : Asked) → IsKeyOf key a → IsKeyOf key b
     → (row : Row) → is_about row a ≡ is_about row b
 
--- so, where that names one LSN or none, the first row that matches is the same
+-- so, if that names one LSN or none, the first row that matches is the same
 abbrev pub OneKeyOneVerdict : Type 0
 OneKeyOneVerdict = (key : VerdictKey) (a b : Asked) → IsKeyOf key a → IsKeyOf key b
     → a.lsn ≡ b.lsn
     → (rows : List Row) → first_match_from 1 rows a ≡ first_match_from 1 rows b
 
--- a request is allowed exactly where no rule of the order denies it, whatever the order
+-- a request is allowed exactly if no rule of the order denies it, whatever the order
 abbrev pub AllowedExactly : Type 0
 AllowedExactly = (order : List Rule) (q : Query) (t : WrittenTable) (e : Epochs) (v : View)
     → (first_denial order q t e v ≡ verdicts.Allowed) ↔ NoneStands order q t e v
 
--- and where it is not, the verdict is the denial of the first rule that denies it
+-- and if it is not, the verdict is the denial of the first rule that denies it
 abbrev pub DeniedByTheFirst : Type 0
 DeniedByTheFirst = (order : List Rule) (q : Query) (t : WrittenTable) (e : Epochs) (v : View)
     → first_denial order q t e v ≢ verdicts.Allowed
@@ -142,8 +142,8 @@ abbrev pub RowsAllowTheAllowed : Type 0
 RowsAllowTheAllowed = (q : Query) (t : WrittenTable) (e : Epochs) (v : View)
     → decision q t e v ≡ verdicts.Allowed → rows_allow t.rows (asked_in q) ≡ true
 
--- a pull or a get at an LSN: where the rows allow it, it is allowed up to the hardened end and denied above
--- it; where they do not, one of them denies it, or none matches
+-- a pull or a get at an LSN: if the rows allow it, it is allowed up to the hardened end and denied above
+-- it; if they do not, one of them denies it, or none matches
 pub record ReadsTo (q : Query) (t : WrittenTable) (e : Epochs) (v : View) (lsn : ℕ) : Type 0 where
   pub within : rows_allow t.rows (asked_at (asked_in q) lsn) ≡ true → lsn ≤ v.hard
       → decision (request_at q lsn) t e v ≡ verdicts.Allowed

@@ -78,7 +78,7 @@ pub record WasSpent (before after : Knowledge) : Type 0 where
   pub same : after.seen ≡ before.seen
   pub turns : before.terms.turns ≤ after.drawn
 
--- what a call says: Spent where all turns had been given, else the reply of a turn
+-- what a call says: Spent if all turns had been given, else the reply of a turn
 pub record WasCalled (before : Knowledge) (request : Query) (reply : Reply) (after : Knowledge) : Type 0 where
   pub drawn : before.drawn ≤ after.drawn
   pub sound : GoesOnFrom before.terms before.seen

@@ -78,7 +78,7 @@ Stands next serving now v (Met first second other) =
     HasBoth v.terms v.number other first second v.seen
 Stands next serving now v Gone = Unit {0}
 
--- what is so of the view of a pass, where there are this many views
+-- what is so of the view of a pass, if there are this many views
 pub record IsView (terms : Terms) (views next serving : ℕ) (now : History) (v : View) : Type 0 where
   pub of : v.terms ≡ terms
   pub sound : GoesOnFrom v.terms v.seen

@@ -24,7 +24,7 @@ at_stage stage v = record v { stage = stage }
 
 -- ---- 2: load the ticket word
 
--- the view that has read it: it goes on where turns are left
+-- the view that has read it: it goes on if turns are left
 abbrev pub asked : ℕ → View → View
 asked found v =
     record v { drawn = found; stage = if nat_lt found v.terms.turns then Asking else Idle }
@@ -49,7 +49,7 @@ ticket_of (InTurn t found) = t
 ticket_of (Met first second other) = 0
 ticket_of Gone = 0
 
--- where the pass's own ticket is served it has the turn, and the slot with a history that goes on
+-- if the pass's own ticket is served it has the turn, and the slot with a history that goes on
 -- from what it has seen; else nothing has changed
 abbrev pub looks_then : Step (Option History) → HeldSlot → ℕ → HeldSlot → Type 0
 looks_then st me served after =

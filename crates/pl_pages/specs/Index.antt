@@ -65,7 +65,7 @@ ends_with lsn xs = slice_index_or xs (length xs - 1) 0 == lsn
 abbrev pub with_lsn : ℕ → List ℕ → List ℕ
 with_lsn lsn xs = if ends_with lsn xs then xs else xs ++ lsn ∷ []
 
--- without it, where it ended with it
+-- without it, if it ended with it
 abbrev pub without_lsn : ℕ → List ℕ → List ℕ
 without_lsn lsn xs = if ends_with lsn xs then take (length xs - 1) xs else xs
 

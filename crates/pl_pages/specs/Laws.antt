@@ -28,7 +28,7 @@ ImagesAreWhole = (page : ℕ) (block : Content) (a b : List ℕ) → IsBlock blo
 pub record AnswersReach : Type 0 where
   -- it is not below the one that was asked for
   pub reached : (applied lsn : ℕ) (exact : Bool) → lsn ≤ chosen applied lsn exact
-  -- it is that one where the get is exact
+  -- it is that one if the get is exact
   pub exact : (applied lsn : ℕ) → chosen applied lsn true ≡ lsn
   -- it is not above the end of a log that ends below neither
   pub within : (applied lsn hard : ℕ) (exact : Bool) → applied ≤ hard → lsn ≤ hard → chosen applied lsn exact ≤ hard

@@ -28,7 +28,7 @@ pub record PagesState : Type 0 where
 abbrev pub applied_at : PagesState → ℕ → ℕ
 applied_at pages partition = slice_index_or pages.applied partition 0
 
--- the LSN that a get is answered at: its own where it is exact or above the applied one
+-- the LSN that a get is answered at: its own if it is exact or above the applied one
 abbrev pub chosen : ℕ → ℕ → Bool → ℕ
 chosen applied lsn exact = if not exact && nat_le lsn applied then applied else lsn
 

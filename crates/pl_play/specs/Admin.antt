@@ -12,7 +12,7 @@ use Rattle.pl_play.specs.declared.operator_words.Credentials.{Credentials}
 abbrev pub Words : Type 0
 Words = List (List ℕ)
 
--- the bytes of a file, where there is one
+-- the bytes of a file, if there is one
 abbrev pub bytes_of : Option (Vec ℕ) → Option (List ℕ)
 bytes_of None = None
 bytes_of (Some v) = Some v.items
@@ -57,7 +57,7 @@ AskFor words text (acts.SetTable bytes) = NamesSetTable words text bytes
 AskFor words text (acts.Audit first max) = NamesAudit words first max
 AskFor words text acts.Tidy = words ≡ codes "tidy" ∷ []
 
--- what words ask for: an act, or none where they ask for no act
+-- what words ask for: an act, or none if they ask for no act
 abbrev pub ReadAs : Words → Option (List ℕ) → Option Act → Type 0
 ReadAs words text (Some act) = AskFor words text act
 ReadAs words text None = (act : Act) → AskFor words text act → ⊥

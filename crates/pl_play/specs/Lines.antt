@@ -1,4 +1,4 @@
--- The lines of a text, and what a reader has left of them, where its bytes are known.
+-- The lines of a text, and what a reader has left of them, if its bytes are known.
 use Rattle.std.specs.Prelude.{◌≡◌, ◌≢◌, ℕ, ◌+◌, ◌<◌, ◌==◌, if◌then◌else◌, List, [], ◌∷◌, ◌++◌, length, All, ⊤, Option, Some, None, Result, Ok, Err}
 use Rattle.std.specs.Io.KnownBytes.{Keeps, Consumes, IsAtEnd}
 use Rattle.pl_play.specs.declared.fault.PlayFault.{PlayFault}
@@ -77,7 +77,7 @@ TakesPiece old new line longer (Err inputs.Long) = WouldBeLong old line
 TakesPiece old new line longer (Err inputs.Read) = ⊤
 TakesPiece old new line longer (Err inputs.NoMemory) = ⊤
 
--- the fault of `play` where the line of this number is not taken
+-- the fault of `play` if the line of this number is not taken
 abbrev pub input_fault_at : InputFault → ℕ → PlayFault
 input_fault_at inputs.Read number = faults.Read
 input_fault_at inputs.NoMemory number = faults.NoMemory

@@ -24,12 +24,12 @@ pub record AnswersLine {S : Type 0} (calls : Calls S) (before : S) (line : List 
   pub reads : decode_of line ≡ Ok body
   pub answers : AnswersAsRead calls before body reply after
 
--- these are the lines of the input, where its bytes are known
+-- these are the lines of the input, if its bytes are known
 abbrev pub HasLines : Option (List ℕ) → List (List ℕ) → Type 0
 HasLines None lines = ⊤
 HasLines (Some text) lines = text_lines text ≡ lines
 
--- what the writer holds, where that is known, and the state of what answers
+-- what the writer holds, if that is known, and the state of what answers
 pub record Moment (S : Type 0) : Type 0 where
   pub output : Option (List ℕ)
   pub state : S

@@ -17,7 +17,7 @@ use Rattle.pl_play.specs.declared.start.FileFault.TheVariants as files
 abbrev pub longest_table_text : ℕ
 longest_table_text = 65506
 
--- the text is all that the reader has, where its bytes are known
+-- the text is all that the reader has, if its bytes are known
 abbrev pub IsWhole : Option (List ℕ) → List ℕ → Type 0
 IsWhole None text = ⊤
 IsWhole (Some bytes) text = text ≡ bytes
@@ -56,18 +56,18 @@ start_of text primary audit = read_start (table_reading text) primary audit
 abbrev pub audit_of_play : ℕ
 audit_of_play = 65536
 
--- the fault of the start where a file gave no text
+-- the fault of the start if a file gave no text
 abbrev pub start_fault_of_file : FileFault → StartFault
 start_fault_of_file files.Read = faults.File
 start_fault_of_file files.Long = faults.File
 start_fault_of_file files.NoMemory = faults.NoMemory
 
--- the fault of the start where the text gave no table
+-- the fault of the start if the text gave no table
 abbrev pub start_fault_of_text : Failed TableFault → StartFault
 start_fault_of_text (texts.Malformed fault) = faults.Table fault
 start_fault_of_text texts.NoMemory = faults.NoMemory
 
--- the fault of the start where the table gave no database
+-- the fault of the start if the table gave no database
 abbrev pub start_fault_of_db : DbFault → StartFault
 start_fault_of_db dbs.NotListed = faults.NotListed
 start_fault_of_db dbs.NoMemory = faults.NoMemory

@@ -14,7 +14,7 @@ line_text body = encode_lower body ++ 10 ∷ []
 abbrev pub IsNoText : List ℕ → Type 0
 IsNoText line = IsErr (decode_of line)
 
--- the fault of `play` where the line of this number spells no body
+-- the fault of `play` if the line of this number spells no body
 abbrev pub hex_fault_at : HexFault → ℕ → PlayFault
 hex_fault_at hexes.Text number = faults.Text number
 hex_fault_at hexes.NoMemory number = faults.NoMemory

@@ -46,7 +46,7 @@ abbrev pub ending_of : Result Ending Failure → Ending
 ending_of (Ok ending) = ending
 ending_of (Err failure) = endings.Failed failure
 
--- how `ask` ends at its reply: all is done where that is Done, Status or Entries
+-- how `ask` ends at its reply: all is done if that is Done, Status or Entries
 abbrev pub ending_of_reply : Reply → Ending
 ending_of_reply replies.Done = endings.Done
 ending_of_reply (replies.Entries lines) = endings.Done
@@ -59,7 +59,7 @@ ending_text endings.Done = []
 ending_text endings.Refused = []
 ending_text (endings.Failed failure) = failure_text failure
 
--- the exit status: 0 where all is done
+-- the exit status: 0 if all is done
 abbrev pub ending_status : Ending → ℕ
 ending_status endings.Done = 0
 ending_status endings.Refused = 1

@@ -56,7 +56,7 @@ pub record ServesDatabases (dbs : List History) (workers connections : ℕ) (pag
   pub serves : ServesConnections DesksCall (ArePassesOf desks) (all_fresh desks workers) connections accepted stop passes
   pub paged : HasPaged pager (length dbs) (fresh_at desks (workers + 1)) left
 
--- all is done where all connections were accepted
+-- all is done if all connections were accepted
 abbrev pub result_of_stop : Stop → Result (Unit {0}) RunFault
 result_of_stop stops.Limit = Ok tt
 result_of_stop stops.Accept = Err faults.Read

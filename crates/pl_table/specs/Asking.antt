@@ -20,7 +20,7 @@ pub record Asked : Type 0 where
 abbrev pub asked_in : Query → Asked
 asked_in q = record { principal = q.head.principal; role = q.head.role; op = op_of q.act; partitions = partitions_of q.act; lsn = number_of q.act }
 
--- the same at another LSN, where it names one
+-- the same at another LSN, if it names one
 abbrev pub asked_at : Asked → ℕ → Asked
 asked_at a n = record { principal = a.principal; role = a.role; op = a.op; partitions = a.partitions; lsn = option_map (λ own. n) a.lsn }
 

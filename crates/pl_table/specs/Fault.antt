@@ -21,7 +21,7 @@ fault_number RowNumber = 11
 fault_number NoOperator = 12
 fault_number BadZone = 13
 
--- what a reader returns that reads so, where no allocation fails
+-- what a reader returns that reads so, if no allocation fails
 abbrev pub returned : {X : Type 0} → Result X TableFault → Result X (Failed TableFault)
 returned (Ok x) = Ok x
 returned (Err f) = Err (Malformed f)

@@ -4,7 +4,7 @@ use Rattle.pl_table.specs.declared.row.Row.{Row}
 use Rattle.pl_table.specs.Asking.{Asked}
 use Rattle.pl_table.specs.Row.{row_matches}
 
--- the first row that matches what is asked, where the first of the list has the number k: its number, and whether it allows
+-- the first row that matches what is asked, if the first of the list has the number k: its number, and whether it allows
 abbrev pub first_match_from : ℕ → List Row → Asked → Option (ℕ × Bool)
 first_match_from k [] a = None
 first_match_from k (row ∷ rows) a = if row_matches row a then Some (k, row.allows) else first_match_from (k + 1) rows a

@@ -40,7 +40,7 @@ can_be asker op row = can_be_of asker row && can_be_for op row
 abbrev pub can_match : Asked → Row → Bool
 can_match a row = part_matches (λ who. who == a.principal) row.who && can_be_for a.op row
 
--- the places of the rows that pass a test, rising, where the first of the list has the place k
+-- the places of the rows that pass a test, rising, if the first of the list has the place k
 abbrev pub places_from : ℕ → (Row → Bool) → List Row → List ℕ
 places_from k test [] = []
 places_from k test (row ∷ rows) = if test row then k ∷ places_from (k + 1) test rows else places_from (k + 1) test rows

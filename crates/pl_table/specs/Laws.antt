@@ -23,12 +23,12 @@ pub record AsksToSet (id : ℕ) (q : Query) : Type 0 where
   pub role : q.head.role ≡ Operator
   pub op : op_of q.act ≡ SetTable
 
--- a row is about a principal's set_table exactly where it matches that request
+-- a row is about a principal's set_table exactly if it matches that request
 abbrev pub RowsAreAboutSetting : Type 0
 RowsAreAboutSetting = (id : ℕ) (q : Query) (row : Row) → AsksToSet id q
     → is_about_setting id row ≡ row_matches row (asked_in q)
 
--- somebody sets the table exactly where a principal is listed whose request is allowed by the first row that matches it
+-- somebody sets the table exactly if a principal is listed whose request is allowed by the first row that matches it
 abbrev pub SomebodyIsAllowed : Type 0
 SomebodyIsAllowed = (ps : List Principal) (rows : List Row) → IsTrue (somebody_sets ps rows)
     ↔ Any (λ p. (q : Query) → AsksToSet p.id q → IsSomeAnd (first_match_from 1 rows (asked_in q)) (λ found. IsTrue found.1)) ps

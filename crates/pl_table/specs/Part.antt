@@ -56,7 +56,7 @@ unfoldable pub ops_in : Data → Option (List Op)
 ops_in (array ds) = if nat_le 1 (length (list_of ds)) && list_all (λ d. is_some (op_in d)) (list_of ds) then Some (filter_map op_in (list_of ds)) else None
 ops_in _ = None
 
--- a part that may be absent: what it reads as, if it reads as anything where it is there
+-- a part that may be absent: what it reads as, if it reads as anything when it is there
 unfoldable pub if_there : {A : Type 0} → (Data → Option A) → Option Data → Option (Option A)
 if_there read None = Some None
 if_there read (Some d) = option_map Some (read d)
@@ -69,7 +69,7 @@ id_under p = option_and_then (number_up_to (2 ^ 32 - 1)) (get (codes "id") p)
 unfoldable pub token_under : Data → Option (List ℕ)
 token_under p = option_and_then token_in (get (codes "token") p)
 
--- a principal, where both read
+-- a principal, if both read
 unfoldable pub principal_of : Data → Option Principal
 principal_of p = option_and_then (λ id. option_map (λ token. record { id = id; token = token }) (token_under p)) (id_under p)
 
@@ -120,12 +120,12 @@ has_words row = is_some (verdict_under row) && (is_some (role_under row) && is_s
 unfoldable pub has_numbers : List Principal → Data → Bool
 has_numbers ps row = is_some (who_under ps row) && (is_some (range_under row) && is_some (through_under row))
 
--- the next part, where this one reads
+-- the next part, if this one reads
 infixl 10 ◌>>=◌
 abbrev pub ◌>>=◌ : {A B : Type 0} → Option A → (A → Option B) → Option B
 o >>= f = option_and_then f o
 
--- a row, where each part reads
+-- a row, if each part reads
 unfoldable pub row_of : List Principal → Data → Option Row
 row_of ps row = do
   allows ← verdict_under row
@@ -140,7 +140,7 @@ row_of ps row = do
 abbrev pub zone_of_numbers : ℕ → ℕ → Option Zone
 zone_of_numbers copies quorum = if copies == 3 && quorum == 2 then Some Three else if copies == 6 && quorum == 4 then Some Six else None
 
--- the zone of a table, whose two numbers are both there or both absent: three copies where they are absent
+-- the zone of a table, whose two numbers are both there or both absent: three copies if they are absent
 unfoldable pub zone_read : Option Data → Option Data → Option Zone
 zone_read None None = Some Three
 zone_read (Some copies) (Some quorum) = do

@@ -12,7 +12,7 @@ abbrev pub is_within : PartitionRange → ℕ → Bool
 is_within range p = nat_le range.from p && nat_le p range.to
 
 -- The range of a row that allows matches if it has all partitions that are named, that of a row that
--- denies if it has at least one of them. Where none is named, each range matches.
+-- denies if it has at least one of them. If none is named, each range matches.
 abbrev pub range_matches : Bool → List ℕ → PartitionRange → Bool
 range_matches allows ps range = if allows then list_all (is_within range) ps else length ps == 0 || list_any (is_within range) ps
 

@@ -24,7 +24,7 @@ pub record Listed : Type 0 where
 abbrev pub listed_of : List Data → List Data → Option Zone → Listed
 listed_of ps rows zone = record { principals = ps; rows = rows; zone = zone }
 
--- both lists, where each is an array of tables, and the zone
+-- both lists, if each is an array of tables, and the zone
 abbrev pub both_lists : Option (List Data) → Option (List Data) → Option Zone → Result Listed TableFault
 both_lists (Some ps) (Some rows) zone = Ok (listed_of ps rows zone)
 both_lists _ _ _ = Err UnknownKey

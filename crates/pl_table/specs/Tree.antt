@@ -40,7 +40,7 @@ unfoldable pub tables_in : Data → Option (List Data)
 tables_in (array ds) = if list_all is_table (list_of ds) then Some (list_of ds) else None
 tables_in _ = None
 
--- the tables under a key: none where the key is absent
+-- the tables under a key: none if the key is absent
 unfoldable pub tables_under : Option Data → Option (List Data)
 tables_under None = Some []
 tables_under (Some d) = tables_in d

@@ -50,7 +50,7 @@ AnswersAsRead calls before body reply after = AnswersReading calls (request_read
 abbrev pub LacksMemory : {P : Type 0} → P → List ℕ → Reply → P → Type 0
 LacksMemory before body reply after = MayLackMemory body × (reply ≡ replies.NoMemory) × (after ≡ before)
 
--- the reply to a body, also where there is no memory for what it keeps
+-- the reply to a body, even if there is no memory for what it keeps
 abbrev pub AnswersBody : {P : Type 0} → Calls P → P → List ℕ → Reply → P → Type 0
 AnswersBody calls before body reply after = AnswersAsRead calls before body reply after ⊎ LacksMemory before body reply after
 

@@ -17,7 +17,7 @@ body_fault_code BytesAfterEnd = 5
 body_fault_code OutOfRange = 6
 body_fault_code (Block fault) = blocks.code_of fault + 6
 
--- why a write could not be read, where its block could not
+-- why a write could not be read, if its block could not
 abbrev pub of_block : Failed Fault → Failed WireFault
 of_block (Malformed fault) = Malformed (Block fault)
 of_block NoMemory = NoMemory

@@ -1,4 +1,4 @@
--- What is written, and how much of it where the writer stops.
+-- What is written, and how much of it if the writer stops.
 use Rattle.std.specs.Prelude.{ℕ, ◌<◌, List, ◌∷◌, ◌++◌, length, take, Option, Result, Ok, Err}
 use Rattle.std.specs.Int.{w32, w64, to_be_bytes}
 use Rattle.std.specs.Io.KnownBytes.{Appends, Keeps}
@@ -26,7 +26,7 @@ largest_reply_frame = 524367
 abbrev pub request_frame : Query → List ℕ
 request_frame request = frame (request_spelling request)
 
--- the text was written; or a part that is not the whole, where the writer stopped; or nothing, out of memory
+-- the text was written; or a part that is not the whole, if the writer stopped; or nothing, out of memory
 abbrev pub WritesText : {T : Type 0} → Option (List ℕ) → Option (List ℕ) → List ℕ → Result T WriteFault → Type 0
 WritesText old new text (Ok done) = Appends old new text
 WritesText old new text (Err faults.Io) = (k : ℕ) × (k < length text) × Appends old new (take k text)

@@ -27,10 +27,10 @@ pub record OneReplySpelling : Type 0 where
   pub spelled : (bytes : List ℕ) (r : Reply) → AreBytes bytes → reply_reading bytes ≡ Ok r → IsReply r × (bytes ≡ reply_spelling r)
   pub same : (a b : Reply) → IsReply a → IsReply b → reply_spelling a ≡ reply_spelling b → a ≡ b
 
--- no frame is the beginning of another: where bytes begin with a frame, they begin with no other
+-- no frame is the beginning of another: if bytes begin with a frame, they begin with no other
 abbrev pub FramesEndThemselves : Type 0
 FramesEndThemselves = (a b x y : List ℕ) → length a < 2 ^ 32 → length b < 2 ^ 32 → frame a ++ x ≡ frame b ++ y → (a ≡ b) × (x ≡ y)
 
--- frames in a row are distinguished: where bytes begin with the frames of this many bodies, they begin with those of no others
+-- frames in a row are distinguished: if bytes begin with the frames of this many bodies, they begin with those of no others
 abbrev pub FramesOfOneInput : Type 0
 FramesOfOneInput = (a b : List (List ℕ)) (x y : List ℕ) → All IsShort a → All IsShort b → length a ≡ length b → frames_of a ++ x ≡ frames_of b ++ y → (a ≡ b) × (x ≡ y)

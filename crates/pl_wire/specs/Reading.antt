@@ -25,7 +25,7 @@ number_in w at bytes = from_be_bytes w (take (byte_len w) (drop at bytes))
 abbrev pub head_in : Role → List ℕ → Head
 head_in role body = record { principal = number_in w32 0 body; token = take 16 (drop 4 body); role = role; database = number_in w32 21 body; epoch = number_in w32 25 body }
 
--- the value, where there are this many bytes, no fewer and no more
+-- the value, if there are this many bytes, no fewer and no more
 abbrev pub sized : {X : Type 0} → ℕ → List ℕ → X → Result X WireFault
 sized size bytes x = if nat_lt (length bytes) size then Err EndsInField else if nat_lt size (length bytes) then Err BytesAfterEnd else Ok x
 
@@ -88,7 +88,7 @@ act_reading ops.SetTable bytes = Ok (SetTable bytes)
 act_reading ops.Audit bytes = audit_reading bytes
 act_reading ops.Tidy bytes = sized 0 bytes Tidy
 
--- a request of a head and an act, where the act is in its ranges
+-- a request of a head and an act, if the act is in its ranges
 abbrev pub ranged : Head → Act → Result Query WireFault
 ranged head act = if is_in_range act then Ok (record { head = head; act = act }) else Err OutOfRange
 
