@@ -1,6 +1,6 @@
 -- The written order, and the decision: the denial of the first rule of the order that denies a
 -- request.
-use Rattle.std.specs.Prelude.{◌≡◌, ℕ, false, true, List, [], ◌∷◌, ◌++◌, length, map, All, if◌then◌else◌}
+use Rattle.std.specs.Prelude.{◌≡◌, ◌≢◌, ◌↔◌, ℕ, false, true, List, [], ◌∷◌, ◌++◌, length, map, All, if◌then◌else◌}
 use Rattle.std.specs.List.{range_with_len}
 use Rattle.pl_table.specs.declared.verdict.Verdict.{Verdict}
 use Rattle.pl_table.specs.declared.verdict.Verdict.TheVariants as verdicts
@@ -60,3 +60,12 @@ pub record IsFirst (rule : Rule) (order : List Rule) (q : Query) (t : WrittenTab
 abbrev pub IsFirstDenial : Verdict → List Rule → Query → WrittenTable → Epochs → View → Type 0
 IsFirstDenial verdict order q t e v =
     (rule : Rule) × IsFirst rule order q t e v × (verdict ≡ denial rule q.act e v)
+
+-- the verdict is Allowed exactly where no rule of the order denies the request
+abbrev pub AllowsExactly : Verdict → Query → WrittenTable → Epochs → View → Type 0
+AllowsExactly verdict q t e v = (verdict ≡ verdicts.Allowed) ↔ NoneStands (order_of t) q t e v
+
+-- a verdict that denies is the denial of the first rule of the order that does
+abbrev pub DeniesByTheFirst : Verdict → Query → WrittenTable → Epochs → View → Type 0
+DeniesByTheFirst verdict q t e v =
+    verdict ≢ verdicts.Allowed → IsFirstDenial verdict (order_of t) q t e v

@@ -1,13 +1,13 @@
 //! The decision: the first rule of the written order that denies a request.
 
-ghost use Rattle.std.specs.Prelude.{◌≡◌, ◌≢◌, ◌==◌, ◌≤◌, ◌&&◌, ◌↔◌, ◌++◌, nat_le, not, true, [], length, ℕ, IfOk, IfSome, IsTrue, Contains};
+ghost use Rattle.std.specs.Prelude.{◌≡◌, ◌==◌, ◌≤◌, ◌&&◌, ◌↔◌, ◌++◌, nat_le, not, true, [], length, ℕ, IfOk, IfSome, IsTrue, Contains};
 ghost use Rattle.std.specs.Str.{bytes_eq};
 ghost use Rattle.pl_table.specs.Ops.{same_role};
 ghost use Rattle.pl_table.specs.Table.{WrittenTable};
 ghost use Rattle.pl_table.specs.Asking.{asked_at, asked_in};
 ghost use Rattle.pl_table.specs.FirstMatch.{first_match_from, rows_allow};
 ghost use Rattle.pl_decide.specs.Asked.{is_known};
-ghost use Rattle.pl_decide.specs.WrittenOrder.{decision, section_b, section_c, order_of, first_denial, NoneStands, IsFirstDenial};
+ghost use Rattle.pl_decide.specs.WrittenOrder.{decision, section_b, section_c, first_denial, AllowsExactly, DeniesByTheFirst};
 ghost use Rattle.pl_decide.specs.Keys.{IsKeyOf};
 ghost use Rattle.pl_decide.specs.Agreement.{AgreesWith, IsAllowedThrough, most_cached};
 
@@ -142,13 +142,11 @@ impl Decider {
         requires agrees { AgreesWith self.old table.now }
         // The verdict is that of the written order (`decision`), whatever was asked before.
         ensures value { result ≡ decision request.now table.now epochs.now view.now }
-        // It is Allowed exactly if no rule of the order denies the request (`NoneStands`).
-        ensures allowed { (result ≡ Verdict.Allowed)
-            ↔ NoneStands (order_of table.now) request.now table.now epochs.now view.now }
+        // It is Allowed exactly if no rule of the order denies the request (`AllowsExactly`).
+        ensures allowed { AllowsExactly result request.now table.now epochs.now view.now }
         // A denial is that of a rule that denies, with its section, number and value, and no rule
-        // before it in the order does (`IsFirstDenial`).
-        ensures first { result ≢ Verdict.Allowed → IsFirstDenial result
-            (order_of table.now) request.now table.now epochs.now view.now }
+        // before it in the order does (`DeniesByTheFirst`).
+        ensures first { DeniesByTheFirst result request.now table.now epochs.now view.now }
         // The decider still agrees with the table.
         ensures agrees { AgreesWith self.new table.now }
     {
@@ -175,11 +173,9 @@ impl Decider {
         // As for `decide`.
         ensures value { result ≡ decision request.now table.now epochs.now view.now }
         // As for `decide`.
-        ensures allowed { (result ≡ Verdict.Allowed)
-            ↔ NoneStands (order_of table.now) request.now table.now epochs.now view.now }
+        ensures allowed { AllowsExactly result request.now table.now epochs.now view.now }
         // As for `decide`.
-        ensures first { result ≢ Verdict.Allowed → IsFirstDenial result
-            (order_of table.now) request.now table.now epochs.now view.now }
+        ensures first { DeniesByTheFirst result request.now table.now epochs.now view.now }
         // As for `decide`.
         ensures agrees { AgreesWith self.new table.now }
     {

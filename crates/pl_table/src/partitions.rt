@@ -2,11 +2,7 @@
 
 ghost use Rattle.std.specs.Prelude.{◌≡◌, ◌∷◌, [], IfSome};
 ghost use Rattle.std.specs.Option.{option_map_or};
-ghost use Rattle.pl_table.specs.Acts.{all_between};
 ghost use Rattle.pl_table.specs.Asking.{named_by};
-ghost use Rattle.pl_table.specs.Row.{range_matches};
-
-use crate::range::PartitionRange;
 
 /// The partitions that a request names.
 #[derive(Clone, Copy)]
@@ -38,40 +34,5 @@ impl Partitions<'_> {
                 _ => None,
             },
         }
-    }
-
-    // Whether the range of a row that allows, or of one that denies, matches them.
-    pub(crate) fn are_in(&self, range: PartitionRange, allows: bool) -> bool
-        ensures value { result ≡ range_matches allows (named_by self.now) range }
-    {
-        match self {
-            Partitions::Nowhere => true,
-            Partitions::One(partition) => range.has(*partition),
-            Partitions::Between(lo, hi) => are_between(*lo, *hi, range, allows),
-            Partitions::Listed(partitions) => are_listed(partitions, range, allows),
-        }
-    }
-}
-
-fn are_between(lo: u16, hi: u16, range: PartitionRange, allows: bool) -> bool
-    ensures value { result ≡ range_matches allows (all_between lo hi) range }
-{
-    if hi < lo {
-        return true;
-    }
-    if allows {
-        range.has_all_between(lo, hi)
-    } else {
-        range.has_any_between(lo, hi)
-    }
-}
-
-fn are_listed(partitions: &[u16], range: PartitionRange, allows: bool) -> bool
-    ensures value { result ≡ range_matches allows partitions.now range }
-{
-    if allows {
-        range.has_all(partitions)
-    } else {
-        partitions.is_empty() || range.has_any(partitions)
     }
 }

@@ -2,6 +2,10 @@
 
 ghost use Rattle.std.specs.Prelude.{◌≡◌, ◌≤◌, ◌+◌, ◌-◌};
 ghost use Rattle.std.specs.List.{list_all, list_any, range_with_len};
+ghost use Rattle.pl_table.specs.Acts.{all_between};
+ghost use Rattle.pl_table.specs.Asking.{named_by};
+
+use crate::partitions::Partitions;
 
 /// The partitions from `from` to `to`, both included. The range is empty if `from` is above `to`.
 #[derive(Clone, Copy, Debug, PartialEq, Eq)]
@@ -13,7 +17,7 @@ pub struct PartitionRange {
 }
 
 impl PartitionRange {
-    ghost use Rattle.pl_table.specs.Row.{is_within};
+    ghost use Rattle.pl_table.specs.Row.{is_within, range_matches};
 
     /// Whether the partition is in the range.
     pub(crate) fn has(&self, partition: u16) -> bool
@@ -50,5 +54,40 @@ impl PartitionRange {
         ensures value { result ≡ list_any (is_within self.now) (range_with_len lo (hi + 1 - lo)) }
     {
         self.from.max(lo) <= self.to.min(hi)
+    }
+
+    // Whether the range of a row that allows, or of one that denies, matches these partitions.
+    pub(crate) fn matches(&self, partitions: &Partitions<'_>, allows: bool) -> bool
+        ensures value { result ≡ range_matches allows (named_by partitions.now) self.now }
+    {
+        match partitions {
+            Partitions::Nowhere => true,
+            Partitions::One(partition) => self.has(*partition),
+            Partitions::Between(lo, hi) => self.matches_between(*lo, *hi, allows),
+            Partitions::Listed(partitions) => self.matches_these(partitions, allows),
+        }
+    }
+
+    fn matches_between(&self, lo: u16, hi: u16, allows: bool) -> bool
+        ensures value { result ≡ range_matches allows (all_between lo hi) self.now }
+    {
+        if hi < lo {
+            return true;
+        }
+        if allows {
+            self.has_all_between(lo, hi)
+        } else {
+            self.has_any_between(lo, hi)
+        }
+    }
+
+    fn matches_these(&self, partitions: &[u16], allows: bool) -> bool
+        ensures value { result ≡ range_matches allows partitions.now self.now }
+    {
+        if allows {
+            self.has_all(partitions)
+        } else {
+            partitions.is_empty() || self.has_any(partitions)
+        }
     }
 }

@@ -215,7 +215,7 @@ fn matches_range(allows: bool, part: Option<PartitionRange>, partitions: &Partit
     ensures value { result ≡ part_matches (range_matches allows (named_by partitions.now)) part }
 {
     match part {
-        Some(range) => partitions.are_in(range, allows),
+        Some(range) => range.matches(partitions, allows),
         None => true,
     }
 }
