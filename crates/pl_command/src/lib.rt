@@ -10,3 +10,4 @@ mod options;
 
 pub use arguments::{arguments_of, asked};
 pub use command_line::{CommandFault, CommandLine, ServeNumbers, command};
+pub use options::OPERATOR_WORDS;

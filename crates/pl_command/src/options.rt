@@ -117,6 +117,20 @@ impl<'a> Making<'a> {
     }
 }
 
+// What the words of `ask` may be, with this word before the last.
+macro_rules! operator_words {
+    ($joint:literal) => {
+        concat!(
+            "status, tidy, audit FIRST MAX, failover ID ",
+            $joint,
+            " set_table FILE"
+        )
+    };
+}
+
+/// What the words of `ask` may be.
+pub const OPERATOR_WORDS: &str = operator_words!("and");
+
 const TABLE: &str = "The file with the text of the table of who may do what";
 
 const PRIMARY: &str = "The id of the first primary";
@@ -162,14 +176,13 @@ fn ask_command<'a>(alloc: Global) -> Making<'a>
     let about = "Sends one request of an operator, and shows the reply";
     let token = "The operator's token, 32 hexadecimal digits";
     let db = "The number of the database, from 0";
-    let words = "status, tidy, audit FIRST MAX, failover ID or set_table FILE";
     Making::new(alloc, "ask", about)
         .option("to", Takes::Text("ADDRESS"), "The address of the service")
         .option("id", Takes::Number(0, u32::MAX), "The operator's id")
         .option("token", Takes::Text("HEX"), token)
         .option("db", Takes::Number(0, u32::MAX), db)
         .option("epoch", Takes::Number(0, u32::MAX), "The current epoch")
-        .option("words", Takes::Words, words)
+        .option("words", Takes::Words, operator_words!("or"))
 }
 
 // The command with this subcommand.
