@@ -7,6 +7,7 @@
 #![tactic(auto)]
 
 mod db;
+mod items;
 pub mod laws;
 mod limits;
 mod line;
@@ -18,6 +19,7 @@ mod step;
 mod verdict;
 
 pub use db::{Db, DbFault};
+pub use items::Items;
 pub use limits::Limits;
 pub use pl_audit::Line;
 pub use pl_block::NoMemory;

@@ -4,10 +4,10 @@ ghost use Rattle.std.specs.Prelude.{◌≡◌, ◌↔◌, [], IsTrue};
 ghost use Rattle.pl_core.specs.Appending.{reply_in};
 ghost use Rattle.pl_core.specs.Reply.{FitsReply};
 
+use crate::items::Items;
 use pl_audit::Line;
 use pl_block::{Block, PAGE_SIZE};
 use pl_table::Section;
-use std::marker::Model;
 
 /// The most blocks that one reply serves.
 const MAX_SERVED: usize = 16;
@@ -19,129 +19,13 @@ const MAX_LINES: usize = 1_024;
 const MAX_CODE: u8 = 15;
 
 /// Blocks in the order of their LSNs.
-#[derive(Debug, Drop)]
-pub struct Blocks {
-    items: Vec<Block>,
-}
-
-impl Model for Blocks {
-    ghost use Rattle.std.specs.Prelude.{List};
-    ghost use Rattle.pl_block.specs.Block.{Content};
-
-    ghost Value = { List Content };
-
-    ghost view = { λ b. b.items.items };
-}
-
-impl Blocks {
-    /// These blocks.
-    pub fn new(blocks: Vec<Block>) -> Blocks
-        // What is given, in its order.
-        ensures value { result ≡ blocks.items }
-    {
-        Blocks { items: blocks }
-    }
-
-    /// The blocks.
-    pub fn as_slice(&self) -> &[Block]
-        // What it was made of, in its order.
-        ensures value { result.now ≡ self.now }
-    {
-        &self.items
-    }
-
-    /// The blocks as a `Vec`, without an allocation.
-    pub fn into_vec(self) -> Vec<Block>
-        // What it was made of, in its order.
-        ensures value { result.items ≡ self }
-    {
-        let Blocks { items } = self;
-        items
-    }
-}
+pub type Blocks = Items<Block>;
 
 /// The bytes of a page.
-#[derive(Debug, Drop)]
-pub struct PageBytes {
-    bytes: Vec<u8>,
-}
-
-impl Model for PageBytes {
-    ghost use Rattle.std.specs.Prelude.{ℕ, List};
-
-    ghost Value = { List ℕ };
-
-    ghost view = { λ p. p.bytes.items };
-}
-
-impl PageBytes {
-    /// These bytes.
-    pub fn new(bytes: Vec<u8>) -> PageBytes
-        // What is given, in its order.
-        ensures value { result ≡ bytes.items }
-    {
-        PageBytes { bytes }
-    }
-
-    /// The bytes.
-    pub fn as_slice(&self) -> &[u8]
-        // What it was made of, in its order.
-        ensures value { result.now ≡ self.now }
-    {
-        &self.bytes
-    }
-
-    /// The bytes as a `Vec`, without an allocation.
-    pub fn into_vec(self) -> Vec<u8>
-        // What it was made of, in its order.
-        ensures value { result.items ≡ self }
-    {
-        let PageBytes { bytes } = self;
-        bytes
-    }
-}
+pub type PageBytes = Items<u8>;
 
 /// Lines of the audit list, the oldest first.
-#[derive(Debug, Drop)]
-pub struct Lines {
-    items: Vec<Line>,
-}
-
-impl Model for Lines {
-    ghost use Rattle.std.specs.Prelude.{List};
-    ghost use Rattle.pl_audit.specs.declared.line.Line.{Line};
-
-    ghost Value = { List Line };
-
-    ghost view = { λ l. l.items.items };
-}
-
-impl Lines {
-    /// These lines.
-    pub fn new(lines: Vec<Line>) -> Lines
-        // What is given, in its order.
-        ensures value { result ≡ lines.items }
-    {
-        Lines { items: lines }
-    }
-
-    /// The lines.
-    pub fn as_slice(&self) -> &[Line]
-        // What it was made of, in its order.
-        ensures value { result.now ≡ self.now }
-    {
-        &self.items
-    }
-
-    /// The lines as a `Vec`, without an allocation.
-    pub fn into_vec(self) -> Vec<Line>
-        // What it was made of, in its order.
-        ensures value { result.items ≡ self }
-    {
-        let Lines { items } = self;
-        items
-    }
-}
+pub type Lines = Items<Line>;
 
 /// What a request is answered.
 #[derive(Debug, Drop)]

@@ -33,12 +33,13 @@ pub(crate) struct State {
     pub(crate) epochs: Epochs,
 }
 
-/// What the table in force says to a request, as far as it asks.
+/// What the table in force says to a request.
 #[derive(Clone, Copy, Debug)]
 pub(crate) struct ByTable {
-    /// The greatest LSN up to the hardened end at which its rows allow a get or a pull.
+    /// The greatest LSN up to the hardened end at which its rows allow a get or a pull. To any other
+    /// request they set none, and it is the hardened end.
     pub(crate) reach: u64,
-    /// How many copies the landing zone has in the epoch that a failover begins.
+    /// How many copies its landing zone has: that of the epoch that a failover begins.
     pub(crate) copies: u8,
     /// How many of these copies harden an LSN.
     pub(crate) quorum: u8,

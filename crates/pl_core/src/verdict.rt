@@ -14,7 +14,7 @@ ghost use Rattle.pl_decide.specs.Asked.{reads_the_log};
 use crate::state::{ByTable, State};
 use pl_audit::Audit;
 use pl_decide::{Decider, View};
-use pl_table::{Act, Op, Request, Table, Verdict};
+use pl_table::{Act, Request, Table, Verdict};
 
 // The table that was set last, or the first one.
 pub(crate) fn in_force<'a>(audit: &'a Audit, first: &'a Table) -> &'a Table
@@ -70,9 +70,8 @@ fn reach(table: &Table, decider: &Decider, hard: u64, request: &Request, verdict
     }
 }
 
-// What the table says to a request on which this is the verdict: to a get or a pull how far its rows
-// allow it, and to a failover its copies and its quorum. For every other request it is not looked at,
-// and they are the hardened end and one of one.
+// What the table says to a request on which this is the verdict: how far its rows allow it, and its
+// landing zone. The rows are looked at for a get or a pull alone.
 pub(crate) fn by_table(
     table: &Table,
     decider: &Decider,
@@ -87,25 +86,17 @@ pub(crate) fn by_table(
     ensures exact { verdict ≡ Verdict.Allowed → reads_the_log (op_of request.now.act) ≡ true →
         (lsn : ℕ) → lsn ≤ hard →
         rows_allow table.now.rows (asked_at (asked_in request.now) lsn) ≡ nat_le lsn result.reach }
-    ensures zone { op_of request.now.act ≡ Op.Failover →
-        (result.copies ≡ copies_in table.now.zone) × (result.quorum ≡ quorum_in table.now.zone) }
+    ensures zone { (result.copies ≡ copies_in table.now.zone) ×
+        (result.quorum ≡ quorum_in table.now.zone) }
     ensures fits { (1 ≤ result.quorum) × (result.quorum ≤ result.copies) × (result.copies ≤ 6) }
 {
-    match request.act() {
-        Act::Get { .. } | Act::Pull { .. } => ByTable {
-            reach: reach(table, decider, hard, request, verdict),
-            copies: 1,
-            quorum: 1,
-        },
-        Act::Failover { .. } => ByTable {
-            reach: hard,
-            copies: table.copies(),
-            quorum: table.quorum(),
-        },
-        _ => ByTable {
-            reach: hard,
-            copies: 1,
-            quorum: 1,
-        },
+    let reach = match request.act() {
+        Act::Get { .. } | Act::Pull { .. } => reach(table, decider, hard, request, verdict),
+        _ => hard,
+    };
+    ByTable {
+        reach,
+        copies: table.copies(),
+        quorum: table.quorum(),
     }
 }
