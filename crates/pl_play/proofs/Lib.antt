@@ -1,5 +1,5 @@
 mod Feeds
 mod Pieces
-mod Read
+mod Replies
 mod Turns
 mod Words

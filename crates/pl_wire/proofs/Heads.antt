@@ -11,7 +11,7 @@ use Rattle.pl_table.specs.Ops.{role_number, role_of_number}
 use Rattle.pl_table.specs.Request.{IsHead}
 use Rattle.pl_wire.specs.Spelling.{head_spelling}
 use Rattle.pl_wire.specs.Reading.{number_in, head_in}
-use Rattle.pl_wire.proofs.Numbered.{roles_numbered}
+use Rattle.pl_wire.proofs.Numbers.{roles_numbered}
 use Rattle.pl_wire.proofs.Places.{wide32, cut, number_cut, number_below, byte_cut}
 
 -- a head, then the rest of a body

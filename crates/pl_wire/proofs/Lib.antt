@@ -1,6 +1,6 @@
 pub mod Steps
 pub mod Places
-pub mod Numbered
+pub mod Numbers
 pub mod FrameLemmas
 pub mod Heads
 pub mod Acts
@@ -8,7 +8,7 @@ pub mod Requests
 pub mod Readers
 pub mod Fronts
 pub mod Lengths
-pub mod Listed
+pub mod Lists
 pub mod ReplyLemmas
 pub mod Filling
 pub mod Stops

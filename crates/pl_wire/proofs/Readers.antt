@@ -12,7 +12,7 @@ use Rattle.pl_wire.specs.declared.fault.WireFault.{WireFault}
 use Rattle.pl_wire.specs.declared.fault.WireFault.TheVariants.{EndsInField, OutOfRange}
 use Rattle.pl_wire.specs.ReplyReading.{byte_at, bytes_taken, count_at, each_at, number_taken, one_at}
 use Rattle.pl_wire.proofs.Steps.{bind_ok, bound, done, guard_ok, ok_is, ok_or-some}
-use Rattle.pl_wire.proofs.Numbered.{IsNumbered}
+use Rattle.pl_wire.proofs.Numbers.{IsNumbered}
 use Rattle.pl_wire.proofs.Places.{AreBytes-drop, AreBytes-take, IsWide, wide16, wide32, wide64}
 
 -- a text at the front, and the bytes after it

@@ -5,6 +5,7 @@ use Rattle.std.proofs.lemmas.Bool.{ltb-false, le-ltb}
 use Rattle.std.proofs.lemmas.List.{length-append}
 use Rattle.std.specs.Option.{ok_or}
 use Rattle.pl_block.specs.declared.fault.Failed.{Failed}
+use Rattle.pl_block.specs.declared.fault.Failed.TheVariants.{NoMemory}
 use Rattle.pl_block.specs.Faults.{◌>>=◌, Returns}
 use Rattle.pl_block.specs.Laws.{AreBytes, OneSpelling}
 use Rattle.pl_table.specs.declared.head.Head.{Head}
@@ -17,11 +18,11 @@ use Rattle.pl_wire.specs.declared.fault.WireFault.{WireFault}
 use Rattle.pl_wire.specs.declared.fault.WireFault.TheVariants.{TooShort, UnknownRole, UnknownKind, OutOfRange}
 use Rattle.pl_wire.specs.Laws.{OneRequestSpelling}
 use Rattle.pl_wire.specs.Spelling.{act_spelling, request_spelling}
-use Rattle.pl_wire.specs.Reading.{head_in, act_reading, ranged, opening_reading, request_reading}
+use Rattle.pl_wire.specs.Reading.{MayLackMemory, ReadsRequest, head_in, act_reading, ranged, opening_reading, request_reading}
 use Rattle.pl_wire.proofs.Places.{AreBytes-drop}
 use Rattle.pl_wire.proofs.Heads.{headed, headed_is, IsHead-head_in, head_takes, head_again, arguments_in, role_in, op_in}
 use Rattle.pl_wire.proofs.Acts.{act_takes, act_again}
-use Rattle.pl_wire.proofs.Numbered.{roles_numbered, ops_numbered}
+use Rattle.pl_wire.proofs.Numbers.{roles_numbered, ops_numbered}
 use Rattle.pl_wire.proofs.Steps.{done, ok_is, guard_ok, guard_passed, ok_or-some, bind_ok}
 
 -- the role of a body that was opened, and where it is
@@ -103,9 +104,17 @@ requests_law law = record { spelled = request_takes law; same = same_requests la
 
 -- ---- as a call answers
 
-pub is_found : OneSpelling → (body : List ℕ) (r : Result Query (Failed WireFault)) → AreBytes body → Returns r (request_reading body) → IfOk r (λ q. IsRequest q × (body ≡ request_spelling q))
+is_found : OneSpelling → (body : List ℕ) (r : Result Query (Failed WireFault)) → AreBytes body → Returns r (request_reading body) → IfOk r (λ q. IsRequest q × (body ≡ request_spelling q))
 is_found law body (Ok q) fits given = request_takes law body q fits given
 is_found law body (Err e) fits given = tt
 
-pub is_only : OneSpelling → (body : List ℕ) (r : Result Query (Failed WireFault)) (q : Query) → Returns r (request_reading body) → IsRequest q → body ≡ request_spelling q → Returns r (Ok q)
+is_only : OneSpelling → (body : List ℕ) (r : Result Query (Failed WireFault)) (q : Query) → Returns r (request_reading body) → IsRequest q → body ≡ request_spelling q → Returns r (Ok q)
 is_only law body r q given is e = subst (λ (read : Result Query WireFault). Returns r read) (ap request_reading e ∙ request_again law q is) given
+
+pub reads : OneSpelling → (body : List ℕ) (r : Result Query (Failed WireFault)) → AreBytes body → Returns r (request_reading body) → (r ≡ Err NoMemory → MayLackMemory body) → ReadsRequest body r
+reads law body r fits given asks = record {
+  found = is_found law body r fits given;
+  only = λ q is e. is_only law body r q given is e;
+  exact = given;
+  no_memory = asks;
+}

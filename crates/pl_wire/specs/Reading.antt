@@ -1,10 +1,12 @@
 -- Reading a request, with the fault of the least code.
-use Rattle.std.specs.Prelude.{◌≡◌, ◌≤◌, ◌⊎◌, ℕ, ◌==◌, Bool, false, true, List, [], ◌∷◌, length, take, drop, slice_index, Option, Some, None, IsSome, Result, Ok, Err, nat_lt, if◌then◌else◌}
+use Rattle.std.specs.Prelude.{◌≡◌, ◌≤◌, ◌⊎◌, ℕ, ◌==◌, Bool, false, true, List, [], ◌∷◌, length, take, drop, slice_index, Option, Some, None, IsSome, IfOk, Result, Ok, Err, nat_lt, if◌then◌else◌}
 use Rattle.std.specs.Option.{ok_or}
 use Rattle.std.specs.Int.{Width, w16, w32, w64, byte_len, from_be_bytes}
 use Rattle.pl_block.specs.Block.{Content}
-use Rattle.pl_block.specs.Faults.{◌>>=◌}
+use Rattle.pl_block.specs.Faults.{◌>>=◌, Returns}
 use Rattle.pl_block.specs.Reading.{block_reading}
+use Rattle.pl_block.specs.declared.fault.Failed.{Failed}
+use Rattle.pl_block.specs.declared.fault.Failed.TheVariants.{NoMemory}
 use Rattle.pl_block.specs.declared.fault.Fault.{Fault}
 use Rattle.pl_table.specs.declared.head.Head.{Head}
 use Rattle.pl_table.specs.declared.op.Op.{Op}
@@ -13,7 +15,8 @@ use Rattle.pl_table.specs.declared.op.Role.{Role}
 use Rattle.pl_table.specs.declared.request.Act.{Act}
 use Rattle.pl_table.specs.declared.request.Act.TheVariants.{Write, Offer, Report, Get, Pull, Advance, Status, Failover, SetTable, Audit, Tidy}
 use Rattle.pl_table.specs.Ops.{role_of_number, op_of_number}
-use Rattle.pl_table.specs.Request.{Query, is_in_range}
+use Rattle.pl_table.specs.Request.{IsRequest, Query, is_in_range}
+use Rattle.pl_wire.specs.Spelling.{request_spelling}
 use Rattle.pl_wire.specs.declared.fault.WireFault.{WireFault}
 use Rattle.pl_wire.specs.declared.fault.WireFault.TheVariants.{TooShort, UnknownRole, UnknownKind, EndsInField, BytesAfterEnd, OutOfRange, Block}
 
@@ -117,3 +120,11 @@ pub record MayLackMemory (body : List ℕ) : Type 0 where
   pub role : IsSome (role_of_number (slice_index body 20))
   pub known : op_of_number (slice_index body 29) ≡ Some op
   pub asks : AsksMemory op (drop 30 body)
+
+-- what a call returns of a body: what is read is a request, and the bytes are its spelling; bytes that spell a request are read as
+-- that request, unless memory runs out; it is what the bytes read as, or out of memory; and memory runs out only for a body that asks for it
+pub record ReadsRequest (body : List ℕ) (result : Result Query (Failed WireFault)) : Type 0 where
+  pub found : IfOk result (λ q. IsRequest q × (body ≡ request_spelling q))
+  pub only : (q : Query) → IsRequest q → body ≡ request_spelling q → Returns result (Ok q)
+  pub exact : Returns result (request_reading body)
+  pub no_memory : result ≡ Err NoMemory → MayLackMemory body

@@ -23,7 +23,8 @@ pub trait Gate {
     // The calls that there may be: the pass before, the request, the reply, and the pass after.
     ghost calls: { Self → Self.Pass → Query → Told → Self.Pass → Type 0 };
 
-    /// The memory of the page that `call` reads a reply with.
+    /// The memory of the page that `call` reads a reply with. No clause speaks of it: each `Global` is a handle to the one memory
+    /// of the process, and to call it changes nothing.
     fn alloc(&self, pass: &Self::Pass) -> Global;
 
     /// Answers the request, but puts the bytes of a page after those in `page`, so that they are copied once.

@@ -21,6 +21,16 @@ pub enum ReplyKind {
     Malformed = 10,
 }
 
+// The case with this number, of those that have one, or `None` where none has it.
+macro_rules! numbered {
+    ($number:expr; $($case:path),*) => {
+        match $number {
+            $(number if number == $case as u8 => Some($case),)*
+            _ => None,
+        }
+    };
+}
+
 impl ReplyKind {
     /// What the reply is.
     pub(crate) fn of(reply: &Reply) -> ReplyKind
@@ -54,19 +64,19 @@ impl ReplyKind {
     pub(crate) fn of_number(number: u8) -> Option<ReplyKind>
         ensures value { result ≡ kind_of_number number }
     {
-        match number {
-            0 => Some(ReplyKind::Done),
-            1 => Some(ReplyKind::Blocks),
-            2 => Some(ReplyKind::Page),
-            3 => Some(ReplyKind::Entries),
-            4 => Some(ReplyKind::Status),
-            5 => Some(ReplyKind::Denied),
-            6 => Some(ReplyKind::NoMemory),
-            7 => Some(ReplyKind::AuditFull),
-            8 => Some(ReplyKind::Spent),
-            9 => Some(ReplyKind::NoDatabase),
-            10 => Some(ReplyKind::Malformed),
-            _ => None,
-        }
+        numbered!(
+            number;
+            ReplyKind::Done,
+            ReplyKind::Blocks,
+            ReplyKind::Page,
+            ReplyKind::Entries,
+            ReplyKind::Status,
+            ReplyKind::Denied,
+            ReplyKind::NoMemory,
+            ReplyKind::AuditFull,
+            ReplyKind::Spent,
+            ReplyKind::NoDatabase,
+            ReplyKind::Malformed
+        )
     }
 }

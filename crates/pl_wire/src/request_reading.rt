@@ -5,14 +5,11 @@ ghost use Rattle.std.specs.Int.{w16, w32, w64};
 ghost use Rattle.pl_block.specs.declared.fault.Failed.TheVariants.{NoMemory};
 ghost use Rattle.pl_block.specs.Faults.{Returns};
 ghost use Rattle.pl_table.specs.Ops.{op_of_number, role_of_number};
-ghost use Rattle.pl_table.specs.Request.{IsRequest, Query};
-ghost use Rattle.pl_wire.specs.Spelling.{request_spelling};
-ghost use Rattle.pl_wire.specs.Reading.{AsksMemory, MayLackMemory, head_in, number_in, sized, write_reading, offer_reading, report_reading, flag_of_number, get_reading, pull_reading, advance_reading, failover_reading, audit_reading, act_reading, ranged, opening_reading, request_reading};
+ghost use Rattle.pl_wire.specs.Reading.{AsksMemory, MayLackMemory, ReadsRequest, head_in, number_in, sized, write_reading, offer_reading, report_reading, flag_of_number, get_reading, pull_reading, advance_reading, failover_reading, audit_reading, act_reading, ranged, opening_reading, request_reading};
 
 use crate::fault::{BodyFault, WireFault, of_block};
 use crate::latest::Latest;
 use bytes::{Buf, Bytes};
-use pl_block::decode;
 use pl_block::laws::one_spelling;
 use pl_block::seen::each_is_byte;
 use pl_table::{Act, Head, Op, Request, Role, TableText};
@@ -85,22 +82,7 @@ fn check_size(bytes: &[u8], size: usize) -> Result<(), WireFault>
     Ok(())
 }
 
-// A write, whose block keeps the bytes.
-#[inline(never)]
-fn write_in(alloc: Global, arguments: Bytes) -> Result<Act, BodyFault>
-    ensures exact { Returns result (write_reading arguments) }
-    ensures no_memory { result ≡ Err NoMemory → 1 ≤ length arguments }
-{
-    let Some(copy) = arguments.as_slice().first().copied() else {
-        return Err(BodyFault::Malformed(WireFault::EndsInField));
-    };
-    let mut block = arguments;
-    block.advance(1);
-    let block = decode(alloc, block).map_err(of_block)?;
-    Ok(Act::Write { copy, block })
-}
-
-// A write, whose block keeps a copy of the bytes, or is the one that was read last.
+// A write. Its block keeps a copy of the bytes, or is the one that was read last.
 #[inline(never)]
 fn write_of(alloc: Global, arguments: &[u8], latest: &mut Latest) -> Result<Act, BodyFault>
     ensures exact { Returns result (write_reading arguments.now) }
@@ -113,16 +95,7 @@ fn write_of(alloc: Global, arguments: &[u8], latest: &mut Latest) -> Result<Act,
     Ok(Act::Write { copy: *copy, block })
 }
 
-// An offer, whose block keeps the bytes.
-#[inline(never)]
-fn offer_in(alloc: Global, arguments: Bytes) -> Result<Act, BodyFault>
-    ensures exact { Returns result (offer_reading arguments) }
-{
-    let block = decode(alloc, arguments).map_err(of_block)?;
-    Ok(Act::Offer { block })
-}
-
-// An offer, whose block keeps a copy of the bytes, or is the one that was read last.
+// An offer, whose block is kept as that of a write.
 #[inline(never)]
 fn offer_of(alloc: Global, arguments: &[u8], latest: &mut Latest) -> Result<Act, BodyFault>
     ensures exact { Returns result (offer_reading arguments.now) }
@@ -248,17 +221,6 @@ fn act_of(alloc: Global, op: Op, arguments: &[u8], latest: &mut Latest) -> Resul
     Ok(read?)
 }
 
-fn act_in(alloc: Global, op: Op, arguments: Bytes) -> Result<Act, BodyFault>
-    ensures exact { Returns result (act_reading op arguments) }
-    ensures no_memory { result ≡ Err NoMemory → AsksMemory op arguments }
-{
-    match op {
-        Op::Write => write_in(alloc, arguments),
-        Op::Offer => offer_in(alloc, arguments),
-        _ => act_of(alloc, op, arguments.as_slice(), &mut Latest::new()),
-    }
-}
-
 // It is made as what is returned, so that it is moved once.
 fn ranged_request(head: Head, act: Act) -> Result<Request, BodyFault>
     ensures exact { Returns result (ranged head act) }
@@ -297,89 +259,49 @@ fn request_of(alloc: Global, body: &[u8], latest: &mut Latest) -> Result<Request
     ranged_request(head, act)
 }
 
-#[tactic(auto, unfolding(crate::specs::Reading::request_reading))]
-fn request_in(alloc: Global, body: Bytes) -> Result<Request, BodyFault>
-    ensures exact { Returns result (request_reading body) }
-    ensures no_memory { result ≡ Err NoMemory → MayLackMemory body }
-{
-    let (head, op) = opening_of(body.as_slice())?;
-    let mut arguments = body;
-    arguments.advance(OPENING_BYTES);
-    let act = act_in(alloc, op, arguments)?;
-    ranged_request(head, act)
-}
-
 /// The request that the bytes spell, or the fault of the least code.
 ///
 /// The bytes of a block, in a write or an offer, are copied once, and the block keeps the copy. So
 /// are those of a table's text, which is read here, once, before its length is tested: a text that
 /// writes down no table is a request all the same. The other requests ask for no memory.
-#[tactic(auto, using(crate::proofs::Requests::is_found, crate::proofs::Requests::is_only))]
 pub fn decode_request(alloc: Global, body: &[u8]) -> Result<Request, BodyFault>
-    // What is read is a request, and the bytes are its spelling.
-    ensures found { IfOk result (λ q. IsRequest q × (body.now ≡ request_spelling q)) }
-    // Bytes that spell a request are read as that request, unless memory runs out.
-    ensures only { (q : Query) → IsRequest q → body.now ≡ request_spelling q →
-        Returns result (Ok q) }
-    // The request that the bytes spell, the fault of the least code, or out of memory
-    // (`request_reading`).
-    ensures exact { Returns result (request_reading body.now) }
-    // Memory runs out only for a write with a copy, an offer or a set_table, after a head whose
-    // role is known.
-    ensures no_memory { result ≡ Err NoMemory → MayLackMemory body.now }
+    // What is read is a request, and the bytes are its spelling. Bytes that spell a request are read as
+    // that request, unless memory runs out. It is the request that the bytes spell, the fault of the
+    // least code, or out of memory (`request_reading`). Memory runs out only for a write with a copy,
+    // an offer or a set_table, after a head whose role is known (`ReadsRequest`).
+    ensures value { ReadsRequest body.now result }
 {
-    // Proof only: these do nothing.
-    each_is_byte(body);
-    one_spelling();
-    request_of(alloc, body, &mut Latest::new())
+    decode_request_after(alloc, body, &mut Latest::new())
+}
+
+/// The request that the bytes spell, or the fault of the least code, as [`decode_request`] has it.
+pub fn decode_request_shared(alloc: Global, body: Bytes) -> Result<Request, BodyFault>
+    // What is read is a request, and the bytes are its spelling. Bytes that spell a request are read as
+    // that request, unless memory runs out. It is the request that the bytes spell, the fault of the
+    // least code, or out of memory (`request_reading`). Memory runs out only for a write with a copy,
+    // an offer or a set_table, after a head whose role is known (`ReadsRequest`).
+    ensures value { ReadsRequest body result }
+{
+    decode_request_after(alloc, body.as_slice(), &mut Latest::new())
 }
 
 /// The request that the bytes spell, or the fault of the least code, as [`decode_request`] has it.
 ///
 /// A block that comes again, byte for byte as the last one, is shared: its bytes are compared, and neither read nor copied.
-#[tactic(auto, using(crate::proofs::Requests::is_found, crate::proofs::Requests::is_only))]
+#[tactic(auto, using(crate::proofs::Requests::reads))]
 pub fn decode_request_after(
     alloc: Global,
     body: &[u8],
     latest: &mut Latest,
 ) -> Result<Request, BodyFault>
-    // What is read is a request, and the bytes are its spelling.
-    ensures found { IfOk result (λ q. IsRequest q × (body.now ≡ request_spelling q)) }
-    // Bytes that spell a request are read as that request, unless memory runs out.
-    ensures only { (q : Query) → IsRequest q → body.now ≡ request_spelling q →
-        Returns result (Ok q) }
-    // The request that the bytes spell, the fault of the least code, or out of memory
-    // (`request_reading`).
-    ensures exact { Returns result (request_reading body.now) }
-    // Memory runs out only for a write with a copy, an offer or a set_table, after a head whose
-    // role is known.
-    ensures no_memory { result ≡ Err NoMemory → MayLackMemory body.now }
+    // What is read is a request, and the bytes are its spelling. Bytes that spell a request are read as
+    // that request, unless memory runs out. It is the request that the bytes spell, the fault of the
+    // least code, or out of memory (`request_reading`). Memory runs out only for a write with a copy,
+    // an offer or a set_table, after a head whose role is known (`ReadsRequest`).
+    ensures value { ReadsRequest body.now result }
 {
     // Proof only: these do nothing.
     each_is_byte(body);
     one_spelling();
     request_of(alloc, body, latest)
-}
-
-/// The request that the bytes spell, or the fault of the least code, as [`decode_request`] has it.
-///
-/// The block of a write or an offer keeps these bytes, and none is copied. Those of a table's text
-/// are.
-#[tactic(auto, using(crate::proofs::Requests::is_found, crate::proofs::Requests::is_only))]
-pub fn decode_request_shared(alloc: Global, body: Bytes) -> Result<Request, BodyFault>
-    // What is read is a request, and the bytes are its spelling.
-    ensures found { IfOk result (λ q. IsRequest q × (body ≡ request_spelling q)) }
-    // Bytes that spell a request are read as that request, unless memory runs out.
-    ensures only { (q : Query) → IsRequest q → body ≡ request_spelling q → Returns result (Ok q) }
-    // The request that the bytes spell, the fault of the least code, or out of memory
-    // (`request_reading`).
-    ensures exact { Returns result (request_reading body) }
-    // Memory runs out only for a write with a copy, an offer or a set_table, after a head whose
-    // role is known.
-    ensures no_memory { result ≡ Err NoMemory → MayLackMemory body }
-{
-    // Proof only: these do nothing.
-    each_is_byte(body.as_slice());
-    one_spelling();
-    request_in(alloc, body)
 }
