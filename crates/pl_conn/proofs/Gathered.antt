@@ -1,7 +1,7 @@
 -- Frames that are answered, and their replies, which wait.
 use Rattle.std.specs.Io.KnownBytes.{Consumes}
 use Rattle.std.proofs.Common.{◌≡◌, ℕ, ◌+◌, ◌-◌, ◌<◌, ◌≤◌, true, List, [], ◌∷◌, ◌++◌, length, take, drop, take-add, Option, Result, Ok, Err, refl, sym, ap, ap₂, subst, ◌∙◌, append_assoc, append-nil, arith}
-use Rattle.std.proofs.lemmas.List.{take-append-drop, take_rest}
+use Rattle.std.proofs.lemmas.List.{length-append, take-append-drop, take_rest}
 use Rattle.std.proofs.lemmas.Grind.{flat_map-append}
 use Rattle.pl_block.specs.Faults.{Returns}
 use Rattle.pl_block.specs.declared.fault.Failed.{Failed}
@@ -33,6 +33,10 @@ holds_more box front reply less h = record {
   lens = ap (λ (l : List ℕ). l ++ length (reply_frame reply) ∷ []) h.lens ∙ sym (map_more (λ r. length (reply_frame r)) front reply);
   few = subst (λ (l : List ℕ). length l < 262144) (h.text ∙ ap replies_text (sym (all_but_last front reply))) less;
 }
+
+-- there is one more than before
+pub one_waits : (box left : Box) (reply : Reply) → left ≡ gathered box reply → length left.lens ≡ length box.lens + 1
+one_waits box left reply waits = ap (λ (b : Box). length b.lens) waits ∙ length-append box.lens (length (reply_frame reply) ∷ [])
 
 module _ {P : Type 0} (calls : Calls P) where
   -- nothing is answered

@@ -65,6 +65,10 @@ pub record Gathers {P : Type 0} (calls : Calls P) (before : P) (bytes : List ℕ
   pub chain : Answered (AnswersBody calls) before bodies replies after
   pub waits : (front : List Reply) → HoldsReplies box front → HoldsReplies left (front ++ replies)
 
+-- the bytes are one frame, which is answered, and one reply more waits
+abbrev pub GathersOne : {P : Type 0} → Calls P → P → List ℕ → Box → P → Box → Type 0
+GathersOne calls before bytes box after left = Gathers calls before bytes box after left × (length left.lens ≡ length box.lens + 1)
+
 -- the next frame is answered, and its reply waits; or the input is at its end; or there is no frame
 abbrev pub TakesFrame : {P : Type 0} → Calls P → Option (List ℕ) → P → Box → Option (List ℕ) → P → Box → Result Bool Cause → Type 0
 TakesFrame calls input before box rest after left (Ok true) = (bytes : List ℕ) × Consumes input rest bytes × Gathers calls before bytes box after left

@@ -1,5 +1,5 @@
 -- Passes after the conversations of their workers.
-use Rattle.std.specs.Prelude.{◌≡◌, ℕ, ℤ, pos, ◌≤◌, ⊤, Bool, false, List, [], ◌∷◌, Option, Some, None, take}
+use Rattle.std.specs.Prelude.{◌≡◌, ◌≢◌, ℕ, ℤ, pos, ◌≤◌, ⊤, Bool, false, List, [], ◌∷◌, Option, Some, None, take}
 use Rattle.std.specs.List.{All, list_any}
 use Rattle.std.specs.Ordering.{int_eq}
 use Rattle.pl_table.specs.Request.{Query}
@@ -32,6 +32,10 @@ pub record ServesConnections {P : Type 0} (calls : Calls P) (owns : P → Type 0
   pub started : ℕ
   pub returned : Returned calls (take started given) passes
   pub own : All owns passes
+
+-- what is so once no more connections are accepted for workers: at most this many were, just as many if that was the limit
+abbrev pub Accepts : ℕ → ℕ → Stop → Type 0
+Accepts connections accepted stop = (accepted ≤ connections) × (stop ≡ stops.Limit → accepted ≡ connections) × (stop ≢ stops.Start)
 
 -- the numbers of the failures of an accept that say nothing of the listener
 abbrev pub passing : List ℤ

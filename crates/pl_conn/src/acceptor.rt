@@ -1,9 +1,9 @@
 //! Connections, accepted and handed over to workers: which failures of an accept pass, and are waited out, and which worker
 //! has the next socket.
 
-ghost use Rattle.std.specs.Prelude.{◌≡◌, ◌≢◌, ◌≤◌};
+ghost use Rattle.std.specs.Prelude.{◌≡◌};
 ghost use Rattle.std.specs.IoError.{raw_os_error};
-ghost use Rattle.pl_conn.specs.Serving.{is_passing};
+ghost use Rattle.pl_conn.specs.Serving.{Accepts, is_passing};
 
 use crate::post::Post;
 use crate::service::Stop;
@@ -109,9 +109,7 @@ pub(crate) fn accept_all<R: Wait, W: Watch>(
     terms: &Terms<W>,
     posts: &mut [Post],
 ) -> (u32, Stop)
-    ensures most { result.0 ≤ terms.now.connections }
-    ensures limit { result.1 ≡ Stop.Limit → result.0 ≡ terms.now.connections }
-    ensures never { result.1 ≢ Stop.Start }
+    ensures accepts { Accepts terms.now.connections result.0 result.1 }
 {
     let mut is_reported = false;
     for accepted in 0..terms.connections {

@@ -4,11 +4,11 @@ ghost use Rattle.std.specs.Prelude.{◌≡◌, ◌+◌, ◌<◌, ◌≤◌, IfEr
 ghost use Rattle.std.specs.Io.KnownBytes.{Appends};
 ghost use Rattle.pl_wire.specs.FrameReading.{LacksFrame};
 ghost use Rattle.pl_wire.specs.Frames.{longest_request};
-ghost use Rattle.pl_conn.specs.Gathering.{Gathers, MayGather};
+ghost use Rattle.pl_conn.specs.Gathering.{Gathers, GathersOne, MayGather};
 
 use crate::cause::Cause;
 use crate::outbox::Outbox;
-use pl_wire::{Gate, LENGTH_BYTES, body_in};
+use pl_wire::{Gate, LENGTH_BYTES, body_in, write_bytes};
 use std::io::{ErrorKind, Write};
 
 // Answers the frame that the bytes begin with, if they hold all of it, and returns its length.
@@ -22,9 +22,8 @@ pub(crate) fn answer_first<G: Gate>(
     requires room { MayGather outbox.old }
     ensures own { G.owns gate.now pass.new }
     ensures few { IfSome result (λ count. (4 ≤ count) × (count ≤ length bytes.now)) }
-    ensures some { IfSome result (λ count.
-        Gathers (G.calls gate.now) pass.old (take count bytes.now) outbox.old pass.new outbox.new) }
-    ensures one { IfSome result (λ count. length outbox.new.lens ≡ length outbox.old.lens + 1) }
+    ensures some { IfSome result (λ count. GathersOne (G.calls gate.now) pass.old
+        (take count bytes.now) outbox.old pass.new outbox.new) }
     ensures none { IfNone result ((pass.new ≡ pass.old) × (outbox.new ≡ outbox.old)
         × LacksFrame longest_request bytes.now) }
 {
@@ -73,14 +72,9 @@ pub(crate) fn write_ready<W: Write>(writer: &mut W, bytes: &[u8]) -> (usize, Res
     ensures err { OnErr result.1 (result.0 < length bytes.now) }
     ensures cause { IfErr result.1 (λ cause. cause ≡ Cause.Write) }
 {
-    let mut count = 0;
-    while count < bytes.len() {
-        match writer.write(&bytes[count..]) {
-            Ok(0) => return (count, Err(Cause::Write)),
-            Ok(more) => count += more,
-            Err(error) if error.kind() == ErrorKind::WouldBlock => return (count, Ok(())),
-            Err(_) => return (count, Err(Cause::Write)),
-        }
+    match write_bytes(writer, bytes) {
+        Ok(()) => (bytes.len(), Ok(())),
+        Err(stop) if stop.error.kind() == ErrorKind::WouldBlock => (stop.count, Ok(())),
+        Err(stop) => (stop.count, Err(Cause::Write)),
     }
-    (count, Ok(()))
 }

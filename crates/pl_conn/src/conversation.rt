@@ -211,11 +211,11 @@ fn rest_after(heard: Heard, unread: &[u8], waiting: usize) -> Result<Rest, Cause
     if waiting > 0 {
         return Ok(Rest::Output);
     }
-    if let Some(_frame) = body_in(unread) {
-        return Ok(Rest::Again);
-    }
     if !is_cut(unread) {
-        return Err(Cause::TooLong);
+        return match body_in(unread) {
+            Some(_frame) => Ok(Rest::Again),
+            None => Err(Cause::TooLong),
+        };
     }
     match heard {
         Heard::Some => Ok(Rest::Again),

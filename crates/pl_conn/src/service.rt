@@ -1,8 +1,8 @@
 //! Many connections at once, each served by one of several workers.
 
-ghost use Rattle.std.specs.Prelude.{◌≡◌, ◌≢◌, ◌≤◌, [], IfSome, take, vec_len, vec_capacity};
+ghost use Rattle.std.specs.Prelude.{◌≡◌, ◌≤◌, [], IfSome, take, vec_len, vec_capacity};
 ghost use Rattle.std.specs.List.{All};
-ghost use Rattle.pl_conn.specs.Serving.{Reaches, Returned, ServesConnections};
+ghost use Rattle.pl_conn.specs.Serving.{Accepts, Reaches, Returned, ServesConnections};
 ghost use Rattle.pl_conn.specs.Workers.{AllOf, each_of};
 
 use crate::acceptor::accept_all;
@@ -47,12 +47,12 @@ pub struct Served<P> {
 }
 
 // That the pass which a worker leaves is this one after calls of this gate.
-struct Kept<G: Gate> {
+struct WorkerPromise<G: Gate> {
     gate: Snapshot<G>,
     start: Snapshot<G::Pass>,
 }
 
-impl<G: Gate> Drop for Kept<G> {
+impl<G: Gate> Drop for WorkerPromise<G> {
     fn drop(self) {
         let Self { gate, start } = self;
         drop(gate);
@@ -60,7 +60,7 @@ impl<G: Gate> Drop for Kept<G> {
     }
 }
 
-impl<G: Gate> Promise<Outcome<G::Pass>> for Kept<G> {
+impl<G: Gate> Promise<Outcome<G::Pass>> for WorkerPromise<G> {
     ghost kept_by = { λ p work. Reaches (G.calls p.gate.value) p.start.value work.pass ×
         G.owns p.gate.value work.pass };
 }
@@ -72,14 +72,14 @@ fn start<'s, E, R: Wait + Sync, G: Gate + Sync>(
     worker: Worker,
     gate: &'s G,
     pass: G::Pass,
-) -> Option<PromisedHandle<Outcome<G::Pass>, Kept<G>>>
+) -> Option<PromisedHandle<Outcome<G::Pass>, WorkerPromise<G>>>
 where
     G::Pass: Send + Drop + 's,
     requires own { G.owns gate.now pass }
     ensures of { IfSome result (λ handle. (handle.promise.gate.value ≡ gate.now) ×
         (handle.promise.start.value ≡ pass)) }
 {
-    let promise = Kept {
+    let promise = WorkerPromise {
         gate: Snapshot::of(gate),
         start: Snapshot::of(&pass),
     };
@@ -97,8 +97,8 @@ fn start_all<'s, E, R: Wait + Sync, G: Gate + Sync>(
     hired: Vec<Worker>,
     gate: &'s G,
     passes: Vec<G::Pass>,
-    workers: Vec<PromisedHandle<Outcome<G::Pass>, Kept<G>>>,
-) -> Vec<PromisedHandle<Outcome<G::Pass>, Kept<G>>>
+    workers: Vec<PromisedHandle<Outcome<G::Pass>, WorkerPromise<G>>>,
+) -> Vec<PromisedHandle<Outcome<G::Pass>, WorkerPromise<G>>>
 where
     G::Pass: Send + Drop + 's,
     requires own { All (G.owns gate.now) passes.items }
@@ -130,7 +130,7 @@ where
 fn join_all<R: Threads, G: Gate>(
     rt: &R,
     gate: &G,
-    workers: Vec<PromisedHandle<Outcome<G::Pass>, Kept<G>>>,
+    workers: Vec<PromisedHandle<Outcome<G::Pass>, WorkerPromise<G>>>,
     ended: Vec<G::Pass>,
 ) -> (Vec<G::Pass>, u64)
 where
@@ -179,9 +179,7 @@ fn stopped<P>(alloc: Global, stop: Stop) -> Served<P>
 
 // Accepts the connections for the workers of these posts. Then each of them sees that no more come.
 fn accept_for<R: Wait, W: Watch>(rt: &R, terms: &Terms<W>, posts: Vec<Post>) -> (u32, Stop)
-    ensures most { result.0 ≤ terms.now.connections }
-    ensures limit { result.1 ≡ Stop.Limit → result.0 ≡ terms.now.connections }
-    ensures never { result.1 ≢ Stop.Start }
+    ensures accepts { Accepts terms.now.connections result.0 result.1 }
 {
     let mut posts = posts;
     let accepted = accept_all(rt, terms, posts.as_mut_slice());
@@ -310,7 +308,8 @@ where
         move |scope| -> Served<G::Pass>
             requires own { All (G.owns gate.now) passes.items }
             ensures serves { ServesConnections (G.calls gate.entry.now) (G.owns gate.entry.now)
-                passes.items terms.entry.now.connections result.accepted result.stop result.passes.items }
+                passes.items terms.entry.now.connections
+                result.accepted result.stop result.passes.items }
         { serve_in(scope, rt, terms, staff, gate, passes) },
     )
 }

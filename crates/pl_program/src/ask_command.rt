@@ -6,6 +6,7 @@ use crate::notes::{note_unanswered, note_unopened};
 use crate::operator::{credentials_of, exchange, file_of};
 use crate::run_fault::RunFault;
 use crate::texts::{show, text_of_file};
+use pl_command::OPERATOR_WORDS;
 use pl_core::Reply;
 use pl_play::{Credentials, admin, answer_text};
 use pl_table::Request;
@@ -58,9 +59,7 @@ where
     };
     let request = admin(rt.alloc(), credentials, words, text).map_err(RunFault::from);
     if let Err(RunFault::Words) = &request {
-        let _is_told = eprintln!(rt;
-            "WORDS: they are none of status, tidy, audit FIRST MAX, failover ID and set_table FILE"
-        );
+        let _is_told = eprintln!(rt; "WORDS: they are none of {OPERATOR_WORDS}");
     }
     Ok(request?)
 }

@@ -122,6 +122,31 @@ fn takes(key: Key, word: &str) -> bool {
     }
 }
 
+// The word with this number among the roles, or among the operations.
+fn word_of(key: Key, number: u8) -> Option<&'static str> {
+    match key {
+        Key::Role => Some(Role::of_number(number)?.name()),
+        Key::Op => Some(Op::of_number(number)?.name()),
+        Key::Verdict | Key::Other => None,
+    }
+}
+
+// Writes the roles, or the operations, in the order of their numbers, with "or" before the last.
+fn write_words<W: fmt::Write>(f: &mut fmt::Formatter<W>, key: Key) -> fmt::Result {
+    let mut joint = "";
+    for number in 1..u8::MAX - 1 {
+        let Some(word) = word_of(key, number) else {
+            break;
+        };
+        write!(f, "{joint}{word}")?;
+        joint = match word_of(key, number + 2) {
+            Some(_) => ", ",
+            None => " or ",
+        };
+    }
+    Ok(())
+}
+
 // What would be right.
 fn remedy(fault: TableFault) -> &'static str {
     match fault {
@@ -165,13 +190,11 @@ impl fmt::Display for Word<'_> {
         let Word { key, word, line } = *self;
         write!(f, "line {line}: '{word}' is not ")?;
         match key {
-            Key::Verdict => write!(f, "a verdict: allow or deny"),
-            Key::Role => write!(f, "a role: primary, secondary, page_server or operator"),
-            _ => write!(
-                f,
-                "an operation: write, offer, report, get, pull, advance, status, failover, set_table, audit or tidy"
-            ),
+            Key::Verdict => return write!(f, "a verdict: allow or deny"),
+            Key::Role => write!(f, "a role: ")?,
+            _ => write!(f, "an operation: ")?,
         }
+        write_words(f, key)
     }
 }
 

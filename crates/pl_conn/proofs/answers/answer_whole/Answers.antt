@@ -15,5 +15,5 @@ loop-preserved g c = record {
   own = c.answer_first.ensures.own;
   taken = search rules;
   few = search rules;
-  gathers = more_gathered _ _ _ _ c.args.bytes.now c.loop.taken _ _ _ _ c.loop.invariant.gathers c.in-Some.ensures.some;
+  gathers = more_gathered _ _ _ _ c.args.bytes.now c.loop.taken _ _ _ _ c.loop.invariant.gathers c.in-Some.ensures.some.0;
 }

@@ -8,7 +8,7 @@ loop-init g c = record { own = c.requires.own; taken = search rules; many = sear
 pub returns-then-is_err-clause-value : goal.returns-then-is_err-clause-value
 returns-then-is_err-clause-value g c =
     speaks_more _ _ _ _ _ _ _ c.args.bytes.now c.loop.taken _ c.write_ready-sent.result.0 c.answer_whole-more.new.outbox.text c.loop.invariant.speaks
-    (round _ _ _ _ c.args.bytes.now c.loop.taken c.in-Some.first c.answer_whole-more.result c.write_ready-sent.result.0 _ _ _ (search rules) c.in-Some.ensures.some c.answer_whole-more.ensures.value)
+    (round _ _ _ _ c.args.bytes.now c.loop.taken c.in-Some.first c.answer_whole-more.result c.write_ready-sent.result.0 _ _ _ (search rules) c.in-Some.ensures.some.0 c.answer_whole-more.ensures.value)
     (rw c.text.ensures.value at c.write_ready-sent.ensures.value)
 
 pub loop-preserved : goal.loop-preserved
@@ -18,6 +18,6 @@ loop-preserved g c = record {
   many = search rules;
   speaks = speaks_all _ _ _ _ _ _ _ c.write_ready-sent.result.0 c.answer_whole-more.new.outbox.text (search rules)
       (speaks_more _ _ _ _ _ _ _ c.args.bytes.now c.loop.taken _ c.write_ready-sent.result.0 c.answer_whole-more.new.outbox.text c.loop.invariant.speaks
-      (round _ _ _ _ c.args.bytes.now c.loop.taken c.in-Some.first c.answer_whole-more.result c.write_ready-sent.result.0 _ _ _ (search rules) c.in-Some.ensures.some c.answer_whole-more.ensures.value)
+      (round _ _ _ _ c.args.bytes.now c.loop.taken c.in-Some.first c.answer_whole-more.result c.write_ready-sent.result.0 _ _ _ (search rules) c.in-Some.ensures.some.0 c.answer_whole-more.ensures.value)
       (rw c.text.ensures.value at c.write_ready-sent.ensures.value));
 }

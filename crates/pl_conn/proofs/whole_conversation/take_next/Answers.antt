@@ -9,4 +9,4 @@ returns-in-Ok-Some-clause-value g c =
     c.put_answer.ensures.value.answers c.put_answer.ensures.value.fits (search rules) c.put_answer.ensures.value.waits
 
 pub returns-in-Some-clause-value : goal.returns-in-Some-clause-value
-returns-in-Some-clause-value g c = grind (arith, takes_buffered)
+returns-in-Some-clause-value g c = takes_buffered _ _ _ _ _ _ _ _ c.consume.ensures.taken (rw c.buffered.ensures.value at c.in-Some.ensures.some.0)
