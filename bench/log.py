@@ -195,7 +195,7 @@ def main():
         paths = {"now": path}
         if sys.argv[2:]:
             folder = pathlib.Path(sys.argv[2])
-            is_older = not (folder / "crates" / "pl_table" / "src" / "zone.rt").exists()
+            is_older = not any((folder / "crates" / "pl_table" / "src").rglob("zone.rt"))
             paths["before"] = programs.program("log", "pl_block pl_log bytes", folder, is_older)
         return compare_zones(paths)
     for blocks in [int(word) for word in sys.argv[1:]] or [1000, 100_000, 1_000_000]:

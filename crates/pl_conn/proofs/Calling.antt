@@ -1,7 +1,7 @@
 -- A call at one of several desks.
 use Rattle.std.proofs.Common.{◌≡◌, ℕ, List, set, Option, Some, refl, sym, subst}
 use Rattle.std.specs.Prelude.{slice_get}
-use Rattle.pl_table.specs.Request.{Query}
+use Rattle.pl_table.specs.Requests.Request.{Query}
 use Rattle.pl_core.specs.declared.reply.Reply.{Reply}
 use Rattle.pl_desk.specs.Passes.{Knowledge, IsSamePass, WasCalled}
 use Rattle.pl_conn.specs.Desks.{CalledWith, DesksCall}

@@ -1,6 +1,6 @@
 -- Calls that a conversation made, and calls one after the other.
 use Rattle.std.proofs.Common.{ℕ, List, [], ◌∷◌, ◌++◌, Result, Ok, Err, refl, subst, inl, inr}
-use Rattle.pl_table.specs.Request.{Query}
+use Rattle.pl_table.specs.Requests.Request.{Query}
 use Rattle.pl_core.specs.declared.reply.Reply.{Reply}
 use Rattle.pl_wire.specs.Reading.{request_reading}
 use Rattle.pl_wire.specs.declared.fault.WireFault.{WireFault}

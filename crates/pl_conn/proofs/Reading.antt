@@ -6,7 +6,7 @@ use Rattle.std.proofs.lemmas.List.{take-append-drop, take-append-le}
 use Rattle.pl_block.specs.Faults.{Returns}
 use Rattle.pl_block.specs.declared.fault.Failed.{Failed}
 use Rattle.pl_block.specs.declared.fault.Failed.TheVariants.{Malformed, NoMemory}
-use Rattle.pl_table.specs.Request.{Query}
+use Rattle.pl_table.specs.Requests.Request.{Query}
 use Rattle.pl_core.specs.declared.reply.Reply.{Reply}
 use Rattle.pl_wire.specs.Answering.{AnswersBody, AnswersRead, AnswersReading, Calls}
 use Rattle.pl_wire.specs.Reading.{MayLackMemory, request_reading}

@@ -2,7 +2,7 @@
 -- each.
 use Rattle.std.specs.Prelude.{◌≡◌, ℕ, List, [], ◌∷◌, ◌++◌, map, length, slice_get, slice_set, Option, Some, None}
 use Rattle.std.specs.List.{range_with_len}
-use Rattle.pl_table.specs.Request.{Query}
+use Rattle.pl_table.specs.Requests.Request.{Query}
 use Rattle.pl_core.specs.History.{History}
 use Rattle.pl_core.specs.declared.reply.Reply.{Reply}
 use Rattle.pl_core.specs.declared.reply.Reply.TheVariants as replies

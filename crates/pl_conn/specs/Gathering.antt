@@ -5,7 +5,7 @@ use Rattle.std.specs.List.{AllByRecursion}
 use Rattle.pl_core.specs.declared.reply.Reply.{Reply}
 use Rattle.pl_core.specs.Reply.{FitsReply}
 use Rattle.pl_block.specs.declared.fault.Failed.{Failed}
-use Rattle.pl_table.specs.Request.{Query}
+use Rattle.pl_table.specs.Requests.Request.{Query}
 use Rattle.pl_wire.specs.Answering.{Answered, AnswersBody, AnswersRead, Calls}
 use Rattle.pl_wire.specs.FrameReading.{StopsFrame}
 use Rattle.pl_wire.specs.Frames.{frames_of, longest_request}

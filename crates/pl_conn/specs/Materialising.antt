@@ -1,11 +1,11 @@
 -- How a page server materialises a partition: advances at the epoch that it knows, one a round.
 use Rattle.std.specs.Prelude.{◌≡◌, ◌==◌, ◌≤◌, ◌+◌, ◌^◌, ◌&&◌, ◌||◌, nat_lt, ℕ, Bool, true, false, IsTrue, List, [], ◌∷◌, length, drop, count_by, Option, Some, None, is_some, unwrap_or, if◌then◌else◌}
 use Rattle.std.specs.List.{AllByRecursion}
-use Rattle.pl_table.specs.declared.op.Role.TheVariants as roles
-use Rattle.pl_table.specs.declared.request.Act.TheVariants as acts
-use Rattle.pl_table.specs.declared.verdict.Section.{Section}
-use Rattle.pl_table.specs.declared.verdict.Section.TheVariants as sections
-use Rattle.pl_table.specs.Request.{Query}
+use Rattle.pl_table.specs.declared.requests.op.Role.TheVariants as roles
+use Rattle.pl_table.specs.declared.requests.act.Act.TheVariants as acts
+use Rattle.pl_table.specs.declared.tables.verdict.Section.{Section}
+use Rattle.pl_table.specs.declared.tables.verdict.Section.TheVariants as sections
+use Rattle.pl_table.specs.Requests.Request.{Query}
 use Rattle.pl_core.specs.declared.reply.Reply.{Reply}
 use Rattle.pl_core.specs.declared.reply.Reply.TheVariants as replies
 use Rattle.pl_wire.specs.Answering.{Calls}

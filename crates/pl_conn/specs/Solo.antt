@@ -1,6 +1,6 @@
 -- The calls of one caller, who holds the databases.
 use Rattle.std.specs.Prelude.{◌≡◌, ℕ, ◌≤◌, List, length, slice_get, slice_set, Option, Some, None}
-use Rattle.pl_table.specs.Request.{Query}
+use Rattle.pl_table.specs.Requests.Request.{Query}
 use Rattle.pl_core.specs.History.{History}
 use Rattle.pl_core.specs.Step.{IsStep}
 use Rattle.pl_core.specs.declared.reply.Reply.{Reply}

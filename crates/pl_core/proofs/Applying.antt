@@ -15,7 +15,7 @@ use Rattle.pl_core.specs.Transition.{PagesFollow, with_unseen, applied_then}
 use Rattle.pl_decide.specs.Agreement.{AgreesWith}
 use Rattle.pl_decide.specs.Keys.{CachedVerdict}
 use Rattle.pl_audit.specs.Audit.{AuditList, last_table}
-use Rattle.pl_table.specs.Table.{WrittenTable}
+use Rattle.pl_table.specs.Tables.Table.{WrittenTable}
 use Rattle.pl_core.specs.Epoch.{table_of}
 use Rattle.pl_core.specs.Verdict.{epochs_of}
 use Rattle.pl_core.specs.Legal.{IsLegal}

@@ -5,18 +5,18 @@ use Rattle.pl_block.specs.Block.{Content, is_open_to}
 use Rattle.pl_block.specs.Bounds.{window}
 use Rattle.pl_log.specs.State.{Place, LogState}
 use Rattle.pl_log.specs.Window.{window_open_to, all_in_quorum}
-use Rattle.pl_table.specs.Acts.{block_of}
-use Rattle.pl_table.specs.Asking.{asked_in, asked_at}
-use Rattle.pl_table.specs.FirstMatch.{rows_allow}
-use Rattle.pl_table.specs.Ops.{same_op}
-use Rattle.pl_table.specs.declared.op.Op.TheVariants as ops
-use Rattle.pl_table.specs.declared.request.Act.{Act}
-use Rattle.pl_table.specs.declared.request.Act.TheVariants as acts
-use Rattle.pl_table.specs.declared.verdict.Verdict.{Verdict}
-use Rattle.pl_table.specs.declared.verdict.Verdict.TheVariants as verdicts
-use Rattle.pl_table.specs.Request.{Query, op_of}
-use Rattle.pl_table.specs.Table.{WrittenTable}
-use Rattle.pl_table.specs.Zone.{copies_in, quorum_in}
+use Rattle.pl_table.specs.Requests.Acts.{block_of}
+use Rattle.pl_table.specs.Requests.Asking.{asked_in, asked_at}
+use Rattle.pl_table.specs.Tables.FirstMatch.{rows_allow}
+use Rattle.pl_table.specs.Requests.Ops.{same_op}
+use Rattle.pl_table.specs.declared.requests.op.Op.TheVariants as ops
+use Rattle.pl_table.specs.declared.requests.act.Act.{Act}
+use Rattle.pl_table.specs.declared.requests.act.Act.TheVariants as acts
+use Rattle.pl_table.specs.declared.tables.verdict.Verdict.{Verdict}
+use Rattle.pl_table.specs.declared.tables.verdict.Verdict.TheVariants as verdicts
+use Rattle.pl_table.specs.Requests.Request.{Query, op_of}
+use Rattle.pl_table.specs.Tables.Table.{WrittenTable}
+use Rattle.pl_table.specs.Tables.Zone.{copies_in, quorum_in}
 use Rattle.pl_decide.specs.declared.view.Epochs.{Epochs}
 use Rattle.pl_decide.specs.declared.view.View.{View}
 use Rattle.pl_decide.specs.Asked.{reads_the_log}

@@ -1,14 +1,14 @@
 -- What is known of the effect of a request that is allowed.
 use Rattle.std.proofs.Common.{◌≡◌, true, Result, Ok, Err, refl, sym, subst}
 use Rattle.pl_block.specs.Spelling.{IsBlock}
-use Rattle.pl_table.specs.declared.fault.TableFault.{TableFault}
-use Rattle.pl_table.specs.declared.request.Act.{Act}
-use Rattle.pl_table.specs.declared.request.Act.TheVariants as acts
-use Rattle.pl_table.specs.declared.verdict.Verdict.{Verdict}
-use Rattle.pl_table.specs.declared.verdict.Verdict.TheVariants as verdicts
-use Rattle.pl_table.specs.Request.{Query, FitsActFields, IsRequest}
-use Rattle.pl_table.specs.Table.{WrittenTable}
-use Rattle.pl_table.specs.TableText.{table_reading}
+use Rattle.pl_table.specs.declared.tables.fault.TableFault.{TableFault}
+use Rattle.pl_table.specs.declared.requests.act.Act.{Act}
+use Rattle.pl_table.specs.declared.requests.act.Act.TheVariants as acts
+use Rattle.pl_table.specs.declared.tables.verdict.Verdict.{Verdict}
+use Rattle.pl_table.specs.declared.tables.verdict.Verdict.TheVariants as verdicts
+use Rattle.pl_table.specs.Requests.Request.{Query, FitsActFields, IsRequest}
+use Rattle.pl_table.specs.Tables.Table.{WrittenTable}
+use Rattle.pl_table.specs.Tables.TableText.{table_reading}
 use Rattle.pl_decide.specs.Laws.{MayWrite, MayOffer, MayFailOver, MayBeServed}
 use Rattle.pl_core.specs.History.{Effect, wrote, offered, hardened, advanced, failed_over, set, nothing, Entry, History, effect_of_reading, effect_of_act, effect_of}
 use Rattle.pl_core.specs.Epoch.{table_of}

@@ -3,10 +3,10 @@ use Rattle.std.proofs.Common.{◌≡◌, ℕ, ◌≤◌, Bool, List, ◌++◌, t
 use Rattle.pl_block.specs.Block.{Content}
 use Rattle.pl_pages.specs.Page.{page_of}
 use Rattle.pl_pages.specs.Laws.{PagesStay}
-use Rattle.pl_table.specs.declared.head.Head.{Head}
-use Rattle.pl_table.specs.declared.request.Act.TheVariants as acts
-use Rattle.pl_table.specs.declared.verdict.Verdict.TheVariants as verdicts
-use Rattle.pl_table.specs.Request.{Query}
+use Rattle.pl_table.specs.declared.requests.head.Head.{Head}
+use Rattle.pl_table.specs.declared.requests.act.Act.TheVariants as acts
+use Rattle.pl_table.specs.declared.tables.verdict.Verdict.TheVariants as verdicts
+use Rattle.pl_table.specs.Requests.Request.{Query}
 use Rattle.pl_core.specs.declared.reply.Reply.TheVariants as replies
 use Rattle.pl_core.specs.History.{Start, History}
 use Rattle.pl_core.specs.Epoch.{table_of}

@@ -1,8 +1,8 @@
 -- A text that reads as a table changes nothing of the state but the table; nor does one that does not.
 use Rattle.std.proofs.Common.{◌≡◌, Result, Ok, Err, refl}
 use Rattle.pl_pages.specs.State.{FitsLog}
-use Rattle.pl_table.specs.declared.fault.TableFault.{TableFault}
-use Rattle.pl_table.specs.Table.{WrittenTable}
+use Rattle.pl_table.specs.declared.tables.fault.TableFault.{TableFault}
+use Rattle.pl_table.specs.Tables.Table.{WrittenTable}
 use Rattle.pl_core.specs.declared.state.ByTable.{ByTable}
 use Rattle.pl_core.specs.declared.state.State.{State}
 use Rattle.std.specs.Result.{result_ok}

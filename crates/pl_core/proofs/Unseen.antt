@@ -3,8 +3,8 @@ use Rattle.std.proofs.Common.{◌≡◌, ℕ, List, None, refl, sym, ap, subst, 
 use Rattle.std.specs.Global.{Vec}
 use Rattle.pl_audit.specs.declared.line.Line.{Line}
 use Rattle.pl_pages.specs.State.{PagesState, FitsLog, applied_at}
-use Rattle.pl_table.specs.declared.request.Act.{Act}
-use Rattle.pl_table.specs.declared.verdict.Verdict.TheVariants as verdicts
+use Rattle.pl_table.specs.declared.requests.act.Act.{Act}
+use Rattle.pl_table.specs.declared.tables.verdict.Verdict.TheVariants as verdicts
 use Rattle.pl_core.specs.declared.reply.Answer.{Answer}
 use Rattle.pl_core.specs.declared.reply.Answer.TheVariants as answers
 use Rattle.pl_core.specs.declared.reply.Reply.{Reply}

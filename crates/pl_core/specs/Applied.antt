@@ -1,9 +1,9 @@
 -- How far each partition is applied, and the LSN that a get is answered at.
 use Rattle.std.specs.Prelude.{ℕ, ◌+◌, ◌/◌, ◌==◌, Bool, not, ◌||◌, min, List, [], ◌∷◌, if◌then◌else◌}
 use Rattle.pl_pages.specs.State.{chosen}
-use Rattle.pl_table.specs.Asking.{asked_in, asked_at}
-use Rattle.pl_table.specs.FirstMatch.{rows_allow}
-use Rattle.pl_table.specs.Request.{Query}
+use Rattle.pl_table.specs.Requests.Asking.{asked_in, asked_at}
+use Rattle.pl_table.specs.Tables.FirstMatch.{rows_allow}
+use Rattle.pl_table.specs.Requests.Request.{Query}
 use Rattle.pl_core.specs.History.{Effect, wrote, offered, hardened, advanced, failed_over, set, nothing, Entry, Start, History}
 use Rattle.pl_core.specs.Epoch.{table_of}
 use Rattle.pl_core.specs.Log.{hard_of}

@@ -1,6 +1,6 @@
 -- The epoch, its primary and the table in force.
 use Rattle.std.specs.Prelude.{ℕ, ◌+◌, Bool, true, false, List, [], ◌∷◌, if◌then◌else◌, Option, Some, None, unwrap_or}
-use Rattle.pl_table.specs.Table.{WrittenTable}
+use Rattle.pl_table.specs.Tables.Table.{WrittenTable}
 use Rattle.pl_core.specs.History.{Effect, wrote, offered, hardened, advanced, failed_over, set, nothing, Entry, Start, History}
 
 -- the effect begins the next epoch

@@ -1,9 +1,9 @@
 -- How far a request goes: the greatest LSN up to which no row denies it.
 use Rattle.std.specs.Prelude.{◌≡◌, ℕ, ◌≤◌, IfSome}
 use Rattle.pl_decide.specs.Asked.{request_at}
-use Rattle.pl_table.specs.declared.verdict.Verdict.TheVariants as verdicts
-use Rattle.pl_table.specs.Request.{Query}
-use Rattle.pl_table.specs.Acts.{number_of}
+use Rattle.pl_table.specs.declared.tables.verdict.Verdict.TheVariants as verdicts
+use Rattle.pl_table.specs.Requests.Request.{Query}
+use Rattle.pl_table.specs.Requests.Acts.{number_of}
 use Rattle.pl_core.specs.History.{History}
 use Rattle.pl_core.specs.Verdict.{verdict_of}
 

@@ -2,10 +2,10 @@
 use Rattle.std.specs.Prelude.{◌+◌, ◌-◌, Bool, true}
 use Rattle.std.specs.List.{list_all, range_with_len}
 use Rattle.pl_block.specs.Block.{is_open_to}
-use Rattle.pl_table.specs.declared.request.Act.{Act}
-use Rattle.pl_table.specs.declared.request.Act.TheVariants as acts
-use Rattle.pl_table.specs.declared.verdict.Verdict.{Verdict}
-use Rattle.pl_table.specs.Request.{Query}
+use Rattle.pl_table.specs.declared.requests.act.Act.{Act}
+use Rattle.pl_table.specs.declared.requests.act.Act.TheVariants as acts
+use Rattle.pl_table.specs.declared.tables.verdict.Verdict.{Verdict}
+use Rattle.pl_table.specs.Requests.Request.{Query}
 use Rattle.pl_decide.specs.declared.view.Epochs.{Epochs}
 use Rattle.pl_decide.specs.declared.view.View.{View}
 use Rattle.pl_decide.specs.WrittenOrder.{decision}

@@ -1,11 +1,11 @@
 //! What the verdict on a request goes by: the table in force, and the state, which represents the history.
 
 ghost use Rattle.std.specs.Prelude.{◌≡◌, ◌≤◌, ℕ, nat_le, true, unwrap_or, IfSome};
-ghost use Rattle.pl_table.specs.Acts.{block_of};
-ghost use Rattle.pl_table.specs.Asking.{asked_at, asked_in};
-ghost use Rattle.pl_table.specs.FirstMatch.{rows_allow};
-ghost use Rattle.pl_table.specs.Request.{op_of};
-ghost use Rattle.pl_table.specs.Zone.{copies_in, quorum_in};
+ghost use Rattle.pl_table.specs.Requests.Acts.{block_of};
+ghost use Rattle.pl_table.specs.Requests.Asking.{asked_at, asked_in};
+ghost use Rattle.pl_table.specs.Tables.FirstMatch.{rows_allow};
+ghost use Rattle.pl_table.specs.Requests.Request.{op_of};
+ghost use Rattle.pl_table.specs.Tables.Zone.{copies_in, quorum_in};
 ghost use Rattle.pl_log.specs.Window.{all_in_quorum, window_open_to};
 ghost use Rattle.pl_audit.specs.Audit.{last_table};
 ghost use Rattle.pl_decide.specs.Agreement.{AgreesWith};

@@ -3,12 +3,12 @@ use Rattle.std.proofs.Common.{◌≡◌, ℕ, ◌≤◌, ◌<◌, ◌^◌, nat_l
 use Rattle.std.specs.Prelude.{IfSome, IsTrue, ◌↔◌}
 use Rattle.std.specs.Cmp.{unsigned_Decides}
 use Rattle.std.proofs.lemmas.Bool.Decides.{nat_tests}
-use Rattle.pl_table.specs.declared.reach.LsnRange.{LsnRange}
-use Rattle.pl_table.specs.declared.row.Row.{Row}
-use Rattle.pl_table.specs.Asking.{Asked, asked_at}
-use Rattle.pl_table.specs.FirstMatch.{found_allows, rows_allow}
+use Rattle.pl_table.specs.declared.tables.reach.LsnRange.{LsnRange}
+use Rattle.pl_table.specs.declared.tables.row.Row.{Row}
+use Rattle.pl_table.specs.Requests.Asking.{Asked, asked_at}
+use Rattle.pl_table.specs.Tables.FirstMatch.{found_allows, rows_allow}
 use Rattle.pl_table.specs.Laws.{LowerLsnsAreAllowed}
-use Rattle.pl_table.specs.Reach.{AreAlike}
+use Rattle.pl_table.specs.Tables.Reach.{AreAlike}
 use Rattle.pl_decide.specs.declared.key.VerdictKey.{VerdictKey}
 use Rattle.pl_decide.specs.Keys.{IsKeyOf, asked_with}
 use Rattle.pl_decide.specs.Agreement.{IsAllowedThrough}

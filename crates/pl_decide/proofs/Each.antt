@@ -4,17 +4,17 @@ use Rattle.std.specs.Prelude.{IsSome, IsOk, is_ok, is_none}
 use Rattle.std.specs.List.{Contains}
 use Rattle.std.proofs.lemmas.Bool.{leb-false, ltb-false, not-false, eq-eqb, and_right}
 use Rattle.std.proofs.lemmas.List.Elements.{All-contains, Contains-append_left, Contains-append_right}
-use Rattle.pl_table.specs.declared.head.Head.{Head}
-use Rattle.pl_table.specs.declared.request.Act.{Act}
-use Rattle.pl_table.specs.declared.request.Act.TheVariants as acts
-use Rattle.pl_table.specs.declared.verdict.Section.TheVariants as sections
-use Rattle.pl_table.specs.declared.verdict.Verdict.{Verdict}
-use Rattle.pl_table.specs.declared.verdict.Verdict.TheVariants as verdicts
-use Rattle.pl_table.specs.Request.{Query}
-use Rattle.pl_table.specs.Asking.{asked_in}
-use Rattle.pl_table.specs.Table.{WrittenTable, token_of}
-use Rattle.pl_table.specs.TableText.{table_reading}
-use Rattle.pl_table.specs.FirstMatch.{first_match_from, found_allows, rows_allow}
+use Rattle.pl_table.specs.declared.requests.head.Head.{Head}
+use Rattle.pl_table.specs.declared.requests.act.Act.{Act}
+use Rattle.pl_table.specs.declared.requests.act.Act.TheVariants as acts
+use Rattle.pl_table.specs.declared.tables.verdict.Section.TheVariants as sections
+use Rattle.pl_table.specs.declared.tables.verdict.Verdict.{Verdict}
+use Rattle.pl_table.specs.declared.tables.verdict.Verdict.TheVariants as verdicts
+use Rattle.pl_table.specs.Requests.Request.{Query}
+use Rattle.pl_table.specs.Requests.Asking.{asked_in}
+use Rattle.pl_table.specs.Tables.Table.{WrittenTable, token_of}
+use Rattle.pl_table.specs.Tables.TableText.{table_reading}
+use Rattle.pl_table.specs.Tables.FirstMatch.{first_match_from, found_allows, rows_allow}
 use Rattle.pl_decide.specs.declared.rule.Rule.{Rule}
 use Rattle.pl_decide.specs.declared.rule.Rule.TheVariants as rules
 use Rattle.pl_decide.specs.declared.view.Epochs.{Epochs}

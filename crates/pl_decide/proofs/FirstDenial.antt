@@ -3,15 +3,15 @@ use Rattle.std.proofs.Common.{◌≡◌, ◌≢◌, Bool, true, false, cond, Lis
 use Rattle.std.specs.Prelude.{◌↔◌}
 use Rattle.std.proofs.lemmas.Bool.{cases_Bool}
 use Rattle.std.proofs.lemmas.List.Elements.{All-nil, All-cons, All-head, All-tail}
-use Rattle.pl_table.specs.declared.verdict.Verdict.{Verdict}
-use Rattle.pl_table.specs.declared.verdict.Verdict.TheVariants as verdicts
-use Rattle.pl_table.specs.Request.{Query}
-use Rattle.pl_table.specs.Table.{WrittenTable}
+use Rattle.pl_table.specs.declared.tables.verdict.Verdict.{Verdict}
+use Rattle.pl_table.specs.declared.tables.verdict.Verdict.TheVariants as verdicts
+use Rattle.pl_table.specs.Requests.Request.{Query}
+use Rattle.pl_table.specs.Tables.Table.{WrittenTable}
 use Rattle.pl_decide.specs.declared.rule.Rule.{Rule}
 use Rattle.pl_decide.specs.declared.view.Epochs.{Epochs}
 use Rattle.pl_decide.specs.declared.view.View.{View}
 use Rattle.pl_decide.specs.Rules.{stands_against, denial}
-use Rattle.pl_table.specs.declared.verdict.Section.TheVariants as sections
+use Rattle.pl_table.specs.declared.tables.verdict.Section.TheVariants as sections
 use Rattle.pl_decide.specs.Asked.{is_known}
 use Rattle.pl_decide.specs.WrittenOrder.{first_denial, decision, NoneStands, IsFirstDenial}
 use Rattle.pl_decide.specs.Laws.{AllowedExactly, DeniedByTheFirst}

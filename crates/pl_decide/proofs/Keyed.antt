@@ -2,13 +2,13 @@
 use Rattle.std.proofs.Common.{◌≡◌, ℕ, ◌+◌, ◌≤◌, Bool, true, false, ◌&&◌, List, [], ◌∷◌, Option, Some, None, option_map, refl, sym, ap, ◌∙◌, arith, if◌then◌else◌}
 use Rattle.std.specs.Prelude.{IfSome, ◌↔◌}
 use Rattle.std.proofs.lemmas.Bool.Decides.{nat_tests}
-use Rattle.pl_table.specs.declared.reach.LsnRange.{LsnRange}
-use Rattle.pl_table.specs.declared.row.Row.{Row}
-use Rattle.pl_table.specs.Absent.{part_matches}
-use Rattle.pl_table.specs.Asking.{Asked, asked_at}
-use Rattle.pl_table.specs.Row.{through_matches, is_about, row_matches}
-use Rattle.pl_table.specs.Reach.{IsAtOne, AreAlike}
-use Rattle.pl_table.specs.FirstMatch.{first_match_from}
+use Rattle.pl_table.specs.declared.tables.reach.LsnRange.{LsnRange}
+use Rattle.pl_table.specs.declared.tables.row.Row.{Row}
+use Rattle.pl_table.specs.Tables.Absent.{part_matches}
+use Rattle.pl_table.specs.Requests.Asking.{Asked, asked_at}
+use Rattle.pl_table.specs.Tables.Row.{through_matches, is_about, row_matches}
+use Rattle.pl_table.specs.Tables.Reach.{IsAtOne, AreAlike}
+use Rattle.pl_table.specs.Tables.FirstMatch.{first_match_from}
 use Rattle.pl_decide.specs.declared.key.VerdictKey.{VerdictKey}
 use Rattle.pl_decide.specs.Keys.{CachedVerdict, IsKeyOf, asked_with}
 use Rattle.pl_decide.specs.Agreement.{IsAllowedThrough, IsFoundAt, IsOfRows, IsSpan}

@@ -3,16 +3,16 @@ use Rattle.std.proofs.Common.{◌≡◌, ℕ, ◌<◌, ◌≤◌, Bool, true, fa
 use Rattle.std.specs.Prelude.{◌⊎◌, slice_index_or, nat_lt}
 use Rattle.std.proofs.lemmas.Bool.{lt-ltb, le-ltb, both_ways}
 use Rattle.std.proofs.lemmas.List.Elements.{All-nil, All-cons}
-use Rattle.pl_table.specs.declared.head.Head.{Head}
-use Rattle.pl_table.specs.declared.request.Act.{Act}
-use Rattle.pl_table.specs.declared.request.Act.TheVariants as acts
-use Rattle.pl_table.specs.declared.verdict.Section.TheVariants as sections
-use Rattle.pl_table.specs.declared.verdict.Verdict.TheVariants as verdicts
-use Rattle.pl_table.specs.Request.{Query, op_of}
-use Rattle.pl_table.specs.Acts.{number_of, block_of, partitions_of}
-use Rattle.pl_table.specs.Asking.{asked_in, asked_at}
-use Rattle.pl_table.specs.Table.{WrittenTable}
-use Rattle.pl_table.specs.FirstMatch.{first_match_from, found_allows, rows_allow}
+use Rattle.pl_table.specs.declared.requests.head.Head.{Head}
+use Rattle.pl_table.specs.declared.requests.act.Act.{Act}
+use Rattle.pl_table.specs.declared.requests.act.Act.TheVariants as acts
+use Rattle.pl_table.specs.declared.tables.verdict.Section.TheVariants as sections
+use Rattle.pl_table.specs.declared.tables.verdict.Verdict.TheVariants as verdicts
+use Rattle.pl_table.specs.Requests.Request.{Query, op_of}
+use Rattle.pl_table.specs.Requests.Acts.{number_of, block_of, partitions_of}
+use Rattle.pl_table.specs.Requests.Asking.{asked_in, asked_at}
+use Rattle.pl_table.specs.Tables.Table.{WrittenTable}
+use Rattle.pl_table.specs.Tables.FirstMatch.{first_match_from, found_allows, rows_allow}
 use Rattle.pl_decide.specs.declared.rule.Rule.{Rule}
 use Rattle.pl_decide.specs.declared.rule.Rule.TheVariants as rules
 use Rattle.pl_decide.specs.declared.view.Epochs.{Epochs}

@@ -6,14 +6,14 @@ use Rattle.std.specs.List.{range_with_len}
 use Rattle.std.specs.Option.{option_map_or}
 use Rattle.std.proofs.lemmas.Bool.{cases_eq, cases_Bool, eq-eqb, ne_eqb, lt-ltb, and_right}
 use Rattle.std.proofs.lemmas.List.{append_assoc}
-use Rattle.pl_table.specs.declared.row.Row.{Row}
-use Rattle.pl_table.specs.declared.verdict.Verdict.TheVariants as verdicts
-use Rattle.pl_table.specs.declared.verdict.Section.TheVariants as sections
-use Rattle.pl_table.specs.Request.{Query}
-use Rattle.pl_table.specs.Asking.{Asked, asked_in}
-use Rattle.pl_table.specs.Row.{row_matches}
-use Rattle.pl_table.specs.Table.{WrittenTable}
-use Rattle.pl_table.specs.FirstMatch.{first_match_from}
+use Rattle.pl_table.specs.declared.tables.row.Row.{Row}
+use Rattle.pl_table.specs.declared.tables.verdict.Verdict.TheVariants as verdicts
+use Rattle.pl_table.specs.declared.tables.verdict.Section.TheVariants as sections
+use Rattle.pl_table.specs.Requests.Request.{Query}
+use Rattle.pl_table.specs.Requests.Asking.{Asked, asked_in}
+use Rattle.pl_table.specs.Tables.Row.{row_matches}
+use Rattle.pl_table.specs.Tables.Table.{WrittenTable}
+use Rattle.pl_table.specs.Tables.FirstMatch.{first_match_from}
 use Rattle.pl_decide.specs.declared.rule.Rule.{Rule}
 use Rattle.pl_decide.specs.declared.rule.Rule.TheVariants.{TableRow, NoRowMatches}
 use Rattle.pl_decide.specs.declared.view.Epochs.{Epochs}

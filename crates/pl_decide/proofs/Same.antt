@@ -3,13 +3,13 @@ use Rattle.std.proofs.Common.{◌≡◌, ℕ, ◌+◌, Bool, true, false, ◌&&�
 use Rattle.std.specs.Prelude.{IfSome, ◌⊎◌, Result, Ok, Err, OnOk, OnErr, ◌↔◌, IsTrue}
 use Rattle.std.specs.Bool.{beq}
 use Rattle.std.specs.List.{range_with_len}
-use Rattle.pl_table.specs.contracts.op.OpPartialEq.TheImpl as op_eq
-use Rattle.pl_table.specs.contracts.op.RolePartialEq.TheImpl as role_eq
-use Rattle.pl_table.specs.declared.op.Op.{Op}
-use Rattle.pl_table.specs.declared.op.Op.TheVariants as ops
-use Rattle.pl_table.specs.declared.op.Role.{Role}
-use Rattle.pl_table.specs.declared.op.Role.TheVariants as roles
-use Rattle.pl_table.specs.Ops.{role_of_number, op_of_number, all_ops}
+use Rattle.pl_table.specs.contracts.requests.op.OpPartialEq.TheImpl as op_eq
+use Rattle.pl_table.specs.contracts.requests.op.RolePartialEq.TheImpl as role_eq
+use Rattle.pl_table.specs.declared.requests.op.Op.{Op}
+use Rattle.pl_table.specs.declared.requests.op.Op.TheVariants as ops
+use Rattle.pl_table.specs.declared.requests.op.Role.{Role}
+use Rattle.pl_table.specs.declared.requests.op.Role.TheVariants as roles
+use Rattle.pl_table.specs.Requests.Ops.{role_of_number, op_of_number, all_ops}
 use Rattle.lru.specs.LruCache.{LruCache, lru_cache, put_entries}
 use Rattle.std.specs.Option.{option_eq}
 use Rattle.std.specs.Map.{lookup}

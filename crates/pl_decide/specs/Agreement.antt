@@ -1,11 +1,11 @@
 -- When cached verdicts are those of a table.
 use Rattle.std.specs.Prelude.{◌≡◌, ℕ, ◌≤◌, ◌<◌, ◌^◌, nat_le, List, All, Option, Some, IfSome}
 use Rattle.lru.specs.LruCache.{LruCache}
-use Rattle.pl_table.specs.declared.row.Row.{Row}
-use Rattle.pl_table.specs.Table.{WrittenTable}
-use Rattle.pl_table.specs.Asking.{Asked, asked_at}
-use Rattle.pl_table.specs.FirstMatch.{first_match_from, rows_allow}
-use Rattle.pl_table.specs.Reach.{IsAtOne}
+use Rattle.pl_table.specs.declared.tables.row.Row.{Row}
+use Rattle.pl_table.specs.Tables.Table.{WrittenTable}
+use Rattle.pl_table.specs.Requests.Asking.{Asked, asked_at}
+use Rattle.pl_table.specs.Tables.FirstMatch.{first_match_from, rows_allow}
+use Rattle.pl_table.specs.Tables.Reach.{IsAtOne}
 use Rattle.pl_decide.specs.declared.key.VerdictKey.{VerdictKey}
 use Rattle.pl_decide.specs.declared.row_verdict.RowVerdict.{RowVerdict}
 use Rattle.pl_decide.specs.Keys.{CachedVerdict, asked_with}

@@ -2,18 +2,18 @@
 use Rattle.std.specs.Prelude.{ℕ, ◌-◌, ◌^◌, Bool, true, false, not, ◌&&◌, nat_lt, List, take, slice_get, Option, Some, None, Result, Ok, Err}
 use Rattle.std.specs.List.{list_all}
 use Rattle.std.specs.Str.{bytes_eq}
-use Rattle.pl_table.specs.declared.head.Head.{Head}
-use Rattle.pl_table.specs.declared.op.Op.{Op}
-use Rattle.pl_table.specs.declared.op.Op.TheVariants as ops
-use Rattle.pl_table.specs.declared.request.Act.{Act}
-use Rattle.pl_table.specs.declared.request.Act.TheVariants as acts
-use Rattle.pl_table.specs.declared.row.Row.{Row}
-use Rattle.pl_table.specs.Request.{Query}
-use Rattle.pl_table.specs.Asking.{Asked}
-use Rattle.pl_table.specs.Row.{row_matches}
-use Rattle.pl_table.specs.Table.{WrittenTable, token_of}
-use Rattle.pl_table.specs.declared.fault.TableFault.{TableFault}
-use Rattle.pl_table.specs.Fault.{fault_number}
+use Rattle.pl_table.specs.declared.requests.head.Head.{Head}
+use Rattle.pl_table.specs.declared.requests.op.Op.{Op}
+use Rattle.pl_table.specs.declared.requests.op.Op.TheVariants as ops
+use Rattle.pl_table.specs.declared.requests.act.Act.{Act}
+use Rattle.pl_table.specs.declared.requests.act.Act.TheVariants as acts
+use Rattle.pl_table.specs.declared.tables.row.Row.{Row}
+use Rattle.pl_table.specs.Requests.Request.{Query}
+use Rattle.pl_table.specs.Requests.Asking.{Asked}
+use Rattle.pl_table.specs.Tables.Row.{row_matches}
+use Rattle.pl_table.specs.Tables.Table.{WrittenTable, token_of}
+use Rattle.pl_table.specs.declared.tables.fault.TableFault.{TableFault}
+use Rattle.pl_table.specs.Tables.Fault.{fault_number}
 
 -- the last epoch, from which there is no failover
 abbrev pub last_epoch : ℕ

@@ -1,7 +1,7 @@
 -- The key of a cached verdict: what the rows of a table look at in a request, but for its LSN.
 use Rattle.std.specs.Prelude.{◌≡◌, ℕ, [], ◌∷◌, Option}
 use Rattle.std.specs.Option.{option_map_or}
-use Rattle.pl_table.specs.Asking.{Asked}
+use Rattle.pl_table.specs.Requests.Asking.{Asked}
 use Rattle.pl_decide.specs.declared.key.VerdictKey.{VerdictKey}
 use Rattle.pl_decide.specs.declared.row_verdict.RowVerdict.{RowVerdict}
 

@@ -3,23 +3,23 @@
 use Rattle.std.specs.Prelude.{ℕ, ◌+◌, Bool, not, ◌&&◌, ◌==◌, nat_lt, nat_le, is_some, is_none, is_ok}
 use Rattle.std.specs.Option.{option_map_or}
 use Rattle.pl_block.specs.Bounds.{window}
-use Rattle.pl_table.specs.declared.op.Op.TheVariants as ops
-use Rattle.pl_table.specs.declared.op.Role.TheVariants as roles
-use Rattle.pl_table.specs.declared.request.Act.{Act}
-use Rattle.pl_table.specs.declared.verdict.Section.{Section}
-use Rattle.pl_table.specs.declared.verdict.Section.TheVariants as sections
-use Rattle.pl_table.specs.declared.verdict.Verdict.{Verdict}
-use Rattle.pl_table.specs.declared.verdict.Verdict.TheVariants as verdicts
-use Rattle.pl_table.specs.Ops.{same_op, same_role, has_op}
-use Rattle.pl_table.specs.Request.{Query, op_of}
-use Rattle.pl_table.specs.Table.{WrittenTable, token_of}
-use Rattle.pl_table.specs.TableText.{table_reading}
+use Rattle.pl_table.specs.declared.requests.op.Op.TheVariants as ops
+use Rattle.pl_table.specs.declared.requests.op.Role.TheVariants as roles
+use Rattle.pl_table.specs.declared.requests.act.Act.{Act}
+use Rattle.pl_table.specs.declared.tables.verdict.Section.{Section}
+use Rattle.pl_table.specs.declared.tables.verdict.Section.TheVariants as sections
+use Rattle.pl_table.specs.declared.tables.verdict.Verdict.{Verdict}
+use Rattle.pl_table.specs.declared.tables.verdict.Verdict.TheVariants as verdicts
+use Rattle.pl_table.specs.Requests.Ops.{same_op, same_role, has_op}
+use Rattle.pl_table.specs.Requests.Request.{Query, op_of}
+use Rattle.pl_table.specs.Tables.Table.{WrittenTable, token_of}
+use Rattle.pl_table.specs.Tables.TableText.{table_reading}
 use Rattle.pl_decide.specs.declared.rule.Rule.{Rule}
 use Rattle.pl_decide.specs.declared.rule.Rule.TheVariants as rules
 use Rattle.pl_decide.specs.declared.view.Epochs.{Epochs}
 use Rattle.pl_decide.specs.declared.view.View.{View}
-use Rattle.pl_table.specs.Acts.{number_of, block_of}
-use Rattle.pl_table.specs.Asking.{asked_in}
+use Rattle.pl_table.specs.Requests.Acts.{number_of, block_of}
+use Rattle.pl_table.specs.Requests.Asking.{asked_in}
 use Rattle.pl_decide.specs.Asked.{is_some_and, is_known, none_matches, denies_first, reads_the_log, copy_of, primary_named, text_in_act, fault_code, last_epoch}
 
 -- a rule denies a request

@@ -2,10 +2,10 @@
 -- request.
 use Rattle.std.specs.Prelude.{◌≡◌, ◌≢◌, ◌↔◌, ℕ, false, true, List, [], ◌∷◌, ◌++◌, length, map, All, if◌then◌else◌}
 use Rattle.std.specs.List.{range_with_len}
-use Rattle.pl_table.specs.declared.verdict.Verdict.{Verdict}
-use Rattle.pl_table.specs.declared.verdict.Verdict.TheVariants as verdicts
-use Rattle.pl_table.specs.Request.{Query}
-use Rattle.pl_table.specs.Table.{WrittenTable}
+use Rattle.pl_table.specs.declared.tables.verdict.Verdict.{Verdict}
+use Rattle.pl_table.specs.declared.tables.verdict.Verdict.TheVariants as verdicts
+use Rattle.pl_table.specs.Requests.Request.{Query}
+use Rattle.pl_table.specs.Tables.Table.{WrittenTable}
 use Rattle.pl_decide.specs.declared.rule.Rule.{Rule}
 use Rattle.pl_decide.specs.declared.rule.Rule.TheVariants.{UnknownPrincipal, OlderEpoch, NewerEpoch, OtherPrimary, RoleLacksOperation, TableRow, NoRowMatches, AboveTheEnd, HardenedAlready, AboveTheWindow, OtherContent, NoSuchCopy, BelowQuorum, NoTable, UnlistedPrimary, LastEpoch}
 use Rattle.pl_decide.specs.declared.view.Epochs.{Epochs}

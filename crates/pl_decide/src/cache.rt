@@ -1,8 +1,8 @@
 //! Verdicts of the rows of a table, by their keys.
 
 ghost use Rattle.std.specs.Prelude.{◌≡◌, ◌⊎◌, ◌↔◌, All, Contains, IfSome, IsTrue, Some, option_map};
-ghost use Rattle.pl_table.specs.Asking.{asked_by};
-ghost use Rattle.pl_table.specs.FirstMatch.{first_match_from, rows_allow};
+ghost use Rattle.pl_table.specs.Requests.Asking.{asked_by};
+ghost use Rattle.pl_table.specs.Tables.FirstMatch.{first_match_from, rows_allow};
 ghost use Rattle.pl_decide.specs.Keys.{asked_with, CachedVerdict};
 ghost use Rattle.pl_decide.specs.Agreement.{IsAllowedThrough, IsFoundAt, IsOfRows, IsSpan};
 

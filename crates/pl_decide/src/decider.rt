@@ -2,10 +2,10 @@
 
 ghost use Rattle.std.specs.Prelude.{◌≡◌, ◌==◌, ◌≤◌, ◌&&◌, ◌↔◌, ◌++◌, nat_le, not, true, [], length, ℕ, IfOk, IfSome, IsTrue, Contains};
 ghost use Rattle.std.specs.Str.{bytes_eq};
-ghost use Rattle.pl_table.specs.Ops.{same_role};
-ghost use Rattle.pl_table.specs.Table.{WrittenTable};
-ghost use Rattle.pl_table.specs.Asking.{asked_at, asked_in};
-ghost use Rattle.pl_table.specs.FirstMatch.{first_match_from, rows_allow};
+ghost use Rattle.pl_table.specs.Requests.Ops.{same_role};
+ghost use Rattle.pl_table.specs.Tables.Table.{WrittenTable};
+ghost use Rattle.pl_table.specs.Requests.Asking.{asked_at, asked_in};
+ghost use Rattle.pl_table.specs.Tables.FirstMatch.{first_match_from, rows_allow};
 ghost use Rattle.pl_decide.specs.Asked.{is_known};
 ghost use Rattle.pl_decide.specs.WrittenOrder.{decision, section_b, section_c, first_denial, AllowsExactly, DeniesByTheFirst};
 ghost use Rattle.pl_decide.specs.Keys.{IsKeyOf};

@@ -1,7 +1,7 @@
 //! The key of a cached verdict.
 
 ghost use Rattle.std.specs.Prelude.{◌≡◌, IfSome};
-ghost use Rattle.pl_table.specs.Asking.{asked_by};
+ghost use Rattle.pl_table.specs.Requests.Asking.{asked_by};
 ghost use Rattle.pl_decide.specs.Keys.{asked_with, IsKeyOf};
 
 use pl_table::{Asking, Op, Partitions, Role};

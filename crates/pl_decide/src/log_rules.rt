@@ -2,7 +2,7 @@
 
 ghost use Rattle.std.specs.Prelude.{◌≡◌, ℕ, Some, None};
 ghost use Rattle.pl_block.specs.Block.{Content};
-ghost use Rattle.pl_table.specs.Table.{WrittenTable};
+ghost use Rattle.pl_table.specs.Tables.Table.{WrittenTable};
 ghost use Rattle.pl_decide.specs.WrittenOrder.{section_c, first_denial};
 
 use crate::rule::Rule;

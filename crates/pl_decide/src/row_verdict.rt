@@ -1,7 +1,7 @@
 //! What the rows of a table say of the requests with one key.
 
 ghost use Rattle.std.specs.Prelude.{◌↔◌, IsTrue};
-ghost use Rattle.pl_table.specs.Reach.{IsAtOne};
+ghost use Rattle.pl_table.specs.Tables.Reach.{IsAtOne};
 
 use pl_table::LsnRange;
 

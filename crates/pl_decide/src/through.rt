@@ -1,10 +1,10 @@
 //! How far the rows of a table allow a get or a pull.
 
 ghost use Rattle.std.specs.Prelude.{◌≡◌, ◌≤◌, IfSome, Some, true};
-ghost use Rattle.pl_table.specs.Acts.{number_of};
-ghost use Rattle.pl_table.specs.Asking.{asked_in};
-ghost use Rattle.pl_table.specs.FirstMatch.{first_match_from, rows_allow};
-ghost use Rattle.pl_table.specs.Reach.{AreAlike, IsAtOne};
+ghost use Rattle.pl_table.specs.Requests.Acts.{number_of};
+ghost use Rattle.pl_table.specs.Requests.Asking.{asked_in};
+ghost use Rattle.pl_table.specs.Tables.FirstMatch.{first_match_from, rows_allow};
+ghost use Rattle.pl_table.specs.Tables.Reach.{AreAlike, IsAtOne};
 ghost use Rattle.pl_decide.specs.Keys.{asked_with, IsKeyOf};
 ghost use Rattle.pl_decide.specs.Agreement.{IsAllowedThrough, IsOfRows, IsSpan};
 

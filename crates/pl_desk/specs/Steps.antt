@@ -1,7 +1,7 @@
 -- The atomic steps of a desk: what each reports to its pass, and the view that it leaves.
 use Rattle.std.specs.Prelude.{◌≡◌, ◌≢◌, ℕ, ◌+◌, ◌<◌, ◌≤◌, Bool, true, false, nat_lt, [], ◌∷◌, length, Option, Some, if◌then◌else◌}
 use Rattle.atomic_table.specs.Table.{Step, Me, rest}
-use Rattle.pl_table.specs.declared.zone.Zone.TheVariants.{Three}
+use Rattle.pl_table.specs.declared.tables.zone.Zone.TheVariants.{Three}
 use Rattle.std.specs.Global.{Vec}
 use Rattle.pl_core.specs.declared.reply.Answer.{Answer}
 use Rattle.pl_core.specs.declared.reply.Reply.TheVariants as replies

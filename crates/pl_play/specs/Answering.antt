@@ -1,8 +1,8 @@
 -- What `play` does with a body: its calls are steps of the database.
 use Rattle.std.specs.Prelude.{◌≡◌, ◌⊎◌, ℕ, List, slice_index, Some}
-use Rattle.pl_table.specs.Request.{Query}
-use Rattle.pl_table.specs.Ops.{op_of_number}
-use Rattle.pl_table.specs.declared.op.Op.TheVariants as ops
+use Rattle.pl_table.specs.Requests.Request.{Query}
+use Rattle.pl_table.specs.Requests.Ops.{op_of_number}
+use Rattle.pl_table.specs.declared.requests.op.Op.TheVariants as ops
 use Rattle.pl_core.specs.declared.reply.Reply.{Reply}
 use Rattle.pl_core.specs.History.{History}
 use Rattle.pl_core.specs.Step.{IsStep}

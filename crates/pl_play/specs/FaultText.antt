@@ -1,6 +1,6 @@
 -- The texts of faults on standard error, after their first word.
 use Rattle.std.specs.Prelude.{ℕ, List, ◌++◌, codes, decimal}
-use Rattle.pl_table.specs.Fault.{fault_number}
+use Rattle.pl_table.specs.Tables.Fault.{fault_number}
 use Rattle.pl_play.specs.declared.start.StartFault.{StartFault}
 use Rattle.pl_play.specs.declared.start.StartFault.TheVariants as starts
 use Rattle.pl_play.specs.declared.fault.PlayFault.{PlayFault}

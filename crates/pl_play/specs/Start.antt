@@ -1,8 +1,8 @@
 -- What a database begins from: the text of a table, a primary, and the limit of its audit list.
 use Rattle.std.specs.Prelude.{◌≡◌, ◌<◌, ℕ, ⊤, List, [], length, Option, Some, None, Result, Ok, Err}
-use Rattle.pl_table.specs.Table.{WrittenTable, token_of}
-use Rattle.pl_table.specs.TableText.{table_reading}
-use Rattle.pl_table.specs.declared.fault.TableFault.{TableFault}
+use Rattle.pl_table.specs.Tables.Table.{WrittenTable, token_of}
+use Rattle.pl_table.specs.Tables.TableText.{table_reading}
+use Rattle.pl_table.specs.declared.tables.fault.TableFault.{TableFault}
 use Rattle.pl_block.specs.declared.fault.Failed.{Failed}
 use Rattle.pl_block.specs.declared.fault.Failed.TheVariants as texts
 use Rattle.pl_core.specs.History.{Start, History}

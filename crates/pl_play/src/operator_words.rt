@@ -1,8 +1,8 @@
 //! The requests of an operator, named by words.
 
 ghost use Rattle.std.specs.Prelude.{◌≡◌, ℕ, List, [], ◌∷◌, Option, Err, IfOk, IfSome, IfNone, codes, map, string_bytes};
-ghost use Rattle.pl_table.specs.declared.request.Act.{Act as ActSeen};
-ghost use Rattle.pl_table.specs.Request.{InRange};
+ghost use Rattle.pl_table.specs.declared.requests.act.Act.{Act as ActSeen};
+ghost use Rattle.pl_table.specs.Requests.Request.{InRange};
 ghost use Rattle.pl_play.specs.Admin.{AskFor, ReadAs, bytes_of, operator_head};
 
 use pl_table::{Act, Head, Request, Role, TableText};

@@ -3,7 +3,7 @@ use Rattle.std.specs.Prelude.{◌≡◌, ◌⊎◌, ℕ, List, Option, Result, E
 use Rattle.std.specs.Io.KnownBytes.{Appends, Consumes}
 use Rattle.pl_block.specs.declared.fault.Failed.TheVariants as bodies
 use Rattle.pl_core.specs.declared.reply.Reply.{Reply}
-use Rattle.pl_table.specs.Request.{Query}
+use Rattle.pl_table.specs.Requests.Request.{Query}
 use Rattle.pl_wire.specs.declared.frame_reading.FrameFault.TheVariants as frames
 use Rattle.pl_wire.specs.declared.frame_reading.ReplyFault.{ReplyFault}
 use Rattle.pl_wire.specs.declared.frame_reading.ReplyFault.TheVariants as replies

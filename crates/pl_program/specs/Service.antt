@@ -2,9 +2,9 @@
 use Rattle.std.specs.Prelude.{◌≡◌, ◌==◌, ℕ, ◌+◌, ◌^◌, if◌then◌else◌, List, ◌++◌, length, map, Option, Some, None, IfSome, IsSome, Result, Ok, Err, codes, decimal}
 use Rattle.std.specs.List.{All}
 use Rattle.pl_command.specs.declared.command_line.ServeNumbers.{ServeNumbers}
-use Rattle.pl_table.specs.Table.{WrittenTable, token_of}
-use Rattle.pl_table.specs.TableText.{table_reading}
-use Rattle.pl_table.specs.declared.fault.TableFault.{TableFault}
+use Rattle.pl_table.specs.Tables.Table.{WrittenTable, token_of}
+use Rattle.pl_table.specs.Tables.TableText.{table_reading}
+use Rattle.pl_table.specs.declared.tables.fault.TableFault.{TableFault}
 use Rattle.pl_core.specs.History.{History}
 use Rattle.pl_desk.specs.Passes.{Knowledge, DeskOrigin}
 use Rattle.pl_conn.specs.Desks.{ArePassesOf, DesksCall, all_fresh, fresh_at, terms_of_each}

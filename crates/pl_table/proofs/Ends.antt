@@ -3,13 +3,13 @@ use Rattle.std.proofs.Common.{◌≡◌, ℕ, ◌+◌, ◌≤◌, Bool, true, fa
 use Rattle.std.specs.List.{AllByRecursion}
 use Rattle.std.proofs.lemmas.Bool.Decides.{nat_tests}
 use Rattle.std.proofs.lemmas.List.Elements.{recursion_from_All}
-use Rattle.pl_table.specs.declared.reach.LsnRange.{LsnRange}
-use Rattle.pl_table.specs.declared.row.Row.{Row}
-use Rattle.pl_table.specs.Absent.{part_matches}
-use Rattle.pl_table.specs.Asking.{Asked, asked_at}
-use Rattle.pl_table.specs.Row.{through_matches, is_about, row_matches}
-use Rattle.pl_table.specs.FirstMatch.{first_match_from, found_allows, rows_allow}
-use Rattle.pl_table.specs.Reach.{any_ends, matches_at, NoEndBetween, AreAlike}
+use Rattle.pl_table.specs.declared.tables.reach.LsnRange.{LsnRange}
+use Rattle.pl_table.specs.declared.tables.row.Row.{Row}
+use Rattle.pl_table.specs.Tables.Absent.{part_matches}
+use Rattle.pl_table.specs.Requests.Asking.{Asked, asked_at}
+use Rattle.pl_table.specs.Tables.Row.{through_matches, is_about, row_matches}
+use Rattle.pl_table.specs.Tables.FirstMatch.{first_match_from, found_allows, rows_allow}
+use Rattle.pl_table.specs.Tables.Reach.{any_ends, matches_at, NoEndBetween, AreAlike}
 use Rattle.pl_table.specs.Laws.{LowerLsnsAreAllowed}
 
 -- where its LSN stays, it is as it is

@@ -3,10 +3,10 @@ use Rattle.std.proofs.Common.{◌≡◌, ℕ, suc, ◌+◌, ◌-◌, Bool, true,
 use Rattle.std.specs.List.{AllByRecursion}
 use Rattle.std.proofs.lemmas.List.Elements.{All-from_recursion}
 use Rattle.std.proofs.lemmas.Option.{IfSome_then}
-use Rattle.pl_table.specs.declared.row.Row.{Row}
-use Rattle.pl_table.specs.Asking.{Asked}
-use Rattle.pl_table.specs.Row.{row_matches}
-use Rattle.pl_table.specs.FirstMatch.{IsFirstMatch, first_match_from}
+use Rattle.pl_table.specs.declared.tables.row.Row.{Row}
+use Rattle.pl_table.specs.Requests.Asking.{Asked}
+use Rattle.pl_table.specs.Tables.Row.{row_matches}
+use Rattle.pl_table.specs.Tables.FirstMatch.{IsFirstMatch, first_match_from}
 
 -- how many rows come before the one that is found, where the first of the list has the number k
 abbrev FirstFrom : ℕ → List Row → Asked → ℕ × Bool → Type 0

@@ -14,16 +14,16 @@ use Rattle.std.proofs.lemmas.List.Elements.{All-from_recursion, recursion_from_A
 use Rattle.std.proofs.lemmas.List.Kept.{Contains-dedup_nat}
 use Rattle.std.proofs.lemmas.List.Sorted.{Contains-permutation}
 use Rattle.std.proofs.lemmas.Map.Views.{list_any-from_Contains}
-use Rattle.pl_table.specs.declared.index.OpLists.{OpLists}
-use Rattle.pl_table.specs.declared.op.Op.{Op}
-use Rattle.pl_table.specs.declared.op.Op.TheVariants.{Write, Offer, Report, Get, Pull, Advance, Status, Failover, SetTable, Audit, Tidy}
-use Rattle.pl_table.specs.declared.row.Row.{Row}
-use Rattle.pl_table.specs.Ops.{same_role, op_number, all_ops}
-use Rattle.pl_table.specs.Absent.{part_matches}
-use Rattle.pl_table.specs.Asking.{Asked}
-use Rattle.pl_table.specs.Row.{range_matches, is_about, row_matches}
-use Rattle.pl_table.specs.FirstMatch.{first_match_from}
-use Rattle.pl_table.specs.Index.{askers, asker_of, is_asker, can_be, can_be_for, can_match, places_from, places_by_op, lists_of}
+use Rattle.pl_table.specs.declared.tables.index.OpLists.{OpLists}
+use Rattle.pl_table.specs.declared.requests.op.Op.{Op}
+use Rattle.pl_table.specs.declared.requests.op.Op.TheVariants.{Write, Offer, Report, Get, Pull, Advance, Status, Failover, SetTable, Audit, Tidy}
+use Rattle.pl_table.specs.declared.tables.row.Row.{Row}
+use Rattle.pl_table.specs.Requests.Ops.{same_role, op_number, all_ops}
+use Rattle.pl_table.specs.Tables.Absent.{part_matches}
+use Rattle.pl_table.specs.Requests.Asking.{Asked}
+use Rattle.pl_table.specs.Tables.Row.{range_matches, is_about, row_matches}
+use Rattle.pl_table.specs.Tables.FirstMatch.{first_match_from}
+use Rattle.pl_table.specs.Tables.Index.{askers, asker_of, is_asker, can_be, can_be_for, can_match, places_from, places_by_op, lists_of}
 
 -- ---- a list is made
 

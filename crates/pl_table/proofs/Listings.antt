@@ -6,11 +6,11 @@ use Rattle.std.proofs.lemmas.Bool.{and_parts}
 use Rattle.toml.specs.View.{view}
 use Rattle.toml.specs.Data.{Data}
 use Rattle.toml.specs.declared.value.Value.{Value}
-use Rattle.pl_table.specs.declared.table.Principal.{Principal}
-use Rattle.pl_table.specs.declared.fault.TableFault.TheVariants.{PrincipalKeys, PrincipalId, PrincipalToken, RepeatedId, RowKeys, RowWord, RowNumber}
-use Rattle.pl_table.specs.Tree.{is_principal, is_row}
-use Rattle.pl_table.specs.Part.{id_under, token_under, principal_of, has_words, has_numbers, row_of}
-use Rattle.pl_table.specs.TableText.{have_own_ids, principals_of, rows_of}
+use Rattle.pl_table.specs.declared.tables.table.Principal.{Principal}
+use Rattle.pl_table.specs.declared.tables.fault.TableFault.TheVariants.{PrincipalKeys, PrincipalId, PrincipalToken, RepeatedId, RowKeys, RowWord, RowNumber}
+use Rattle.pl_table.specs.Tables.Tree.{is_principal, is_row}
+use Rattle.pl_table.specs.Tables.Part.{id_under, token_under, principal_of, has_words, has_numbers, row_of}
+use Rattle.pl_table.specs.Tables.TableText.{have_own_ids, principals_of, rows_of}
 use Rattle.pl_table.proofs.Trees.{all_data, read_data}
 
 -- the principals of some values, in terms of the values themselves

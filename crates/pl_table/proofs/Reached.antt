@@ -3,12 +3,12 @@ use Rattle.std.proofs.Common.{◌≡◌, ℕ, ◌≤◌, ◌<◌, nat_le, Bool, 
 use Rattle.std.proofs.lemmas.Bool.{cases_lt}
 use Rattle.std.proofs.lemmas.Bool.Decides.{nat_tests}
 use Rattle.std.proofs.lemmas.Option.{slice_get_within}
-use Rattle.pl_table.specs.declared.row.Row.{Row}
-use Rattle.pl_table.specs.Asking.{Asked, asked_at}
-use Rattle.pl_table.specs.Row.{is_about, row_matches}
-use Rattle.pl_table.specs.FirstMatch.{found_allows, rows_allow}
-use Rattle.pl_table.specs.Index.{can_match, places_from}
-use Rattle.pl_table.specs.Reach.{any_ends, matches_at, Narrows}
+use Rattle.pl_table.specs.declared.tables.row.Row.{Row}
+use Rattle.pl_table.specs.Requests.Asking.{Asked, asked_at}
+use Rattle.pl_table.specs.Tables.Row.{is_about, row_matches}
+use Rattle.pl_table.specs.Tables.FirstMatch.{found_allows, rows_allow}
+use Rattle.pl_table.specs.Tables.Index.{can_match, places_from}
+use Rattle.pl_table.specs.Tables.Reach.{any_ends, matches_at, Narrows}
 use Rattle.pl_table.proofs.Listed.{IsLeft, IsLeft-next, IsLeft-none, listed-next, found-next, missed-next}
 use Rattle.pl_table.proofs.Ends.{with_number, own_asked, none_asked, row_at, lower_lsns, no_ends}
 

@@ -3,18 +3,18 @@ use Rattle.std.proofs.Common.{◌≡◌, ℕ, ◌<◌, ◌≤◌, ◌==◌, ◌|
 use Rattle.std.specs.List.{list_all, filter_map, IsDistinct}
 use Rattle.std.proofs.lemmas.Bool.Decides.{nat_tests}
 use Rattle.toml.specs.Data.{Data}
-use Rattle.pl_table.specs.declared.row.Row.{Row}
-use Rattle.pl_table.specs.declared.table.Principal.{Principal}
-use Rattle.pl_table.specs.declared.fault.TableFault.{TableFault}
-use Rattle.pl_table.specs.declared.fault.TableFault.TheVariants.{PrincipalCount, RowCount, PrincipalKeys, PrincipalId, PrincipalToken, RepeatedId, RowKeys, RowWord, RowNumber, NoOperator, BadZone}
+use Rattle.pl_table.specs.declared.tables.row.Row.{Row}
+use Rattle.pl_table.specs.declared.tables.table.Principal.{Principal}
+use Rattle.pl_table.specs.declared.tables.fault.TableFault.{TableFault}
+use Rattle.pl_table.specs.declared.tables.fault.TableFault.TheVariants.{PrincipalCount, RowCount, PrincipalKeys, PrincipalId, PrincipalToken, RepeatedId, RowKeys, RowWord, RowNumber, NoOperator, BadZone}
 use Rattle.pl_block.specs.Faults.{◌>>=◌, Fails}
 use Rattle.pl_block.specs.declared.fault.Failed.{Failed}
 use Rattle.pl_block.specs.declared.fault.Failed.TheVariants.{Malformed, NoMemory}
-use Rattle.pl_table.specs.Setting.{somebody_sets}
-use Rattle.pl_table.specs.Table.{WrittenTable, IsTable, IsRowOf}
-use Rattle.pl_table.specs.Tree.{tree_of, is_row}
-use Rattle.pl_table.specs.Part.{principal_of, has_words, has_numbers, row_of}
-use Rattle.pl_table.specs.TableText.{Listed, listed_in_tree, counts_of, principals_of, rows_of, setter_of, listed_table, table_reading}
+use Rattle.pl_table.specs.Tables.Setting.{somebody_sets}
+use Rattle.pl_table.specs.Tables.Table.{WrittenTable, IsTable, IsRowOf}
+use Rattle.pl_table.specs.Tables.Tree.{tree_of, is_row}
+use Rattle.pl_table.specs.Tables.Part.{principal_of, has_words, has_numbers, row_of}
+use Rattle.pl_table.specs.Tables.TableText.{Listed, listed_in_tree, counts_of, principals_of, rows_of, setter_of, listed_table, table_reading}
 use Rattle.pl_table.proofs.Listings.{length-principals, length-filter_map, IsDistinct-own_ids}
 use Rattle.pl_table.proofs.Rows.{All-IsRowOf}
 

@@ -6,11 +6,11 @@ use Rattle.std.proofs.lemmas.Bool.Decides.{nat_tests}
 use Rattle.std.proofs.lemmas.List.Elements.{All-from_recursion}
 use Rattle.std.proofs.lemmas.Map.Views.{Contains-from_any}
 use Rattle.toml.specs.Data.{Data, string, integer, float, boolean, datetime, array, table, get}
-use Rattle.pl_table.specs.declared.range.PartitionRange.{PartitionRange}
-use Rattle.pl_table.specs.declared.table.Principal.{Principal}
+use Rattle.pl_table.specs.declared.tables.range.PartitionRange.{PartitionRange}
+use Rattle.pl_table.specs.declared.tables.table.Principal.{Principal}
 use Rattle.pl_block.specs.Bounds.{last_lsn}
-use Rattle.pl_table.specs.Part.{number_up_to, if_there, listed_in, range_between, range_from, verdict_under, role_under, ops_under, who_under, range_under, through_under, row_of}
-use Rattle.pl_table.specs.Table.{IsRowOf}
+use Rattle.pl_table.specs.Tables.Part.{number_up_to, if_there, listed_in, range_between, range_from, verdict_under, role_under, ops_under, who_under, range_under, through_under, row_of}
+use Rattle.pl_table.specs.Tables.Table.{IsRowOf}
 
 -- what holds of each result of the next step holds of the result of both
 if_next : {A B : Type 0} (o : Option A) (f : A → Option B) (P : B → Type 0) → ((x : A) → o ≡ Some x → IfSome (f x) P) → IfSome (option_and_then f o) P

@@ -3,21 +3,21 @@ use Rattle.std.proofs.Common.{◌≡◌, ℕ, ◌+◌, Bool, true, false, List, 
 use Rattle.std.specs.List.{Any}
 use Rattle.std.proofs.Math.Bool.{and-true}
 use Rattle.std.proofs.lemmas.List.Folds.{Any-from_list_any, list_any-from_Any}
-use Rattle.pl_table.specs.declared.op.Role.TheVariants.{Operator}
-use Rattle.pl_table.specs.declared.op.Op.TheVariants as ops
-use Rattle.pl_table.specs.declared.range.PartitionRange.{PartitionRange}
-use Rattle.pl_table.specs.declared.request.Act.{Act}
-use Rattle.pl_table.specs.declared.request.Act.TheVariants.{Write, Offer, Report, Get, Pull, Advance, Status, Failover, SetTable, Audit, Tidy}
-use Rattle.pl_table.specs.declared.row.Row.{Row}
-use Rattle.pl_table.specs.declared.table.Principal.{Principal}
-use Rattle.pl_table.specs.Ops.{lists_op}
-use Rattle.pl_table.specs.Absent.{part_matches}
-use Rattle.pl_table.specs.Request.{Query, op_of}
-use Rattle.pl_table.specs.Acts.{number_of, partitions_of}
-use Rattle.pl_table.specs.Asking.{asked_in}
-use Rattle.pl_table.specs.Row.{row_matches, range_matches, through_matches}
-use Rattle.pl_table.specs.FirstMatch.{first_match_from, found_allows}
-use Rattle.pl_table.specs.Setting.{is_about_setting, allows, somebody_sets}
+use Rattle.pl_table.specs.declared.requests.op.Role.TheVariants.{Operator}
+use Rattle.pl_table.specs.declared.requests.op.Op.TheVariants as ops
+use Rattle.pl_table.specs.declared.tables.range.PartitionRange.{PartitionRange}
+use Rattle.pl_table.specs.declared.requests.act.Act.{Act}
+use Rattle.pl_table.specs.declared.requests.act.Act.TheVariants.{Write, Offer, Report, Get, Pull, Advance, Status, Failover, SetTable, Audit, Tidy}
+use Rattle.pl_table.specs.declared.tables.row.Row.{Row}
+use Rattle.pl_table.specs.declared.tables.table.Principal.{Principal}
+use Rattle.pl_table.specs.Requests.Ops.{lists_op}
+use Rattle.pl_table.specs.Tables.Absent.{part_matches}
+use Rattle.pl_table.specs.Requests.Request.{Query, op_of}
+use Rattle.pl_table.specs.Requests.Acts.{number_of, partitions_of}
+use Rattle.pl_table.specs.Requests.Asking.{asked_in}
+use Rattle.pl_table.specs.Tables.Row.{row_matches, range_matches, through_matches}
+use Rattle.pl_table.specs.Tables.FirstMatch.{first_match_from, found_allows}
+use Rattle.pl_table.specs.Tables.Setting.{is_about_setting, allows, somebody_sets}
 use Rattle.pl_table.specs.Laws.{AsksToSet, RowsAreAboutSetting, SomebodyIsAllowed}
 
 -- what sets a table names no partition

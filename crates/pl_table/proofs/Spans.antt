@@ -2,8 +2,8 @@
 use Rattle.std.proofs.Common.{◌≡◌, ℕ, zero, suc, ◌+◌, ◌-◌, ◌≤◌, ◌&&◌, leb, max, min, ap, ◌∙◌, arith}
 use Rattle.std.specs.List.{list_all, list_any, range_with_len}
 use Rattle.std.proofs.lemmas.Bool.Decides.{nat_tests}
-use Rattle.pl_table.specs.declared.range.PartitionRange.{PartitionRange}
-use Rattle.pl_table.specs.Row.{is_within}
+use Rattle.pl_table.specs.declared.tables.range.PartitionRange.{PartitionRange}
+use Rattle.pl_table.specs.Tables.Row.{is_within}
 
 all_from : (from to a n : ℕ) → list_all (λ p. leb from p && leb p to) (range_with_len a (suc n)) ≡ (leb from a && leb (a + n) to)
 all_from from to a zero = grind (arith, nat_tests)

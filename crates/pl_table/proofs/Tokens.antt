@@ -6,8 +6,8 @@ use Rattle.std.proofs.lemmas.Bool.{eq-eqb, eqb-true}
 use Rattle.std.proofs.lemmas.Bool.Decides.{nat_tests}
 use Rattle.std.proofs.lemmas.Map.Views.{Contains-from_any, list_any-from_Contains}
 use Rattle.std.proofs.lemmas.List.Elements.{All-from_recursion}
-use Rattle.pl_table.specs.declared.table.Principal.{Principal}
-use Rattle.pl_table.specs.Table.{token_of}
+use Rattle.pl_table.specs.declared.tables.table.Principal.{Principal}
+use Rattle.pl_table.specs.Tables.Table.{token_of}
 
 -- what is found in a list is found with a principal of another id in front of it
 others : (id : ℕ) (p : Principal) (found : Option (List ℕ)) (ps : List Principal) → AllByRecursion (λ n. eqb p.id n ≡ false) (map (λ q. q.id) ps) → AllByRecursion (λ q. q.id ≡ id → found ≡ Some q.token) ps → AllByRecursion (λ q. q.id ≡ id → (eqb p.id id ≡ false) × (found ≡ Some q.token)) ps

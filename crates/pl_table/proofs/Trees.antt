@@ -11,9 +11,9 @@ use Rattle.toml.specs.Parse.{parse_document}
 use Rattle.toml.specs.View.{view, items_view, members_view}
 use Rattle.toml.specs.declared.value.Value.{Value, Array, Table}
 use Rattle.toml.proofs.Views.{view-Array, view-Table}
-use Rattle.pl_table.specs.declared.fault.TableFault.TheVariants.{NoDocument}
-use Rattle.pl_table.specs.Tree.{tree_of, keys_of, list_of, is_one_of, has_only, is_table, tables_in}
-use Rattle.pl_table.specs.Part.{op_in, ops_in}
+use Rattle.pl_table.specs.declared.tables.fault.TableFault.TheVariants.{NoDocument}
+use Rattle.pl_table.specs.Tables.Tree.{tree_of, keys_of, list_of, is_one_of, has_only, is_table, tables_in}
+use Rattle.pl_table.specs.Tables.Part.{op_in, ops_in}
 
 -- bytes that are not UTF-8 have no tree
 pub tree_of-other : (text : List ℕ) → ¬ (IsUtf8 text) → tree_of text ≡ Err NoDocument

@@ -1,17 +1,17 @@
 -- What a text reads as is a table; who may set the table, by requests and the rows that match them; and what is allowed at lower LSNs.
 use Rattle.std.specs.Prelude.{◌≡◌, ◌↔◌, ◌≤◌, ℕ, true, List, Ok, IsTrue, IsSomeAnd}
 use Rattle.std.specs.List.{Any}
-use Rattle.pl_table.specs.declared.op.Role.TheVariants.{Operator}
-use Rattle.pl_table.specs.declared.op.Op.TheVariants.{SetTable}
-use Rattle.pl_table.specs.declared.row.Row.{Row}
-use Rattle.pl_table.specs.declared.table.Principal.{Principal}
-use Rattle.pl_table.specs.Request.{Query, op_of}
-use Rattle.pl_table.specs.Asking.{Asked, asked_in, asked_at}
-use Rattle.pl_table.specs.Row.{row_matches}
-use Rattle.pl_table.specs.FirstMatch.{first_match_from, rows_allow}
-use Rattle.pl_table.specs.Table.{WrittenTable, IsTable}
-use Rattle.pl_table.specs.TableText.{table_reading}
-use Rattle.pl_table.specs.Setting.{is_about_setting, somebody_sets}
+use Rattle.pl_table.specs.declared.requests.op.Role.TheVariants.{Operator}
+use Rattle.pl_table.specs.declared.requests.op.Op.TheVariants.{SetTable}
+use Rattle.pl_table.specs.declared.tables.row.Row.{Row}
+use Rattle.pl_table.specs.declared.tables.table.Principal.{Principal}
+use Rattle.pl_table.specs.Requests.Request.{Query, op_of}
+use Rattle.pl_table.specs.Requests.Asking.{Asked, asked_in, asked_at}
+use Rattle.pl_table.specs.Tables.Row.{row_matches}
+use Rattle.pl_table.specs.Tables.FirstMatch.{first_match_from, rows_allow}
+use Rattle.pl_table.specs.Tables.Table.{WrittenTable, IsTable}
+use Rattle.pl_table.specs.Tables.TableText.{table_reading}
+use Rattle.pl_table.specs.Tables.Setting.{is_about_setting, somebody_sets}
 
 -- what a text reads as is a table
 abbrev pub TextsReadAsTables : Type 0

@@ -11,11 +11,11 @@ use Rattle.pl_block.specs.Faults.{◌>>=◌}
 use Rattle.pl_block.specs.Laws.{AreBytes, OneSpelling}
 use Rattle.pl_block.specs.Reading.{block_reading}
 use Rattle.pl_block.specs.declared.fault.Fault.{Fault}
-use Rattle.pl_table.specs.declared.op.Op.{Op}
-use Rattle.pl_table.specs.declared.op.Op.TheVariants as ops
-use Rattle.pl_table.specs.declared.request.Act.{Act}
-use Rattle.pl_table.specs.declared.request.Act.TheVariants.{Write, Offer, Report, Get, Pull, Advance, Status, Failover, SetTable, Audit, Tidy}
-use Rattle.pl_table.specs.Request.{op_of, FitsActFields}
+use Rattle.pl_table.specs.declared.requests.op.Op.{Op}
+use Rattle.pl_table.specs.declared.requests.op.Op.TheVariants as ops
+use Rattle.pl_table.specs.declared.requests.act.Act.{Act}
+use Rattle.pl_table.specs.declared.requests.act.Act.TheVariants.{Write, Offer, Report, Get, Pull, Advance, Status, Failover, SetTable, Audit, Tidy}
+use Rattle.pl_table.specs.Requests.Request.{op_of, FitsActFields}
 use Rattle.pl_wire.specs.declared.fault.WireFault.TheVariants.{EndsInField, BytesAfterEnd, OutOfRange}
 use Rattle.pl_wire.specs.Spelling.{flag_number, act_spelling}
 use Rattle.pl_wire.specs.Reading.{number_in, sized, block_or_fault, write_reading, offer_reading, report_reading, flag_of_number, get_reading, pull_reading, advance_reading, failover_reading, audit_reading, act_reading}

@@ -5,10 +5,10 @@ use Rattle.std.proofs.Math.Seq.{drop-append-add}
 use Rattle.std.proofs.lemmas.List.{take_at, length-take, length-drop, get_or-drop}
 use Rattle.std.proofs.lemmas.Nat.{from_be_bytes-to_be_bytes_4}
 use Rattle.pl_block.specs.Laws.{AreBytes}
-use Rattle.pl_table.specs.declared.head.Head.{Head}
-use Rattle.pl_table.specs.declared.op.Role.{Role}
-use Rattle.pl_table.specs.Ops.{role_number, role_of_number}
-use Rattle.pl_table.specs.Request.{IsHead}
+use Rattle.pl_table.specs.declared.requests.head.Head.{Head}
+use Rattle.pl_table.specs.declared.requests.op.Role.{Role}
+use Rattle.pl_table.specs.Requests.Ops.{role_number, role_of_number}
+use Rattle.pl_table.specs.Requests.Request.{IsHead}
 use Rattle.pl_wire.specs.Spelling.{head_spelling}
 use Rattle.pl_wire.specs.Reading.{number_in, head_in}
 use Rattle.pl_wire.proofs.Numbers.{roles_numbered}

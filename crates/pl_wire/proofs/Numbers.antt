@@ -2,14 +2,14 @@
 use Rattle.std.proofs.Common.{◌≡◌, ℕ, Bool, true, false, cond, List, [], ◌∷◌, Option, Some, None, refl, ap, ◌∙◌}
 use Rattle.std.proofs.Math.Dec.{eqb}
 use Rattle.std.proofs.lemmas.Bool.{eqb-true}
-use Rattle.pl_table.specs.Ops.{role_number, role_of_number, op_number, op_of_number}
-use Rattle.pl_table.specs.Section.{section_number}
-use Rattle.pl_table.specs.declared.op.Op.{Op}
-use Rattle.pl_table.specs.declared.op.Op.TheVariants as ops
-use Rattle.pl_table.specs.declared.op.Role.{Role}
-use Rattle.pl_table.specs.declared.op.Role.TheVariants as roles
-use Rattle.pl_table.specs.declared.verdict.Section.{Section}
-use Rattle.pl_table.specs.declared.verdict.Section.TheVariants.{A, B, C}
+use Rattle.pl_table.specs.Requests.Ops.{role_number, role_of_number, op_number, op_of_number}
+use Rattle.pl_table.specs.Tables.Section.{section_number}
+use Rattle.pl_table.specs.declared.requests.op.Op.{Op}
+use Rattle.pl_table.specs.declared.requests.op.Op.TheVariants as ops
+use Rattle.pl_table.specs.declared.requests.op.Role.{Role}
+use Rattle.pl_table.specs.declared.requests.op.Role.TheVariants as roles
+use Rattle.pl_table.specs.declared.tables.verdict.Section.{Section}
+use Rattle.pl_table.specs.declared.tables.verdict.Section.TheVariants.{A, B, C}
 use Rattle.pl_wire.specs.declared.kind.ReplyKind.{ReplyKind}
 use Rattle.pl_wire.specs.declared.kind.ReplyKind.TheVariants as kinds
 use Rattle.pl_wire.specs.Replies.{kind_number, kind_of_number}

@@ -8,12 +8,12 @@ use Rattle.pl_block.specs.declared.fault.Failed.{Failed}
 use Rattle.pl_block.specs.declared.fault.Failed.TheVariants.{NoMemory}
 use Rattle.pl_block.specs.Faults.{◌>>=◌, Returns}
 use Rattle.pl_block.specs.Laws.{AreBytes, OneSpelling}
-use Rattle.pl_table.specs.declared.head.Head.{Head}
-use Rattle.pl_table.specs.declared.op.Op.{Op}
-use Rattle.pl_table.specs.declared.op.Role.{Role}
-use Rattle.pl_table.specs.declared.request.Act.{Act}
-use Rattle.pl_table.specs.Ops.{role_of_number, op_of_number, op_number}
-use Rattle.pl_table.specs.Request.{Query, IsHead, IsRequest, is_in_range, op_of}
+use Rattle.pl_table.specs.declared.requests.head.Head.{Head}
+use Rattle.pl_table.specs.declared.requests.op.Op.{Op}
+use Rattle.pl_table.specs.declared.requests.op.Role.{Role}
+use Rattle.pl_table.specs.declared.requests.act.Act.{Act}
+use Rattle.pl_table.specs.Requests.Ops.{role_of_number, op_of_number, op_number}
+use Rattle.pl_table.specs.Requests.Request.{Query, IsHead, IsRequest, is_in_range, op_of}
 use Rattle.pl_wire.specs.declared.fault.WireFault.{WireFault}
 use Rattle.pl_wire.specs.declared.fault.WireFault.TheVariants.{TooShort, UnknownRole, UnknownKind, OutOfRange}
 use Rattle.pl_wire.specs.Laws.{OneRequestSpelling}

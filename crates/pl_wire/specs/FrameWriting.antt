@@ -3,7 +3,7 @@ use Rattle.std.specs.Prelude.{ℕ, ◌<◌, List, ◌∷◌, ◌++◌, length, t
 use Rattle.std.specs.Int.{w32, w64, to_be_bytes}
 use Rattle.std.specs.Io.KnownBytes.{Appends, Keeps}
 use Rattle.pl_core.specs.declared.reply.Reply.{Reply}
-use Rattle.pl_table.specs.Request.{Query}
+use Rattle.pl_table.specs.Requests.Request.{Query}
 use Rattle.pl_wire.specs.declared.frame_writing.WriteFault.{WriteFault}
 use Rattle.pl_wire.specs.declared.frame_writing.WriteFault.TheVariants as faults
 use Rattle.pl_wire.specs.Frames.{frame}

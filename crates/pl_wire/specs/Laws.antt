@@ -1,7 +1,7 @@
 -- What ties requests, replies and frames to bytes.
 use Rattle.std.specs.Prelude.{◌≡◌, ℕ, ◌^◌, ◌<◌, List, ◌++◌, length, Ok, All}
 use Rattle.pl_block.specs.Laws.{AreBytes}
-use Rattle.pl_table.specs.Request.{Query, IsRequest}
+use Rattle.pl_table.specs.Requests.Request.{Query, IsRequest}
 use Rattle.pl_core.specs.declared.reply.Reply.{Reply}
 use Rattle.pl_wire.specs.Frames.{IsShort, frame, frames_of}
 use Rattle.pl_wire.specs.Spelling.{request_spelling}

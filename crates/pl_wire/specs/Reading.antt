@@ -8,14 +8,14 @@ use Rattle.pl_block.specs.Reading.{block_reading}
 use Rattle.pl_block.specs.declared.fault.Failed.{Failed}
 use Rattle.pl_block.specs.declared.fault.Failed.TheVariants.{NoMemory}
 use Rattle.pl_block.specs.declared.fault.Fault.{Fault}
-use Rattle.pl_table.specs.declared.head.Head.{Head}
-use Rattle.pl_table.specs.declared.op.Op.{Op}
-use Rattle.pl_table.specs.declared.op.Op.TheVariants as ops
-use Rattle.pl_table.specs.declared.op.Role.{Role}
-use Rattle.pl_table.specs.declared.request.Act.{Act}
-use Rattle.pl_table.specs.declared.request.Act.TheVariants.{Write, Offer, Report, Get, Pull, Advance, Status, Failover, SetTable, Audit, Tidy}
-use Rattle.pl_table.specs.Ops.{role_of_number, op_of_number}
-use Rattle.pl_table.specs.Request.{IsRequest, Query, is_in_range}
+use Rattle.pl_table.specs.declared.requests.head.Head.{Head}
+use Rattle.pl_table.specs.declared.requests.op.Op.{Op}
+use Rattle.pl_table.specs.declared.requests.op.Op.TheVariants as ops
+use Rattle.pl_table.specs.declared.requests.op.Role.{Role}
+use Rattle.pl_table.specs.declared.requests.act.Act.{Act}
+use Rattle.pl_table.specs.declared.requests.act.Act.TheVariants.{Write, Offer, Report, Get, Pull, Advance, Status, Failover, SetTable, Audit, Tidy}
+use Rattle.pl_table.specs.Requests.Ops.{role_of_number, op_of_number}
+use Rattle.pl_table.specs.Requests.Request.{IsRequest, Query, is_in_range}
 use Rattle.pl_wire.specs.Spelling.{request_spelling}
 use Rattle.pl_wire.specs.declared.fault.WireFault.{WireFault}
 use Rattle.pl_wire.specs.declared.fault.WireFault.TheVariants.{TooShort, UnknownRole, UnknownKind, EndsInField, BytesAfterEnd, OutOfRange, Block}

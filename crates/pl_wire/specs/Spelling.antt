@@ -2,11 +2,11 @@
 use Rattle.std.specs.Prelude.{ℕ, Bool, false, true, List, [], ◌∷◌, ◌++◌}
 use Rattle.std.specs.Int.{w16, w32, w64, to_be_bytes}
 use Rattle.pl_block.specs.Spelling.{block_spelling}
-use Rattle.pl_table.specs.declared.head.Head.{Head}
-use Rattle.pl_table.specs.declared.request.Act.{Act}
-use Rattle.pl_table.specs.declared.request.Act.TheVariants.{Write, Offer, Report, Get, Pull, Advance, Status, Failover, SetTable, Audit, Tidy}
-use Rattle.pl_table.specs.Ops.{role_number, op_number}
-use Rattle.pl_table.specs.Request.{Query, op_of}
+use Rattle.pl_table.specs.declared.requests.head.Head.{Head}
+use Rattle.pl_table.specs.declared.requests.act.Act.{Act}
+use Rattle.pl_table.specs.declared.requests.act.Act.TheVariants.{Write, Offer, Report, Get, Pull, Advance, Status, Failover, SetTable, Audit, Tidy}
+use Rattle.pl_table.specs.Requests.Ops.{role_number, op_number}
+use Rattle.pl_table.specs.Requests.Request.{Query, op_of}
 
 -- the number of a flag
 abbrev pub flag_number : Bool → ℕ

@@ -3,7 +3,7 @@
 ghost use Rattle.std.specs.Prelude.{◌≡◌, ◌≤◌, Err, IfErr, IfOk, Ok, length};
 ghost use Rattle.std.specs.Int.{w16, w32, w64};
 ghost use Rattle.pl_block.specs.Faults.{Reads};
-ghost use Rattle.pl_table.specs.Ops.{op_of_number, role_of_number};
+ghost use Rattle.pl_table.specs.Requests.Ops.{op_of_number, role_of_number};
 ghost use Rattle.pl_wire.specs.declared.fault.WireFault.TheVariants.{OutOfRange, UnknownKind, UnknownRole};
 ghost use Rattle.pl_wire.specs.Reading.{number_in};
 ghost use Rattle.pl_wire.specs.ReplyReading.{byte_at, bytes_taken, count_at, number_taken, one_at, section_of_number};

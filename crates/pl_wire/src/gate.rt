@@ -1,6 +1,6 @@
 //! What answers requests.
 
-ghost use Rattle.pl_table.specs.Request.{Query};
+ghost use Rattle.pl_table.specs.Requests.Request.{Query};
 ghost use Rattle.pl_core.specs.Appending.{AppendsTo, reply_in};
 ghost use Rattle.pl_core.specs.Reply.{FitsReply};
 ghost use Rattle.pl_core.specs.declared.reply.Reply.{Reply as Told};

@@ -4,7 +4,7 @@ ghost use Rattle.std.specs.Prelude.{◌≡◌, ◌≢◌, ◌+◌, ◌≤◌, If
 ghost use Rattle.std.specs.Int.{w16, w32, w64};
 ghost use Rattle.pl_block.specs.declared.fault.Failed.TheVariants.{NoMemory};
 ghost use Rattle.pl_block.specs.Faults.{Returns};
-ghost use Rattle.pl_table.specs.Ops.{op_of_number, role_of_number};
+ghost use Rattle.pl_table.specs.Requests.Ops.{op_of_number, role_of_number};
 ghost use Rattle.pl_wire.specs.Reading.{AsksMemory, MayLackMemory, ReadsRequest, head_in, number_in, sized, write_reading, offer_reading, report_reading, flag_of_number, get_reading, pull_reading, advance_reading, failover_reading, audit_reading, act_reading, ranged, opening_reading, request_reading};
 
 use crate::fault::{BodyFault, WireFault, of_block};

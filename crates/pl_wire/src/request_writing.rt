@@ -1,7 +1,7 @@
 //! A request, written as its bytes.
 
 ghost use Rattle.std.specs.Prelude.{◌≡◌, ◌≤◌, ◌++◌, ◌∷◌, [], length, IfOk, OnOk};
-ghost use Rattle.pl_table.specs.Ops.{op_number};
+ghost use Rattle.pl_table.specs.Requests.Ops.{op_number};
 ghost use Rattle.pl_wire.specs.Spelling.{act_spelling, head_spelling, request_spelling};
 
 use crate::request_reading::OPENING_BYTES;

@@ -1,6 +1,6 @@
 use Rattle.std.proofs.Common.{◌≡◌, ℕ, ◌≤◌, nat_le, Some, refl, subst, arith}
-use Rattle.pl_table.specs.Asking.{Asked, asked_at}
-use Rattle.pl_table.specs.FirstMatch.{rows_allow}
+use Rattle.pl_table.specs.Requests.Asking.{Asked, asked_at}
+use Rattle.pl_table.specs.Tables.FirstMatch.{rows_allow}
 use Rattle.pl_decide.specs.Keys.{asked_with}
 use Rattle.pl_decide.proofs.AllowedThrough.{tells_end}
 use Rattle.pl_decide.proofs.cache.allows_through.Goals as goal

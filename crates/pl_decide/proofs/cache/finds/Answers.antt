@@ -1,5 +1,5 @@
 use Rattle.std.proofs.Common.{ap, ◌∙◌}
-use Rattle.pl_table.specs.FirstMatch.{first_match_from}
+use Rattle.pl_table.specs.Tables.FirstMatch.{first_match_from}
 use Rattle.pl_decide.proofs.Same.{tells-found}
 use Rattle.pl_decide.proofs.cache.finds.Goals as goal
 

@@ -1,6 +1,6 @@
 use Rattle.std.proofs.Common.{◌≡◌, Bool, true, false, Some, sym, ap, ◌∙◌}
-use Rattle.pl_table.specs.Asking.{asked_in}
-use Rattle.pl_table.specs.FirstMatch.{first_match_from}
+use Rattle.pl_table.specs.Requests.Asking.{asked_in}
+use Rattle.pl_table.specs.Tables.FirstMatch.{first_match_from}
 use Rattle.pl_decide.proofs.Rows.{rows-none, rows-allow, rows-deny}
 use Rattle.pl_decide.proofs.decider.decide_by_table.Goals as goal
 

@@ -1,5 +1,5 @@
 use Rattle.std.proofs.Common.{arith}
-use Rattle.pl_table.specs.Asking.{asked_in}
+use Rattle.pl_table.specs.Requests.Asking.{asked_in}
 use Rattle.pl_decide.proofs.AllowedThrough.{to_the_last}
 use Rattle.pl_decide.proofs.through.last_allowed.Goals as goal
 

@@ -1,4 +1,4 @@
-use Rattle.pl_table.specs.Asking.{asked_in}
+use Rattle.pl_table.specs.Requests.Asking.{asked_in}
 use Rattle.pl_decide.proofs.Keyed.{of-rows, span-at}
 use Rattle.pl_decide.proofs.through.verdict_of.Goals as goal
 

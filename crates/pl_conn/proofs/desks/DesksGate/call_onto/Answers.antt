@@ -1,6 +1,6 @@
 use Rattle.std.proofs.Common.{refl, sym, ap, subst, length}
 use Rattle.std.proofs.lemmas.Option.{slice_get_read}
-use Rattle.pl_table.specs.declared.head.Head.{Head}
+use Rattle.pl_table.specs.declared.requests.head.Head.{Head}
 use Rattle.pl_core.specs.Appending.{reply_in}
 use Rattle.pl_conn.specs.Desks.{ArePassesOf}
 use Rattle.pl_conn.proofs.Meeting.{of-set}

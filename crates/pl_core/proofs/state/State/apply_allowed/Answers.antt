@@ -2,8 +2,8 @@ use Rattle.std.proofs.Common.{refl, sym, ap, ◌∙◌, arith}
 use Rattle.pl_audit.specs.Audit.{lines_of as audit_lines}
 use Rattle.pl_log.specs.State.{LogState}
 use Rattle.pl_log.specs.Change.{offered as offered_log}
-use Rattle.pl_table.specs.declared.request.Act.TheVariants as acts
-use Rattle.pl_table.specs.TableText.{table_reading}
+use Rattle.pl_table.specs.declared.requests.act.Act.TheVariants as acts
+use Rattle.pl_table.specs.Tables.TableText.{table_reading}
 use Rattle.pl_core.specs.declared.reply.Answer.TheVariants as answers
 use Rattle.pl_core.specs.declared.reply.Reply.TheVariants as replies
 use Rattle.pl_core.specs.declared.state.Outcome.{Outcome}

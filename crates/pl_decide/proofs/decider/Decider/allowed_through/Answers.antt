@@ -1,5 +1,5 @@
 use Rattle.std.proofs.Common.{subst}
-use Rattle.pl_table.specs.Asking.{asked_in}
+use Rattle.pl_table.specs.Requests.Asking.{asked_in}
 use Rattle.pl_decide.specs.Keys.{IsKeyOf}
 use Rattle.pl_decide.proofs.Cached.{end-is}
 use Rattle.pl_decide.proofs.decider.Decider.allowed_through.Goals as goal

@@ -1,5 +1,5 @@
 use Rattle.std.proofs.Common.{◌≡◌, false, ap, sym, ◌∙◌}
-use Rattle.pl_table.specs.declared.head.Head.{Head}
+use Rattle.pl_table.specs.declared.requests.head.Head.{Head}
 use Rattle.pl_decide.specs.Asked.{is_known}
 use Rattle.pl_decide.specs.WrittenOrder.{order_of, decision}
 use Rattle.pl_decide.proofs.FirstDenial.{unknown-denied, first-of}

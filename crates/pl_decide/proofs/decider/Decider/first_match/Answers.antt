@@ -1,6 +1,6 @@
 use Rattle.std.proofs.Common.{subst}
-use Rattle.pl_table.specs.Asking.{Asked, asked_in}
-use Rattle.pl_table.specs.Reach.{IsAtOne}
+use Rattle.pl_table.specs.Requests.Asking.{Asked, asked_in}
+use Rattle.pl_table.specs.Tables.Reach.{IsAtOne}
 use Rattle.pl_decide.specs.Keys.{IsKeyOf}
 use Rattle.pl_decide.proofs.Cached.{found-is}
 use Rattle.pl_decide.proofs.decider.Decider.first_match.Goals as goal
