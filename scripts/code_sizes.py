@@ -6,7 +6,7 @@ from crate_source import ROOT, end_of, test_files, without_comments, without_tes
 
 FUNCTION_LINES, PARAMETERS, CLAUSES, FILE_LINES, CLAUSE_COLUMNS = 40, 6, 6, 400, 100
 # How many are larger than that. These numbers only fall: one that is higher than what there is has to be lowered.
-MOST = {"functions": 0, "parameters": 0, "clauses": 1, "files": 0, "wide clause lines": 1}
+MOST = {"functions": 0, "parameters": 0, "clauses": 0, "files": 0, "wide clause lines": 0}
 # The same in the crates of rows, which are tests.
 MOST_OF_ROWS = {"functions of rows": 1, "parameters of rows": 6, "clauses of rows": 0, "files of rows": 2, "wide clause lines of rows": 2}
 
