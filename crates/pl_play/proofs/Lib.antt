@@ -1,5 +1,5 @@
 mod Feeds
 mod Pieces
-mod Read
+mod Bodies
 mod Turns
 mod Words

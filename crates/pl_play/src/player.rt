@@ -9,7 +9,6 @@ use crate::fault::PlayFault;
 use crate::lines::{is_at_end, take_line};
 use crate::replies::{reply_to, write_reply};
 use crate::text::bytes_of_line;
-use bytes::Bytes;
 use pl_core::Db;
 use std::alloc::Global;
 use std::io::{BufRead, Write};
@@ -73,9 +72,6 @@ fn play_line<W: Write>(
         Ok(body) => body,
         Err(fault) => return Err(fault.at_line(number)),
     };
-    let Ok(body) = Bytes::from_vec(body) else {
-        return Err(PlayFault::NoMemory);
-    };
-    let reply = reply_to(alloc, body, db)?;
+    let reply = reply_to(alloc, body.as_slice(), db)?;
     write_reply(alloc, &reply, writer)
 }

@@ -11,9 +11,8 @@ ghost use Rattle.pl_play.specs.Text.{line_text};
 
 use crate::fault::PlayFault;
 use crate::text::line_of_bytes;
-use bytes::Bytes;
 use pl_core::{Db, Reply};
-use pl_wire::{BodyFault, decode_request_shared, encode_reply, refusal, write_bytes};
+use pl_wire::{BodyFault, decode_request, encode_reply, refusal, write_bytes};
 use std::alloc::{AllocError, Global};
 use std::io::Write;
 
@@ -25,20 +24,20 @@ const NO_MEMORY: &[u8] = b"06\n";
 
 /// Replies to one body: by a step of the database, or by the fault that makes the body no request.
 ///
-/// A written block keeps the bytes of the body. A step that runs out of memory has a reply too.
+/// A written block keeps a copy of its bytes. A step that runs out of memory has a reply too.
 /// `AllocError` comes where the records of a block or a table's text found no memory, before any step.
-#[tactic(auto, using(crate::proofs::Read::called_as_read, crate::proofs::Read::refused_as_read))]
-pub(crate) fn reply_to(alloc: Global, body: Bytes, db: &mut Db) -> Result<Reply, AllocError>
+#[tactic(auto, using(crate::proofs::Bodies::called_as_read, crate::proofs::Bodies::refused_as_read))]
+pub(crate) fn reply_to(alloc: Global, body: &[u8], db: &mut Db) -> Result<Reply, AllocError>
     // The reply of a step under pass 1, or the code of the body's fault (`AnswersAsRead`).
-    ensures reply { IfOk result (λ reply. AnswersAsRead PlayCall db.old body reply db.new) }
+    ensures reply { IfOk result (λ reply. AnswersAsRead PlayCall db.old body.now reply db.new) }
     // The reply can be written.
     ensures fits { IfOk result (λ reply. FitsReply reply) }
     // `AllocError` changes nothing.
     ensures same { OnErr result (db.new ≡ db.old) }
     // `AllocError` comes only of a write, an offer or a set_table.
-    ensures no_memory { OnErr result (IsCopied body) }
+    ensures no_memory { OnErr result (IsCopied body.now) }
 {
-    match decode_request_shared(alloc, body) {
+    match decode_request(alloc, body) {
         Ok(request) => Ok(db.step(PASS, request)),
         Err(BodyFault::NoMemory) => Err(AllocError),
         Err(fault) => Ok(refusal(fault)),
