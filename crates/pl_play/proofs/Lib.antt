@@ -1,5 +1,5 @@
 mod Feeds
 mod Pieces
-mod Replies
+mod Bodies
 mod Turns
 mod Words

@@ -26,7 +26,7 @@ const NO_MEMORY: &[u8] = b"06\n";
 ///
 /// A written block keeps a copy of its bytes. A step that runs out of memory has a reply too.
 /// `AllocError` comes if the records of a block or a table's text found no memory, before any step.
-#[tactic(auto, using(crate::proofs::Replies::called_as_read, crate::proofs::Replies::refused_as_read))]
+#[tactic(auto, using(crate::proofs::Bodies::called_as_read, crate::proofs::Bodies::refused_as_read))]
 pub(crate) fn reply_to(alloc: Global, body: &[u8], db: &mut Db) -> Result<Reply, AllocError>
     // The reply of a step under pass 1, or the code of the body's fault (`AnswersAsRead`).
     ensures reply { IfOk result (λ reply. AnswersAsRead PlayCall db.old body.now reply db.new) }
