@@ -57,6 +57,11 @@ class Cases(unittest.TestCase):
         self.check(Action.CLOSE, replace(OURS, wanted="c"), closed, others=(OF_C,))
         self.check(Action.NOTHING, replace(OURS, generation=1), replace(closed, run="before"))
 
+    def test_what_is_said_of_a_decision(self) -> None:
+        for row, said in ((OURS, "serves"), (replace(OURS, succeed=True), "prepare: a succession was asked for"), (RELEASED, "take: nobody has it")):
+            own = HOLDS if row.run else None
+            self.assertEqual(str(decide(Facts("a", TTL, row, own))), said)
+
     def test_of_a_switchover(self) -> None:
         to_c = replace(OURS, wanted="c")
         self.check(Action.NOTHING, to_c, HOLDS)

@@ -244,14 +244,17 @@ class Keeper:
                      if standby.keeper != self.settings.name and standby.keeper in self._living)  # fmt: skip
 
     def _report(self) -> str:
-        """What `kept` shows of the services of this keeper, measured for it and for what is decided until the next look."""
+        """What `kept` shows of the services of this keeper, measured for it and for what is decided until the next look; and what is
+        decided of them, and of what nobody has."""
         audit, limit, report = self.settings.program.audit, self.settings.memory, dict[str, Any](self._shared.asides.report())
         for each in self.databases.values():
+            if each.row.dropped or (each.served is None and each.row.holder not in (None, self.settings.name)):
+                continue
+            report[each.row.name] = said = {"state": each.state.value, "why": each.decision}
             if each.served is not None and each.served.process is not None:
                 memory = each.served.measure()
-                report[each.row.name] = {"state": each.state.value, "entries_left": audit - each.served.entries,
-                                         "memory": memory >> 20, "memory_left": max(0, limit - memory) >> 20 if limit else None,
-                                         "hard": each.served.hard}  # fmt: skip
+                said.update(entries_left=audit - each.served.entries, memory=memory >> 20,
+                            memory_left=max(0, limit - memory) >> 20 if limit else None, hard=each.served.hard)  # fmt: skip
         return json.dumps(report)
 
     # Answering.

@@ -116,6 +116,10 @@ class Decision:
     action: Action
     why: str
 
+    def __str__(self) -> str:
+        """As it is logged and shown."""
+        return self.why if self.action is Action.NOTHING else f"{self.action.value}: {self.why}"
+
 
 def went_back(row: Row | None, own: Own) -> bool:
     """Whether the referee lacks what it once had of this run, so that its service may be the only copy. Of the run that holds the
