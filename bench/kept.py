@@ -29,6 +29,7 @@ import psycopg  # noqa: E402
 import service  # noqa: E402
 from keepers import Keeping, eventually  # noqa: E402
 from pagelog import Block, Group, Put  # noqa: E402
+from pagelog.keeper.ahead import pieces_of  # noqa: E402
 from pagelog.keeper.referee import Referee, digest  # noqa: E402
 from pagelog.keeper.rows import Batch  # noqa: E402
 from pagelog.keeper.run import Program  # noqa: E402
@@ -303,7 +304,7 @@ def restore(pair, share):
         row, chain = archived(referee, "restored", count, pair.pages)
         for number in range(3):
             began = time.perf_counter()
-            pieces = list(referee.blocks(row.id, 1, count))
+            pieces = list(pieces_of(referee, row.id, 1, count))
             rates["read"].append(count / (time.perf_counter() - began))
             for what in ("loaded", "both"):
                 served = Served(row.name, f"{what}{number}", service.WIDE_TABLE, b"s" * 16, timeout=service.PATIENCE)

@@ -315,7 +315,7 @@ class Fills(Made):
             return read(of, log, first, last)
 
         self.enterContext(patch.object(Referee, "_piece", piece))
-        self.enterContext(patch("pagelog.keeper.referee.PIECE", 16))
+        self.enterContext(patch("pagelog.keeper.ahead.PIECE", 16))
 
     def follow(self) -> None:
         self.served.follow(self.referee, self.row.id, self.kept.archived, self.kept.chain)
@@ -324,14 +324,14 @@ class Fills(Made):
         self.keep([Block.of(lsn, [Put(0, 0, b"x" * 80)]).data for lsn in range(1, 41)])
         self.keep([Block.of(lsn, [Put(page, 0, b"x" * 8000) for page in range(4)]).data for lsn in range(41, 61)])
         size = sum(map(len, self.blocks[16:56])) + 1
-        with patch("pagelog.keeper.referee._MOST", (40, size)):
+        with patch("pagelog.keeper.ahead._MOST", (40, size)):
             self.follow()
         self.assertEqual(self.pieces, [(1, 16), (17, 56), (57, 60)])
         self.assertEqual((self.served.reached, self.served.pulled(0), self.served.end_of_log()), (60, self.blocks, 60))
 
     def test_a_block_that_is_missing_or_damaged_leaves_what_was_read_before_it(self) -> None:
         self.write(60)
-        with psycopg.connect(self.url, autocommit=True) as connection, patch("pagelog.keeper.referee._MOST", (16, 1 << 20)):
+        with psycopg.connect(self.url, autocommit=True) as connection, patch("pagelog.keeper.ahead._MOST", (16, 1 << 20)):
             for harm, mend, error in (("SET lsn = 1000", "SET lsn = 40", "1 of the archived blocks 33 to 48 are missing"),
                                       ("SET crc = crc + 1", "SET crc = crc - 1", "block 40 is not the one that was kept")):  # fmt: skip
                 connection.execute(f"UPDATE pagelog_block {harm} WHERE lsn = 40")

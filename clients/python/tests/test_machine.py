@@ -100,6 +100,16 @@ class Cases(unittest.TestCase):
         self.check(Action.NOTHING, replace(OURS, paused=True), HOLDS, successor=Stage.READY)
         self.assertIs(state_of(Facts("a", TTL, OURS, HOLDS), Action.SUCCEED), State.SUCCEEDING)
 
+    def test_of_a_service_that_had_no_memory_for_a_writer(self) -> None:
+        full = replace(HOLDS, is_full=True)
+        self.check(Action.PREPARE, OURS, full, succeed_at=0.5)
+        self.check(Action.NOTHING, OURS, full, succeed_at=1.0)  # a machine that makes none
+        self.check(Action.NOTHING, replace(OURS, paused=True), full, succeed_at=0.5)
+        for stage in (Stage.MAKING, Stage.FAILED):
+            self.check(Action.NOTHING, OURS, full, succeed_at=0.5, successor=stage)
+        self.check(Action.SUCCEED, OURS, full, succeed_at=0.5, successor=Stage.READY)
+        self.check(Action.RELEASE, OURS, replace(full, alive=False), succeed_at=0.5)
+
     def test_of_a_released_database(self) -> None:
         self.check(Action.TAKE, RELEASED)
         self.check(Action.TAKE, RELEASED, STANDBY, others=(OF_C,))

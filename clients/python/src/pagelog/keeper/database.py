@@ -120,7 +120,7 @@ class Database:
             return None
         share = served.share(settings.program.audit, settings.memory)
         return Own(served.run, served.kind, served.generation, served.reached, served.is_alive, served.silent, share, served.went_back,
-                   served.is_open, served.was_closed)  # fmt: skip
+                   served.is_open, served.was_closed, served.is_full)  # fmt: skip
 
     def facts(self) -> Facts:
         """All that is known, for a decision."""

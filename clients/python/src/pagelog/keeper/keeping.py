@@ -250,7 +250,8 @@ class Keeper:
         for each in self.databases.values():
             if each.row.dropped or (each.served is None and each.row.holder not in (None, self.settings.name)):
                 continue
-            report[each.row.name] = said = {"state": each.state.value, "why": each.decision}
+            said: dict[str, Any] = {"state": each.state.value, "why": each.decision}
+            report[each.row.name] = said
             if each.served is not None and each.served.process is not None:
                 memory = each.served.measure()
                 said.update(entries_left=audit - each.served.entries, memory=memory >> 20,
@@ -325,6 +326,13 @@ class Keeper:
             database = self._named(name)
             assert database is not None
             database.work.ring()
+
+    def full(self, name: str, generation: int) -> None:
+        """Begins the next generation, if it is held here, once in each."""
+        database = self._named(name)
+        if database is not None and database.holds and database.own.generation == generation and not database.own.is_full:
+            database.own.is_full = True
+            database.kick()
 
     def block(self, line: Line, name: str, position: int) -> None:
         """Answers from the archive, once PostgreSQL has. For what is no name it is not asked: it would end the connection."""

@@ -26,9 +26,7 @@ from pagelog.keeper.rows import Batch, Kept, Look, Row, Where, look_of
 from pagelog.keeper.schema import CHANNEL, FORMAT, script
 
 PIECE = 2048
-"""How many blocks are read from the archive at once, until it is known how large they are."""
-_MOST = 4 * PIECE, 4 << 20
-"""How many blocks, and about how many bytes, are read at once then."""
+"""How many blocks are read from the archive at once."""
 LONGEST = 60.0
 """Seconds after which a read of one piece is cut, as from a server that stands still."""
 NAME = re.compile(r"[A-Za-z0-9_][A-Za-z0-9_.-]{0,62}")
@@ -322,12 +320,8 @@ class Referee:
 
         `last` is at most an archived position that a statement which wrote has returned.
         """
-        count = PIECE
-        while first <= last:
-            piece = self._piece(log, first, min(last, first + count - 1))
-            yield piece
-            first += len(piece)
-            count = max(1, min(_MOST[0], _MOST[1] * len(piece) // sum(map(len, piece))))
+        for start in range(first, last + 1, PIECE):
+            yield self._piece(log, start, min(last, start + PIECE - 1))
 
     def _piece(self, log: int, first: int, last: int) -> list[bytes]:
         [[count, data, heads]] = self._ask_bounded(statements.PIECE, (log, first, last), binary=True)
