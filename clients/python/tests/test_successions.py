@@ -350,7 +350,7 @@ class NoMemory(Succeeding):
             eventually(lambda: "serves; paused" in self.keeping.said(), "the pause")
             self.limit(pid)
             primary.keepers.patience = 0.5
-            with self.assertRaises(OutOfMemory):
+            with self.assertRaises(OutOfMemory), patch.object(Operator, "failover", side_effect=AssertionError("an epoch of the same generation")):
                 while True:
                     self.fill(primary, 20)
             primary.keepers.patience = PATIENCE
