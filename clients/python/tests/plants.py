@@ -35,6 +35,8 @@ PLANTS = {
                           "archived = %(old)s RETURNING id),", "referee", "keeps_nothing"),
     "position of one": Plant("statements", " AND archived = %(old)s RETURNING id),", " RETURNING id),", "referee",
                              "under_run_generation_and_archived_position"),
+    "fence of a block": Plant("statements", "run = %(run)s AND generation = %(generation)s AND archived = %(old)s RETURNING id)\nINSERT",
+                              "archived = %(old)s RETURNING id)\nINSERT", "standbys", "machine_that_stood_still"),
     "take": Plant("statements", "generation = %(generation)s AND archived = %(archived)s AND run IS NOT DISTINCT FROM %(seen_run)s::text\n"
                   "    AND", "", "referee", "eight_takes"),
     "select": Plant("statements", "UPDATE pagelog_keeper SET beat = beat + 1, report = COALESCE(%(report)s::jsonb, report)\n"

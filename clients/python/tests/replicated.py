@@ -75,8 +75,11 @@ class Pair:
 
     def fail_over(self) -> None:
         """The leader is killed, its standby leads, and a new standby is made in the old one's place."""
+        self.lead(self.leader.kill())
+
+    def lead(self, others: list[str]) -> None:
+        """The standby leads, of a leader that was killed. `others` are what is left of that one's processes."""
         old, place = self.leader, self.folders.index(self.leader.folder)
-        others = old.kill()
         self.standby.run("pg_ctl", "-D", self.standby.data, "-w", "-t", PATIENCE, "promote")
         self.standby.setting("synchronous_standby_names", "*")
         self.leader = self.standby

@@ -7,14 +7,16 @@ import os
 import signal
 import threading
 import unittest
-from typing import Any
+from typing import Any, Callable
 
 import psycopg
 
 from keepers import Kept, batch_of, eventually, new_database
 from pagelog.keeper import quick_way
+from pagelog import NamedPrimary
 from pagelog.keeper.referee import Doubt, OneDisk, Referee
 from pagelog.keeper.rows import Synchronous
+from pagelog.place import Fate
 from replicated import Pair
 from service import PATIENCE
 
@@ -193,6 +195,100 @@ class OneDiskIsEnough(Durable):
             eventually(lambda: self.standbys() == 1, "the standby in the metric")
             self.assertIn("another disk too: PostgreSQL has 1 synchronous standby", self.keeping.word("kept"))
         self.assertEqual(self.keeping.said().count("durable means one disk"), 1)
+
+
+class AServerIsKilled(Durable):
+    """Its standby leads; or it comes back, and its standby does not."""
+
+    ttl = 20.0
+
+    def setUp(self) -> None:
+        pair().leader.setting("synchronous_commit", "remote_apply")  # so that a standby can have what nobody is told of yet
+        self.addCleanup(lambda: _pairs[0].leader.setting("synchronous_commit", "on"))
+        with psycopg.connect(_pairs[0].url + "&target_session_attrs=read-write", autocommit=True) as session:
+            eventually(lambda: session.execute("SHOW synchronous_commit").fetchone() == ("remote_apply",), "the setting")
+        super().setUp()
+
+    def durable_meanwhile(self, primary: NamedPrimary, text: str, deed: Callable[[], None]) -> None:
+        """Makes a commit durable; while it waits for the standby of PostgreSQL this is done."""
+        told: list[int] = []
+        writer = threading.Thread(target=lambda: told.append(self.commit(primary, text, durable=True)), daemon=True)
+        writer.start()
+        self.waits("INSERT INTO pagelog_block")
+        self.assertEqual(told, [])
+        deed()
+        writer.join(PATIENCE)
+        self.assertEqual(told, [int(text)])
+
+    def waits(self, statement: str) -> None:
+        """Waits for such a statement of the keeper that the leader has committed, and its standby has not."""
+        waits = "SELECT 1 FROM pg_stat_activity WHERE wait_event = 'SyncRep' AND application_name = 'pagelog keeper a' AND query LIKE %s"
+        with boss() as session:
+            eventually(lambda: session.execute(waits, (f"%{statement}%",)).fetchone() is not None, f"a wait of {statement}")
+
+    def pause(self) -> None:
+        """The standby takes what comes to its disk, and does no more with it."""
+        with psycopg.connect(f"postgresql://pagelog@/kept?host={_pairs[0].standby.folder}", autocommit=True) as session:
+            session.execute("SELECT pg_wal_replay_pause()")
+            eventually(lambda: session.execute("SELECT pg_get_wal_replay_pause_state()").fetchone() == ("paused",), "the pause")
+
+    def kill_leader(self) -> None:
+        """Once its standby has all on its disk."""
+        with boss() as session:
+            has = "SELECT bool_and(flush_lsn >= pg_current_wal_flush_lsn()) FROM pg_stat_replication"
+            eventually(lambda: session.execute(has).fetchone() == (True,), "all on the disk of the standby")
+        _pairs[0].fail_over()
+
+    def kill_leader_alone(self) -> None:
+        """Its standby is down, and leads without what it missed."""
+        others = _pairs[0].leader.kill()
+        _pairs[0].standby.start()
+        _pairs[0].lead(others)
+
+    def test_commits_go_on_in_their_generation_where_the_standby_leads(self) -> None:
+        with self.keeping.primary() as primary:
+            self.commit(primary, "1", durable=True)
+            first = self.keeping.place().generation
+            os.kill(self.keeping.pid(), signal.SIGKILL)
+            self.assertEqual(self.commit(primary, "2", durable=True), 2)
+            keepers, second = self.keeping.keepers(), self.keeping.place().generation
+            self.addCleanup(keepers.close)
+
+            def fates() -> list[Fate]:
+                return [keepers.fate(generation, position) for generation, position in ((first, 1), (first, 2), (second, 2))]
+
+            told = fates()
+            self.assertEqual([fate.is_over for fate in told], [True, True, False])
+            self.pause()
+            self.durable_meanwhile(primary, "3", self.kill_leader)
+            self.assertEqual(fates()[:2], told[:2])
+            _pairs[0].standby.crash()
+            self.durable_meanwhile(primary, "4", self.kill_leader_alone)
+            self.assertEqual(self.commit(primary, "5", durable=True), 5)
+            self.assertEqual(fates(), [*told[:2], Fate(5, False)])
+            self.assertEqual((self.keeping.place().generation, self.texts()), (second, [b"1", b"2", b"3", b"4", b"5"]))
+
+    def test_what_a_server_that_came_back_has_alone_is_told_once_its_standby_is_back(self) -> None:
+        with self.keeping.primary() as primary, self.keeping.line() as text:
+            self.commit(primary, "1", durable=True)
+            generation = self.keeping.place().generation
+            end_standby("*")
+            self.addCleanup(start_standby)
+            self.assertEqual(self.commit(primary, "2"), 2)
+            print(f"durable shop {generation} 2", file=text, flush=True)
+            self.waits("INSERT INTO pagelog_block")
+            _pairs[0].leader.crash()
+            _pairs[0].leader.start()
+            with boss() as session:  # everybody sees it, and it is on one disk
+                self.assertEqual(session.execute("SELECT archived FROM pagelog_log WHERE name = 'shop'").fetchone(), (2,))
+            self.waits("UPDATE pagelog_log SET archived = archived")
+            print("where shop", file=text, flush=True)
+            self.assertEqual(text.readline().split()[:6:5], ["at", "1"])
+            self.assertEqual(primary.durable_end, 1)
+            start_standby()
+            self.assertEqual(text.readline().split(), ["durable", "shop", str(generation), "2"])
+            primary.durable(2)
+            self.assertEqual((self.keeping.place().generation, self.texts()), (generation, [b"1", b"2"]))
 
 
 class StandbyRequired(Durable):

@@ -13,7 +13,7 @@ from unittest.mock import patch
 
 import psycopg
 
-from keepers import Gate, Kept, Trigger, blocks, eventually
+from keepers import Gate, Kept, Tried, Trigger, blocks, eventually
 from pagelog import Connection, Lost, Reader
 from pagelog.keeper.loading import Loader
 from pagelog.keeper.run import end_orphans
@@ -146,6 +146,33 @@ class TwoKeepers(Two):
             self.assertEqual(self.commit(other, "2", durable=True), 2)
             self.keeping.kill(first, signal.SIGCONT)
             self.assertEqual(zombie.fate(place.generation, 2), Fate(1, True))
+            eventually(lambda: not os.path.exists(f"/proc/{pid}"), "the end of the zombie's service")
+            self.assertEqual(self.texts(), [b"1", b"2"])
+
+    def test_a_machine_that_stood_still_finds_its_generation_over(self) -> None:
+        with self.keeping.primary() as primary, self.keeping.primary(id=5) as other:
+            self.commit(primary, "1", durable=True)
+            self.standby(1)
+            first, pid, place = self.holder(), self.keeping.pid(), self.keeping.place()
+            tried = Tried(self.keeping.url, f"pagelog keeper {first}")
+            self.addCleanup(tried.close)
+            self.keeping.kill(first, signal.SIGSTOP)
+            self.assertEqual(self.commit(primary, "zombie"), 2)
+            with self.keeping.line(first) as text:
+                print(f"durable shop {place.generation} 2", file=text, flush=True)
+                stand_still(pid)
+                self.keeping.place(least=place.generation + 1)
+                # It goes on, and looks later: the batch that it sends before has nothing against it but its run and generation.
+                looking = Gate(self.keeping.url, f"NEW.name = '{first}' AND NEW.beat > OLD.beat", "pagelog_keeper", lock=43)
+                os.kill(pid, signal.SIGCONT)
+                self.keeping.kill(first, signal.SIGCONT)
+                eventually(lambda: tried.count() > 1 or self.keeping.row().archived > 1, "a batch, and how it is looked up")
+                looking.open()
+                self.assertEqual(text.readline().split(), ["over", "shop", str(place.generation), "1"])
+            self.assertEqual((self.keeping.row().base, self.keeping.row().archived), (1, 1))
+            self.assertEqual(self.commit(other, "2", durable=True), 2)
+            with self.assertRaises(Lost):
+                primary.durable(2)
             eventually(lambda: not os.path.exists(f"/proc/{pid}"), "the end of the zombie's service")
             self.assertEqual(self.texts(), [b"1", b"2"])
 
