@@ -7,7 +7,7 @@ import os
 import signal
 import threading
 import unittest
-from typing import Any, Callable
+from typing import Any
 
 import psycopg
 
@@ -175,6 +175,12 @@ class Durable(Kept):
             [beat] = session.execute("SELECT beat FROM pagelog_keeper WHERE name = 'a'").fetchone() or [0]
         return int(beat)
 
+    def waits(self, statement: str) -> None:
+        """Waits for such a statement of the keeper that the leader has committed, and its standby has not."""
+        waits = "SELECT 1 FROM pg_stat_activity WHERE wait_event = 'SyncRep' AND application_name = 'pagelog keeper a' AND query LIKE %s"
+        with boss() as session:
+            eventually(lambda: session.execute(waits, (f"%{statement}%",)).fetchone() is not None, f"a wait of {statement}")
+
 
 class OneDiskIsEnough(Durable):
     ttl = 120.0
@@ -197,10 +203,10 @@ class OneDiskIsEnough(Durable):
         self.assertEqual(self.keeping.said().count("durable means one disk"), 1)
 
 
-class AServerIsKilled(Durable):
-    """Its standby leads; or it comes back, and its standby does not."""
+class AStandbyLeads(Durable):
+    """The leader of PostgreSQL is killed while it waits for its standby, which leads then."""
 
-    ttl = 20.0
+    more, ttl = "require_standby = true\n", 20.0
 
     def setUp(self) -> None:
         pair().leader.setting("synchronous_commit", "remote_apply")  # so that a standby can have what nobody is told of yet
@@ -209,43 +215,28 @@ class AServerIsKilled(Durable):
             eventually(lambda: session.execute("SHOW synchronous_commit").fetchone() == ("remote_apply",), "the setting")
         super().setUp()
 
-    def durable_meanwhile(self, primary: NamedPrimary, text: str, deed: Callable[[], None]) -> None:
-        """Makes a commit durable; while it waits for the standby of PostgreSQL this is done."""
+    def fail_over_amid(self, primary: NamedPrimary, position: int) -> None:
+        """Makes a commit durable at this position; while it waits for the standby, that takes the leader's place."""
         told: list[int] = []
-        writer = threading.Thread(target=lambda: told.append(self.commit(primary, text, durable=True)), daemon=True)
+        writer = threading.Thread(target=lambda: told.append(self.commit(primary, f"{position}", durable=True)), daemon=True)
         writer.start()
         self.waits("INSERT INTO pagelog_block")
-        self.assertEqual(told, [])
-        deed()
-        writer.join(PATIENCE)
-        self.assertEqual(told, [int(text)])
-
-    def waits(self, statement: str) -> None:
-        """Waits for such a statement of the keeper that the leader has committed, and its standby has not."""
-        waits = "SELECT 1 FROM pg_stat_activity WHERE wait_event = 'SyncRep' AND application_name = 'pagelog keeper a' AND query LIKE %s"
-        with boss() as session:
-            eventually(lambda: session.execute(waits, (f"%{statement}%",)).fetchone() is not None, f"a wait of {statement}")
-
-    def pause(self) -> None:
-        """The standby takes what comes to its disk, and does no more with it."""
-        with psycopg.connect(f"postgresql://pagelog@/kept?host={_pairs[0].standby.folder}", autocommit=True) as session:
-            session.execute("SELECT pg_wal_replay_pause()")
-            eventually(lambda: session.execute("SELECT pg_get_wal_replay_pause_state()").fetchone() == ("paused",), "the pause")
-
-    def kill_leader(self) -> None:
-        """Once its standby has all on its disk."""
-        with boss() as session:
-            has = "SELECT bool_and(flush_lsn >= pg_current_wal_flush_lsn()) FROM pg_stat_replication"
-            eventually(lambda: session.execute(has).fetchone() == (True,), "all on the disk of the standby")
-        _pairs[0].fail_over()
-
-    def kill_leader_alone(self) -> None:
-        """Its standby is down, and leads without what it missed."""
+        is_there = (_pairs[0].standby.data / "postmaster.pid").exists()
+        if is_there:
+            with boss() as session:
+                has = "SELECT bool_and(flush_lsn >= pg_current_wal_flush_lsn()) FROM pg_stat_replication"
+                eventually(lambda: session.execute(has).fetchone() == (True,), "all on the disk of the standby")
+        said = self.keeping.said().count("nothing is archived")
         others = _pairs[0].leader.kill()
-        _pairs[0].standby.start()
+        eventually(lambda: self.keeping.said().count("nothing is archived") > said, "the doubt")
+        self.assertEqual((self.keeping.place().archived, told), (position - 1, []))
+        if not is_there:
+            _pairs[0].standby.start()
         _pairs[0].lead(others)
+        writer.join(PATIENCE)
+        self.assertEqual(told, [position])
 
-    def test_commits_go_on_in_their_generation_where_the_standby_leads(self) -> None:
+    def test_commits_go_on_in_their_generation(self) -> None:
         with self.keeping.primary() as primary:
             self.commit(primary, "1", durable=True)
             first = self.keeping.place().generation
@@ -259,16 +250,22 @@ class AServerIsKilled(Durable):
 
             told = fates()
             self.assertEqual([fate.is_over for fate in told], [True, True, False])
-            self.pause()
-            self.durable_meanwhile(primary, "3", self.kill_leader)
+            with psycopg.connect(f"postgresql://pagelog@/kept?host={_pairs[0].standby.folder}", autocommit=True) as session:
+                session.execute("SELECT pg_wal_replay_pause()")  # the standby takes what comes to its disk, and does no more with it
+                eventually(lambda: session.execute("SELECT pg_get_wal_replay_pause_state()").fetchone() == ("paused",), "the pause")
+            self.fail_over_amid(primary, 3)
             self.assertEqual(fates()[:2], told[:2])
-            _pairs[0].standby.crash()
-            self.durable_meanwhile(primary, "4", self.kill_leader_alone)
+            _pairs[0].standby.crash()  # it leads later without what it missed
+            self.fail_over_amid(primary, 4)
             self.assertEqual(self.commit(primary, "5", durable=True), 5)
             self.assertEqual(fates(), [*told[:2], Fate(5, False)])
             self.assertEqual((self.keeping.place().generation, self.texts()), (second, [b"1", b"2", b"3", b"4", b"5"]))
 
-    def test_what_a_server_that_came_back_has_alone_is_told_once_its_standby_is_back(self) -> None:
+
+class AServerComesBack(Durable):
+    ttl = 20.0
+
+    def test_what_it_has_alone_is_told_once_its_standby_is_back(self) -> None:
         with self.keeping.primary() as primary, self.keeping.line() as text:
             self.commit(primary, "1", durable=True)
             generation = self.keeping.place().generation
