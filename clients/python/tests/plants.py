@@ -76,6 +76,10 @@ PLANTS = {
                               "            if False:\n", "disks", "wait_is_given_up"),
     "doubt of a dead server": Plant("committer", "                kept = frozenset()\n", "                kept = frozenset(due.batch.log for due in batches)\n",
                                     "disks", "go_on_in_their_generation"),
+    "no room, told": Plant("committer", "                kept = frozenset()\n", "                kept = frozenset(due.batch.log for due in batches)\n",
+                           "disks", "no_room_is_kept"),
+    "no room for the log, told": Plant("committer", "                kept = frozenset()\n",
+                                       "                kept = frozenset(due.batch.log for due in batches)\n", "disks", "for_want_of_room"),
     "selected, looked up": Plant("referee", '"UPDATE pagelog_log SET archived = archived WHERE id = %s AND run = %s "\n                          '
                                  '"RETURNING archived, chain, generation"', '"SELECT archived, chain, generation FROM pagelog_log WHERE id = %s '
                                  'AND run = %s"', "disks", "what_it_has_alone"),

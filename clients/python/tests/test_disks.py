@@ -14,11 +14,13 @@ import psycopg
 from keepers import Kept, batch_of, eventually, new_database
 from pagelog.keeper import quick_way
 from pagelog import NamedPrimary
+from pagelog import NamedPrimary, Put
 from pagelog.keeper.referee import Doubt, OneDisk, Referee
 from pagelog.keeper.rows import Synchronous
 from pagelog.place import Fate
 from replicated import Pair
 from service import PATIENCE
+from small_disk import SmallDisks
 
 IS_BUILT = quick_way._library() is not None
 _pairs: list[Pair] = []
@@ -354,6 +356,62 @@ class StandbyRequired(Durable):
             self.assertEqual(self.commit(primary, "2", durable=True), 2)
             self.assertGreater(self.keeping.place().generation, place.generation)
             self.assertEqual(self.texts(), [b"1", b"2"])
+
+
+class FullDisks(Kept):
+    keepers = "a"
+
+    def setUp(self) -> None:
+        self.disks = SmallDisks()
+        self.addCleanup(self.disks.stop)
+        self.options = {"url": self.disks.kept, "ttl": 20.0}
+        referee = Referee(self.disks.kept)
+        referee.prepare()
+        referee.close()
+        super().setUp()
+
+    def commit_pages(self, primary: NamedPrimary, pages: int) -> int:
+        """They take more room than is left in what PostgreSQL has."""
+        for page in range(pages):
+            primary.append(Put(page, 0, os.urandom(8192)))
+        return primary.commit()
+
+    def test_a_batch_for_which_there_is_no_room_is_kept_once_there_is(self) -> None:
+        with psycopg.connect(self.disks.kept) as session:
+            session.execute("ALTER TABLE pagelog_block SET TABLESPACE small")
+        with self.keeping.primary() as primary, self.keeping.line() as text:
+            self.commit(primary, "1", durable=True)
+            generation = self.keeping.place().generation
+            self.disks.fill("tables")
+            last = self.commit_pages(primary, 20)
+            print(f"durable shop {generation} {last}", file=text, flush=True)
+            eventually(lambda: "No space left on device" in self.keeping.said(), "the refusal")
+            print("where shop", file=text, flush=True)
+            self.assertEqual(text.readline().split()[:6:5], ["at", "1"])
+            self.assertEqual((self.commit(primary, "2"), primary.durable_end), (last + 1, 1))
+            self.disks.free("tables")
+            self.assertEqual(text.readline().split()[:3], ["durable", "shop", str(generation)])
+            primary.durable(last + 1)
+            self.assertEqual((self.keeping.place().generation, len(self.keeping.archive())), (generation, last + 1))
+
+    def test_a_server_that_had_to_end_for_want_of_room_comes_back_with_what_was_told(self) -> None:
+        with self.keeping.primary() as primary, self.keeping.line() as text:
+            self.commit(primary, "1", durable=True)
+            generation = self.keeping.place().generation
+            self.disks.fill("log-of-writes")
+            last = self.commit_pages(primary, 500)
+            print(f"durable shop {generation} {last}", file=text, flush=True)
+            eventually(lambda: not self.disks.is_up, "the end of PostgreSQL")
+            self.assertRegex(self.disks.said(), "PANIC: .*No space left on device")
+            print("where shop", file=text, flush=True)
+            told = text.readline().split()
+            self.assertEqual((told[0], self.commit(primary, "2"), primary.durable_end), ("at", last + 1, 1))
+            self.disks.free("log-of-writes")
+            self.disks.start()
+            self.assertLessEqual(int(told[5]), self.keeping.row().archived)
+            self.assertEqual(text.readline().split()[:3], ["durable", "shop", str(generation)])
+            primary.durable(last + 1)
+            self.assertEqual((self.keeping.place().generation, len(self.keeping.archive())), (generation, last + 1))
 
 
 class TwoPrimaries(Kept):
