@@ -26,6 +26,7 @@ class LongRun:
     def __init__(self, file: str, keeping: Keeping) -> None:
         """`file` is the program of the clients."""
         self.file, self.keeping = file, keeping
+        self.clients: list[subprocess.Popen[bytes]] = []
 
     def run(self) -> int:
         """Goes on for its time. Returns the exit status."""
@@ -34,7 +35,8 @@ class LongRun:
     def client(self, what: str, who: object, number: float) -> subprocess.Popen[bytes]:
         """Starts one."""
         words = [sys.executable, "-B", self.file, what, self.keeping.folder, who, ",".join(self.keeping.addresses), number]
-        return subprocess.Popen(list(map(str, words)))
+        self.clients.append(subprocess.Popen(list(map(str, words))))
+        return self.clients[-1]
 
     def ended(self, client: subprocess.Popen[bytes], patience: float) -> int:
         """The status of a client that has to end now. One that does not says what it is at, and so do the keepers."""
