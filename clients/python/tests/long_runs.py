@@ -7,6 +7,7 @@ import os
 import signal
 import subprocess
 import sys
+import threading
 import time
 from pathlib import Path
 from typing import Callable, Mapping, Sequence
@@ -69,11 +70,18 @@ class LongRun:
         self.keeping.__exit__()
 
 
+def _fail(error: threading.ExceptHookArgs) -> None:
+    """A client fails with each of its threads."""
+    threading.__excepthook__(error)
+    os._exit(1)
+
+
 def is_client(words: Sequence[str], clients: Mapping[str, Client]) -> bool:
     """Whether the program was called for a client of its own process, which has come to its end then."""
     if not words or words[0] not in clients:
         return False
     faulthandler.register(signal.SIGUSR1)
+    threading.excepthook = _fail
     clients[words[0]](Path(words[1]), words[2], words[3].split(","), float(words[4]))
     return True
 

@@ -80,6 +80,7 @@ PLANTS = {
                            "disks", "no_room_is_kept"),
     "no room for the log, told": Plant("committer", "                kept = frozenset()\n",
                                        "                kept = frozenset(due.batch.log for due in batches)\n", "disks", "for_want_of_room"),
+    "unknown to an old leader": Plant("referee", "        if len(kept) < len(batches):\n", "        if False:\n", "disks", "old_leader_does_not_know"),
     "selected, looked up": Plant("referee", '"UPDATE pagelog_log SET archived = archived WHERE id = %s AND run = %s "\n                          '
                                  '"RETURNING archived, chain, generation"', '"SELECT archived, chain, generation FROM pagelog_log WHERE id = %s '
                                  'AND run = %s"', "disks", "what_it_has_alone"),
@@ -177,6 +178,7 @@ PLANTS = {
     "few questions": Plant("fates", "_AT_ONCE, _MOST = 4, 10_000", "_AT_ONCE, _MOST = 10_000, 10_000", "meanwhile", "few_of_their"),
     "few positions": Plant("waits", "if len(waits) >= _MOST:", "if False:", "meanwhile", "no_more_than"),
     "no name": Plant("keeping", "if NAME.fullmatch(name) is None:", "if False:", "keepers", "words_that_no"),
+    "group, left meanwhile": Plant("../group", "self._leader is not None and not self._leader.under", "not self._leader.under", "group", "has_left"),
     "group, left twice": Plant("../group", "not self._leader.under_way.locked():", "False:", "named", "middle_of_what"),
     "most of the archive": Plant("../place", "(place.generation, place.archived))", "place.generation)", "named", "who_knows_most"),
     "silent address": Plant("../dialing", "max(_LEAST, (ends - time.monotonic()) / (len(found) - tried))", "timeout", "connection", "leaves_the_others"),

@@ -2,11 +2,13 @@
 
 from __future__ import annotations
 
+import asyncio
 import json
 import os
 import signal
 import threading
 import unittest
+from dataclasses import replace
 from typing import Any
 
 import psycopg
@@ -15,8 +17,10 @@ from keepers import Kept, batch_of, eventually, new_database
 from pagelog.keeper import quick_way
 from pagelog import NamedPrimary
 from pagelog import NamedPrimary, Put
+from pagelog.keeper.quick import QuickReferee, QuickSession
 from pagelog.keeper.referee import Doubt, OneDisk, Referee
 from pagelog.keeper.rows import Synchronous
+from pagelog.keeper.session import Session
 from pagelog.place import Fate
 from replicated import Pair
 from service import PATIENCE
@@ -133,6 +137,29 @@ class Referees(unittest.TestCase):
         with self.assertRaises(Doubt):
             through._confirm(through._connected())
         self.assertEqual(through.look().synchronous.count, 1)
+
+    def test_a_batch_of_a_run_that_an_old_leader_does_not_know_goes_to_the_new_one(self) -> None:
+        old = self.pair.leader
+
+        def beside() -> None:
+            new = self.pair.leader
+            taker = self.new("taker", f"postgresql://pagelog@/kept?host={new.folder}")
+            kept = taker.take(self.row, "r1")
+            assert kept is not None
+            for kind, session_of in ((Referee, Session), (QuickReferee, QuickSession)):
+                writer = kind(f"postgresql://pagelog@/kept?host={old.folder},{new.folder}", "writer", "life of writer")
+                self.addCleanup(writer.close)
+                batch = batch_of(self.row, kept, "r1")
+
+                async def keep() -> list[frozenset[int]]:
+                    session = session_of(writer, PATIENCE)
+                    return [await session.keep(found) for found in ((), [batch], [batch])]  # the first one prepares it
+
+                self.assertEqual(asyncio.run(keep()), [frozenset(), frozenset(), {self.row.id}])
+                kept = replace(kept, archived=batch.new, chain=batch.chain)
+
+        self.pair.fail_over_beside(beside)
+        self.plain.close()
 
     def test_what_a_role_may_not_see_is_no_standby_to_it(self) -> None:
         with boss() as session:
