@@ -48,10 +48,12 @@ class Statements(Referees):
         return asyncio.run(kept())
 
     def test_under_run_generation_and_archived_position(self) -> None:
-        _, session, kept = self.prepared()
+        referee, session, kept = self.prepared()
         good = batch_of(self.row, kept, "r1", 200, b"'\"\\\0{}")
         for wrong in (replace(good, run='r"\\,{}'), replace(good, generation=9), replace(good, old=1), replace(good, log=99)):
             self.assertEqual(self.keep(session, wrong), frozenset())
+            self.assertFalse(referee.is_prepared)  # it may have asked an old leader
+            referee.keep(())
         self.assertEqual(self.keep(session, good), {self.row.id})
         self.assertEqual((self.seen().archived, self.seen().chain), (203, good.chain))
         self.assertEqual(self.everything()[3:], list(good.blocks))
