@@ -251,7 +251,7 @@ class Keeping:
 
     def ring(self) -> None:
         """Has all keepers look now, however long their ttl is."""
-        with psycopg.connect(self.url, autocommit=True) as session:
+        with psycopg.connect(self.url, autocommit=True, target_session_attrs="read-write") as session:
             session.execute("NOTIFY pagelog_keeper")
 
     @contextmanager

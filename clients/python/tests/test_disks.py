@@ -1,4 +1,4 @@
-"""What durable means where PostgreSQL has a synchronous standby, loses it, and has it again."""
+"""What durable means where PostgreSQL loses its standby, its leader, or the room on a disk, and has it again."""
 
 from __future__ import annotations
 
@@ -14,9 +14,8 @@ from typing import Any
 import psycopg
 
 from keepers import Kept, batch_of, eventually, new_database
-from pagelog.keeper import quick_way
-from pagelog import NamedPrimary
 from pagelog import NamedPrimary, Put
+from pagelog.keeper import quick_way
 from pagelog.keeper.quick import QuickReferee, QuickSession
 from pagelog.keeper.referee import Doubt, OneDisk, Referee
 from pagelog.keeper.rows import Synchronous

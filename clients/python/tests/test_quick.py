@@ -210,4 +210,4 @@ class Library(unittest.TestCase):
     def test_a_keeper_says_that_it_is_not_there(self) -> None:
         self.assertEqual(self.said(None), ["the quick way is not built: durable commits take longer"])
         self.assertEqual(self.said(Mock()), [])
-        self.assertEqual(self.said(None, require_standby=True), [])  # it has no need of it
+        self.assertEqual(self.said(None, trail=3), [])  # it has no need of it
