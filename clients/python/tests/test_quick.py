@@ -197,7 +197,7 @@ class Library(unittest.TestCase):
 
     def said(self, library: object, **section: object) -> list[str]:
         """What a keeper says at its start that finds this one."""
-        settings = Settings.of("a", "", "", Path("."), "", "", section)
+        settings = Settings.of("a", "", "", Path("."), "", "postgresql://nobody@/none", section)
         with patch.object(quick_way, "_library", return_value=library), patch.object(Keeper, "_say") as say:
             Keeper(settings)
         return [call.args[1] for call in say.call_args_list]
@@ -208,6 +208,7 @@ class Library(unittest.TestCase):
         self.assertTrue(QuickWays(Mock(QuickReferee), idle=1.0, deadline=1.0).is_there)
 
     def test_a_keeper_says_that_it_is_not_there(self) -> None:
-        self.assertEqual(self.said(None), ["the quick way is not built: durable commits take longer"])
+        for section in ({}, {"require_standby": True}):
+            self.assertEqual(self.said(None, **section), ["the quick way is not built: durable commits take longer"])
         self.assertEqual(self.said(Mock()), [])
         self.assertEqual(self.said(None, trail=3), [])  # it has no need of it
