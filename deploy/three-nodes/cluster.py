@@ -93,7 +93,7 @@ class Cluster:
             return None
 
     def has_quick_way(self) -> bool:
-        """Whether a session has asked last for what the quick way alone asks: to keep one block."""
+        """Whether a session asks now, or has asked last, for what the quick way alone asks: to keep one block."""
         try:
             with psycopg.connect(plain_url(self._url), target_session_attrs="read-write") as connection:
                 found = connection.execute("SELECT count(*) FROM pg_stat_activity WHERE query LIKE %s AND pid <> pg_backend_pid()", (ONE_BLOCK,))

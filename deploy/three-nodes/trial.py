@@ -76,9 +76,9 @@ class Books:
 
 
 class Trial:
-    def __init__(self, folder: Path, program: str, is_quick: bool) -> None:
+    def __init__(self, folder: Path, program: str) -> None:
         subprocess.run(["mount", "-t", "tmpfs", "tmpfs", "/run"], check=True)  # the names of network namespaces stand in it
-        self.folder, self.began, self.is_quick = folder, time.monotonic(), is_quick
+        self.folder, self.began = folder, time.monotonic()
         self.books, self.clients = Books(folder), dict[str, subprocess.Popen[bytes]]()
         install(folder, program)
         make_bridge()
@@ -86,10 +86,7 @@ class Trial:
         subprocess.run([sys.executable, "-B", HERE / "configure", folder / "machines", *machines], check=True, stdout=subprocess.DEVNULL)
         (folder / "machines").chmod(0o711)
         for name in ADDRESSES:
-            etc = folder / "machines" / name / "etc"
-            shutil.copy(UNIT, etc / "systemd" / "system")
-            if is_quick:
-                require_nothing(etc / "pagelog" / "keeper.toml")
+            shutil.copy(UNIT, folder / "machines" / name / "etc" / "systemd" / "system")
         self.nodes = {name: Node(name, folder / "machines" / name) for name in ADDRESSES}
         self.keeper_file = folder / "machines" / "a" / "etc" / "pagelog" / "keeper.toml"
         self.cluster = Cluster(self.keeper_file)
@@ -113,15 +110,8 @@ class Trial:
             words = [sys.executable, "-B", HERE / "clients.py", what, self.folder / what, self.folder / f"{what}.stop", ",".join(KEEPERS)]
             self.clients[what] = subprocess.Popen(words)
         eventually(lambda: len(self.books.times("read", "read")) > GO_ON, "a reader that reads")
-        self.see_way()
+        eventually(self.cluster.has_quick_way, "the quick way")
         self.say(f"three machines are up; {self.holder_and_leader()}")
-
-    def see_way(self) -> None:
-        """Commits go the way that is meant."""
-        if self.is_quick:
-            eventually(self.cluster.has_quick_way, "the quick way")
-        elif self.cluster.has_quick_way():
-            raise SystemExit("trial: the quick way is taken where a standby is required")
 
     def holder_and_leader(self) -> str:
         return f"{self.cluster.holder()} holds {NAME}, {self.cluster.leader()} leads PostgreSQL"
@@ -157,7 +147,7 @@ class Trial:
         eventually(lambda: len(self.books.times("write", "durable")) > before + GO_ON, "commits")
         undo(node)
         eventually(self.cluster.is_well, "three machines that are well")
-        self.see_way()
+        eventually(self.cluster.has_quick_way, "the quick way")
         self.say(f"  {self.pauses(began)}; others had taken over after {went_on - began:.1f} s")
 
     def pauses(self, since: float) -> str:
@@ -200,12 +190,6 @@ def violations(texts: list[str], written: list[dict[str, object]], read: list[di
     return found
 
 
-def require_nothing(keeper_file: Path) -> None:
-    """The keeper asks for no standby after each statement: Patroni's strict mode alone has one."""
-    lines = keeper_file.read_text().splitlines(keepends=True)
-    keeper_file.write_text("".join(line for line in lines if not line.startswith("require_standby")))
-
-
 def install(folder: Path, program: str) -> None:
     """The program and `pagelogctl`, where every user may run them."""
     programs = folder / "programs"
@@ -231,12 +215,11 @@ def main() -> int:
     parser.add_argument("folder", type=Path)
     parser.add_argument("steps", nargs="*", type=step)
     parser.add_argument("--logs", type=Path)
-    parser.add_argument("--quick", action="store_true")
     told = parser.parse_intermixed_args()
-    if told.quick and quick_way._library() is None:
+    if quick_way._library() is None:
         sys.exit("trial: the quick way is not built")
     signal.signal(signal.SIGTERM, lambda *_: sys.exit("trial: it was ended"))  # with this first process all others end
-    trial = Trial(told.folder, os.environ["PAGELOG"], told.quick)
+    trial = Trial(told.folder, os.environ["PAGELOG"])
     try:
         trial.start()
         for fault, node in told.steps or map(step, DEFAULT):

@@ -35,6 +35,9 @@ PLANTS = {
                           "archived = %(old)s RETURNING id),", "referee", "keeps_nothing"),
     "position of one": Plant("statements", " AND archived = %(old)s RETURNING id),", " RETURNING id),", "referee",
                              "under_run_generation_and_archived_position"),
+    "fence of a zombie": Plant("statements", "run = %(run)s AND generation = %(generation)s AND archived = %(old)s RETURNING id),",
+                               "(run = %(run)s OR generation < %(generation)s + 9) AND archived = %(old)s RETURNING id),", "standbys",
+                               "machine_that_stood_still"),
     "take": Plant("statements", "generation = %(generation)s AND archived = %(archived)s AND run IS NOT DISTINCT FROM %(seen_run)s::text\n"
                   "    AND", "", "referee", "eight_takes"),
     "select": Plant("statements", "UPDATE pagelog_keeper SET beat = beat + 1, report = COALESCE(%(report)s::jsonb, report)\n"
@@ -71,6 +74,16 @@ PLANTS = {
     "one disk, taken": Plant("referee", "        if self._requires_standby:\n", "        if False:\n", "disks", "nobody_takes_over"),
     "standby is there": Plant("referee", "            if reached is None:\n", "            if reached is None:\n                return\n"
                               "            if False:\n", "disks", "wait_is_given_up"),
+    "doubt of a dead server": Plant("committer", "                kept = frozenset()\n", "                kept = frozenset(due.batch.log for due in batches)\n",
+                                    "disks", "go_on_in_their_generation"),
+    "no room, told": Plant("committer", "                kept = frozenset()\n", "                kept = frozenset(due.batch.log for due in batches)\n",
+                           "disks", "no_room_is_kept"),
+    "no room for the log, told": Plant("committer", "                kept = frozenset()\n",
+                                       "                kept = frozenset(due.batch.log for due in batches)\n", "disks", "for_want_of_room"),
+    "unknown to an old leader": Plant("referee", "        if len(kept) < len(batches):\n", "        if False:\n", "disks", "old_leader_does_not_know"),
+    "selected, looked up": Plant("referee", '"UPDATE pagelog_log SET archived = archived WHERE id = %s AND run = %s "\n                          '
+                                 '"RETURNING archived, chain, generation"', '"SELECT archived, chain, generation FROM pagelog_log WHERE id = %s '
+                                 'AND run = %s"', "disks", "what_it_has_alone"),
     "once": Plant("keeping", "        if sentence != self._said:\n", "        if True:\n", "disks", "said_once"),
     "away": Plant("keeping", "            self.synchronous = Synchronous()\n", "", "disks", "nothing_is_durable_until"),
     "watchdog": Plant("keeping", '        self._shared.spawn(self._live(), "the watchdog")\n', "", "keepers", "systemd_hears"),
@@ -108,7 +121,10 @@ PLANTS = {
     "quick way, unclean": Plant("quick_way", "ended.result() <= End.SERVICE", "True", "quick_way", "went_on_with"),
     "quick way, hangs": Plant("quick_way", "            self._referee.cut()\n            asyncio", "            asyncio", "quick_way",
                               "are_prepared_is_cut"),
-    "quick way, trail": Plant("keeping", "settings.require_standby or settings.trail", "settings.require_standby", "quick_way", "with_a_trail"),
+    "quick way, trail": Plant("keeping", "        if settings.trail:\n            return None  # each", "        if False:\n            return None  # each",
+                              "quick_way", "with_a_trail"),
+    "quick way, standby": Plant("keeping", "confirms=settings.require_standby)", "confirms=False)", "disks", "quick_way_waits"),
+    "quick way, behind": Plant("quick_way_referee.c", "way->standby < way->wanted", "way->standby == 0", "quick_way", "until_it_has_what"),
     "late pull": Plant("puller", "            if not is_whole:\n", "            if False:\n", "quick", "hangs_or_is_gone"),
     "late state": Plant("looker", "            if not is_whole:\n", "            if False:\n", "looks", "late_answer"),
     "look in a thread": Plant("work", "            if not await served.looked_at_once():\n                await", "            await", "looks",
@@ -162,6 +178,7 @@ PLANTS = {
     "few questions": Plant("fates", "_AT_ONCE, _MOST = 4, 10_000", "_AT_ONCE, _MOST = 10_000, 10_000", "meanwhile", "few_of_their"),
     "few positions": Plant("waits", "if len(waits) >= _MOST:", "if False:", "meanwhile", "no_more_than"),
     "no name": Plant("keeping", "if NAME.fullmatch(name) is None:", "if False:", "keepers", "words_that_no"),
+    "group, left meanwhile": Plant("../group", "self._leader is not None and not self._leader.under", "not self._leader.under", "group", "has_left"),
     "group, left twice": Plant("../group", "not self._leader.under_way.locked():", "False:", "named", "middle_of_what"),
     "most of the archive": Plant("../place", "(place.generation, place.archived))", "place.generation)", "named", "who_knows_most"),
     "silent address": Plant("../dialing", "max(_LEAST, (ends - time.monotonic()) / (len(found) - tried))", "timeout", "connection", "leaves_the_others"),
@@ -177,7 +194,7 @@ def failure(plant: Plant) -> str | None:
         tables = Path(folder) / "crates" / "pagelog" / "data"
         tables.mkdir(parents=True)
         shutil.copy(PYTHON.parent.parent / "crates" / "pagelog" / "data" / "t0.toml", tables)
-        file = copy / "src" / "pagelog" / "keeper" / f"{plant.module}.py"
+        file = copy / "src" / "pagelog" / "keeper" / (plant.module if plant.module.endswith(".c") else f"{plant.module}.py")
         text = file.read_text()
         if text.count(plant.old) != 1:
             raise AssertionError(f"the edit of {plant.module} does not fit: {plant.old!r} is there {text.count(plant.old)} times")

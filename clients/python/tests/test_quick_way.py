@@ -23,7 +23,7 @@ import psycopg
 
 from keepers import Gate, Kept as KeptService, Line, Trigger, blocks, eventually
 from pagelog import Block, Put
-from pagelog.keeper import quick_way
+from pagelog.keeper import quick_way, statements
 from pagelog.keeper.archiver import Archiver
 from pagelog.keeper.committer import Committer
 from pagelog.keeper.database import Database
@@ -157,7 +157,7 @@ class Hot(Referees, unittest.IsolatedAsyncioTestCase):
 
     @property
     def is_hot(self) -> bool:
-        return self.archiver._way is not None
+        return self.archiver.is_quick
 
     def client(self) -> Client:
         self.clients.append(Client(self.keeper.lines))
@@ -826,6 +826,67 @@ class Stalled(Hot):
         await self.commit_quickly(client)
 
 
+class Confirmed(Hot):
+    """It asks how far a standby is; here a table says so."""
+
+    async def asyncSetUp(self) -> None:
+        await super().asyncSetUp()
+        self.execute("CREATE TABLE IF NOT EXISTS reached (flushed bigint, standby bigint)")
+        self.execute("TRUNCATE reached")
+        self.execute("INSERT INTO reached VALUES (100, 100)")
+        values = {**quick_way._VALUES, "SELECT flushed, standby FROM reached": []}
+        del values[statements.REACHED]
+        self.enterContext(patch.object(quick_way, "_VALUES", values))
+        assert self.shared.ways is not None
+        self.shared.ways.confirms = True
+
+    async def kept(self, client: Client) -> int:
+        """A commit that the archive has, and a standby has not."""
+        self.execute("UPDATE reached SET standby = 99")
+        position = self.write()
+        client.send(self.durable(position))
+        await self.until(lambda: self.archived() == position)
+        return position
+
+    async def test_a_standby_is_asked_until_it_has_what_was_flushed_here(self) -> None:
+        client = await self.hot()
+        position = await self.kept(client)
+        self.execute("UPDATE reached SET flushed = 200")  # by others, later
+        await asyncio.sleep(0.05)
+        self.assertFalse(client.has_answer())
+        self.execute("UPDATE reached SET standby = 100")
+        self.assertEqual(await client.answer(), self.durable(position))
+        self.assert_quick(position)
+        self.assertEqual(self.ends, [])
+        self.assert_whole()
+
+    async def test_without_one_it_is_in_doubt(self) -> None:
+        client = await self.hot()
+        self.execute("UPDATE reached SET standby = NULL")
+        await self.commit(client)
+        self.assertEqual(self.ends, [End.DOUBT])
+
+    async def test_one_that_does_not_come_up_in_time_is_in_doubt(self) -> None:
+        assert self.shared.ways is not None
+        self.shared.ways.deadline = 0.5
+        client = await self.hot()
+        position = await self.kept(client)
+        self.assertEqual(await client.answer(), self.durable(position))
+        self.assertEqual(self.ends, [End.DOUBT])
+
+    async def test_a_turn_that_is_wanted_waits_until_it_has(self) -> None:
+        client = await self.hot()
+        position = await self.kept(client)
+        turn = asyncio.ensure_future(self.archiver.turn.acquire())
+        await asyncio.sleep(0.05)
+        self.assertEqual((turn.done(), client.has_answer()), (False, False))
+        self.execute("UPDATE reached SET standby = 100")
+        await turn
+        self.assertEqual((self.ends, self.served.reached), ([End.STOPPED], position))
+        self.archiver.turn.release()
+        self.assertEqual(await client.answer(), self.durable(position))
+
+
 class Services(Hot):
     """What a service answers, or does not."""
 
@@ -1073,11 +1134,13 @@ class Without(Hot):
     async def _nothing(self) -> None:
         return None
 
-    def test_with_a_trail_or_a_required_standby(self) -> None:
-        for section in ({"trail": 7}, {"require_standby": True}, {}):
+    def test_with_a_trail(self) -> None:
+        sections: tuple[dict[str, Any], ...] = ({"trail": 7}, {"require_standby": True}, {})
+        for section in sections:
             with patch("pagelog.keeper.keeping.Folder"):
                 made = Keeper(Settings.of("one", "127.0.0.1:0", "127.0.0.1", Path("."), PROGRAM, self.url, section))
-            self.assertEqual(made._shared.ways is None, section != {})
+            ways = made._shared.ways
+            self.assertEqual(None if ways is None else ways.confirms, None if "trail" in section else "require_standby" in section)
 
 
 @unittest.skipUnless(IS_BUILT, "the quick way is not built")
@@ -1128,4 +1191,4 @@ def load_tests(loader: unittest.TestLoader, *_: object) -> unittest.TestSuite:
 
 
 def _cases() -> Iterator[type[unittest.TestCase]]:
-    yield from (Tells, Shifted, Lines, Statements, Fences, Cut, Stalled, Services, Ends, Without, Moves)
+    yield from (Tells, Shifted, Lines, Statements, Fences, Cut, Stalled, Confirmed, Services, Ends, Without, Moves)

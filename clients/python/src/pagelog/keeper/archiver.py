@@ -57,6 +57,11 @@ class Archiver:
         """Whether it has ended, and another may be begun: it was told that it is fenced, and a look shows that it is not."""
         return self.is_over and not self.is_stuck
 
+    @property
+    def is_quick(self) -> bool:
+        """Whether it has the quick way."""
+        return self._way is not None
+
     def ring(self) -> None:
         """There is something to archive, or somebody who waits."""
         self._doorbell.set()

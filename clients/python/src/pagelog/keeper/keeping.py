@@ -79,9 +79,10 @@ class Keeper:
 
     def _ways(self) -> QuickWays | None:
         settings = self.settings
-        if settings.require_standby or settings.trail:
-            return None  # each statement has a question after it, or lines of an audit list with it
-        ways = QuickWays(QuickReferee(settings.url, settings.name, self.life), idle=settings.ttl, deadline=2 * settings.ttl)
+        if settings.trail:
+            return None  # each statement has lines of an audit list with it
+        ways = QuickWays(QuickReferee(settings.url, settings.name, self.life), idle=settings.ttl, deadline=2 * settings.ttl,
+                         confirms=settings.require_standby)  # fmt: skip
         if not ways.is_there:
             self._say("the keeper", "the quick way is not built: durable commits take longer")
         return ways
@@ -360,6 +361,7 @@ class Keeper:
         """What is known of each database, for the metrics."""
         return [
             {"name": each.row.name, "state": each.state.value, "generation": each.row.generation, "archived": each.row.archived,
-             "behind": 0 if each.served is None else max(0, each.served.hard - each.served.reached), "waits": len(each.waits)}
+             "behind": 0 if each.served is None else max(0, each.served.hard - each.served.reached), "waits": len(each.waits),
+             "quick": int(each.work.is_quick)}
             for each in list(self.databases.values()) if not each.row.dropped
         ]  # fmt: skip

@@ -14,6 +14,7 @@ _GAUGES = {
     "pagelog_keeper_archived": "Its archived position.",
     "pagelog_keeper_behind": "Blocks that its service has hardened and that are not archived.",
     "pagelog_keeper_waits": "Connections that wait for something to be durable.",
+    "pagelog_keeper_quick": "1 while its durable commits go the quick way, which one database of a keeper has at a time.",
 }
 
 

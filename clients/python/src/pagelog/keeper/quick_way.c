@@ -16,11 +16,12 @@ struct way *way_new(const struct way_start *start) {
     way->run = strdup(start->run);
     way->keep_one = strdup(start->keep_one);
     way->keep_block = strdup(start->keep_block);
+    way->flushed = start->flushed == NULL ? NULL : strdup(start->flushed);
     way->pull = malloc(start->pull_len);
     way->control = eventfd(0, EFD_NONBLOCK | EFD_CLOEXEC);
     pthread_mutex_init(&way->lock, NULL);
     if (way->name == NULL || way->log == NULL || way->run == NULL || way->keep_one == NULL || way->keep_block == NULL ||
-        way->pull == NULL || way->control < 0) {
+        (way->flushed == NULL) != (start->flushed == NULL) || way->pull == NULL || way->control < 0) {
         way_free(way);
         return NULL;
     }
@@ -52,6 +53,7 @@ void way_free(struct way *way) {
     free(way->run);
     free(way->keep_one);
     free(way->keep_block);
+    free(way->flushed);
     free(way->pull);
     free(way->polled);
     free(way->batch.bytes);
@@ -62,6 +64,16 @@ void way_free(struct way *way) {
 /* How long it may be as it is. */
 static int64_t until(const struct way *way) {
     return way->phase == READY ? way->asked_at + way->start.idle_ms : way->due;
+}
+
+/* How long it may sleep. */
+static int sleep_ms(const struct way *way) {
+    int64_t wakes = until(way);
+    if (way->phase == CONFIRMING && way->confirm_at != 0 && way->confirm_at < wakes) {
+        wakes = way->confirm_at;
+    }
+    int64_t left = wakes - now_ms();
+    return left > 0 ? (int)left : 0;
 }
 
 /* Waits for what comes first. Returns how many descriptors are ready; below 0 without memory. */
@@ -76,9 +88,9 @@ static int wait_for_any(struct way *way) {
         way->polled_room = 2 * most;
     }
     way->polled[0] = (struct pollfd){.fd = way->control, .events = POLLIN};
-    int side = way->phase == PULLING ? way->start.service : way->phase == KEEPING ? PQsocket(way->start.referee) : -1;
+    int side = way->phase == PULLING ? way->start.service : has_statement(way) ? PQsocket(way->start.referee) : -1;
     short events = POLLIN;
-    if (way->phase == KEEPING && PQflush(way->start.referee) > 0) {
+    if (has_statement(way) && PQflush(way->start.referee) > 0) {
         events |= POLLOUT;
     }
     way->polled[1] = (struct pollfd){.fd = side, .events = events};
@@ -86,8 +98,7 @@ static int wait_for_any(struct way *way) {
     for (struct line *line = way->lines; line != NULL; line = line->next) {
         way->polled[at++] = (struct pollfd){.fd = line->descriptor, .events = POLLIN};
     }
-    int64_t left = until(way) - now_ms();
-    int ready = poll(way->polled, at, left > 0 ? (int)left : 0);
+    int ready = poll(way->polled, at, sleep_ms(way));
     return ready < 0 ? 1 : ready;
 }
 
@@ -101,16 +112,16 @@ static bool turn(struct way *way, enum way_end *end) {
     bool goes_on = take_orders(way);
     tell_all(way); /* who came with a question may ask for what is archived by now */
     *end = WAY_STOPPED;
-    if (!goes_on && way->phase != KEEPING) {
+    if (!goes_on && !has_statement(way)) {
         return false;
     }
     if (way->phase == READY && is_wanted(way) && !begin(way)) {
         *end = WAY_SERVICE;
         return false;
     }
-    int ready = wait_for_any(way);
+    int ready = confirm_again(way) ? wait_for_any(way) : -1;
     if (ready < 0) {
-        *end = way->phase == KEEPING ? WAY_DOUBT : WAY_NO_MEMORY;
+        *end = has_statement(way) ? WAY_DOUBT : WAY_NO_MEMORY;
         return false;
     }
     hear_all(way);

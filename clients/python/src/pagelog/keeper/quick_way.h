@@ -1,7 +1,7 @@
 /* The quick way of one database: a thread of its own answers the lines `durable`, pulls new blocks of the service, and has
  * PostgreSQL keep them, as long as all is as it should be. Whatever else happens it leaves to the keeper: it ends, and says how far
  * it came. It keeps what the keeper's statement keeps, under the same conditions, and tells nobody that a block is durable before
- * the statement's commit has returned.
+ * the statement's commit has returned, nor, where one is required, before a synchronous standby is known to have it.
  *
  * The keeper lends a service's connection, one to PostgreSQL and clients' lines. It alone closes them. `way_run` is for one thread;
  * the others may be called of any thread while it runs, and `way_free` after it. */
@@ -36,6 +36,7 @@ struct way_start {
     uint64_t generation;
     const char *log, *run;      /* its number at the referee, and the run */
     const char *keep_one, *keep_block; /* the statements of a batch and of one block, as they were prepared; `keep` has their values */
+    const char *flushed;        /* the statement that tells how far this server and a synchronous standby have flushed; NULL: none is required */
     uint64_t reached;           /* the archived position */
     uint64_t shift;             /* a position less its LSN */
     uint8_t chain[WAY_DIGEST];  /* the digest of all up to there */

@@ -26,7 +26,8 @@ _DIGEST, _LINE = 16, 1024
 _MOST = 1 << 63
 """Positions from here on are of no log."""
 _COMMON = ["new", "chain", "id", "run", "generation", "old"]
-_VALUES = {statements.KEEP_ONE: [*_COMMON, "bytes", "crcs", "starts", "lengths"], statements.KEEP_BLOCK: [*_COMMON, "crc", "bytes"]}
+_VALUES = {statements.KEEP_ONE: [*_COMMON, "bytes", "crcs", "starts", "lengths"], statements.KEEP_BLOCK: [*_COMMON, "crc", "bytes"],
+           statements.REACHED: []}  # fmt: skip
 """The values of its statements, in the order in which the thread gives them."""
 
 
@@ -44,7 +45,8 @@ class End(IntEnum):
 class _Start(ctypes.Structure):
     _fields_ = [
         ("name", ctypes.c_char_p), ("generation", ctypes.c_uint64), ("log", ctypes.c_char_p), ("run", ctypes.c_char_p),
-        ("keep_one", ctypes.c_char_p), ("keep_block", ctypes.c_char_p), ("reached", ctypes.c_uint64), ("shift", ctypes.c_uint64), ("chain", ctypes.c_uint8 * _DIGEST),
+        ("keep_one", ctypes.c_char_p), ("keep_block", ctypes.c_char_p), ("flushed", ctypes.c_char_p), ("reached", ctypes.c_uint64),
+        ("shift", ctypes.c_uint64), ("chain", ctypes.c_uint8 * _DIGEST),
         ("chain_len", ctypes.c_size_t), ("pull", ctypes.c_char_p), ("pull_len", ctypes.c_size_t), ("service", ctypes.c_int),
         ("referee", ctypes.c_void_p), ("service_ms", ctypes.c_int), ("referee_ms", ctypes.c_int), ("idle_ms", ctypes.c_int),
         ("news", ctypes.c_int),
@@ -81,16 +83,18 @@ def _library() -> ctypes.CDLL | None:
 class QuickWays:
     """The one thread of a keeper, and its connection to PostgreSQL: for one database at a time, which has it as long as it is asked."""
 
-    def __init__(self, referee: QuickReferee, *, idle: float, deadline: float) -> None:
-        """Without a question for `idle` seconds a database gives it back. `deadline` is for a statement, in seconds."""
+    def __init__(self, referee: QuickReferee, *, idle: float, deadline: float, confirms: bool = False) -> None:
+        """Without a question for `idle` seconds a database gives it back. `deadline` is for a statement, in seconds. If it `confirms`,
+        nothing is told before a synchronous standby is known to have it."""
         self._library = _library()
         self._referee = referee
+        self.confirms = confirms
         self.idle, self.deadline = idle, deadline
         self._thread = ThreadPoolExecutor(1)
         self._at_work: asyncio.Future[object] | None = None
         """What the thread does: it connects, or has a database's way."""
         self.statements: tuple[Prepared, ...] = ()
-        """Of a batch and of one block, while it is connected."""
+        """Of a batch, of one block, and of how far a standby is, while it is connected."""
         self._is_taken = False
         self._not_before = 0.0
         self._closing: asyncio.TimerHandle | None = None
@@ -99,6 +103,12 @@ class QuickWays:
     def is_there(self) -> bool:
         """Whether it was built."""
         return self._library is not None
+
+    @property
+    def names(self) -> list[bytes | None]:
+        """Those of the statements; the last one is left out where no standby is asked for."""
+        first, second, last = (each.name for each in self.statements)
+        return [first, second, last if self.confirms else None]
 
     async def way_of(self, row: Row, served: Served, told: Callable[[], None]) -> QuickWay | None:
         """One for this database; None where another has it, or it is not to be had yet. `told` is called where there is `news` of it.
@@ -202,8 +212,8 @@ class QuickWay:
         self.last = served.reached, served.chain
         """How far it came, once it has ended."""
         start = _Start(
-            row.name.encode(), served.generation, str(row.id).encode(), served.run.encode(), *(each.name for each in ways.statements),
-            served.reached, served.shift, (ctypes.c_uint8 * _DIGEST)(*served.chain), len(served.chain), pull, len(pull), self._service,
+            row.name.encode(), served.generation, str(row.id).encode(), served.run.encode(), *ways.names, served.reached, served.shift,
+            (ctypes.c_uint8 * _DIGEST)(*served.chain), len(served.chain), pull, len(pull), self._service,
             ways.statements[0].connection, *(round(1000 * each) for each in (served.timeout, ways.deadline, ways.idle)), self._to_news,
         )  # fmt: skip
         self._way: int | None = library.way_new(ctypes.byref(start))

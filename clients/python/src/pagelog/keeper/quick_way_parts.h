@@ -16,7 +16,7 @@
 enum { NUMBER = 24 /* the room for a number as text */ };
 
 /* What it waits for. */
-enum phase { READY, PULLING, KEEPING };
+enum phase { READY, PULLING, KEEPING, CONFIRMING };
 
 struct line {
     struct line *next;
@@ -39,7 +39,7 @@ struct batch {
 
 struct way {
     struct way_start start;
-    char *name, *log, *run, *keep_one, *keep_block;
+    char *name, *log, *run, *keep_one, *keep_block, *flushed;
     uint8_t *pull;
     int control;                        /* an eventfd: wakes `way_run` */
 
@@ -57,6 +57,8 @@ struct way {
     size_t polled_room;
     bool rung, news_wanted, news_due, warned, has_row;
     int64_t due, asked_at;
+    int64_t confirm_at;                 /* when a standby is asked for again that had not flushed all; 0: it is being asked for */
+    uint64_t wanted, standby;           /* how far one has to have flushed; how far it had; 0: not known */
     struct batch batch;
     uint8_t *in;
     size_t in_len, in_room;
@@ -86,6 +88,11 @@ static inline void wake(int descriptor) {
     uint64_t one = 1;
     ssize_t written = write(descriptor, &one, sizeof one);
     (void)written; /* full: it is awake */
+}
+
+/* Whether a statement is on its way, or what became of it is not known for sure. */
+static inline bool has_statement(const struct way *way) {
+    return way->phase == KEEPING || way->phase == CONFIRMING;
 }
 
 /* Room for `len` bytes, of which some are kept. */
@@ -141,6 +148,9 @@ enum way_end go_on_pulling(struct way *way);
 bool keep(struct way *way);
 
 enum way_end go_on_keeping(struct way *way);
+
+/* Asks for the standby again, if it is time to. False where that cannot be. */
+bool confirm_again(struct way *way);
 
 void count_warning(void *argument, const PGresult *notice);
 

@@ -8,6 +8,7 @@ enum {
     ARRAY = WAY_BLOCKS * 11 + 3, /* the text of an array of numbers below 2^32 */
     COMMON = 6,                  /* values that both statements begin with */
     VALUES = COMMON + 4,
+    CONFIRM_MS = 2,              /* between two questions for the standby */
 };
 
 /* A value of a statement: bytes of this length, or where that is 0 a text. */
@@ -81,31 +82,58 @@ bool keep(struct way *way) {
     return send_statement(way, way->keep_one, 4, (struct value[]){bytes, {crcs, 0}, {starts, 0}, {lengths, 0}});
 }
 
-/* Takes what has come of the answer. Returns WAY_STOPPED while nothing stands against it; `is_kept` once it is known to be. */
-static enum way_end confirm(struct way *way, bool *is_kept) {
+static uint64_t value_of(const PGresult *result, int column) {
+    return PQgetisnull(result, 0, column) ? 0 : strtoull(PQgetvalue(result, 0, column), NULL, 10);
+}
+
+/* Takes a result. Returns WAY_STOPPED where nothing stands against it. */
+static enum way_end take_result(struct way *way, const PGresult *result) {
+    if (PQresultStatus(result) != PGRES_TUPLES_OK || way->has_row) {
+        return WAY_DOUBT;
+    }
+    if (PQntuples(result) == 0) {
+        return WAY_NOT_KEPT;
+    }
+    way->has_row = true;
+    if (way->phase == CONFIRMING) {
+        way->wanted = way->wanted == 0 ? value_of(result, 0) : way->wanted;
+        way->standby = value_of(result, 1);
+    }
+    return WAY_STOPPED;
+}
+
+/* Takes what has come of the answer. Returns WAY_STOPPED while nothing stands against it; `is_whole` once all has come. */
+static enum way_end take_answer(struct way *way, bool *is_whole) {
     PGconn *referee = way->start.referee;
-    *is_kept = false;
+    *is_whole = false;
     if (PQconsumeInput(referee) == 0 || PQflush(referee) < 0) {
         return WAY_DOUBT;
     }
     while (PQisBusy(referee) == 0) {
         PGresult *result = PQgetResult(referee);
         if (result == NULL) { /* only now it is committed, and replicated */
-            *is_kept = way->has_row && !way->warned;
-            return *is_kept ? WAY_STOPPED : WAY_DOUBT;
+            *is_whole = way->has_row && !way->warned;
+            return *is_whole ? WAY_STOPPED : WAY_DOUBT;
         }
-        bool is_answer = PQresultStatus(result) == PGRES_TUPLES_OK;
-        int rows = is_answer ? PQntuples(result) : 0;
+        enum way_end end = take_result(way, result);
         PQclear(result);
-        if (!is_answer || way->has_row) {
-            return WAY_DOUBT;
+        if (end != WAY_STOPPED) {
+            return end;
         }
-        if (rows == 0) {
-            return WAY_NOT_KEPT;
-        }
-        way->has_row = true;
     }
     return WAY_STOPPED;
+}
+
+/* Asks how far a synchronous standby has flushed. False where that cannot be. */
+static bool confirm(struct way *way) {
+    way->phase = CONFIRMING;
+    way->confirm_at = 0;
+    way->warned = way->has_row = false;
+    return PQsendQueryPrepared(way->start.referee, way->flushed, 0, NULL, NULL, NULL, 0) == 1 && PQflush(way->start.referee) >= 0;
+}
+
+bool confirm_again(struct way *way) {
+    return way->phase != CONFIRMING || way->confirm_at == 0 || now_ms() < way->confirm_at || confirm(way);
 }
 
 /* The batch is archived. */
@@ -120,11 +148,20 @@ static void enter(struct way *way) {
 }
 
 enum way_end go_on_keeping(struct way *way) {
-    bool is_kept;
-    enum way_end end = confirm(way, &is_kept);
-    if (is_kept) {
-        enter(way);
-        tell_news(way);
+    bool is_whole;
+    enum way_end end = take_answer(way, &is_whole);
+    if (!is_whole) {
+        return end;
     }
-    return end;
+    if (way->phase == KEEPING && way->flushed != NULL) {
+        way->wanted = 0;
+        return confirm(way) ? WAY_STOPPED : WAY_DOUBT;
+    }
+    if (way->phase == CONFIRMING && way->standby < way->wanted) { /* others have written meanwhile; or there is no standby */
+        way->confirm_at = now_ms() + CONFIRM_MS;
+        return way->standby == 0 ? WAY_DOUBT : WAY_STOPPED;
+    }
+    enter(way);
+    tell_news(way);
+    return WAY_STOPPED;
 }

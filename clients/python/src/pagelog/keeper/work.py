@@ -77,6 +77,11 @@ class Work:
         self._shared.session.woken.set()
         self._kick()
 
+    @property
+    def is_quick(self) -> bool:
+        """Whether its durable commits go the quick way."""
+        return self.archiver is not None and self.archiver.is_quick
+
     def ring(self) -> None:
         """There is something to archive, or somebody who waits."""
         if self.archiver is not None:
