@@ -80,7 +80,7 @@ class TwoKeepers(Two):
             self.standby(1)
             before = self.keeping.place()
             session.execute(f"NOTIFY pagelog_keeper, 'shop {before.generation} 1 {self.keeping.row().chain.hex()}'")
-            eventually(lambda: "shop: nobody has it" in self.keeping.said().partition(f"--- {self.other()}")[2], "the word of it")
+            eventually(lambda: "shop: take: nobody has it" in self.keeping.said().partition(f"--- {self.other()}")[2], "the word of it")
             self.assertEqual(self.commit(primary, "2", durable=True), 2)
             self.standby(2)
             self.assertEqual(self.keeping.place(), replace(before, archived=2))
