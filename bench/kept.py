@@ -1,7 +1,7 @@
 """Named databases under keepers, beside PostgreSQL's own commits and plain archiving: needs Debian's packages of clients/python/test.
 
-Usage: python3 -B bench/kept.py [--share SHARE] [--alone] [--apart] [PART ..]
-(parts: commits, archiving, kills, switchover, idle; by default all)
+Usage: python3 -B bench/kept.py [--share SHARE] [--alone] [--apart] [--blocks N [--pages P]] [PART ..]
+(parts: commits, archiving, kills, restore, switchover, idle; by default all)
 """
 
 import argparse
@@ -14,6 +14,7 @@ import socket
 import statistics
 import subprocess
 import sys
+import tempfile
 import threading
 import time
 
@@ -28,6 +29,11 @@ import psycopg  # noqa: E402
 import service  # noqa: E402
 from keepers import Keeping, eventually  # noqa: E402
 from pagelog import Block, Group, Put  # noqa: E402
+from pagelog.keeper.ahead import pieces_of  # noqa: E402
+from pagelog.keeper.referee import Referee, digest  # noqa: E402
+from pagelog.keeper.rows import Batch  # noqa: E402
+from pagelog.keeper.run import Program  # noqa: E402
+from pagelog.keeper.served import Served  # noqa: E402
 from replicated import Pair, Server  # noqa: E402
 
 NAME = "shop"
@@ -91,13 +97,18 @@ def keeping(pair, names="a", **options):
         yield made
 
 
-def fill(primary, count):
+def fill(primary, count, pages=1):
     """Commits so many blocks, a thousand with each request: a commit by itself would make a few large ones of their records."""
     while count > 0:
         first, some = primary.end + 1, min(1000, count)
-        primary._tail += [Block.of(lsn, (RECORD,)) for lsn in range(first, first + some)]
+        primary._tail += blocks(first, some, pages)
         primary.commit()
         count -= some
+
+
+def blocks(first, count, pages=1):
+    """Small blocks, each of one page of so many."""
+    return [Block.of(lsn, (Put(lsn % pages, 0, RECORD.data),)) for lsn in range(first, first + count)]
 
 
 class Alone:
@@ -267,10 +278,10 @@ def plainly_archived(pair, count):
 
 def kills(pair, share):
     """From the SIGKILL of a service to the next durable commit of a writer that lives."""
-    for count in (round(10_000 * share), round(100_000 * share)):
+    for count in (pair.blocks,) if pair.blocks else (round(10_000 * share), round(100_000 * share)):
         for standby in (True, False):
             with keeping(pair, "ab" if standby else "a", standby=standby) as kept, kept.primary() as primary:
-                fill(primary, count)
+                fill(primary, count, pair.pages)
                 primary.durable(primary.end)
                 if standby:
                     eventually(lambda: count in kept.standbys().values(), "a standby with all of it")
@@ -281,8 +292,47 @@ def kills(pair, share):
                     os.kill(kept.pid(), signal.SIGKILL)
                     primary.append(RECORD)
                     took += timed(lambda: primary.commit(durable=True), 1)
-            print(f"SIGKILL of a service of {count:,} blocks, {'a' if standby else 'no'} standby: durable again after "
-                  f"{', '.join(f'{each:.2f}' for each in took)} s, where the ttl is {TTL} s")  # fmt: skip
+            print(f"SIGKILL of a service of {count:,} blocks over {pair.pages:,} pages, {'a' if standby else 'no'} standby: durable again after "
+                  f"{', '.join(f'{each:.2f}' for each in took)} s, where the ttl is {TTL} s; load {os.getloadavg()[0]:.1f}")  # fmt: skip
+
+
+def restore(pair, share):
+    """A service is filled from position 1, with no base: the archive is read alone, a service is loaded alone, and both at once."""
+    count, rates = pair.blocks or round(300_000 * share), {"read": [], "loaded": [], "both": []}
+    with contextlib.closing(Referee(pair.url, "bench", "life")) as referee, tempfile.TemporaryDirectory() as folder:
+        referee.prepare()
+        row, chain = archived(referee, "restored", count, pair.pages)
+        for number in range(3):
+            began = time.perf_counter()
+            pieces = list(pieces_of(referee, row.id, 1, count))
+            rates["read"].append(count / (time.perf_counter() - began))
+            for what in ("loaded", "both"):
+                served = Served(row.name, f"{what}{number}", service.WIDE_TABLE, b"s" * 16, timeout=service.PATIENCE)
+                served.start(Program(os.environ["PAGELOG"], "127.0.0.1", pathlib.Path(folder)))
+                began = time.perf_counter()
+                if what == "both":
+                    served.follow(referee, row.id, count, chain)
+                else:
+                    served.fill(pieces, count, chain)
+                rates[what].append(count / (time.perf_counter() - began))
+                served.end()
+        referee.drop(row.name)
+    print(f"restore of {count:,} blocks from position 1, blocks a second: " + "; ".join(
+        f"{what} {statistics.median(some):,.0f} ({', '.join(f'{each:,.0f}' for each in some)})" for what, some in rates.items())
+        + f"; load {os.getloadavg()[0]:.1f}")  # fmt: skip
+
+
+def archived(referee, name, count, pages):
+    """A database with so many archived blocks, and their digest."""
+    referee.create(name, service.WIDE_TABLE, b"s" * 16)
+    row, at, chain = referee.everything().row(name), 0, b""
+    generation = referee.take(row, "run").generation
+    while at < count:
+        some = tuple(block.data for block in blocks(at + 1, min(4096, count - at), pages))
+        chain = digest(chain, some)
+        assert referee.keep([Batch(row.id, "run", generation, at, chain, some)])
+        at += len(some)
+    return row, chain
 
 
 def switchover(pair, share):
@@ -338,13 +388,15 @@ def idle(pair, share):
     print(f"{count} idle databases: {100 * spent / period:.1f} % of a processor, {sessions} connections to PostgreSQL")
 
 
-PARTS = {"commits": commits, "archiving": archiving, "kills": kills, "switchover": switchover, "idle": idle}
+PARTS = {"commits": commits, "archiving": archiving, "kills": kills, "restore": restore, "switchover": switchover, "idle": idle}
 
 
 def main():
     parser = argparse.ArgumentParser()
     parser.add_argument("parts", nargs="*", metavar="PART", help=", ".join(PARTS))
     parser.add_argument("--share", type=float, default=1.0, help="of the work of a whole run")
+    parser.add_argument("--blocks", type=int, default=0, help="of kills and restore, as 1000000 [default: 10,000 and 100,000; 300,000]")
+    parser.add_argument("--pages", type=int, default=1, help="that these blocks change, by turns")
     parser.add_argument("--alone", action="store_true", help="one PostgreSQL, without a standby")
     parser.add_argument("--apart", action="store_true", help="for commits: a processor for each part, as on machines of their own")
     words = parser.parse_args()
@@ -354,7 +406,7 @@ def main():
     if words.apart and len(os.sched_getaffinity(0)) < 4:
         parser.error("--apart needs four processors")
     pair = Alone() if words.alone else Pair()
-    pair.is_apart = words.apart
+    pair.is_apart, pair.blocks, pair.pages = words.apart, words.blocks, words.pages
     try:
         print(f"PostgreSQL {'without' if words.alone else 'with'} a synchronous standby on this machine; load {os.getloadavg()[0]:.1f} of {os.cpu_count()} processors")
         for name in words.parts or PARTS:

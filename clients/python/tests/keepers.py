@@ -251,7 +251,7 @@ class Keeping:
 
     def ring(self) -> None:
         """Has all keepers look now, however long their ttl is."""
-        with psycopg.connect(self.url, autocommit=True) as session:
+        with psycopg.connect(self.url, autocommit=True, target_session_attrs="read-write") as session:
             session.execute("NOTIFY pagelog_keeper")
 
     @contextmanager
@@ -371,3 +371,18 @@ class Trigger:
         if not self._session.closed:
             self._session.execute(f"DROP TRIGGER pagelog_attack ON {self._table}")
             self._session.close()
+
+
+class Tried(Trigger):
+    """Counts the statements of a session that would change an archive, whether or not they do."""
+
+    def __init__(self, url: str, session: str) -> None:
+        with psycopg.connect(url, autocommit=True) as boss:
+            boss.execute("CREATE SEQUENCE IF NOT EXISTS pagelog_tried")
+            boss.execute("ALTER SEQUENCE pagelog_tried RESTART")
+        super().__init__(url, "pagelog_log", "UPDATE ON pagelog_log FOR EACH STATEMENT",
+                         f"IF current_setting('application_name') = '{session}' THEN PERFORM nextval('pagelog_tried'); END IF")  # fmt: skip
+
+    def count(self) -> int:
+        [count] = self._session.execute("SELECT CASE WHEN is_called THEN last_value ELSE 0 END FROM pagelog_tried").fetchone() or [0]
+        return int(count)

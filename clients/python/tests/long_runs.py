@@ -7,6 +7,7 @@ import os
 import signal
 import subprocess
 import sys
+import threading
 import time
 from pathlib import Path
 from typing import Callable, Mapping, Sequence
@@ -26,6 +27,7 @@ class LongRun:
     def __init__(self, file: str, keeping: Keeping) -> None:
         """`file` is the program of the clients."""
         self.file, self.keeping = file, keeping
+        self.clients: list[subprocess.Popen[bytes]] = []
 
     def run(self) -> int:
         """Goes on for its time. Returns the exit status."""
@@ -34,7 +36,8 @@ class LongRun:
     def client(self, what: str, who: object, number: float) -> subprocess.Popen[bytes]:
         """Starts one."""
         words = [sys.executable, "-B", self.file, what, self.keeping.folder, who, ",".join(self.keeping.addresses), number]
-        return subprocess.Popen(list(map(str, words)))
+        self.clients.append(subprocess.Popen(list(map(str, words))))
+        return self.clients[-1]
 
     def ended(self, client: subprocess.Popen[bytes], patience: float) -> int:
         """The status of a client that has to end now. One that does not says what it is at, and so do the keepers."""
@@ -67,11 +70,18 @@ class LongRun:
         self.keeping.__exit__()
 
 
+def _fail(error: threading.ExceptHookArgs) -> None:
+    """A client fails with each of its threads."""
+    threading.__excepthook__(error)
+    os._exit(1)
+
+
 def is_client(words: Sequence[str], clients: Mapping[str, Client]) -> bool:
     """Whether the program was called for a client of its own process, which has come to its end then."""
     if not words or words[0] not in clients:
         return False
     faulthandler.register(signal.SIGUSR1)
+    threading.excepthook = _fail
     clients[words[0]](Path(words[1]), words[2], words[3].split(","), float(words[4]))
     return True
 

@@ -35,6 +35,9 @@ PLANTS = {
                           "archived = %(old)s RETURNING id),", "referee", "keeps_nothing"),
     "position of one": Plant("statements", " AND archived = %(old)s RETURNING id),", " RETURNING id),", "referee",
                              "under_run_generation_and_archived_position"),
+    "fence of a zombie": Plant("statements", "run = %(run)s AND generation = %(generation)s AND archived = %(old)s RETURNING id),",
+                               "(run = %(run)s OR generation < %(generation)s + 9) AND archived = %(old)s RETURNING id),", "standbys",
+                               "machine_that_stood_still"),
     "take": Plant("statements", "generation = %(generation)s AND archived = %(archived)s AND run IS NOT DISTINCT FROM %(seen_run)s::text\n"
                   "    AND", "", "referee", "eight_takes"),
     "select": Plant("statements", "UPDATE pagelog_keeper SET beat = beat + 1, report = COALESCE(%(report)s::jsonb, report)\n"
@@ -71,6 +74,16 @@ PLANTS = {
     "one disk, taken": Plant("referee", "        if self._requires_standby:\n", "        if False:\n", "disks", "nobody_takes_over"),
     "standby is there": Plant("referee", "            if reached is None:\n", "            if reached is None:\n                return\n"
                               "            if False:\n", "disks", "wait_is_given_up"),
+    "doubt of a dead server": Plant("committer", "                kept = frozenset()\n", "                kept = frozenset(due.batch.log for due in batches)\n",
+                                    "disks", "go_on_in_their_generation"),
+    "no room, told": Plant("committer", "                kept = frozenset()\n", "                kept = frozenset(due.batch.log for due in batches)\n",
+                           "disks", "no_room_is_kept"),
+    "no room for the log, told": Plant("committer", "                kept = frozenset()\n",
+                                       "                kept = frozenset(due.batch.log for due in batches)\n", "disks", "for_want_of_room"),
+    "unknown to an old leader": Plant("referee", "        if len(kept) < len(batches):\n", "        if False:\n", "disks", "old_leader_does_not_know"),
+    "selected, looked up": Plant("referee", '"UPDATE pagelog_log SET archived = archived WHERE id = %s AND run = %s "\n                          '
+                                 '"RETURNING archived, chain, generation"', '"SELECT archived, chain, generation FROM pagelog_log WHERE id = %s '
+                                 'AND run = %s"', "disks", "what_it_has_alone"),
     "once": Plant("keeping", "        if sentence != self._said:\n", "        if True:\n", "disks", "said_once"),
     "away": Plant("keeping", "            self.synchronous = Synchronous()\n", "", "disks", "nothing_is_durable_until"),
     "watchdog": Plant("keeping", '        self._shared.spawn(self._live(), "the watchdog")\n', "", "keepers", "systemd_hears"),
@@ -165,6 +178,7 @@ PLANTS = {
     "few questions": Plant("fates", "_AT_ONCE, _MOST = 4, 10_000", "_AT_ONCE, _MOST = 10_000, 10_000", "meanwhile", "few_of_their"),
     "few positions": Plant("waits", "if len(waits) >= _MOST:", "if False:", "meanwhile", "no_more_than"),
     "no name": Plant("keeping", "if NAME.fullmatch(name) is None:", "if False:", "keepers", "words_that_no"),
+    "group, left meanwhile": Plant("../group", "self._leader is not None and not self._leader.under", "not self._leader.under", "group", "has_left"),
     "group, left twice": Plant("../group", "not self._leader.under_way.locked():", "False:", "named", "middle_of_what"),
     "most of the archive": Plant("../place", "(place.generation, place.archived))", "place.generation)", "named", "who_knows_most"),
     "silent address": Plant("../dialing", "max(_LEAST, (ends - time.monotonic()) / (len(found) - tried))", "timeout", "connection", "leaves_the_others"),

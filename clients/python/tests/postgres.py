@@ -49,13 +49,16 @@ class Postgres:
         atexit.register(self.stop)
 
     def run(self, program: str, *arguments: object) -> None:
-        words = [str(programs() / program), *map(str, arguments)]
-        groups: dict[str, Any] = {"group": self.user, "extra_groups": []} if self.user else {}
         with (self.folder / "said").open("a+") as said:
-            done = subprocess.run(words, cwd=self.folder, stdout=said, stderr=said, user=self.user, **groups)
+            done = self.call([str(programs() / program), *map(str, arguments)], cwd=self.folder, stdout=said, stderr=said)
             if done.returncode != 0:
                 said.seek(0)
                 raise AssertionError(f"{program} failed: {said.read()}")
+
+    def call(self, words: list[str], **how: Any) -> subprocess.CompletedProcess[bytes]:
+        """Runs it, as a user who is not root."""
+        groups: dict[str, Any] = {"group": self.user, "extra_groups": []} if self.user else {}
+        return subprocess.run(words, user=self.user, **groups, **how)
 
     def start(self) -> None:
         options = f"-k {self.folder} -c listen_addresses= -c max_connections=30 -c fsync={FSYNC}"

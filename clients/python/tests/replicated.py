@@ -8,7 +8,7 @@ import signal
 import tempfile
 import time
 from pathlib import Path
-from typing import Any
+from typing import Any, Callable
 
 from postgres import FSYNC, PATIENCE, Postgres
 
@@ -75,12 +75,31 @@ class Pair:
 
     def fail_over(self) -> None:
         """The leader is killed, its standby leads, and a new standby is made in the old one's place."""
-        old, place = self.leader, self.folders.index(self.leader.folder)
-        others = old.kill()
+        self.lead(self.leader.kill())
+
+    def lead(self, others: list[str]) -> None:
+        """The standby leads, of a leader that was killed. `others` are what is left of that one's processes."""
+        old = self._promote()
+        self._replace(old, Server(self.leader), others)
+
+    def fail_over_beside(self, meanwhile: Callable[[], None]) -> None:
+        """The standby leads, and has a standby; the leader goes on beside it, and is killed after what is done meanwhile."""
+        old = self._promote()
+        fresh = Server(self.leader)
+        meanwhile()
+        self._replace(old, fresh, old.kill())
+
+    def _promote(self) -> Server:
+        """Returns who led before."""
+        old = self.leader
         self.standby.run("pg_ctl", "-D", self.standby.data, "-w", "-t", PATIENCE, "promote")
         self.standby.setting("synchronous_standby_names", "*")
         self.leader = self.standby
-        fresh = Server(self.leader)
+        return old
+
+    def _replace(self, old: Server, fresh: Server, others: list[str]) -> None:
+        """A standby comes to where one was that is dead."""
+        place = self.folders.index(old.folder)
         while any(map(_lives, others)):
             time.sleep(0.01)  # what they still write would be in the way
         shutil.rmtree(old.folder, ignore_errors=True)

@@ -63,7 +63,7 @@ PARTS = {
     "test_meanwhile": "what changes while a keeper waits for something",
     "test_beginnings": "what changes while a service is filled, adopted, or follows",
     "test_turns": "whose turn it is to write",
-    "test_disks": "what durable means without a standby of PostgreSQL",
+    "test_disks": "what durable means as PostgreSQL loses its standby, its leader, or room",
     "test_soak": "named databases that live on for a while",
     "test_images": "images of pages, and blocks of them",
     "test_bases": "bases in PostgreSQL, pruned, and begun again",

@@ -4,8 +4,13 @@ from __future__ import annotations
 
 import json
 import random
+import tempfile
+import threading
+import time
 from dataclasses import replace
+from pathlib import Path
 from typing import Any
+from unittest.mock import patch
 
 import psycopg
 
@@ -14,13 +19,18 @@ from keepers import blocks, new_database, new_url
 from pagelog import Block, Put, Zero
 from pagelog.desk.keeper_words import _drop_named
 from pagelog.keeper.bases import NOTHING, Base, Bases, make_base
+from pagelog.errors import ConnectionLost
 from pagelog.keeper.history import begin_again
 from pagelog.keeper.images import MARK
+from pagelog.keeper.loading import Loader
 from pagelog.keeper.referee import BrokenArchive, Doubt, KeeperError, Referee, Refused, digest
 from pagelog.keeper.rows import Batch, Kept
+from pagelog.keeper.run import Program
 from pagelog.keeper.schema import script
+from pagelog.keeper.served import Served
 from pagelog.keeper.switch import Switch, number, release, succeed
 from pagelog.trail import Trail
+from service import PATIENCE, PROGRAM, WIDE_TABLE
 from test_images import pages
 from test_referee import Referees
 
@@ -287,6 +297,77 @@ class Switches(Made):
         self.assertEqual(release(self.referee, last), 7)
         seen = self.seen()
         self.assertEqual((seen.run, seen.archived, seen.chain, len(self.rows("block"))), (None, 7, last.chain, 7))
+
+
+class Fills(Made):
+    """A service is filled from the archive, in pieces."""
+
+    def setUp(self) -> None:
+        super().setUp()
+        self.served = Served("shop", "r1", WIDE_TABLE, b"s" * 16, timeout=PATIENCE)
+        self.served.start(Program(PROGRAM, "127.0.0.1", Path(self.enterContext(tempfile.TemporaryDirectory())), 100_000))
+        self.addCleanup(self.served.end)
+        self.pieces: list[tuple[int, int]] = []
+        read = Referee._piece
+
+        def piece(of: Referee, log: int, first: int, last: int) -> list[bytes]:
+            self.pieces.append((first, last))
+            return read(of, log, first, last)
+
+        self.enterContext(patch.object(Referee, "_piece", piece))
+        self.enterContext(patch("pagelog.keeper.ahead.PIECE", 16))
+
+    def follow(self) -> None:
+        self.served.follow(self.referee, self.row.id, self.kept.archived, self.kept.chain)
+
+    def test_blocks_that_are_small_or_large_come_in_pieces_of_many_or_few(self) -> None:
+        self.keep([Block.of(lsn, [Put(0, 0, b"x" * 80)]).data for lsn in range(1, 41)])
+        self.keep([Block.of(lsn, [Put(page, 0, b"x" * 8000) for page in range(4)]).data for lsn in range(41, 61)])
+        size = sum(map(len, self.blocks[16:56])) + 1
+        with patch("pagelog.keeper.ahead._MOST", (40, size)):
+            self.follow()
+        self.assertEqual(self.pieces, [(1, 16), (17, 56), (57, 60)])
+        self.assertEqual((self.served.reached, self.served.pulled(0), self.served.end_of_log()), (60, self.blocks, 60))
+
+    def test_a_block_that_is_missing_or_damaged_leaves_what_was_read_before_it(self) -> None:
+        self.write(60)
+        with psycopg.connect(self.url, autocommit=True) as connection, patch("pagelog.keeper.ahead._MOST", (16, 1 << 20)):
+            for harm, mend, error in (("SET lsn = 1000", "SET lsn = 40", "1 of the archived blocks 33 to 48 are missing"),
+                                      ("SET crc = crc + 1", "SET crc = crc - 1", "block 40 is not the one that was kept")):  # fmt: skip
+                connection.execute(f"UPDATE pagelog_block {harm} WHERE lsn = 40")
+                self.assertRaisesRegex(BrokenArchive, error, self.follow)
+                self.assertEqual((self.served.reached, self.served.loaded, self.served.end_of_log()), (0, 32, 32))
+                connection.execute(f"UPDATE pagelog_block {mend} WHERE lsn IN (40, 1000)")
+            right, self.kept = self.kept, replace(self.kept, chain=b"other")
+            self.assertRaisesRegex(BrokenArchive, "the blocks up to 60 are not those that were archived", self.follow)
+            self.assertEqual((self.served.reached, self.served.loaded, self.served.end_of_log()), (0, 60, 60))
+        self.assertNotIn("ahead_0", [thread.name for thread in threading.enumerate()])
+
+    def test_a_service_that_ends_amid_leaves_no_read_under_way(self) -> None:
+        self.write(60)
+        began, ended = threading.Event(), threading.Event()
+        read = Referee._piece
+
+        def slow(of: Referee, log: int, first: int, last: int) -> list[bytes]:
+            if first == 1:
+                return read(of, log, first, last)
+            began.set()
+            since = time.monotonic()
+            try:
+                return [bytes(of._ask_bounded(f"SELECT pg_sleep({PATIENCE})", ())[0][0])]
+            finally:
+                if time.monotonic() - since < PATIENCE:
+                    ended.set()
+
+        def killed(*_: object) -> None:
+            self.assertTrue(began.wait(PATIENCE))
+            raise ConnectionLost("the service ended the connection")
+
+        with patch.object(Referee, "_piece", slow), patch.object(Loader, "_move", killed), patch("pagelog.keeper.referee.LONGEST", PATIENCE):
+            self.assertRaisesRegex(ConnectionLost, "the service ended", self.follow)
+        self.assertTrue(ended.is_set())
+        self.follow()  # over another connection
+        self.assertEqual(self.served.reached, 60)
 
 
 class Migration(Referees):

@@ -8,12 +8,15 @@ import os
 import subprocess
 import tempfile
 import threading
+import time
+import unittest
 from dataclasses import replace
 from pathlib import Path
-from typing import Any
+from typing import Any, Iterator
 from unittest.mock import AsyncMock, Mock, patch
 
 from pagelog.errors import PagelogError
+from pagelog.keeper.ahead import ahead
 from pagelog.keeper.database import Database
 from pagelog.keeper.ending import Ending
 from pagelog.keeper.machine import Kind
@@ -124,6 +127,50 @@ class Fills(Meanwhile):
                     self.see(replace(ROW, address=None))
                     await self.done(lambda: self.database._acting.done())  # type: ignore[union-attr]
         self.assertEqual((self.database.served, served.is_broken), (served, False))
+
+
+class ReadsAhead(unittest.TestCase):
+    def pieces(self, count: int, error: Exception | None = None) -> Iterator[list[int]]:
+        self.read: list[int] = []
+        for number in range(count):
+            self.read.append(number)
+            yield [number]
+        if error is not None:
+            raise error
+
+    def test_the_next_piece_is_read_while_one_is_loaded_and_no_other(self) -> None:
+        cut = Mock()
+        with ahead(self.pieces(5), cut) as pieces:
+            for number, piece in enumerate(pieces):
+                threads = threading.active_count()
+                deadline = time.monotonic() + PATIENCE
+                while len(self.read) < min(5, number + 2) and time.monotonic() < deadline:
+                    time.sleep(0.001)
+                self.assertEqual((piece, self.read), ([number], list(range(min(5, number + 2)))))
+        self.assertEqual((number, threading.active_count(), cut.called), (4, threads - 1, False))
+
+    def test_what_fails_comes_behind_what_was_read_before(self) -> None:
+        found, cut = [], Mock()
+        with self.assertRaisesRegex(Doubt, "cut"), ahead(self.pieces(3, Doubt("cut")), cut) as pieces:
+            for piece in pieces:
+                found += piece
+        self.assertEqual((found, cut.called), ([0, 1, 2], False))
+
+    def test_a_read_that_hangs_is_cut_where_a_piece_cannot_be_loaded(self) -> None:
+        hangs, was_cut = threading.Event(), threading.Event()
+
+        def read() -> Iterator[list[int]]:
+            yield [0]
+            hangs.set()
+            if was_cut.wait(PATIENCE):
+                raise Doubt("what the cut one says is no news")
+
+        with self.assertRaisesRegex(PagelogError, "the service ended"), ahead(read(), was_cut.set) as pieces:
+            self.assertEqual(next(pieces), [0])
+            self.assertTrue(hangs.wait(PATIENCE))
+            raise PagelogError("the service ended")
+        self.assertTrue(was_cut.is_set())
+        self.assertNotIn("ahead_0", [thread.name for thread in threading.enumerate()])
 
 
 class Adopts(Meanwhile):

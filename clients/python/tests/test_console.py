@@ -32,7 +32,7 @@ DATABASE = {
     "generation": int, "began": (str, type(None)), "begins": list, "position": int, "lag": (int, type(None)),
     "lag_seconds": (float, type(None)), "commits": (float, type(None)), "reads": (float, type(None)), "entries_left": (int, type(None)),
     "entries": int, "due": int, "memory": (int, type(None)), "memory_limit": (int, type(None)), "standbys": list, "denials": (int, type(None)),
-    "next": str, "next_in": (float, type(None)),
+    "why": (str, type(None)), "next": str, "next_in": (float, type(None)),
 }  # fmt: skip
 DETAIL = {**DATABASE, "version": int, "at": str, "generations": list, "points": list, "has_trail": bool, "rules": dict,
           "trail_is_damaged": bool, "denied": list, "events": list}  # fmt: skip
@@ -113,9 +113,10 @@ class Lively(Kept):
         self.keeping.word("pause", "shop")
         self.until(state="serving", paused=True, next_in=None)
         os.kill(pid, signal.SIGKILL)
-        self.until(state="nobody", holder=None, next="Nobody takes it until it is resumed.")
+        why = "a says: nobody has it; paused; b says: nobody has it; paused"
+        self.until(state="nobody", holder=None, next="Nobody takes it until it is resumed.", why=why)
         self.keeping.word("resume", "shop")
-        self.until(state="serving", paused=False)
+        self.until(state="serving", paused=False, why="serves")
         released = [said for said in self.follower.said() if "released it at position 0" in said]
         self.assertEqual((len(released), self.follower.said().count("shop: was paused")), (1, 1))
 

@@ -1,22 +1,29 @@
-"""What durable means where PostgreSQL has a synchronous standby, loses it, and has it again."""
+"""What durable means where PostgreSQL loses its standby, its leader, or the room on a disk, and has it again."""
 
 from __future__ import annotations
 
+import asyncio
 import json
 import os
 import signal
 import threading
 import unittest
+from dataclasses import replace
 from typing import Any
 
 import psycopg
 
 from keepers import Kept, batch_of, eventually, new_database
+from pagelog import NamedPrimary, Put
 from pagelog.keeper import quick_way
+from pagelog.keeper.quick import QuickReferee, QuickSession
 from pagelog.keeper.referee import Doubt, OneDisk, Referee
 from pagelog.keeper.rows import Synchronous
+from pagelog.keeper.session import Session
+from pagelog.place import Fate
 from replicated import Pair
 from service import PATIENCE
+from small_disk import SmallDisks
 
 IS_BUILT = quick_way._library() is not None
 _pairs: list[Pair] = []
@@ -130,6 +137,29 @@ class Referees(unittest.TestCase):
             through._confirm(through._connected())
         self.assertEqual(through.look().synchronous.count, 1)
 
+    def test_a_batch_of_a_run_that_an_old_leader_does_not_know_goes_to_the_new_one(self) -> None:
+        old = self.pair.leader
+
+        def beside() -> None:
+            new = self.pair.leader
+            taker = self.new("taker", f"postgresql://pagelog@/kept?host={new.folder}")
+            kept = taker.take(self.row, "r1")
+            assert kept is not None
+            for kind, session_of in ((Referee, Session), (QuickReferee, QuickSession)):
+                writer = kind(f"postgresql://pagelog@/kept?host={old.folder},{new.folder}", "writer", "life of writer")
+                self.addCleanup(writer.close)
+                batch = batch_of(self.row, kept, "r1")
+
+                async def keep() -> list[frozenset[int]]:
+                    session = session_of(writer, PATIENCE)
+                    return [await session.keep(found) for found in ((), [batch], [batch])]  # the first one prepares it
+
+                self.assertEqual(asyncio.run(keep()), [frozenset(), frozenset(), {self.row.id}])
+                kept = replace(kept, archived=batch.new, chain=batch.chain)
+
+        self.pair.fail_over_beside(beside)
+        self.plain.close()
+
     def test_what_a_role_may_not_see_is_no_standby_to_it(self) -> None:
         with boss() as session:
             session.execute("CREATE ROLE limited LOGIN")
@@ -173,6 +203,12 @@ class Durable(Kept):
             [beat] = session.execute("SELECT beat FROM pagelog_keeper WHERE name = 'a'").fetchone() or [0]
         return int(beat)
 
+    def waits(self, statement: str) -> None:
+        """Waits for such a statement of the keeper that the leader has committed, and its standby has not."""
+        waits = "SELECT 1 FROM pg_stat_activity WHERE wait_event = 'SyncRep' AND application_name = 'pagelog keeper a' AND query LIKE %s"
+        with boss() as session:
+            eventually(lambda: session.execute(waits, (f"%{statement}%",)).fetchone() is not None, f"a wait of {statement}")
+
 
 class OneDiskIsEnough(Durable):
     ttl = 120.0
@@ -193,6 +229,91 @@ class OneDiskIsEnough(Durable):
             eventually(lambda: self.standbys() == 1, "the standby in the metric")
             self.assertIn("another disk too: PostgreSQL has 1 synchronous standby", self.keeping.word("kept"))
         self.assertEqual(self.keeping.said().count("durable means one disk"), 1)
+
+
+class AStandbyLeads(Durable):
+    """The leader of PostgreSQL is killed while it waits for its standby, which leads then."""
+
+    more, ttl = "require_standby = true\n", 20.0
+
+    def setUp(self) -> None:
+        pair().leader.setting("synchronous_commit", "remote_apply")  # so that a standby can have what nobody is told of yet
+        self.addCleanup(lambda: _pairs[0].leader.setting("synchronous_commit", "on"))
+        with psycopg.connect(_pairs[0].url + "&target_session_attrs=read-write", autocommit=True) as session:
+            eventually(lambda: session.execute("SHOW synchronous_commit").fetchone() == ("remote_apply",), "the setting")
+        super().setUp()
+
+    def fail_over_amid(self, primary: NamedPrimary, position: int) -> None:
+        """Makes a commit durable at this position; while it waits for the standby, that takes the leader's place."""
+        told: list[int] = []
+        writer = threading.Thread(target=lambda: told.append(self.commit(primary, f"{position}", durable=True)), daemon=True)
+        writer.start()
+        self.waits("INSERT INTO pagelog_block")
+        is_there = (_pairs[0].standby.data / "postmaster.pid").exists()
+        if is_there:
+            with boss() as session:
+                has = "SELECT bool_and(flush_lsn >= pg_current_wal_flush_lsn()) FROM pg_stat_replication"
+                eventually(lambda: session.execute(has).fetchone() == (True,), "all on the disk of the standby")
+        said = self.keeping.said().count("nothing is archived")
+        others = _pairs[0].leader.kill()
+        eventually(lambda: self.keeping.said().count("nothing is archived") > said, "the doubt")
+        self.assertEqual((self.keeping.place().archived, told), (position - 1, []))
+        if not is_there:
+            _pairs[0].standby.start()
+        _pairs[0].lead(others)
+        writer.join(PATIENCE)
+        self.assertEqual(told, [position])
+
+    def test_commits_go_on_in_their_generation(self) -> None:
+        with self.keeping.primary() as primary:
+            self.commit(primary, "1", durable=True)
+            first = self.keeping.place().generation
+            os.kill(self.keeping.pid(), signal.SIGKILL)
+            self.assertEqual(self.commit(primary, "2", durable=True), 2)
+            keepers, second = self.keeping.keepers(), self.keeping.place().generation
+            self.addCleanup(keepers.close)
+
+            def fates() -> list[Fate]:
+                return [keepers.fate(generation, position) for generation, position in ((first, 1), (first, 2), (second, 2))]
+
+            told = fates()
+            self.assertEqual([fate.is_over for fate in told], [True, True, False])
+            with psycopg.connect(f"postgresql://pagelog@/kept?host={_pairs[0].standby.folder}", autocommit=True) as session:
+                session.execute("SELECT pg_wal_replay_pause()")  # the standby takes what comes to its disk, and does no more with it
+                eventually(lambda: session.execute("SELECT pg_get_wal_replay_pause_state()").fetchone() == ("paused",), "the pause")
+            self.fail_over_amid(primary, 3)
+            self.assertEqual(fates()[:2], told[:2])
+            _pairs[0].standby.crash()  # it leads later without what it missed
+            self.fail_over_amid(primary, 4)
+            self.assertEqual(self.commit(primary, "5", durable=True), 5)
+            self.assertEqual(fates(), [*told[:2], Fate(5, False)])
+            self.assertEqual((self.keeping.place().generation, self.texts()), (second, [b"1", b"2", b"3", b"4", b"5"]))
+
+
+class AServerComesBack(Durable):
+    ttl = 20.0
+
+    def test_what_it_has_alone_is_told_once_its_standby_is_back(self) -> None:
+        with self.keeping.primary() as primary, self.keeping.line() as text:
+            self.commit(primary, "1", durable=True)
+            generation = self.keeping.place().generation
+            end_standby("*")
+            self.addCleanup(start_standby)
+            self.assertEqual(self.commit(primary, "2"), 2)
+            print(f"durable shop {generation} 2", file=text, flush=True)
+            self.waits("INSERT INTO pagelog_block")
+            _pairs[0].leader.crash()
+            _pairs[0].leader.start()
+            with boss() as session:  # everybody sees it, and it is on one disk
+                self.assertEqual(session.execute("SELECT archived FROM pagelog_log WHERE name = 'shop'").fetchone(), (2,))
+            self.waits("UPDATE pagelog_log SET archived = archived")
+            print("where shop", file=text, flush=True)
+            self.assertEqual(text.readline().split()[:6:5], ["at", "1"])
+            self.assertEqual(primary.durable_end, 1)
+            start_standby()
+            self.assertEqual(text.readline().split(), ["durable", "shop", str(generation), "2"])
+            primary.durable(2)
+            self.assertEqual((self.keeping.place().generation, self.texts()), (generation, [b"1", b"2"]))
 
 
 class StandbyRequired(Durable):
@@ -261,6 +382,62 @@ class StandbyRequired(Durable):
             self.assertEqual(self.commit(primary, "2", durable=True), 2)
             self.assertGreater(self.keeping.place().generation, place.generation)
             self.assertEqual(self.texts(), [b"1", b"2"])
+
+
+class FullDisks(Kept):
+    keepers = "a"
+
+    def setUp(self) -> None:
+        self.disks = SmallDisks()
+        self.addCleanup(self.disks.stop)
+        self.options = {"url": self.disks.kept, "ttl": 20.0}
+        referee = Referee(self.disks.kept)
+        referee.prepare()
+        referee.close()
+        super().setUp()
+
+    def commit_pages(self, primary: NamedPrimary, pages: int) -> int:
+        """They take more room than is left in what PostgreSQL has."""
+        for page in range(pages):
+            primary.append(Put(page, 0, os.urandom(8192)))
+        return primary.commit()
+
+    def test_a_batch_for_which_there_is_no_room_is_kept_once_there_is(self) -> None:
+        with psycopg.connect(self.disks.kept) as session:
+            session.execute("ALTER TABLE pagelog_block SET TABLESPACE small")
+        with self.keeping.primary() as primary, self.keeping.line() as text:
+            self.commit(primary, "1", durable=True)
+            generation = self.keeping.place().generation
+            self.disks.fill("tables")
+            last = self.commit_pages(primary, 20)
+            print(f"durable shop {generation} {last}", file=text, flush=True)
+            eventually(lambda: "No space left on device" in self.keeping.said(), "the refusal")
+            print("where shop", file=text, flush=True)
+            self.assertEqual(text.readline().split()[:6:5], ["at", "1"])
+            self.assertEqual((self.commit(primary, "2"), primary.durable_end), (last + 1, 1))
+            self.disks.free("tables")
+            self.assertEqual(text.readline().split()[:3], ["durable", "shop", str(generation)])
+            primary.durable(last + 1)
+            self.assertEqual((self.keeping.place().generation, len(self.keeping.archive())), (generation, last + 1))
+
+    def test_a_server_that_had_to_end_for_want_of_room_comes_back_with_what_was_told(self) -> None:
+        with self.keeping.primary() as primary, self.keeping.line() as text:
+            self.commit(primary, "1", durable=True)
+            generation = self.keeping.place().generation
+            self.disks.fill("log-of-writes")
+            last = self.commit_pages(primary, 500)
+            print(f"durable shop {generation} {last}", file=text, flush=True)
+            eventually(lambda: not self.disks.is_up, "the end of PostgreSQL")
+            self.assertRegex(self.disks.said(), "PANIC: .*No space left on device")
+            print("where shop", file=text, flush=True)
+            told = text.readline().split()
+            self.assertEqual((told[0], self.commit(primary, "2"), primary.durable_end), ("at", last + 1, 1))
+            self.disks.free("log-of-writes")
+            self.disks.start()
+            self.assertLessEqual(int(told[5]), self.keeping.row().archived)
+            self.assertEqual(text.readline().split()[:3], ["durable", "shop", str(generation)])
+            primary.durable(last + 1)
+            self.assertEqual((self.keeping.place().generation, len(self.keeping.archive())), (generation, last + 1))
 
 
 class TwoPrimaries(Kept):

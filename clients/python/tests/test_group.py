@@ -188,6 +188,19 @@ class Ends(Threads):
         self.assertEqual(self.primary.commit(durable=True), 2)
         self.assertEqual(self.blocks(), [["1"], ["2", "3"]])
 
+    def test_one_that_has_left_as_a_wait_for_it_ends_was_not_interrupted(self) -> None:
+        wait = self.group._changed.wait
+
+        def late(_: float) -> bool:
+            wait(PATIENCE)
+            return False  # its time was up, and it had to wait for the lock
+
+        with patch.object(self.group._changed, "wait", late):
+            gate = self.begin_behind("1", "2")
+            gate.open()
+            self.end()
+        self.assertEqual(self.told, {"1": 1, "2": 2})
+
     def test_one_that_is_fenced_as_it_begins_takes_nothing(self) -> None:
         self.group.commit(put(0, b"<1>"))
         with self.keeping.primary(id=5) as other:

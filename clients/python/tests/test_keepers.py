@@ -6,6 +6,7 @@ import json
 import os
 import signal
 import socket
+from unittest.mock import patch
 
 import psycopg
 
@@ -17,8 +18,13 @@ from service import PATIENCE, stand_still
 from test_looking import check_alerts
 
 
+LIMIT = 4000
+"""MiB that a service may hold."""
+
+
 class OneKeeper(Kept):
     keepers = "a"
+    options = {"more": f"memory = {LIMIT << 20}\n"}
 
     def test_durable_commits(self) -> None:
         with self.keeping.primary() as primary, self.keeping.reader(durable_only=True) as reader:
@@ -158,11 +164,15 @@ class OneKeeper(Kept):
         kept = json.loads(self.keeping.word("kept", "--json"))
         self.assertEqual((kept["holder"], kept["place"], kept["archived"], kept["generation"]), ("a", place.address, 1, place.generation))
         self.assertEqual(self.keeping.word("where", "shop").strip(), place.address)
+        self.assertIn("shop: take: nobody has it\n", self.keeping.said())
+        self.until_shown("serving: serves")
         self.assertIn("paused 1", self.keeping.word("pause"))
+        self.until_shown("serving, paused: serves; paused")
         pid = self.keeping.pid()
         os.kill(pid, signal.SIGKILL)
         eventually(lambda: self.keeping.row().holder is None, "the release")
         self.assertTrue(self.keeping.row().paused)
+        self.until_shown("nobody, paused: a says: nobody has it; paused", has_service=False)
         self.keeping.word("resume", "shop")
         self.assertGreater(self.keeping.place(least=place.generation + 1).generation, place.generation)
         with self.assertRaisesRegex(AssertionError, "there is a database shop"):
@@ -171,6 +181,20 @@ class OneKeeper(Kept):
         eventually(lambda: not list(self.keeping.folder.glob("a/*.json")), "the end of its service")
         with self.assertRaises(UnknownName):
             self.keeping.place()
+
+    def until_shown(self, state: str, *, has_service: bool = True) -> None:
+        """Waits until `kept` shows the state and the decision, and what is left of the limit of the memory, which is in MiB."""
+
+        def is_shown() -> bool:
+            with patch.dict(os.environ, COLUMNS="300"):
+                [line] = [line for line in self.keeping.word("kept").splitlines() if "shop" in line]
+            kept = json.loads(self.keeping.word("kept", "--json"))
+            *_, entries, left, shown = (cell.strip() for cell in line.strip("│ ").split("│"))
+            if shown != state or not state.endswith(kept["why"].get("a", "?")):
+                return False
+            return 0 < int(left) < LIMIT and int(entries) > 0 if has_service else left == entries == "-"
+
+        eventually(is_shown, state)
 
     def test_nothing_is_said_to_be_durable_before_its_commit(self) -> None:
         with self.keeping.primary() as primary:

@@ -57,6 +57,11 @@ class Cases(unittest.TestCase):
         self.check(Action.CLOSE, replace(OURS, wanted="c"), closed, others=(OF_C,))
         self.check(Action.NOTHING, replace(OURS, generation=1), replace(closed, run="before"))
 
+    def test_what_is_said_of_a_decision(self) -> None:
+        for row, said in ((OURS, "serves"), (replace(OURS, succeed=True), "prepare: a succession was asked for"), (RELEASED, "take: nobody has it")):
+            own = HOLDS if row.run else None
+            self.assertEqual(str(decide(Facts("a", TTL, row, own))), said)
+
     def test_of_a_switchover(self) -> None:
         to_c = replace(OURS, wanted="c")
         self.check(Action.NOTHING, to_c, HOLDS)
@@ -94,6 +99,16 @@ class Cases(unittest.TestCase):
         self.check(Action.CLOSE, replace(OURS, wanted="c"), HOLDS, others=(OF_C,), successor=Stage.MAKING)
         self.check(Action.NOTHING, replace(OURS, paused=True), HOLDS, successor=Stage.READY)
         self.assertIs(state_of(Facts("a", TTL, OURS, HOLDS), Action.SUCCEED), State.SUCCEEDING)
+
+    def test_of_a_service_that_had_no_memory_for_a_writer(self) -> None:
+        full = replace(HOLDS, is_full=True)
+        self.check(Action.PREPARE, OURS, full, succeed_at=0.5)
+        self.check(Action.NOTHING, OURS, full, succeed_at=1.0)  # a machine that makes none
+        self.check(Action.NOTHING, replace(OURS, paused=True), full, succeed_at=0.5)
+        for stage in (Stage.MAKING, Stage.FAILED):
+            self.check(Action.NOTHING, OURS, full, succeed_at=0.5, successor=stage)
+        self.check(Action.SUCCEED, OURS, full, succeed_at=0.5, successor=Stage.READY)
+        self.check(Action.RELEASE, OURS, replace(full, alive=False), succeed_at=0.5)
 
     def test_of_a_released_database(self) -> None:
         self.check(Action.TAKE, RELEASED)

@@ -15,7 +15,7 @@ from unittest.mock import AsyncMock, Mock, patch
 
 import psycopg
 
-from pagelog.errors import Unreachable
+from pagelog.errors import OutOfMemory, Unreachable
 from pagelog.keeper import served as served_module
 from pagelog.keeper.archiver import Archiver, turn_of
 from pagelog.keeper.committer import Committer, Fenced
@@ -46,7 +46,7 @@ def service(**facts: Any) -> Mock:
     """A service of this keeper that holds the database of `ROW`, as far as these facts say nothing else."""
     known = {"database": "shop", "run": "mine", "kind": Kind.HOLDER, "generation": 3, "reached": 5, "chain": b"c" * 16, "hard": 5, "shift": 0,
              "images": 0, "answers": 0, "entries": 0, "silent": 0.0, "is_alive": True, "is_broken": False, "is_open": True, "was_closed": False,
-             "hangs": False, "went_back": False, "is_noted": False, "is_after_release": False, **facts}  # fmt: skip
+             "hangs": False, "went_back": False, "is_noted": False, "is_after_release": False, "is_full": False, **facts}  # fmt: skip
     made = Mock(**known)
     made.share.return_value = 0.0
     made.pulled_at_once, made.looked_at_once = AsyncMock(return_value=[]), AsyncMock(return_value=True)
@@ -328,6 +328,29 @@ class Successions(Meanwhile):
         self.database.work.archiver = archiver
         self.assertTrue(await succession.switch(archiver))
         self.assertEqual((succession.stage, made.end.call_count, served.close.called), (Stage.FAILED, 1, False))
+
+    async def test_a_service_without_the_memory_for_its_fence_is_ended_in_place_of_it(self) -> None:
+        for error, is_broken in ((OutOfMemory("no"), True), (Unreachable("no"), False)):
+            self.setUp()
+            served, (succession, made) = self.held(is_full=True), self.successor()
+            archiver = Mock(turn=asyncio.Lock(), archived=AsyncMock(return_value=True), lining=None)
+            served.close.side_effect = error
+            with patch("pagelog.keeper.succession.turn_of", Mock(return_value=AsyncMock())):
+                self.assertTrue(await succession.switch(archiver))
+            self.assertEqual((succession.stage, served.is_broken, served.open.called), (Stage.FAILED, is_broken, not is_broken))
+
+    async def test_what_a_writer_says_of_memory_is_taken_of_what_is_held_alone(self) -> None:
+        keeper = Mock(Keeper, _named=lambda name: {"shop": self.database}.get(name))
+        prepared = self.enterContext(patch.object(Succession, "prepare"))
+        Keeper.full(keeper, "shop", 3)  # nothing is held
+        served = self.held()
+        for name, generation in (("other", 3), ("shop", 2), ("shop", 4)):
+            Keeper.full(keeper, name, generation)
+        self.assertIs(served.is_full, False)
+        for _ in range(2):
+            Keeper.full(keeper, "shop", 3)
+        await self.done(lambda: prepared.called)
+        self.assertIn("prepare: its service had no memory for a writer", self.said)
 
     async def test_whatever_ends_it_the_others_have_their_turn(self) -> None:
         self.held()

@@ -219,6 +219,24 @@ class Words(unittest.TestCase):
                 at += 1
             self.assertGreater(at, 10)
 
+    def test_what_an_older_keeper_answers_to_a_word_that_has_no_answer_is_left_out(self) -> None:
+        asked: list[str] = []
+
+        def said(words: list[str]) -> bytes:
+            asked.append(words[0])
+            return f"what {words[0]}\n".encode() if words[0] in ("ring", "full") else f"at shop 2 r 127.0.0.1:1 5 {lines} 0 0 0\n".encode()
+
+        lines = self.keeper(said)
+        keepers = Keepers("shop", [lines], PATIENCE)
+        self.addCleanup(keepers.close)
+        place = keepers.place()
+        for _ in range(2):
+            keepers.full(place)
+            keepers.ring(place.generation, place.lines)
+            self.assertEqual(keepers.where(), place)
+        self.assertEqual(asked, ["where", *["full", "ring", "where"] * 2])
+        keepers.full(replace(place, lines="127.0.0.1:1"))  # nobody is there
+
     def test_who_knows_most_of_the_newest_generation_is_believed(self) -> None:
         """The place of one that has not looked for a while may be of a service that was ended since."""
         answers = [b"at shop %d r 127.0.0.1:%d %d 127.0.0.1:2 0 0 0\n" % of for of in ((2, 11, 5), (2, 12, 9), (2, 13, 7), (1, 14, 99))]

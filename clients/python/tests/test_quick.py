@@ -48,10 +48,12 @@ class Statements(Referees):
         return asyncio.run(kept())
 
     def test_under_run_generation_and_archived_position(self) -> None:
-        _, session, kept = self.prepared()
+        referee, session, kept = self.prepared()
         good = batch_of(self.row, kept, "r1", 200, b"'\"\\\0{}")
         for wrong in (replace(good, run='r"\\,{}'), replace(good, generation=9), replace(good, old=1), replace(good, log=99)):
             self.assertEqual(self.keep(session, wrong), frozenset())
+            self.assertFalse(referee.is_prepared)  # it may have asked an old leader
+            referee.keep(())
         self.assertEqual(self.keep(session, good), {self.row.id})
         self.assertEqual((self.seen().archived, self.seen().chain), (203, good.chain))
         self.assertEqual(self.everything()[3:], list(good.blocks))
@@ -195,7 +197,7 @@ class Library(unittest.TestCase):
 
     def said(self, library: object, **section: object) -> list[str]:
         """What a keeper says at its start that finds this one."""
-        settings = Settings.of("a", "", "", Path("."), "", "", section)
+        settings = Settings.of("a", "", "", Path("."), "", "postgresql://nobody@/none", section)
         with patch.object(quick_way, "_library", return_value=library), patch.object(Keeper, "_say") as say:
             Keeper(settings)
         return [call.args[1] for call in say.call_args_list]
@@ -206,6 +208,7 @@ class Library(unittest.TestCase):
         self.assertTrue(QuickWays(Mock(QuickReferee), idle=1.0, deadline=1.0).is_there)
 
     def test_a_keeper_says_that_it_is_not_there(self) -> None:
-        self.assertEqual(self.said(None), ["the quick way is not built: durable commits take longer"])
+        for section in ({}, {"require_standby": True}):
+            self.assertEqual(self.said(None, **section), ["the quick way is not built: durable commits take longer"])
         self.assertEqual(self.said(Mock()), [])
-        self.assertEqual(self.said(None, require_standby=True), [])  # it has no need of it
+        self.assertEqual(self.said(None, trail=3), [])  # it has no need of it

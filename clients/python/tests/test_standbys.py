@@ -5,22 +5,24 @@ from __future__ import annotations
 import json
 import os
 import signal
-import time
+import socket
 import zlib
+from collections import Counter
 from dataclasses import replace
 from typing import Callable
 from unittest.mock import patch
 
 import psycopg
 
-from keepers import Gate, Kept, Trigger, blocks, eventually
+from keepers import Gate, Kept, Tried, Trigger, blocks, eventually
 from pagelog import Connection, Lost, Reader
+from pagelog.keeper.keeping import LOOKS
 from pagelog.keeper.loading import Loader
 from pagelog.keeper.run import end_orphans
 from pagelog.keeper.table import keeper_of
 from pagelog.place import Fate, Keepers
-from postgres import postgres
-from service import PATIENCE, stand_still
+from postgres import Postgres, postgres
+from service import PATIENCE, accept_each, stand_still
 
 
 class Two(Kept):
@@ -78,7 +80,7 @@ class TwoKeepers(Two):
             self.standby(1)
             before = self.keeping.place()
             session.execute(f"NOTIFY pagelog_keeper, 'shop {before.generation} 1 {self.keeping.row().chain.hex()}'")
-            eventually(lambda: "shop: nobody has it" in self.keeping.said().partition(f"--- {self.other()}")[2], "the word of it")
+            eventually(lambda: "shop: take: nobody has it" in self.keeping.said().partition(f"--- {self.other()}")[2], "the word of it")
             self.assertEqual(self.commit(primary, "2", durable=True), 2)
             self.standby(2)
             self.assertEqual(self.keeping.place(), replace(before, archived=2))
@@ -149,6 +151,33 @@ class TwoKeepers(Two):
             eventually(lambda: not os.path.exists(f"/proc/{pid}"), "the end of the zombie's service")
             self.assertEqual(self.texts(), [b"1", b"2"])
 
+    def test_a_machine_that_stood_still_finds_its_generation_over(self) -> None:
+        with self.keeping.primary() as primary, self.keeping.primary(id=5) as other:
+            self.commit(primary, "1", durable=True)
+            self.standby(1)
+            first, pid, place = self.holder(), self.keeping.pid(), self.keeping.place()
+            tried = Tried(self.keeping.url, f"pagelog keeper {first}")
+            self.addCleanup(tried.close)
+            self.keeping.kill(first, signal.SIGSTOP)
+            self.assertEqual(self.commit(primary, "zombie"), 2)
+            with self.keeping.line(first) as text:
+                print(f"durable shop {place.generation} 2", file=text, flush=True)
+                stand_still(pid)
+                self.keeping.place(least=place.generation + 1)
+                # It goes on, and looks later: the batch that it sends before has nothing against it but its run and generation.
+                looking = Gate(self.keeping.url, f"NEW.name = '{first}' AND NEW.beat > OLD.beat", "pagelog_keeper", lock=43)
+                os.kill(pid, signal.SIGCONT)
+                self.keeping.kill(first, signal.SIGCONT)
+                eventually(lambda: tried.count() > 1 or self.keeping.row().archived > 1, "a batch, and how it is looked up")
+                looking.open()
+                self.assertEqual(text.readline().split(), ["over", "shop", str(place.generation), "1"])
+            self.assertEqual((self.keeping.row().base, self.keeping.row().archived), (1, 1))
+            self.assertEqual(self.commit(other, "2", durable=True), 2)
+            with self.assertRaises(Lost):
+                primary.durable(2)
+            eventually(lambda: not os.path.exists(f"/proc/{pid}"), "the end of the zombie's service")
+            self.assertEqual(self.texts(), [b"1", b"2"])
+
     def test_a_durable_reader_goes_to_the_holder_where_a_standby_is_gone(self) -> None:
         with self.keeping.primary() as primary, self.keeping.reader(durable_only=True) as reader:
             self.commit(primary, "1", durable=True)
@@ -215,6 +244,28 @@ class TwoKeepers(Two):
                     connection.execute("DROP FUNCTION other CASCADE")
 
 
+class Ending:
+    """In the place of a server that is down: each connection is ended, and who has asked for it is counted."""
+
+    def __init__(self, server: Postgres) -> None:
+        self.asked: Counter[bytes] = Counter()
+        self._path = server.folder / ".s.PGSQL.5432"
+        self._listener = socket.socket(socket.AF_UNIX)
+        self._listener.bind(str(self._path))
+        self._listener.listen()
+        accept_each(self._listener, self._end)
+
+    def _end(self, client: socket.socket) -> None:
+        with client:
+            words = client.recv(4096)[8:].split(b"\0")
+            self.asked[words[words.index(b"application_name") + 1]] += 1
+
+    def close(self) -> None:
+        self._path.unlink()
+        self._listener.shutdown(socket.SHUT_RDWR)
+        self._listener.close()
+
+
 class ForLong(Two):
     options = {"ttl": 5.0}
     """So much later than the other a keeper may find PostgreSQL again."""
@@ -223,12 +274,15 @@ class ForLong(Two):
         with self.keeping.primary() as primary:
             self.commit(primary, "1", durable=True)
             self.standby(1)
-            before = self.keeping.place()
+            before, other = self.keeping.place(), f"pagelog keeper {self.other()}".encode()
             server = postgres()
             server.run("pg_ctl", "-D", server.data, "-m", "fast", "-w", "-t", PATIENCE, "stop")
             self.assertEqual(self.commit(primary, "2"), 2)
-            time.sleep(1.2 * self.keeping.ttl)  # longer than a beat may stand still
+            ending = Ending(server)
+            # It looks four times in a ttl: the beat stands still for longer than it may.
+            eventually(lambda: ending.asked[other] > LOOKS, "looks of the other keeper")
             self.assertEqual(primary.durable_end, 1)
+            ending.close()
             server.start()
             primary.durable(2)
             self.assertEqual((self.keeping.place().generation, self.texts()), (before.generation, [b"1", b"2"]))

@@ -3,20 +3,21 @@
 from __future__ import annotations
 
 import os
+import resource
 import signal
 import threading
 from pathlib import Path
-from typing import Callable, Iterator
+from typing import Any, Callable, Iterator
 from unittest.mock import patch
 
 import psycopg
 
 from cutting import STEPS
 from keepers import Gate, Keeping, Kept, eventually
-from pagelog import BelowBase, Block, ConnectionLost, Lost, Operator, Primary, Put, TableRow
+from pagelog import BelowBase, Block, ConnectionLost, Lost, NamedPrimary, Operator, OutOfMemory, Primary, Put, TableRow
 from pagelog.connection import Connection
 from pagelog.following import NamedAccount
-from pagelog.place import Place
+from pagelog.place import Keepers, Place
 from postgres import postgres
 from service import IS_LONG, PATIENCE, token
 
@@ -303,6 +304,78 @@ class Thresholds(Succeeding):
             second.has(5)
         self.assertEqual(self.texts(), writer.texts + second.texts)
         self.assertRegex(self.keeping.said(), "(?s)its list or its memory is .* begins at position .*, from images at")
+
+
+class NoMemory(Succeeding):
+    """A service that gets no more memory from its machine, where its keeper knows of no limit."""
+
+    options = {"ttl": 0.8, "more": "memory = 0\n"}
+
+    def fill(self, primary: NamedPrimary, count: int) -> None:
+        for _ in range(count):
+            primary.append(*(Put(page, 0, b"x" * 8000) for page in range(8)))
+            self.sent = primary.commit()
+
+    def limit(self, pid: int, most: int | None = None) -> None:
+        """What it has now, or so many bytes."""
+        data = Path(f"/proc/{pid}/status").read_text().split("VmData:")[1].split()[0]
+        resource.prlimit(pid, resource.RLIMIT_DATA, (1024 * int(data) if most is None else most, resource.RLIM_INFINITY))
+
+    def test_a_writer_goes_on_in_the_next_generation(self) -> None:
+        with self.keeping.primary() as primary, patch.object(Keepers, "full", autospec=True, side_effect=Keepers.full) as full:
+            self.commit(primary, "1", durable=True)
+            before = self.keeping.place()
+            self.limit(self.keeping.pid())
+            while self.keeping.place().generation == before.generation:
+                self.fill(primary, 20)
+            self.assertGreaterEqual(full.call_count, 1)
+            self.assertEqual(self.commit(primary, "2", durable=True), self.sent + 1)
+            self.assertIn("shop: prepare: its service had no memory for a writer\n", self.keeping.said())
+            eventually(lambda: self.keeping.said().endswith("shop: serves\n"), "the end of the succession")
+            archived = self.keeping.archive()
+            self.assertEqual((len(archived), self.texts()[0], self.texts()[-1]), (self.sent + 1, b"1", b"2"))
+            # What is told of a generation that is over, or of none, does nothing.
+            after, told = self.keeping.row().generation, self.keeping.said()
+            with self.keeping.line() as line:
+                print(f"full shop {before.generation}\nfull none 1\nfull shop {after + 1}\nwhere shop", file=line, flush=True)
+                self.assertEqual(line.readline().split()[:3], ["at", "shop", f"{after}"])
+            self.fill(primary, 5)
+            self.assertEqual((self.keeping.row().generation, self.keeping.said()), (after, told))
+
+    def test_one_that_is_paused_is_told_so_in_time_and_may_try_again(self) -> None:
+        with self.keeping.primary() as primary:
+            self.commit(primary, "1", durable=True)
+            before, pid = self.keeping.place(), self.keeping.pid()
+            self.keeping.word("pause", "shop")
+            eventually(lambda: "serves; paused" in self.keeping.said(), "the pause")
+            self.limit(pid)
+            primary.keepers.patience = 0.5
+            with self.assertRaises(OutOfMemory), patch.object(Operator, "failover", side_effect=AssertionError("an epoch of the same generation")):
+                while True:
+                    self.fill(primary, 20)
+            primary.keepers.patience = PATIENCE
+            self.keeping.word("resume", "shop")
+            position = self.commit(primary, "2", durable=True)
+            self.assertGreater(self.keeping.row().generation, before.generation)
+            self.assertEqual((len(self.keeping.archive()), self.texts()[-1]), (position, b"2"))
+
+    def test_a_writer_that_begins_where_there_is_no_memory_goes_on(self) -> None:
+        with self.keeping.primary() as primary:
+            self.commit(primary, "1", durable=True)
+            before = self.keeping.place()
+        refused = [OutOfMemory("no"), OutOfMemory("no")]
+
+        def failover(of: Operator, *arguments: Any, **options: Any) -> int:
+            if str(of.connection.address) == before.address and refused:
+                raise refused.pop()
+            return begin(of, *arguments, **options)
+
+        begin = Operator.failover
+        with patch.object(Operator, "failover", failover), self.keeping.primary() as other:
+            self.assertEqual(self.commit(other, "2", durable=True), 2)
+            eventually(lambda: self.keeping.row().generation > before.generation, "the next generation")
+            self.assertEqual(self.commit(other, "3", durable=True), 3)
+        self.assertEqual(self.texts(), [b"1", b"2", b"3"])
 
 
 class GivenUp(Succeeding):

@@ -2,18 +2,21 @@
 
 from __future__ import annotations
 
+import ctypes
 import itertools
 import json
 import os
 import random
 import signal
+import socket
+import stat
 import subprocess
 import sys
 import threading
 import time
 from collections import Counter
 from pathlib import Path
-from typing import Callable
+from typing import Callable, Iterator
 
 HERE = Path(__file__).resolve().parent
 sys.path[:0] = [str(HERE), str(HERE.parent / "src")]
@@ -22,7 +25,7 @@ import psycopg  # noqa: E402
 
 from keepers import Keeping, eventually  # noqa: E402
 from long_runs import STOP, LongRun, is_client, text_of, texts_of  # noqa: E402
-from pagelog import Block, Group, Lost, PagelogError, Primary, Put, Reader, Unwritten  # noqa: E402
+from pagelog import Block, Group, Lost, NamedPrimary, PagelogError, Primary, Put, Reader, Unwritten  # noqa: E402
 from pagelog.keeper.rows import Row  # noqa: E402
 from replicated import Pair  # noqa: E402
 from service import PATIENCE, token  # noqa: E402
@@ -30,6 +33,8 @@ from service import PATIENCE, token  # noqa: E402
 TTL = 2.0
 NAME = "shop"
 THREADS = 6
+PIDFD_GETFD = 438
+"""The number of this call of Linux, which Python does not have."""
 
 
 # Clients, each a process with books of its own: a line of JSON for each thing that it was told.
@@ -98,7 +103,7 @@ class Sharing:
         with Primary.named(NAME, keepers=self._addresses, principal=self._id, token=token(self._id), operator=(1, token(1)), patience=5.0,
                            timeout=TTL) as primary:  # fmt: skip
             group, self._begun = Group(primary), []
-            threads = [threading.Thread(target=self._commit, args=(group, thread)) for thread in range(THREADS)]
+            threads = [threading.Thread(target=self._commit, args=(primary, group, thread)) for thread in range(THREADS)]
             for thread in threads:
                 thread.start()
             for thread in threads:
@@ -110,13 +115,16 @@ class Sharing:
             except PagelogError as error:
                 self.note("open", why=f"{type(error).__name__}: {error}", open=self._begun)
 
-    def _commit(self, group: Group, thread: int) -> None:
+    def _commit(self, primary: NamedPrimary, group: Group, thread: int) -> None:
         """Goes on until the group has ended."""
         while not self._stop.exists():
             text = f"{self._id} {next(self._numbers)}"
             self.note("try", text=text)
             try:
-                self.note("durable", text=text, position=group.commit(Put(0, 0, text.encode())), thread=thread)
+                position = group.commit(Put(0, 0, text.encode()))
+                assert primary.place is not None
+                # It may have moved on meanwhile: then the end that is compared is a later one.
+                self.note("durable", text=text, position=position, generation=primary.place.generation, thread=thread)
             except Lost as lost:
                 return self.note("lost", text=text, position=lost.position)
             except Unwritten:
@@ -151,17 +159,49 @@ def read(folder: Path, who: str, addresses: list[str], _: float) -> None:
 # Faults.
 
 
+def lines_of(pid: int) -> Iterator[socket.socket]:
+    """Copies of the connections that another process has; none where that is not allowed, or it has ended."""
+    library = ctypes.CDLL(None)
+    try:
+        process = os.pidfd_open(pid)
+    except OSError:
+        return
+    try:
+        for file in os.listdir(f"/proc/{pid}/fd"):
+            copy = library.syscall(PIDFD_GETFD, process, int(file), 0)
+            if copy >= 0 and not stat.S_ISSOCK(os.fstat(copy).st_mode):
+                os.close(copy)
+            elif copy >= 0:
+                with socket.socket(fileno=copy) as line:
+                    yield line
+    except FileNotFoundError:
+        pass
+    finally:
+        os.close(process)
+
+
+def shut(line: socket.socket) -> bool:
+    """Cuts a connection to a named end. Returns whether it is one: neither a listener, nor a pair within the process."""
+    try:
+        if not line.getpeername():
+            return False
+        line.shutdown(socket.SHUT_RDWR)
+        return True
+    except OSError:
+        return False
+
+
 class Torture(LongRun):
     def __init__(self, seconds: float, seed: int) -> None:
         self.seconds, self.chance = seconds, random.Random(seed)
         self.pair = Pair()
         super().__init__(__file__, Keeping(ttl=TTL, url=self.pair.url))
         self.done: Counter[str] = Counter()
-        self.stopped: list[int] = []
+        self.is_first_round, self.shut = True, 0
         self.deeds: list[tuple[int, Callable[[], None]]] = [
             (4, self.kill_service), (2, self.stop_service), (3, self.kill_keeper), (1, self.kill_keeper_for_long),
             (2, self.stop_keeper), (1, self.stop_machine), (2, self.switch_over), (1, self.end_keeper), (2, self.cut_lines),
-            (1, self.fail_over_postgresql),
+            (2, self.shut_lines), (1, self.fail_over_postgresql), (1, self.zombie_postgresql),
         ]  # fmt: skip
 
     def names(self) -> list[str]:
@@ -190,11 +230,11 @@ class Torture(LongRun):
             pass
 
     def hold(self, *pids: int | None) -> None:
-        """These stand still for longer than a ttl, or for less."""
+        """These stand still for longer than a ttl, or for less, as in no first round."""
         for pid in pids:
             if pid is not None:
                 self.send(pid, signal.SIGSTOP)
-        time.sleep(TTL * self.chance.choice([0.3, 2.5]))
+        time.sleep(TTL * (2.5 if self.is_first_round else self.chance.choice([0.3, 2.5])))
         for pid in pids:
             if pid is not None:
                 self.send(pid, signal.SIGCONT)
@@ -241,15 +281,45 @@ class Torture(LongRun):
         self.keeping.start(name)
 
     def cut_lines(self) -> None:
-        """All lines to PostgreSQL are cut."""
+        """PostgreSQL ends all sessions of keepers, and says so."""
         try:
             with psycopg.connect(self.pair.url + "&target_session_attrs=read-write", autocommit=True) as boss:
                 boss.execute("SELECT pg_terminate_backend(pid) FROM pg_stat_activity WHERE application_name LIKE 'pagelog keeper%'")
         except psycopg.Error:
             pass
 
+    def shut_lines(self) -> None:
+        """Of a process, lines are cut at this end: to PostgreSQL, to services, keepers or clients. Nobody is told."""
+        processes = [*(self.keeping.processes[name].pid for name in self.names()), *(client.pid for client in self.clients), self.service()]
+        pid = self.chance.choice(processes)
+        share = self.chance.choice([0.3, 1.0])
+        if pid is not None:
+            self.shut += sum(shut(line) for line in lines_of(pid) if self.chance.random() < share)
+
     def fail_over_postgresql(self) -> None:
         self.pair.fail_over()
+
+    def zombie_postgresql(self) -> None:
+        """The old leader goes on beside the new one for longer than a ttl, and until something has become durable without it."""
+
+        def beside() -> None:
+            with psycopg.connect(f"postgresql://pagelog@/kept?host={self.pair.leader.folder}", autocommit=True) as session:
+                archived = "SELECT archived FROM pagelog_log WHERE name = %s"
+                before = session.execute(archived, (NAME,)).fetchone()
+                time.sleep(2.5 * TTL)
+                eventually(lambda: session.execute(archived, (NAME,)).fetchone() != before, "a durable commit beside an old leader")
+
+        self.pair.fail_over_beside(beside)
+
+    def deeds_in_turn(self) -> Iterator[Callable[[], None]]:
+        """Each one once, and then as they are drawn. In the first round there is a holder, and a service, for them to meet."""
+        deeds, weights = [deed for _, deed in self.deeds], [weight for weight, _ in self.deeds]
+        for deed in self.chance.sample(deeds, len(deeds)):
+            eventually(lambda: self.row().holder in self.names() and self.service() is not None, "a service")
+            yield deed
+        self.is_first_round = False
+        while True:
+            yield from self.chance.choices(deeds, weights)
 
     # The run.
 
@@ -259,11 +329,12 @@ class Torture(LongRun):
         keeping.start("a", "b")
         keeping.place()
         clients = [self.client(what, id, self.chance.random()) for what, id in (("write", 2), ("share", 5), ("read", 3))]
-        ends = time.monotonic() + self.seconds
-        while time.monotonic() < ends:
-            [(_, fault)] = self.chance.choices(self.deeds, [weight for weight, _ in self.deeds])
+        began = time.monotonic()
+        for fault in self.deeds_in_turn():
+            if time.monotonic() - began > self.seconds and not self.is_first_round:
+                break
             self.done[fault.__name__] += 1
-            print(f"{self.seconds - (ends - time.monotonic()):6.1f} s: {fault.__name__}", flush=True)
+            print(f"{time.monotonic() - began:6.1f} s: {fault.__name__}", flush=True)
             fault()
             time.sleep(self.chance.uniform(0.2, 2 * TTL))
         eventually(lambda: keeping.place() is not None)
@@ -276,7 +347,7 @@ class Torture(LongRun):
             print(f"violation: {violation}")
         books = Check(self.keeping).books
         counts = Counter(line["what"] for line in books if line["what"] != "end")
-        print("faults: " + ", ".join(f"{name} {count}" for name, count in self.done.most_common()))
+        print("faults: " + ", ".join(f"{name} {count}" for name, count in self.done.most_common()) + f"; {self.shut} lines were shut")
         print("told: " + ", ".join(f"{what} {count}" for what, count in counts.most_common()))
         print(f"torture: {counts['durable']} durable commits over {self.keeping.row(NAME).generation} generations, "
               f"{sum(self.done.values())} faults, {len(violations)} violations")  # fmt: skip
@@ -329,7 +400,7 @@ class Check:
 def main(words: list[str]) -> int:
     if is_client(words, {"write": write, "share": share, "read": read}):
         return 0
-    return Torture(float(words[0]) if words else 60.0, int(words[1]) if len(words) > 1 else 1).whole()
+    return Torture(float(words[0]) if words else 120.0, int(words[1]) if len(words) > 1 else 1).whole()
 
 
 if __name__ == "__main__":

@@ -78,7 +78,7 @@ class Group:
         with self._lock:
             self._due.append(mine)
             while self._leader is not None and not mine.is_settled:
-                if not self._changed.wait(_GONE) and not self._leader.under_way.locked():
+                if not self._changed.wait(_GONE) and self._leader is not None and not self._leader.under_way.locked():
                     self._end_lead()  # an interrupt came amid its `_leave`
             if not mine.is_settled:
                 self._leader, self._taken, self._due = mine, self._due, []

@@ -171,10 +171,22 @@ class NamedPrimary(Following):
             self.end = max(self.end, self._primary.durable + shift)
             for lsn in self._primary.harden([block.at(block.lsn - shift) for block in self._tail if block.lsn > self.end]):
                 self.end = max(self.end, lsn + shift)
-        except OutOfMemory:
-            raise
+        except OutOfMemory as error:
+            self._make_room(error)
         except (*GONE, *_DENIED) as error:
             self._move(error)
+
+    def _make_room(self, error: OutOfMemory) -> None:
+        """Has the next generation begun, and goes on in it. Raises the error where there is none in time; later it may be tried again."""
+        assert self.place is not None
+        place, over = self.place, self._over
+        self.keepers.full(place)
+        self._over = place.generation
+        try:
+            self._move(error)
+        finally:
+            if self.place is place:
+                self._over = over
 
     def _ring(self) -> None:
         if self._is_urgent and self.place is not None:
@@ -265,6 +277,11 @@ class NamedPrimary(Following):
             self._end_for(error)
             return True
         except (*GONE, TableRow, NoRowMatches):
+            return False
+        except OutOfMemory:
+            if primary is not None:
+                raise  # of its epoch: the next call looks again what became of the tail
+            self.keepers.full(place)
             return False
         finally:
             if self._primary is None:  # whatever has ended it, nothing is written before what became of the tail is settled

@@ -20,8 +20,8 @@ _HELD = 0.25
 """Seconds for which an answer that keepers hold back is waited for; then it is tried again where the database was."""
 _SILENCE = 3.0
 _LONGEST = 1024
-_NO_RING = ["what", "ring"]
-"""What a keeper answers to a `ring` that knows none; one that does answers nothing."""
+_NO_ANSWER = (["what", "ring"], ["what", "full"])
+"""What a keeper answers to a `ring` or a `full` that knows none; one that does answers nothing."""
 _LEFT_OUT = 10.0
 """Seconds for which a keeper that does not answer, or its machine, is not asked, as long as there is another."""
 _AT_ONCE = ("where", "standby")
@@ -112,7 +112,7 @@ class _Line:
             if not end:
                 return None
             self._left = rest
-            if (words := line.decode(errors="replace").split()) != _NO_RING:
+            if (words := line.decode(errors="replace").split()) not in _NO_ANSWER:
                 return words
 
     def fileno(self) -> int:
@@ -271,6 +271,12 @@ class Keepers:
         except OSError:
             del self._lines[lines]
             line.close()
+
+    def full(self, place: Place) -> None:
+        """Tells the holder that its service has no memory for a writer: it begins the next generation, if it may."""
+        self._forget_parent()
+        if (line := self._asked(place.lines, ("full", self.name, place.generation), _ANSWER)) is not None:
+            self._lines[place.lines] = line
 
     def after(self, place: Place) -> Place:
         """The place of a later generation, if its keeper is about to publish one; else as `place`."""

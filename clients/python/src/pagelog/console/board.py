@@ -19,7 +19,7 @@ from pagelog.console.outlook import Scene, Spare, State, Use, forecast_of, sente
 from pagelog.console.source import Generation, Seen
 from pagelog.console.trails import TrailCounts
 from pagelog.keeper.machine import SUCCEED_AT
-from pagelog.keeper.rows import Look, Row
+from pagelog.keeper.rows import Look, Row, told
 
 VERSION = 1
 """Of the form of what is sent."""
@@ -155,6 +155,7 @@ class Board:
         scene = Scene(row, known.state, spares, living, forecast, report.get("state") == "succeeding")
         trail, generations = self._trails.get(row.name), self._generations.get(row.id, ())
         lag = None if hard is None else max(0, hard - row.archived)
+        why = {keeper: said for keeper, said in look.decisions_of(row).items() if keeper in living}
         begins = [each.began.timestamp() for each in generations]
         return {
             "name": row.name, "state": known.state.value, "paused": row.paused, "read_only": row.read_only, "wanted": row.wanted, "holder": row.holder,
@@ -165,7 +166,7 @@ class Board:
             "due": int((1 - self.limits.share) * audit), "memory": held,
             "memory_limit": self.limits.memory or None, "standbys": [asdict(spare) for spare in spares],
             "denials": sum(trail.denials(at).values()) if trail else None,
-            "next": sentence(scene),
+            "why": told(row.holder, why) or None, "next": sentence(scene),
             "next_in": _short(forecast.seconds, 2) if known.state is State.SERVING and not row.paused else None,
         }  # fmt: skip
 

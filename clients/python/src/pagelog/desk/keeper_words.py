@@ -23,7 +23,7 @@ from pagelog.credentials import Accounts
 from pagelog.desk.options import AGAIN, URL_VARIABLE, credentials_option, fail, faults, url_options
 from pagelog.keeper.aside import asides_of
 from pagelog.keeper.referee import LONGEST, NAME, Away, Doubt, Referee, Refused
-from pagelog.keeper.rows import Look, Row
+from pagelog.keeper.rows import Look, Row, told
 from pagelog.keeper.settings import Settings
 from pagelog.keeper.table import Form, read_table, table_of_run
 
@@ -208,7 +208,7 @@ def facts_of(look: Look, row: Row) -> dict[str, Any]:
         "name": row.name, "generation": row.generation, "holder": row.holder, "place": row.address,
         "archived": row.archived, "lag": None if hard is None else max(0, hard - row.archived), "images": row.images, "standbys": standbys,
         "entries_left": report.get("entries_left"), "memory": report.get("memory"), "memory_left": report.get("memory_left"),
-        "state": report.get("state"), "wanted": row.wanted, "succeed": row.succeed, "read_only": row.read_only, "paused": row.paused,
+        "state": report.get("state"), "why": look.decisions_of(row), "wanted": row.wanted, "succeed": row.succeed, "read_only": row.read_only, "paused": row.paused,
         "synchronous_standbys": look.synchronous.count,
     }  # fmt: skip
 
@@ -218,7 +218,8 @@ def facts_of(look: Look, row: Row) -> dict[str, Any]:
 @referee_word
 def kept_word(referee: Referee, as_json: bool) -> None:
     """List the named databases: generation, holder, place, archived position, the oldest one that is kept and the newest base,
-    standbys, entries left, and memory in MiB; whether PostgreSQL has a synchronous standby; and services that were set aside.
+    standbys, entries and MiB left, and the state with what was decided, and why: by its holder, or by all where nobody has it;
+    whether PostgreSQL has a synchronous standby; and services that were set aside.
 
     \b
     Example:
@@ -235,13 +236,15 @@ def kept_word(referee: Referee, as_json: bool) -> None:
             click.echo(json.dumps({**facts, "set_aside": [each for each in asides if each["name"] == facts["name"]]}))
         return
     from rich.console import Console
+    from rich.markup import escape
     from rich.table import Table
 
     words = ("name", "generation", "holder", "place", "archived", "oldest", "base")
-    table = Table(*words, "standbys", "entries left", "memory", "state")
+    table = Table(*words, "standbys", "entries left", "memory left", "state")
     for facts in found:
         standbys = ", ".join(f"{keeper} at {reached}" for keeper, reached in sorted(facts["standbys"].items()))
-        table.add_row(*(_shown(facts[word]) for word in words), standbys, _shown(facts["entries_left"]), _shown(facts["memory"]), _state_of(facts))
+        left = (_shown(facts[word]) for word in ("entries_left", "memory_left"))
+        table.add_row(*(_shown(facts[word]) for word in words), standbys, *left, escape(_state_of(facts)))
     Console().print(table)
     click.echo(look.synchronous.meaning)
     for each in asides:
@@ -250,8 +253,11 @@ def kept_word(referee: Referee, as_json: bool) -> None:
 
 
 def _state_of(facts: dict[str, Any]) -> str:
+    """As `serving, paused: serves; paused`, and without a holder what each keeper says."""
     said = {"paused": facts["paused"], f"to {facts['wanted']}": facts["wanted"], "succeeds": facts["succeed"], "read-only": facts["read_only"]}
-    return ", ".join(word for word, holds in said.items() if holds)
+    state = "nobody" if facts["holder"] is None else _shown(facts["state"])
+    words = ", ".join((state, *(word for word, holds in said.items() if holds)))
+    return ": ".join(filter(None, (words, told(facts["holder"], facts["why"]))))
 
 
 def _shown(value: object) -> str:

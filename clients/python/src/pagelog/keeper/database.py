@@ -35,7 +35,8 @@ class Database:
         """Whether the referee has it, as far as a look has shown."""
         self.served: Served | None = None
         self.doing = Action.NOTHING
-        self.why = ""
+        self.why = self.decision = ""
+        """The reason of the last decision, and all of it, as it is logged and shown."""
         self.waits = Waits(row.name)
         self.beat: int | None = None
         """That of its holder."""
@@ -119,7 +120,7 @@ class Database:
             return None
         share = served.share(settings.program.audit, settings.memory)
         return Own(served.run, served.kind, served.generation, served.reached, served.is_alive, served.silent, share, served.went_back,
-                   served.is_open, served.was_closed)  # fmt: skip
+                   served.is_open, served.was_closed, served.is_full)  # fmt: skip
 
     def facts(self) -> Facts:
         """All that is known, for a decision."""
@@ -171,9 +172,9 @@ class Database:
         while goes_on or self._news:
             self._news = False
             decision = decide(self.facts())
-            if decision.why != self.why:
-                self.why = decision.why
-                self.shared.say(self.row.name, decision.why)
+            if str(decision) != self.decision:
+                self.why, self.decision = decision.why, str(decision)
+                self.shared.say(self.row.name, self.decision)
             self.doing = decision.action
             try:
                 goes_on = await self._do(decision.action)

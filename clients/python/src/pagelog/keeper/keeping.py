@@ -245,14 +245,18 @@ class Keeper:
                      if standby.keeper != self.settings.name and standby.keeper in self._living)  # fmt: skip
 
     def _report(self) -> str:
-        """What `kept` shows of the services of this keeper, measured for it and for what is decided until the next look."""
+        """What `kept` shows of the services of this keeper, measured for it and for what is decided until the next look; and what is
+        decided of them, and of what nobody has."""
         audit, limit, report = self.settings.program.audit, self.settings.memory, dict[str, Any](self._shared.asides.report())
         for each in self.databases.values():
+            if each.row.dropped or (each.served is None and each.row.holder not in (None, self.settings.name)):
+                continue
+            said: dict[str, Any] = {"state": each.state.value, "why": each.decision}
+            report[each.row.name] = said
             if each.served is not None and each.served.process is not None:
                 memory = each.served.measure()
-                report[each.row.name] = {"state": each.state.value, "entries_left": audit - each.served.entries,
-                                         "memory": memory >> 20, "memory_left": max(0, limit - memory) >> 20 if limit else None,
-                                         "hard": each.served.hard}  # fmt: skip
+                said.update(entries_left=audit - each.served.entries, memory=memory >> 20,
+                            memory_left=max(0, limit - memory) >> 20 if limit else None, hard=each.served.hard)  # fmt: skip
         return json.dumps(report)
 
     # Answering.
@@ -323,6 +327,13 @@ class Keeper:
             database = self._named(name)
             assert database is not None
             database.work.ring()
+
+    def full(self, name: str, generation: int) -> None:
+        """Begins the next generation, if it is held here, once in each."""
+        database = self._named(name)
+        if database is not None and database.holds and database.own.generation == generation and not database.own.is_full:
+            database.own.is_full = True
+            database.kick()
 
     def block(self, line: Line, name: str, position: int) -> None:
         """Answers from the archive, once PostgreSQL has. For what is no name it is not asked: it would end the connection."""

@@ -10,6 +10,7 @@ they answer.
                                     above NAME GENERATION M: there is no N; the service ends at M
                                     elsewhere NAME GENERATION: ask `where` again
     ring NAME GENERATION            nothing: there will be new blocks, and a `durable` after it
+    full NAME GENERATION            nothing: its service had no memory for a writer, who waits for the next generation
     block NAME N                    block NAME N DIGEST: the SHA-256 of the archived block at position N | block NAME N -: none is there
     turn NAME ..                    whose turn it is to write: turns.py
 
@@ -167,6 +168,9 @@ class Answers(Protocol):
     def ring(self, name: str, generation: int) -> None:
         """There will be new blocks."""
 
+    def full(self, name: str, generation: int) -> None:
+        """A service had no memory for a writer."""
+
     def block(self, line: Line, name: str, position: int) -> None:
         """Writes the answer to `block`."""
 
@@ -192,6 +196,8 @@ def answer(answers: Answers, line: Line, words: list[str]) -> None:
             answers.durable(line, name, int(generation), int(position))
         case ["ring", name, generation]:
             answers.ring(name, int(generation))
+        case ["full", name, generation]:
+            answers.full(name, int(generation))
         case ["block", name, position]:
             answers.block(line, name, int(position))
         case ["turn" | "back" | "hold", _, *_]:

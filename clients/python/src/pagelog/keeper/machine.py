@@ -69,8 +69,8 @@ class Stage(Enum):
 @dataclass(frozen=True)
 class Own:
     """The run that this keeper has of the database. `silent` is for how many seconds its service has not answered, and `went_back`
-    is whether PostgreSQL was seen to lack what it once had of this run. It `is_open` once clients were let in, and
-    `was_closed` where nobody may write any more."""
+    is whether PostgreSQL was seen to lack what it once had of this run. It `is_open` once clients were let in,
+    `was_closed` where nobody may write any more, and `is_full` where it had no memory for a writer."""
 
     run: str
     kind: Kind
@@ -82,6 +82,7 @@ class Own:
     went_back: bool = False
     is_open: bool = True
     was_closed: bool = False
+    is_full: bool = False
 
 
 @dataclass(frozen=True)
@@ -115,6 +116,10 @@ class Decision:
 
     action: Action
     why: str
+
+    def __str__(self) -> str:
+        """As it is logged and shown."""
+        return self.why if self.action is Action.NOTHING else f"{self.action.value}: {self.why}"
 
 
 def went_back(row: Row | None, own: Own) -> bool:
@@ -200,6 +205,8 @@ def _of_a_succession(facts: Facts, row: Row, own: Own) -> Decision:
         return Decision(Action.PREPARE, "a succession was asked for")
     if own.share >= facts.succeed_at:
         return Decision(Action.PREPARE, f"its list or its memory is {own.share:.0%} full")
+    if own.is_full and facts.succeed_at < 1:
+        return Decision(Action.PREPARE, "its service had no memory for a writer")
     return Decision(Action.NOTHING, "serves")
 
 

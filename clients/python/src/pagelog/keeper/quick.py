@@ -126,5 +126,6 @@ class QuickSession(Session):
                 leave()
                 self._quick.close()  # its answer would come to the next one
         kept = self._quick.receive(prepared)
+        self._quick.turn_unless(kept, batches)
         self.was_quick()
         return kept

@@ -296,7 +296,16 @@ class Referee:
 
         Returns the ids of the databases whose batch is kept, whole; of the others nothing is.
         """
-        return frozenset(int(row[0]) for row in self._ask(statement_of(batches), values_of(batches)))
+        kept = frozenset(int(row[0]) for row in self._ask(statement_of(batches), values_of(batches)))
+        self.turn_unless(kept, batches)
+        return kept
+
+    def turn_unless(self, kept: frozenset[int], batches: Sequence[Batch]) -> None:
+        """Unless all are kept the next statement has another connection. An old primary that goes on has not heard of a run that began
+        after it: it keeps nothing of it, and says so at once, since it has nothing to wait for."""
+        if len(kept) < len(batches):
+            self.close()
+            self.turn_hosts()
 
     def kept(self, log: int, run: str) -> Kept | None:
         """What is archived of a run, after a batch in doubt or one that was not kept: it waits for one that still runs.

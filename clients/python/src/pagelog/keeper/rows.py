@@ -112,6 +112,10 @@ class Look:
         """The keeper of this name."""
         return next((keeper for keeper in self.keepers if keeper.name == name), None)
 
+    def decisions_of(self, row: Row) -> dict[str, str]:
+        """What each keeper has decided of a database, and why, as its last report says; an older keeper reports none."""
+        return {keeper.name: found["why"] for keeper in self.keepers if "why" in (found := keeper.report.get(row.name, {}))}
+
     def standbys_of(self, log: int) -> tuple[StandbyRow, ...]:
         """The standbys of a database."""
         return tuple(standby for standby in self.standbys if standby.log == log)
@@ -152,6 +156,11 @@ class Kept:
     chain: bytes = field(repr=False)
     generation: int = 0
     is_told: bool = field(default=False, compare=False)
+
+
+def told(holder: str | None, why: Mapping[str, str]) -> str:
+    """What was decided of a database, by keeper, for a person: what its holder says, or all where it has none."""
+    return why.get(holder, "") if holder is not None else "; ".join(f"{keeper} says: {why[keeper]}" for keeper in sorted(why))
 
 
 def look_of(keepers: list[Any], rows: list[Any], standbys: list[Any], names: str, count: int | None) -> Look:

@@ -10,6 +10,7 @@ from typing import Iterable, Iterator, Sequence
 
 from pagelog.block import Block
 from pagelog.connection import Address, Connection
+from pagelog.keeper.ahead import ahead, pieces_of
 from pagelog.keeper.bases import NOTHING, Bases, snapshot
 from pagelog.keeper.images import blocks_of, labelled
 from pagelog.keeper.loading import EPOCH, GROUP, Loader
@@ -58,6 +59,8 @@ class Served:
         """Whether clients have been let in."""
         self.was_closed = False
         """Whether nobody may write any more, or it is in doubt, since it was closed."""
+        self.is_full = False
+        """Whether a writer has said that it had no memory for it."""
         self.went_back = False
         """Whether PostgreSQL was seen to lack what it once had of this run: the service may be the only copy."""
         self.is_after_release = False
@@ -142,6 +145,7 @@ class Served:
         `wanted` is the digest that it has returned. Raises `BrokenArchive` where the blocks have another: they are read without a
         write, and a server that was cut off may have others. Nobody reads what is above `reached` meanwhile. A service that has
         nothing begins with the images of the newest base. Where the archive goes away meanwhile, the next call goes on from there.
+        A piece is read while the one before is loaded.
         """
         if archived <= self.reached:
             return
@@ -149,7 +153,8 @@ class Served:
         with self.loader() as loader, snapshot(referee) if is_fresh else nullcontext():
             if is_fresh:
                 self._begin(Bases(referee, log), archived, loader)
-            self.load(loader, referee.blocks(log, self.loaded + 1, archived), archived, wanted)
+            with ahead(pieces_of(referee, log, self.loaded + 1, archived), referee.cut) as pieces:
+                self.load(loader, pieces, archived, wanted)
         if is_fresh and self.process is not None:
             self.begun = self.process.memory
 

@@ -10,7 +10,7 @@ import asyncio
 from dataclasses import replace
 from typing import TYPE_CHECKING, Callable, Sequence, TypeVar
 
-from pagelog.errors import PagelogError
+from pagelog.errors import OutOfMemory, PagelogError
 from pagelog.keeper.archiver import Archiver, turn_of
 from pagelog.keeper.basing import SMALL, Wish, made_of
 from pagelog.keeper.loading import Loader
@@ -132,7 +132,7 @@ class Succession:
             await self._follow(served)
             left = began + settings.ttl - seconds()
             if served.reached - successor.reached <= NEAR:
-                if left <= 0 or served.share(settings.program.audit, settings.memory) >= HURRY_AT:
+                if left <= 0 or served.is_full or served.share(settings.program.audit, settings.memory) >= HURRY_AT:
                     return
                 await asyncio.sleep(min(left, settings.ttl / 16))
 
@@ -267,6 +267,8 @@ class Succession:
 
     async def _open_again(self, served: Served) -> None:
         """The present generation goes on, if its service lives."""
+        if served.is_broken:
+            return
         try:
             await asyncio.to_thread(served.open)
         except PagelogError as error:
@@ -276,7 +278,11 @@ class Succession:
 
 def _closed(log: int, number: int, served: Served, successor: Served, loader: Loader) -> Switch:
     """Fences the present generation, and brings over what its log has beyond the next one's."""
-    end = served.close()
+    try:
+        end = served.close()
+    except OutOfMemory:
+        served.is_broken = True  # it can be fenced by its end alone, after which another is filled in its place
+        raise
     blocks = _pulled(served, successor.reached, end)
     known = served.reached - successor.reached
     if digest(successor.chain, blocks[:known]) != served.chain:

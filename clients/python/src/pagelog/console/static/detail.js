@@ -69,6 +69,7 @@ function facts(database, now) {
   const since = began ? [", since ", time(began, now), ` (${ago(began, now)})`] : [];
   return [
     ["Holder", database.holder ?? "nobody"],
+    ["Decision", database.why ?? "–"],
     ["Service", database.address ?? "–"],
     ["Generation", number(database.generation), ...since],
     ["Position", number(database.position)],
