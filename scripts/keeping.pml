@@ -129,7 +129,8 @@ inline publish(r) {
                     // is_fresh = self.loaded == 0
                     // ..
                     // self._begin(Bases(referee, log), archived, loader)
-                    // self.load(loader, referee.blocks(log, self.loaded + 1, archived), archived, wanted)
+                    // with ahead(pieces_of(referee, log, self.loaded + 1, archived), referee.cut) as pieces:
+                    // self.load(loader, pieces, archived, wanted)
                     // ..
 inline fill(r, p) {
     if
@@ -262,7 +263,9 @@ end:
           stage = MAKING }
     :: d_step { stage == MAKING && !doubts && alive[next] && reached[next] < reached[mine] -> fill(next, reached[mine]) }
 // succession.py: _closed
+                    // ..
                     // end = served.close()
+                    // ..
                     // blocks = _pulled(served, successor.reached, end)
                     // ..
                     // successor.load(loader, [blocks], end, chain)

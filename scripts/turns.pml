@@ -173,23 +173,20 @@ end_reads:
 
 // answers.rt: write_ready
 inline write_ready(count) {
-                                                           // let mut count = 0;
-    do                                                     // while count < bytes.len() {
-                                                           // match writer.write(&bytes[count..]) {
-    :: atomic { count > 0 && gone[at] -> failed = true; break }
-                                                           // Ok(0) => return (count, Err(Cause::Write)),
-    :: atomic {
-           count > 0 && !gone[at] && out[at] < OUTS ->     // Ok(more) => count += more,
+    do                                                     // match write_bytes(writer, bytes) {
+    :: atomic {                                            /* it writes again until all is written, or a write is refused */
+           count > 0 && !gone[at] && out[at] < OUTS ->
            out[at]++; count--; moved = true
        }
 #ifdef WRITES_ONCE
        break
 #endif
+    :: count == 0 -> break                                 // Ok(()) => (bytes.len(), Ok(())),
     :: atomic { count > 0 && !gone[at] && out[at] == OUTS -> no_room[at] = true; break }
-                                                           // Err(error) if error.kind() == ErrorKind::WouldBlock
-                                                           // => return (count, Ok(())),
-                                                           // Err(_) => return (count, Err(Cause::Write)), } }
-    :: count == 0 -> break                                 // (count, Ok(()))
+                                                           // Err(stop) if stop.error.kind() == ErrorKind::WouldBlock
+                                                           // => (stop.count, Ok(())),
+    :: atomic { count > 0 && gone[at] -> failed = true; break }
+                                                           // Err(stop) => (stop.count, Err(Cause::Write)), }
     od
 }
 
@@ -342,10 +339,10 @@ inline rest_after() {
        :: heard == SOME && unread[at] < PARTS -> rest = INPUT
        :: unread[at] >= PARTS -> rest = AGAIN
 #else
-       :: unread[at] >= PARTS || heard == SOME -> rest = AGAIN // if let Some(_frame) = body_in(unread) {
-                                                           // return Ok(Rest::Again); }
+                                                           // if !is_cut(unread) { return match body_in(unread) {
+       :: unread[at] >= PARTS || heard == SOME -> rest = AGAIN // Some(_frame) => Ok(Rest::Again),
+                                                           // None => Err(Cause::TooLong), }; }
 #endif
-                                                           // if !is_cut(unread) { return Err(Cause::TooLong); }
                                                            // match heard { Heard::Some => Ok(Rest::Again),
        :: heard == ALL && unread[at] < PARTS -> rest = INPUT // Heard::All => Ok(Rest::Input),
        :: heard == END && unread[at] == 0 -> rest = OVER   // Heard::End if unread.is_empty() => Ok(Rest::Over),

@@ -296,9 +296,9 @@ class Referee:
 
         Returns the ids of the databases whose batch is kept, whole; of the others nothing is.
         """
-        kept = frozenset(int(row[0]) for row in self._ask(statement_of(batches), values_of(batches)))
-        self.turn_unless(kept, batches)
-        return kept
+        found = frozenset(int(row[0]) for row in self._ask(statement_of(batches), values_of(batches)))
+        self.turn_unless(found, batches)
+        return found
 
     def turn_unless(self, kept: frozenset[int], batches: Sequence[Batch]) -> None:
         """Unless all are kept the next statement has another connection. An old primary that goes on has not heard of a run that began
