@@ -1,6 +1,5 @@
 -- What `serve` begins with, what it does for connections, and how it ends.
-use Rattle.std.specs.Prelude.{◌≡◌, ◌==◌, ℕ, ◌+◌, ◌^◌, if◌then◌else◌, List, ◌++◌, length, map, Option, Some, None, IfSome, IsSome, Result, Ok, Err, codes, decimal}
-use Rattle.std.specs.List.{All}
+use Rattle.std.specs.Prelude.{◌≡◌, ◌==◌, ℕ, ◌+◌, ◌^◌, if◌then◌else◌, List, ◌++◌, length, map, Option, Some, None, Result, Ok, Err, codes, decimal}
 use Rattle.pl_command.specs.declared.command_line.ServeNumbers.{ServeNumbers}
 use Rattle.pl_table.specs.Tables.Table.{WrittenTable, token_of}
 use Rattle.pl_table.specs.Tables.TableText.{table_reading}
@@ -14,11 +13,9 @@ use Rattle.pl_conn.specs.declared.service.Stop.{Stop}
 use Rattle.pl_conn.specs.declared.service.Stop.TheVariants as stops
 use Rattle.pl_play.specs.declared.start.StartFault.{StartFault}
 use Rattle.pl_play.specs.declared.start.StartFault.TheVariants as starts
-use Rattle.pl_program.specs.Pager.{AreLeftBy, HasPaged}
-use Rattle.pl_program.specs.declared.pager.Paging.{Paging}
+use Rattle.pl_program.specs.Pager.{HasPaged}
 use Rattle.pl_program.specs.declared.run_fault.RunFault.{RunFault}
 use Rattle.pl_program.specs.declared.run_fault.RunFault.TheVariants as faults
-use Rattle.pl_program.specs.declared.service.ServedDatabases.{ServedDatabases}
 use Rattle.pl_program.specs.declared.tally.Tally.{Tally}
 
 -- the token that a table lists for a principal, or that it lists none
@@ -49,17 +46,6 @@ pager_with (Ok token) numbers = Ok (Some (record {
 abbrev pub pager_in : List ℕ → ServeNumbers → Result (Option PageServer) StartFault
 pager_in text numbers =
     if numbers.rounds == 0 then Ok None else pager_with (token_for text numbers.pager) numbers
-
--- the workers' passes are of these desks, and those of the page server, if there is one
-abbrev pub HavePasses : List DeskOrigin → List (List Knowledge) → Option Paging → Type 0
-HavePasses desks passes paging = All (ArePassesOf desks) passes × IfSome paging (λ p. ArePassesOf desks p.passes)
-
--- what is so once all connections are served, and the page server, if there is one, was started and waited for; nothing was served
--- only where it could not be started
-abbrev pub ServesBeside : List DeskOrigin → List (List Knowledge) → ℕ → Option Paging → Option ServedDatabases → Type 0
-ServesBeside desks passes connections paging None = IsSome paging
-ServesBeside desks passes connections paging (Some served) = AreLeftBy paging served.pager
-    × ServesConnections DesksCall (ArePassesOf desks) passes connections served.connections.accepted served.connections.stop served.connections.passes.items
 
 -- Each database got a desk, with a seat for each worker and one for the page server. The passes that come
 -- back are those of workers, each after a list of calls, and the last one: the page server's after its rounds,

@@ -1,9 +1,11 @@
 //! A service: databases and their desks, workers that serve connections, and a page server.
 
-ghost use Rattle.std.specs.Prelude.{◌≡◌, ◌++◌, ◌∷◌, ◌≤◌, ◌⊎◌, [], IfErr, IfOk, IsSome, length, vec_len};
+ghost use Rattle.std.specs.Prelude.{◌≡◌, ◌++◌, ◌∷◌, ◌≤◌, ◌⊎◌, [], IfErr, IfOk, IfSome, IsNone, IsSome, length, vec_len};
 ghost use Rattle.std.specs.List.{All};
-ghost use Rattle.pl_conn.specs.Desks.{ArePassesOf};
-ghost use Rattle.pl_program.specs.Service.{HavePasses, ServesBeside, ServesDatabases};
+ghost use Rattle.pl_conn.specs.Desks.{ArePassesOf, DesksCall};
+ghost use Rattle.pl_conn.specs.Serving.{ServesConnections};
+ghost use Rattle.pl_program.specs.Pager.{AreLeftBy};
+ghost use Rattle.pl_program.specs.Service.{ServesDatabases};
 
 use crate::pager::{Paging, start_pager};
 use crate::run_fault::RunFault;
@@ -36,8 +38,14 @@ fn serve_in<'s, E, R: Threads + Wait + Net + Sync + Drop, W: Watch>(
     passes: Vec<Passes>,
     paging: Option<Paging>,
 ) -> Option<ServedDatabases>
-    requires own { HavePasses desks.now passes.items paging }
-    ensures serves { ServesBeside desks.now passes.items terms.now.connections paging result }
+    requires own { All (ArePassesOf desks.now) passes.items }
+    requires pager { IfSome paging (λ p. ArePassesOf desks.now p.passes) }
+    ensures serves { IfSome result (λ s. ServesConnections DesksCall (ArePassesOf desks.now)
+        passes.items terms.now.connections s.connections.accepted s.connections.stop
+        s.connections.passes.items) }
+    // If there is a page server, it was started and waited for.
+    ensures paged { IfSome result (λ s. AreLeftBy paging s.pager) }
+    ensures none { IsNone result → IsSome paging }
 {
     let Some(paging) = paging else {
         return Some(ServedDatabases {
@@ -76,17 +84,37 @@ fn serve_over<R: Threads + Wait + Net + Sync + Drop, W: Watch>(
     passes: Vec<Passes>,
     paging: Option<Paging>,
 ) -> Option<ServedDatabases>
-    requires own { HavePasses desks.now passes.items paging }
-    ensures serves { ServesBeside desks.now passes.items terms.now.connections paging result }
+    requires own { All (ArePassesOf desks.now) passes.items }
+    requires pager { IfSome paging (λ p. ArePassesOf desks.now p.passes) }
+    ensures serves { IfSome result (λ s. ServesConnections DesksCall (ArePassesOf desks.now)
+        passes.items terms.now.connections s.connections.accepted s.connections.stop
+        s.connections.passes.items) }
+    ensures paged { IfSome result (λ s. AreLeftBy paging s.pager) }
+    ensures none { IsNone result → IsSome paging }
 {
+    let (alloc, listener, watch) = (terms.alloc, terms.listener, terms.watch);
+    let (connections, idle_polls) = (terms.connections, terms.idle_polls);
     thread::scope(
         thread::scope_env(),
         rt,
         move |scope| -> Option<ServedDatabases>
-            requires own { HavePasses desks.now passes.items paging }
-            ensures serves { ServesBeside desks.entry.now passes.items
-                terms.entry.now.connections paging result }
-        { serve_in(scope, rt, terms, desks, passes, paging) },
+            requires own { All (ArePassesOf desks.now) passes.items }
+            requires pager { IfSome paging (λ p. ArePassesOf desks.now p.passes) }
+            ensures serves { IfSome result (λ s. ServesConnections DesksCall
+                (ArePassesOf desks.entry.now) passes.items connections
+                s.connections.accepted s.connections.stop s.connections.passes.items) }
+            ensures paged { IfSome result (λ s. AreLeftBy paging s.pager) }
+            ensures none { IsNone result → IsSome paging }
+        {
+            let terms = Terms {
+                alloc,
+                listener,
+                connections,
+                idle_polls,
+                watch,
+            };
+            serve_in(scope, rt, &terms, desks, passes, paging)
+        },
     )
 }
 

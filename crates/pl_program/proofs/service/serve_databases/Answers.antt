@@ -20,12 +20,12 @@ returns-in-Some-serve_over-clause-serves g c =
     record {
       desks = desks;
       made = c.in_ok-desks.ensures.terms;
-      serves = subst (λ given. ServesConnections DesksCall (ArePassesOf desks) given c.args.terms.now.connections served.connections.accepted served.connections.stop served.connections.passes.items) ends.fronts c.in-Some-serve_over.ensures.serves.1;
+      serves = subst (λ given. ServesConnections DesksCall (ArePassesOf desks) given c.args.terms.now.connections served.connections.accepted served.connections.stop served.connections.passes.items) ends.fronts c.in-Some-serve_over.ensures.serves;
       paged = elim c.match-pager.branch [
         | in-Some w ↦
-            let has = rw w.paging-is at c.in-Some-serve_over.ensures.serves.0 in
+            let has = rw w.paging-is at c.in-Some-serve_over.ensures.paged in
             let count : c.len-databases.result ≡ length c.args.dbs.items = omega (arith, c.len-databases.ensures, c.args.dbs.ok.0) in
             rw w.in-Some.is (subst (λ n. HasPaged (Some w.in-Some.server) n last served.pager) count (subst (λ p. HasPaged (Some w.in-Some.server) c.len-databases.result p served.pager) ends.lasts has))
-        | in-None w ↦ rw w.in-None.is (rw w.paging-is at c.in-Some-serve_over.ensures.serves.0)
+        | in-None w ↦ rw w.in-None.is (rw w.paging-is at c.in-Some-serve_over.ensures.paged)
       ];
     }
