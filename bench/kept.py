@@ -1,6 +1,6 @@
 """Named databases under keepers, beside PostgreSQL's own commits and plain archiving: needs Debian's packages of clients/python/test.
 
-Usage: python3 -B bench/kept.py [--share SHARE] [--alone] [--apart] [--blocks N [--pages P]] [PART ..]
+Usage: python3 -B bench/kept.py [--share SHARE] [--alone] [--blocks N [--pages P]] [PART ..]
 (parts: commits, archiving, kills, restore, switchover, idle; by default all)
 """
 
@@ -140,12 +140,21 @@ class PlainCommits:
 
 
 def commits(pair, share):
+    """With a processor for each part, if there are four, and on all processors."""
+    if len(os.sched_getaffinity(0)) >= 4:
+        print("client, keeper and each PostgreSQL have a processor of their own:")
+        writers(pair, share, is_apart=True)
+        print("all share the processors:")
+    writers(pair, share, is_apart=False)
+
+
+def writers(pair, share, is_apart):
     """One writer and PostgreSQL in turn, and 64 writers."""
     rounds, count = 25, max(4, round(40 * share))
     plain = PlainCommits(pair.url)
     with keeping(pair, standby=False) as kept, kept.primary() as primary, contextlib.ExitStack() as placed:
         pid, keeper, client = kept.processes["a"].pid, 0.0, 0.0
-        if pair.is_apart:
+        if is_apart:
             placed.enter_context(apart(pair, pid))
 
         def commit(durable):
@@ -398,15 +407,12 @@ def main():
     parser.add_argument("--blocks", type=int, default=0, help="of kills and restore, as 1000000 [default: 10,000 and 100,000; 300,000]")
     parser.add_argument("--pages", type=int, default=1, help="that these blocks change, by turns")
     parser.add_argument("--alone", action="store_true", help="one PostgreSQL, without a standby")
-    parser.add_argument("--apart", action="store_true", help="for commits: a processor for each part, as on machines of their own")
     words = parser.parse_args()
     unknown = set(words.parts) - set(PARTS)
     if unknown:
         parser.error(f"there is no part {', '.join(unknown)}")
-    if words.apart and len(os.sched_getaffinity(0)) < 4:
-        parser.error("--apart needs four processors")
     pair = Alone() if words.alone else Pair()
-    pair.is_apart, pair.blocks, pair.pages = words.apart, words.blocks, words.pages
+    pair.blocks, pair.pages = words.blocks, words.pages
     try:
         print(f"PostgreSQL {'without' if words.alone else 'with'} a synchronous standby on this machine; load {os.getloadavg()[0]:.1f} of {os.cpu_count()} processors")
         for name in words.parts or PARTS:
