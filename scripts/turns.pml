@@ -257,8 +257,8 @@ inline answer_whole() {
     d_step {
                                                            // let mut taken = 0;
         do                                                 // for _ in 0..most {
-        :: !MAY_GATHER -> break                            // if !outbox.may_gather() { break; }
-        :: MAY_GATHER && held < PARTS -> break             // let Some(count) = answer_first(&bytes[taken..],
+        :: held == 0 || !MAY_GATHER -> break               // if taken == bytes.len() || !outbox.may_gather() { break; }
+        :: held > 0 && MAY_GATHER && held < PARTS -> break // let Some(count) = answer_first(&bytes[taken..],
                                                            // gate, pass, outbox) else { break; };
         :: MAY_GATHER && held >= PARTS -> answer_first()
                                                            // taken += count; }
@@ -279,14 +279,15 @@ inline speak() {
        fi;
        answer_whole();                                     // let more = answer_whole(&bytes[taken + first..],
                                                            // MOST_FRAMES, gate, pass, outbox);
+                                                           // let text = outbox.text();
 #ifndef ANSWERS_ARE_KEPT
-       write_ready(replies);                               // let (sent, end) = write_ready(writer, outbox.text());
+       write_ready(replies);                               // let (sent, end) = write_ready(writer, text);
 #endif
        writes++;                                           // taken += first + more;
        if
-       :: failed || replies > 0 -> break                   // if end.is_err() || sent < outbox.text().len() {
-                                                           // return (taken, sent, end); }
-       :: !failed && replies == 0
+       :: failed || replies > 0 || held == 0 -> break      // if end.is_err() || sent < text.len()
+                                                           // || taken == bytes.len() { return (taken, sent, end); }
+       :: !failed && replies == 0 && held > 0
        fi
     :: writes == WRITES -> break                           // }
     od                                                     // (taken, outbox.text().len(), Ok(()))

@@ -52,7 +52,7 @@ pub(crate) fn answer_whole<G: Gate>(
 {
     let mut taken = 0;
     for _ in 0..most {
-        if !outbox.may_gather() {
+        if taken == bytes.len() || !outbox.may_gather() {
             break;
         }
         let Some(count) = answer_first(&bytes[taken..], gate, pass, outbox) else {

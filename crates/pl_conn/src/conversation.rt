@@ -151,9 +151,10 @@ fn speak<W: Write, G: Gate>(
             return (taken, 0, Ok(()));
         };
         let more = answer_whole(&bytes[taken + first..], MOST_FRAMES, gate, pass, outbox);
-        let (sent, end) = write_ready(writer, outbox.text());
+        let text = outbox.text();
+        let (sent, end) = write_ready(writer, text);
         taken += first + more;
-        if end.is_err() || sent < outbox.text().len() {
+        if end.is_err() || sent < text.len() || taken == bytes.len() {
             return (taken, sent, end);
         }
     }

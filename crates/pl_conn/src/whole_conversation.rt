@@ -1,9 +1,6 @@
 //! A conversation: the frames of requests in, the frames of their replies out.
 
-ghost use Rattle.std.specs.Prelude.{◌≡◌, ◌+◌, ◌<◌, ◌≤◌, Err, IfErr, IfOk, Ok, length, true};
-ghost use Rattle.pl_block.specs.declared.fault.Failed.TheVariants.{NoMemory};
-ghost use Rattle.pl_block.specs.Faults.{Returns};
-ghost use Rattle.pl_wire.specs.Reading.{MayLackMemory, request_reading};
+ghost use Rattle.std.specs.Prelude.{◌≡◌, ◌+◌, ◌<◌, ◌≤◌, IfErr, IfOk, Ok, length, true};
 ghost use Rattle.pl_conn.specs.Conversation.{Converses, scene};
 ghost use Rattle.pl_conn.specs.Gathering.{MayGather, TakesFrame, Turns};
 
@@ -11,28 +8,12 @@ use crate::answers::{answer_first, answer_whole, write_ready};
 use crate::cause::{Cause, ConnFault, cause_of};
 use crate::outbox::Outbox;
 use crate::source::Source;
-use bytes::Bytes;
-use pl_table::Request;
-use pl_wire::{
-    BodyFault, Gate, LONGEST_REQUEST, decode_request, decode_request_shared, read_frame,
-};
+use pl_wire::{Gate, LONGEST_REQUEST, decode_request, read_frame};
 use std::alloc::Global;
 use std::io::Write;
 
 /// The most frames that one conversation answers.
 const MOST_FRAMES: u64 = 1 << 32;
-
-// The request that the body spells. A block keeps the bytes of the body, if the count of their
-// owners finds memory, and else a copy.
-fn request_in(alloc: Global, body: Vec<u8>) -> Result<Request, BodyFault>
-    ensures exact { Returns result (request_reading body.items) }
-    ensures no_memory { result ≡ Err NoMemory → MayLackMemory body.items }
-{
-    match Bytes::from_vec(body) {
-        Ok(body) => decode_request_shared(alloc, body),
-        Err(refused) => decode_request(alloc, &refused.value),
-    }
-}
 
 // Takes the next frame and answers it: where it lies, if all of it is buffered, and else by reads. The reply has its
 // room before the request has its step. False at the end of input.
@@ -56,7 +37,7 @@ fn take_next<R: Source, G: Gate>(
     }
     match read_frame(outbox.alloc(), reader, LONGEST_REQUEST) {
         Ok(Some(body)) => {
-            let read = request_in(outbox.alloc(), body);
+            let read = decode_request(outbox.alloc(), &body);
             outbox.put_answer(read, gate, pass);
             Ok(true)
         }

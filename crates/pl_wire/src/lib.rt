@@ -39,5 +39,5 @@ pub use kind::ReplyKind;
 pub use latest::Latest;
 pub use reply_reading::decode_reply;
 pub use reply_writing::encode_reply;
-pub use request_reading::{decode_request, decode_request_after, decode_request_shared};
+pub use request_reading::{decode_request, decode_request_after};
 pub use request_writing::encode_request;

@@ -9,7 +9,7 @@ ghost use Rattle.pl_wire.specs.Reading.{AsksMemory, MayLackMemory, ReadsRequest,
 
 use crate::fault::{BodyFault, WireFault, of_block};
 use crate::latest::Latest;
-use bytes::{Buf, Bytes};
+use bytes::Buf;
 use pl_block::laws::one_spelling;
 use pl_block::seen::each_is_byte;
 use pl_table::{Act, Head, Op, Request, Role, TableText};
@@ -272,17 +272,6 @@ pub fn decode_request(alloc: Global, body: &[u8]) -> Result<Request, BodyFault>
     ensures value { ReadsRequest body.now result }
 {
     decode_request_after(alloc, body, &mut Latest::new())
-}
-
-/// The request that the bytes spell, or the fault of the least code, as [`decode_request`] has it.
-pub fn decode_request_shared(alloc: Global, body: Bytes) -> Result<Request, BodyFault>
-    // What is read is a request, and the bytes are its spelling. Bytes that spell a request are read as
-    // that request, unless memory runs out. It is the request that the bytes spell, the fault of the
-    // least code, or out of memory (`request_reading`). Memory runs out only for a write with a copy,
-    // an offer or a set_table, after a head whose role is known (`ReadsRequest`).
-    ensures value { ReadsRequest body result }
-{
-    decode_request_after(alloc, body.as_slice(), &mut Latest::new())
 }
 
 /// The request that the bytes spell, or the fault of the least code, as [`decode_request`] has it.
