@@ -92,7 +92,7 @@ module _ (f : ℕ → ℕ) (outs : List Bool) where
   first_of head [] some list = absurd (omega (arith, list.chain))
   first_of head (x ∷ xs) some list = (xs, ap (λ k. k ∷ xs) (omega (arith, list.chain.0)))
 
-  -- where the number is 0, no frame that was out is free
+  -- if the number is 0, no frame that was out is free
   pub none_given : (ids : List ℕ) → IsFreeList f outs 0 ids → (id : ℕ) → IsGiven outs id → ⊥
   none_given [] list id is = (list.given id).1 is
   none_given (x ∷ xs) list id is = absurd (omega (arith, list.chain.0))

@@ -204,7 +204,7 @@ module _ (frames : Row) (outs : List Bool) (head max : ℕ) (kept : IsArena fram
     pub place_not_full : IsFull (arena_of frames outs max) → ⊥
     place_not_full full = true≢false (sym (full place place_below) ∙ ap is_some place_fresh)
 
-  -- all numbers were out where the arena is full
+  -- all numbers were out if the arena is full
   pub full_only : (place : ℕ) → place ≡ length outs → IsFull (arena_of frames outs max) → place ≡ 64 * max
   full_only place e f =
       elim (cases_eq place (64 * max)) [
@@ -244,7 +244,7 @@ module _ {X Y : Type 0} (fault : TakeFault) where
 pub no_memory_is_not_full : {X : Type 0} → IsErrOf {T = X} {E = TakeFault} (Err NoMemory) Full → ⊥
 no_memory_is_not_full e = cc
 
--- where no frame is free and all were out, each is
+-- if no frame is free and all were out, each is
 module _ (frames : Row) (outs : List Bool) (max : ℕ) (kept : IsArena frames outs 0 max) (all : length outs ≡ 64 * max) where
   pub full : IsFull (arena_of frames outs max)
   full id within = ap is_some (frame_is frames outs max id ∙ held_out frames outs id (by_case (get_or outs id false) refl))

@@ -51,7 +51,7 @@ packed_set [] q c e all = all
 packed_set (x ∷ xs) zero c e all = (omega (arith, e, all.0), (λ more. e ∙ all.1 more), all.2)
 packed_set (x ∷ xs) (suc q) c e all = (all.0, (λ more. all.1 (omega (arith, more, length-set xs q c))), packed_set xs q c e all.2)
 
--- a chunk is added after those that there are, where the last is whole
+-- a chunk is added after those that there are, if the last is whole
 pub packed_pushed : (chunks : List Row) (c : Row) → length c ≤ 64 → ((n : ℕ) → n + 1 ≡ length chunks → length (get_or chunks n []) ≡ 64) → IsPacked chunks → IsPacked (chunks ++ c ∷ [])
 packed_pushed [] c small whole all = (small, (λ more. absurd (omega (arith, more))), tt)
 packed_pushed (x ∷ []) c small whole all = (all.0, (λ more. whole 0 (omega arith)), packed_pushed [] c small (λ n e. absurd (omega (arith, e))) tt)
@@ -82,7 +82,7 @@ each_small [] q all = omega arith
 each_small (c ∷ cs) zero all = all.0
 each_small (c ∷ cs) (suc q) all = each_small cs q all.2
 
--- where the last chunk is whole, each has 64 frames
+-- if the last chunk is whole, each has 64 frames
 pub flat_whole : (chunks : List Row) → ((n : ℕ) → n + 1 ≡ length chunks → length (get_or chunks n []) ≡ 64) → IsPacked chunks → length (flat chunks) ≡ 64 * length chunks
 flat_whole [] whole all = refl
 flat_whole (x ∷ []) whole all = omega (arith, length-append x [], whole 0 (omega arith))

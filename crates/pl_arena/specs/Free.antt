@@ -14,7 +14,7 @@ link bytes = from_le_bytes w32 (slice_index_or bytes 0 0 ∷ slice_index_or byte
 abbrev pub links : List (List ℕ) → ℕ → ℕ
 links frames id = link (slice_index_or frames id [])
 
--- the list that a link leads to, where each frame has the link to the next
+-- the list that a link leads to, in which each frame has the link to the next
 abbrev pub IsChain : (ℕ → ℕ) → ℕ → List ℕ → Type 0
 IsChain next head [] = head ≡ 0
 IsChain next head (id ∷ ids) = (head ≡ id + 1) × IsChain next (next id) ids

@@ -36,7 +36,7 @@ same_record-Decides (Zero p) (Zero q) = (
 same_record-Decides (Put p o b) (Zero q) = (λ e. absurd cc, λ e. absurd cc)
 same_record-Decides (Zero p) (Put q u c) = (λ e. absurd cc, λ e. absurd cc)
 
--- blocks are one where their numbers and records are
+-- blocks are one if their numbers and records are
 Content-same : (a b : Content) → a.lsn ≡ b.lsn → a.records ≡ b.records → a ≡ b
 Content-same a b numbers records =
     ap (λ (n : ℕ). record { lsn = n; records = a.records }) numbers

@@ -13,7 +13,7 @@ abbrev all : List Bool → Bool
 all [] = true
 all (b ∷ bs) = b && all bs
 
--- their number is the greatest exactly where they are
+-- their number is the greatest exactly if they are
 all_set : (bs : List Bool) → all bs ≡ true → mask_l bs + 1 ≡ 2 ^ length bs
 all_set [] e = refl
 all_set (true ∷ bs) e = omega (arith, all_set bs e, two-pow-succ (length bs))
@@ -55,7 +55,7 @@ and_assoc : (a b c : Bool) → (a && (b && c)) ≡ ((a && b) && c)
 and_assoc true b c = refl
 and_assoc false b c = refl
 
--- lists are the same where their first elements are, and those behind them
+-- lists are the same if their first elements are, and those behind them
 pub cut_same : (n : ℕ) (xs ys : List ℕ) → bytes_eq xs ys ≡ (bytes_eq (take n xs) (take n ys) && bytes_eq (drop n xs) (drop n ys))
 cut_same zero xs ys = refl
 cut_same (suc n) [] [] = refl

@@ -63,7 +63,7 @@ pub none_of : {X : Type 0} (r : Option X) → ((x : X) → r ≡ Some x → ⊥)
 none_of None never = refl
 none_of (Some x) never = absurd (never x refl)
 
--- where no text is read, none was found
+-- if no text is read, none was found
 pub text_missing : (f : Found) (name : Text) (r : Option (Bor Text)) → option_map (λ t. t.now) r ≡ first_value f name → r ≡ None → GivesText (rows_of f) name → ⊥
 text_missing f name r value none given =
     true≢false (sym (ap is_some (value ∙ first_value-rows f name ∙ given.1)) ∙ ap (λ o. is_some (option_map (λ (t : Bor Text). t.now) o)) none)
@@ -76,7 +76,7 @@ has_text f name r t copy value is same = sym (first_value-rows f name) ∙ sym v
 abbrev texts_of : Bor (List (Bor Text)) → List Text
 texts_of s = map (λ v. v.now) s.now
 
--- where no words are read, none were found
+-- if no words are read, none were found
 pub words_missing : (f : Found) (r : Option (Bor (List (Bor Text)))) → option_map (λ s. map (λ v. v.now) s.now) r ≡ option_map raw_values (matched_of f (codes "words"))
     → r ≡ None → GivesWords (rows_of f) → ⊥
 words_missing f r value none given =

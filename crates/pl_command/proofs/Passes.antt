@@ -1,4 +1,4 @@
--- What a walk of `clap` keeps, where it takes the words: what each use that passes keeps, and that no subcommand that it stops at is `help`.
+-- What a walk of `clap` keeps, if it takes the words: what each use that passes keeps, and that no subcommand that it stops at is `help`.
 use Rattle.std.proofs.Common.{◌≡◌, ◌∙◌, ◌&&◌, ◌||◌, ◌∷◌, ℕ, Bool, true, false, not, cond, zero, suc, refl, sym, true≢false, is_some, fold, List, [], Option, Some, None, length, drop, codes}
 use Rattle.std.specs.Prelude.{IfSome, ⊤, encode_utf8, slice_get}
 use Rattle.std.specs.List.{find}

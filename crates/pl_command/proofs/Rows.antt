@@ -1,4 +1,4 @@
--- What the options of a subcommand leave where `clap` takes the words: each was found, and each number lies in its range.
+-- What the options of a subcommand leave if `clap` takes the words: each was found, and each number lies in its range.
 use Rattle.std.proofs.Common.{◌≡◌, ◌∙◌, ◌&&◌, ◌||◌, ◌∷◌, ◌++◌, ℕ, Bool, true, false, not, cond, refl, sym, ap, subst, true≢false, fold, List, [], Option, Some, None, codes}
 use Rattle.std.specs.Prelude.{IfSome, pos, unwrap_or, slice_get, option_and_then, option_map}
 use Rattle.std.specs.List.{find}
@@ -22,7 +22,7 @@ use Rattle.clap.proofs.WalkLemmas.{both}
 use Rattle.pl_command.specs.CommandLine.{GivesNumber, GivesText, GivesWords, number_option, text_option, words_rule}
 use Rattle.pl_command.proofs.Passes.{Each, Keeps}
 
--- the least and the most number of an option, by its name, where it has a number
+-- the least and the most number of an option, by its name, if it has a number
 abbrev pub Limits : Type 0
 Limits = Text → Option (ℕ × ℕ)
 
@@ -34,7 +34,7 @@ abbrev pub Reads : Option (ℕ × ℕ) → Reading → Text → Type 0
 Reads limit how v = IfSome limit (λ p. (how ≡ WithoutMinus) × IsSignedIn (pos p.0) (pos p.1) v)
 
 module _ (limits : Limits) where
-  -- the row has a value, and where the option has a number, that lies in its range
+  -- the row has a value, and if the option has a number, that lies in its range
   abbrev pub Good : Row → Type 0
   Good r = (v : Text) × (vs : List Text) × (r.values ≡ v ∷ vs) × Reads (limits r.id) r.reading v
 

@@ -48,7 +48,7 @@ none_fresh a (suc n) = ap (λ (ls : List (List Knowledge)). [] ∷ ls) (none_fre
 abbrev pub IsPut : (desks new : List DeskOrigin) → DeskOrigin → List Knowledge → (all dealt_out : List (List Knowledge)) → Type 0
 IsPut desks new desk passes all dealt_out = (new ≡ desks ++ desk ∷ []) × (dealt_out ≡ dealt_into passes all)
 
--- the same, where a desk and the passes of all desks were added
+-- the same, if a desk and the passes of all desks were added
 pub all_fresh-put : (desks new : List DeskOrigin) (desk : DeskOrigin) (seats : ℕ) (passes : List Knowledge) (all dealt_out : List (List Knowledge)) → IsPut desks new desk passes all dealt_out
     → passes ≡ fresh_passes desk seats → all ≡ all_fresh desks seats → dealt_out ≡ all_fresh new seats
 all_fresh-put desks new desk seats passes all dealt_out put are so_far =

@@ -11,7 +11,7 @@ use Rattle.pl_conn.proofs.Places.{get-set_same, get-set_other, get-seam}
 same_is_of : (desk : DeskOrigin) (p q : Knowledge) → IsOf desk p → IsSamePass p q → IsOf desk q
 same_is_of desk p q of same = (same.desk ∙ of.0, same.terms ∙ of.1)
 
--- where one pass has become another state of the same pass, the passes are of their desks
+-- if one pass has become another state of the same pass, the passes are of their desks
 pub of-set : (desks : List DeskOrigin) (passes : List Knowledge) (k : ℕ) (p q : Knowledge) → ArePassesOf desks passes → slice_get passes k ≡ Some p → IsSamePass p q → ArePassesOf desks (set passes k q)
 of-set desks passes k p q of is same = record {
   count = length-set passes k q ∙ of.count;

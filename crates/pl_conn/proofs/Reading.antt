@@ -29,7 +29,7 @@ takes_known None new buffer count few drops = tt
 takes_known (Some xs) new buffer count few drops = subst (λ (left : Option (List ℕ)). Consumes (Some (buffer ++ xs)) left (take count buffer)) (sym (drops few))
     (sym (take-append-drop count (buffer ++ xs)) ∙ ap (λ (l : List ℕ). l ++ drop count (buffer ++ xs)) (take-append-le count buffer xs few))
 
--- bytes of a reader's buffer are taken; none are known where it has no room
+-- bytes of a reader's buffer are taken; none are known if it has no room
 pub takes_buffered : (has_no_room : Bool) (known new : Option (List ℕ)) (buffer : List ℕ) (count : ℕ) → count ≤ length buffer
     → DropsConsumable (if has_no_room then None else prepend_known buffer known) new (Some (length buffer)) count
     → Consumes (if has_no_room then None else prepend_known buffer known) new (take count buffer)

@@ -56,7 +56,7 @@ on_err (Err e) Q holds told = holds
 pub heard_more : (a b : Option (List ℕ)) (old new : List ℕ) → Hears a old b new → length old ≤ length new
 heard_more a b old new h = omega (arith, ap length h.2, length-append old h.0)
 
--- where nothing waits, all was said
+-- if nothing waits, all was said
 pub unless_waiting : {X : Type 0} (n : ℕ) (text : List ℕ) → (n < length text) ⊎ X → length (drop n text) ≡ 0 → X
 unless_waiting n text (inl less) none = absurd (omega (arith, less, none, length-drop n text))
 unless_waiting n text (inr x) none = x

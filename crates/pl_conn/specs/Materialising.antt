@@ -43,7 +43,7 @@ reported_epoch _ = None
 abbrev pub goes_on : Reply → Bool
 goes_on reply = is_done reply || is_some (reported_epoch reply)
 
--- the epoch that was reported last, where the newest reply is first; 1 if none was
+-- the epoch that was reported last in replies with the newest first; 1 if none was
 abbrev pub last_reported_epoch : List Reply → ℕ
 last_reported_epoch [] = 1
 last_reported_epoch (reply ∷ earlier) = unwrap_or (reported_epoch reply) (last_reported_epoch earlier)

@@ -58,7 +58,7 @@ asked_of head act h n order reads allowed = absurd cc
 not_both : (v : Verdict) (s : Section) (row value : ℕ) → v ≡ verdicts.Allowed → v ≡ verdicts.Denied s row value → ⊥
 not_both v s row value e f = let clash : verdicts.Allowed ≡ verdicts.Denied s row value = sym e ∙ f in cc
 
--- where it is allowed, the LSN is a hardened one, and the rows allow it
+-- if it is allowed, the LSN is a hardened one, and the rows allow it
 record IsFree (h : History) (q : Query) (n : ℕ) : Type 0 where
   within : n ≤ hard_of h
   rows : allowed_at h q n ≡ true

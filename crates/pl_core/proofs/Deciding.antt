@@ -35,7 +35,7 @@ use Rattle.pl_core.proofs.Places.{says_of}
 use Rattle.pl_core.proofs.Transition.{can_harden_by}
 use Rattle.pl_core.proofs.Answering.{IsByTable}
 
--- what a view shows of a request at a state, where so many blocks are hardened
+-- what a view shows of a request at a state in which so many blocks are hardened
 pub record Seen (state : State) (many : ℕ) (q : Query) (view : View) : Type 0 where
   pub hard : view.hard ≡ many
   pub copies : view.copies ≡ state.log.copies

@@ -1,4 +1,4 @@
--- What holds at all holds where there is an error.
+-- What holds at all holds if there is an error.
 use Rattle.std.proofs.Common.{Result, Ok, Err}
 use Rattle.std.specs.Prelude.{OnErr}
 

@@ -46,7 +46,7 @@ tells_end rows a reach end same is fits end_fits found = (
       (sym (found end end_fits) ∙ through end end_fits ∙ le_itself end)),
 )
 
--- it is the greatest LSN where that is one of those at which they allow alike
+-- it is the greatest LSN if that is one of those at which they allow alike
 pub to_the_last : (rows : List Row) (a : Asked) (lsns : LsnRange) (last : ℕ) → LowerLsnsAreAllowed → rows_allow rows a ≡ true → lsns.from ≤ lsns.to → AreAlike rows a lsns → last ≤ lsns.to → (lsn : ℕ) → lsn ≤ last → rows_allow rows (asked_at a lsn) ≡ nat_le lsn last
 to_the_last rows a lsns last lower allowed order alike le lsn below =
     let at_to : rows_allow rows (asked_at a lsns.to) ≡ true = ap found_allows (alike lsns.to order (omega arith)) ∙ allowed in

@@ -76,11 +76,11 @@ cache-keeps was now new span keeps cap cache = record {
 
 -- ---- a loop over the verdicts
 
--- where all of them agree, the next one does
+-- if all of them agree, the next one does
 pub next-agrees : (rows : List Row) (verdicts was now : List CachedVerdict) (e : CachedVerdict) → was ≡ e ∷ now → Stays verdicts was → All (IsOfRows rows) verdicts → IsOfRows rows e
 next-agrees rows verdicts was now e turn stays all = All-contains (IsOfRows rows) verdicts e all (stays e (subst (λ (es : List CachedVerdict). Contains es e) (sym turn) (All-contains_itself (e ∷ now) 0 e (omega arith))))
 
--- where none is left, all of them agree
+-- if none is left, all of them agree
 pub none-left : (rows : List Row) (verdicts was : List CachedVerdict) → was ≡ [] → (All (IsOfRows rows) was → All (IsOfRows rows) verdicts) → All (IsOfRows rows) verdicts
 none-left rows verdicts was none before = before (subst (All (IsOfRows rows)) (sym none) (All-nil (IsOfRows rows)))
 

@@ -55,7 +55,7 @@ allowing None h row = absurd cc
 allowing (Some (number, true)) h row = (and_right (eqb number row) false refl, refl)
 allowing (Some (number, false)) h row = absurd cc
 
--- where the rows allow, none of them denies the request, and one matches
+-- if the rows allow, none of them denies the request, and one matches
 pub rows-pass : (q : Query) (t : WrittenTable) (e : Epochs) (v : View) → rows_allow t.rows (asked_in q) ≡ true → (row : ℕ) → (stands_against (rules.TableRow row) q t e v ≡ false) × (stands_against rules.NoRowMatches q t e v ≡ false)
 rows-pass q t e v allow row =
     let passed = allowing (first_match_from 1 t.rows (asked_in q)) allow row in

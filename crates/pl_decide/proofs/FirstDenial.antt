@@ -1,4 +1,4 @@
--- Any order of rules: the first that denies the request decides, and where none does the request is allowed.
+-- Any order of rules: the first that denies the request decides, and if none does the request is allowed.
 use Rattle.std.proofs.Common.{◌≡◌, ◌≢◌, Bool, true, false, cond, List, [], ◌∷◌, ◌++◌, refl, sym, ap, ◌∙◌, inl, inr}
 use Rattle.std.specs.Prelude.{◌↔◌}
 use Rattle.std.proofs.lemmas.Bool.{cases_Bool}

@@ -90,7 +90,7 @@ first_between k (row ∷ rows) key low n high above below same =
     let here = about_between (is_about row (at n)) (matches low) (matches n) (matches high) (row_between row.allows row.through low n high above below) in
     step k row.allows (row_matches row (at low)) (row_matches row (at n)) (row_matches row (at high)) (first_match_from (k + 1) rows (at low)) (first_match_from (k + 1) rows (at n)) (first_match_from (k + 1) rows (at high)) here (first_between (k + 1) rows key low n high above below) (apart k row.allows rows (at low)) (apart k row.allows rows (at high)) same
 
--- a verdict is that of the rows at all its LSNs where it is at the first and at the last of them
+-- a verdict is that of the rows at all its LSNs if it is at the first and at the last of them
 pub at-ends : (rows : List Row) (key : VerdictKey) (lsns : Option LsnRange) (found : Option (ℕ × Bool)) (through : Option ℕ) → IsSpan (under key lsns found through) → IsFoundAt rows (under key lsns found through) ↔ (first_with rows key (option_map (λ l. l.from) lsns) ≡ found) × (first_with rows key (option_map (λ l. l.to) lsns) ≡ found)
 unfolding IsSpan
 at-ends rows key None found through span = (λ of. (of None tt, of None tt), λ both lsn at. ap (first_with rows key) (unnamed lsn at) ∙ both.0)

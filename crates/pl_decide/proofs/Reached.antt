@@ -38,7 +38,7 @@ record IsSameActAs (a b : Act) : Type 0 where
   primary : primary_named a ≡ primary_named b
   text : text_in_act a ≡ text_in_act b
 
--- A rule denies both of two such acts, or neither; or it is a rule on the rows, and does not deny where they
+-- A rule denies both of two such acts, or neither; or it is a rule on the rows, and does not deny if they
 -- allow; or it is the one on the hardened end.
 number_only : (rule : Rule) (head : Head) (a b : Act) (t : WrittenTable) (e : Epochs) (v : View) → IsSameActAs a b → (stands_against rule (asks head a) t e v ≡ stands_against rule (asks head b) t e v) ⊎ ((rows_allow t.rows (asked_in (asks head b)) ≡ true → stands_against rule (asks head b) t e v ≡ false) ⊎ (rule ≡ rules.AboveTheEnd))
 number_only rules.UnknownPrincipal head a b t e v alike = inl refl
@@ -81,7 +81,7 @@ read_at acts.Tidy lsn reads = absurd cc
 above_the_end : (head : Head) (act : Act) (lsn : ℕ) (t : WrittenTable) (e : Epochs) (v : View) (above : Bool) → reads_the_log (op_of act) ≡ true → IsAt act lsn → nat_lt v.hard lsn ≡ above → stands_against rules.AboveTheEnd (asks head (act_at act lsn)) t e v ≡ above
 above_the_end head act lsn t e v above reads at is = rw (← at.alike.op, reads, at.number, is) refl
 
--- where the rows allow it, no rule but that one denies it
+-- if the rows allow it, no rule but that one denies it
 or_the_end : (rule : Rule) (head : Head) (act : Act) (lsn : ℕ) (t : WrittenTable) (e : Epochs) (v : View) → IsAt act lsn → decision (asks head act) t e v ≡ verdicts.Allowed → rows_allow t.rows (asked_in (asks head (act_at act lsn))) ≡ true → (stands_against rule (asks head (act_at act lsn)) t e v ≡ false) ⊎ (rule ≡ rules.AboveTheEnd)
 or_the_end rule head act lsn t e v at allowed rows =
     elim (number_only rule head act (act_at act lsn) t e v at.alike) [
@@ -116,7 +116,7 @@ denied_at head act lsn t e v reads at allowed rows lt =
       | inr is ↦ found.2 ∙ ap (λ (r : Rule). denial r (act_at act lsn) e v) is
     ]
 
--- ---- where the rows do not allow it
+-- ---- if the rows do not allow it
 
 -- who asks, in which epoch and role, is as for the LSN that is allowed
 none_of_a : (head : Head) (act : Act) (lsn : ℕ) (t : WrittenTable) (e : Epochs) (v : View) → IsAt act lsn → decision (asks head act) t e v ≡ verdicts.Allowed → NoneStands section_a (asks head (act_at act lsn)) t e v

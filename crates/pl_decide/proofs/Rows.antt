@@ -58,7 +58,7 @@ and_true : (x : Bool) → (x && true) ≡ x
 and_true true = refl
 and_true false = refl
 
--- the row at an index is the one that is found, where none before it matches
+-- the row at an index is the one that is found, if none before it matches
 found_at : (k i number : ℕ) (rows : List Row) (a : Asked) → number ≡ k + i → denies_at number (first_match_from k rows a) ≡ (is_some_and (slice_get rows i) (λ row. row_matches row a && not row.allows) && none_matches (take i rows) a)
 found_at k i number [] a is = refl
 found_at k zero number (row ∷ rows) a is =
@@ -72,14 +72,14 @@ found_at k (suc i) number (row ∷ rows) a is =
       | inr fails ↦ rw fails (found_at (k + 1) i number rows a (omega arith))
     ]
 
--- the rule of a row denies where the row is the first match, and denies
+-- the rule of a row denies if the row is the first match, and denies
 pub denies_first-is : (number : ℕ) (rows : List Row) (a : Asked) → denies_first number rows a ≡ denies_at number (first_match_from 1 rows a)
 denies_first-is zero rows a = sym (none_above 1 0 rows a (omega arith))
 denies_first-is (suc n) rows a =
     let one : suc n - 1 ≡ n = omega arith in
     rw (lt-ltb 0 (suc n) (omega arith), one) (sym (found_at 1 n (suc n) rows a (omega arith)))
 
--- and the rule after them where there is none
+-- and the rule after them if there is none
 pub none_matches-is : (k : ℕ) (rows : List Row) (a : Asked) → none_matches rows a ≡ is_unmatched (first_match_from k rows a)
 none_matches-is k [] a = refl
 none_matches-is k (row ∷ rows) a =
@@ -110,21 +110,21 @@ reached k (suc n) row rest q t e v low high each =
 in_front : (q : Query) (t : WrittenTable) (e : Epochs) (v : View) → first_denial (section_b (length t.rows) ++ section_c) q t e v ≡ first_denial (map TableRow (range_with_len 1 (length t.rows)) ++ NoRowMatches ∷ section_c) q t e v
 in_front q t e v = ap (λ (order : List Rule). first_denial order q t e v) (append_assoc (map TableRow (range_with_len 1 (length t.rows))) (NoRowMatches ∷ []) section_c)
 
--- where no row matches
+-- if no row matches
 pub rows-none : (q : Query) (t : WrittenTable) (e : Epochs) (v : View) → first_match_from 1 t.rows (asked_in q) ≡ None → first_denial (section_b (length t.rows) ++ section_c) q t e v ≡ verdicts.Denied sections.B 0 0
 rows-none q t e v none =
     in_front q t e v
     ∙ passed 1 (length t.rows) (NoRowMatches ∷ section_c) q t e v (λ row. denies_first-is row t.rows (asked_in q) ∙ ap (denies_at row) none)
     ∙ rw (none_matches-is 1 t.rows (asked_in q) ∙ ap is_unmatched none) refl
 
--- where the first row that matches allows
+-- if the first row that matches allows
 pub rows-allow : (q : Query) (t : WrittenTable) (e : Epochs) (v : View) (row : ℕ) → first_match_from 1 t.rows (asked_in q) ≡ Some (row, true) → first_denial (section_b (length t.rows) ++ section_c) q t e v ≡ first_denial section_c q t e v
 rows-allow q t e v row found =
     in_front q t e v
     ∙ passed 1 (length t.rows) (NoRowMatches ∷ section_c) q t e v (λ other. denies_first-is other t.rows (asked_in q) ∙ ap (denies_at other) found ∙ and_right (eqb row other) false refl)
     ∙ rw (none_matches-is 1 t.rows (asked_in q) ∙ ap is_unmatched found) refl
 
--- where it denies
+-- if it denies
 pub rows-deny : (q : Query) (t : WrittenTable) (e : Epochs) (v : View) (row : ℕ) → first_match_from 1 t.rows (asked_in q) ≡ Some (row, false) → first_denial (section_b (length t.rows) ++ section_c) q t e v ≡ verdicts.Denied sections.B row 0
 rows-deny q t e v row found =
     let within = first_match-within 1 t.rows (asked_in q) row false found in

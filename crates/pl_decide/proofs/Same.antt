@@ -22,7 +22,7 @@ use Rattle.pl_decide.specs.Keys.{CachedVerdict}
 got : {A : Type 0} (x y : A) → Some x ≡ Some y → x ≡ y
 got x y e = cc
 
--- values whose numbers are equal are one, where each is found by its number
+-- values whose numbers are equal are one, if each is found by its number
 by_number : {A : Type 0} (number : A → ℕ) (back : ℕ → Option A) → ((x : A) → back (number x) ≡ Some x) → (a b : A) → (number a == number b) ≡ true → a ≡ b
 by_number number back found a b h = got a b (sym (found a) ∙ ap back ((unsigned_Decides (number a) (number b)).0 h) ∙ found b)
 
@@ -102,7 +102,7 @@ put-entries was key verdict e there = elim (Contains-put_entries same_key was ke
   ])
 ]
 
--- also where the put was refused
+-- also if the put was refused
 pub put-keeps : {A B : Type 0} (was now : LruCache VerdictKey RowVerdict) (key : VerdictKey) (verdict : RowVerdict) (r : Result A B) → OnOk r (now ≡ lru_cache (put_entries same_key was key verdict) was.cap) → OnErr r (now ≡ was) → (e : CachedVerdict) → Contains now.entries e → Contains was.entries e ⊎ (e ≡ (key, verdict))
 put-keeps was now key verdict (Ok a) ok err e there = put-entries was key verdict e (subst (λ (k : LruCache VerdictKey RowVerdict). Contains k.entries e) ok there)
 put-keeps was now key verdict (Err b) ok err e there = inl (subst (λ (k : LruCache VerdictKey RowVerdict). Contains k.entries e) err there)

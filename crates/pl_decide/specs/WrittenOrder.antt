@@ -61,7 +61,7 @@ abbrev pub IsFirstDenial : Verdict → List Rule → Query → WrittenTable → 
 IsFirstDenial verdict order q t e v =
     (rule : Rule) × IsFirst rule order q t e v × (verdict ≡ denial rule q.act e v)
 
--- the verdict is Allowed exactly where no rule of the order denies the request
+-- the verdict is Allowed exactly if no rule of the order denies the request
 abbrev pub AllowsExactly : Verdict → Query → WrittenTable → Epochs → View → Type 0
 AllowsExactly verdict q t e v = (verdict ≡ verdicts.Allowed) ↔ NoneStands (order_of t) q t e v
 

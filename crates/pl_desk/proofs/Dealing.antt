@@ -180,7 +180,7 @@ opens terms count seats turns bound legal counted = record {
 
 -- ---- closing
 
--- where no ticket is held, the slot has a history that goes on from what the pass has seen
+-- if no ticket is held, the slot has a history that goes on from what the pass has seen
 pub closes : (terms : Terms) (id : ℕ) (v : View) (ws : List ℕ) (xs : List (Option History)) (ticket : ℕ) → v.stage ≡ Idle
     → get_elem? ws 1 ≡ maybe.some ticket → get_elem? ws 2 ≡ maybe.some ticket → Final (Seen (DeskInvariant terms) id v) ws xs
     → (h : History) × (get_elem? xs 0 ≡ maybe.some (Some h)) × IsAhead v.terms v.number v.seen h

@@ -88,7 +88,7 @@ pub own-new : (n k : ℕ) (h g : History) → GoesOn n h g → n < k → own_ent
 own-new n k h g on lt =
     own-goes_on n k h g on ∙ ap (λ (es : List Entry). es ++ own_entries h k) (own-none n k on.more on.numbered lt)
 
--- where the end has no more entries of a pass than the beginning, nor has what is between
+-- if the end has no more entries of a pass than the beginning, nor has what is between
 pub own-between : (n m k : ℕ) (a b c : History) → GoesOn n a b → GoesOn m b c → own_entries c k ≡ own_entries a k → own_entries b k ≡ own_entries a k
 own-between n m k a b c first second same =
     let left = own-goes_on n k a b first in

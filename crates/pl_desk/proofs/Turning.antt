@@ -34,7 +34,7 @@ inside (x ∷ xs) (suc i) v at = let rest = inside xs i v at in omega (arith, re
 
 -- ---- the turn has come
 
--- where a waiting pass has the ticket that is served, nobody has the turn
+-- if a waiting pass has the ticket that is served, nobody has the turn
 nobody-in-turn : (terms : Terms) (s : Table) (r : DeskInvariant terms s) (id : ℕ) (v : View) → get_elem? s.views id ≡ maybe.some v → v.stage ≡ Waiting (get_or s.words 2 0) → NobodyInTurn s.views
 nobody-in-turn terms s r id v at waits j u t h there turn =
     let t' = get_or s.words 2 0 in

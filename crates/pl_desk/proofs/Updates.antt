@@ -72,7 +72,7 @@ update terms s r id v w ws hs now at live k =
       home = k.home;
     }
 
--- where a view that had no turn is changed and nobody has the turn then, nobody had it before
+-- if a view that had no turn is changed and nobody has the turn then, nobody had it before
 pub nobody-before : (vs : List View) (id : ℕ) (v w : View) → get_elem? vs id ≡ maybe.some v → ((t : ℕ) (h : History) → v.stage ≢ InTurn t h)
     → NobodyInTurn (set vs id w) → NobodyInTurn vs
 nobody-before vs id v w at none nobody j u t h there =
@@ -90,7 +90,7 @@ ticket-held next serving now v (InTurn x h) t is has = (omega (arith, is.0, has)
 ticket-held next serving now v (Met first second other) t is has = absurd has
 ticket-held next serving now v Gone t is has = absurd has
 
--- what a stage says of the words and of the history still holds where tickets are drawn, those that
+-- what a stage says of the words and of the history still holds if tickets are drawn, those that
 -- are held are not skipped, and nothing changes for who has the turn
 pub stands-on : (next serving next' serving' : ℕ) (now now' : History) (v : View) (st : Stage) → next ≤ next'
     → ((t : ℕ) → HasTicket st t → serving ≤ t → serving' ≤ t) → ((t : ℕ) (h : History) → st ≡ InTurn t h → (serving ≡ serving') × (now ≡ now'))
@@ -104,7 +104,7 @@ stands-on next serving next' serving' now now' v (InTurn t h) le keeps turn is =
 stands-on next serving next' serving' now now' v (Met first second other) le keeps turn is = is
 stands-on next serving next' serving' now now' v Gone le keeps turn is = tt
 
--- what is so of a view is still so, where its stage still holds and the history has gone on without it
+-- what is so of a view is still so, if its stage still holds and the history has gone on without it
 pub view-on : (terms : Terms) (n next serving next' serving' : ℕ) (now now' : History) (v : View) → next ≤ next'
     → ((t : ℕ) → HasTicket v.stage t → serving ≤ t → serving' ≤ t) → ((t : ℕ) (h : History) → v.stage ≡ InTurn t h → (serving ≡ serving') × (now ≡ now'))
     → (IsAhead v.terms v.number v.seen now → IsAhead v.terms v.number v.seen now') → IsView terms n next serving now v → IsView terms n next' serving' now' v

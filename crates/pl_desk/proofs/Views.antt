@@ -31,7 +31,7 @@ total-few : (f : Stage → ℕ) → ((s : Stage) → f s ≤ 1) → (vs : List V
 total-few f few [] = omega arith
 total-few f few (x ∷ xs) = let one = few x.stage in let rest = total-few f few xs in omega (arith, one, rest)
 
--- where one view counts for nothing, the count is less than the number of views
+-- if one view counts for nothing, the count is less than the number of views
 pub total-spare : (f : Stage → ℕ) → ((s : Stage) → f s ≤ 1) → (vs : List View) (i : ℕ) (v : View) → get_elem? vs i ≡ some v → f v.stage ≡ 0 → total f vs < length vs
 total-spare f few [] i v at none = absurd (some-ne-none v (sym at))
 total-spare f few (x ∷ xs) zero v at none =

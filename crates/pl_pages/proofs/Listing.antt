@@ -88,7 +88,7 @@ pub none_left : (lsn : ℕ) (may : Bool) (xs ys : List ℕ) → may ≡ false �
 none_left lsn may xs ys none (inl is) = is
 none_left lsn may xs ys none (inr some) = absurd (false≢true (sym none ∙ some.0))
 
--- what holds anyway holds where a call failed
+-- what holds anyway holds when a call failed
 pub where_failed : {U E : Type 0} (r : Result U E) (P : Type 0) → P → OnErr r P
 where_failed (Ok u) P p = tt
 where_failed (Err e) P p = p

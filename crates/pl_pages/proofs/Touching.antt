@@ -92,7 +92,7 @@ module _ (page : ℕ) (log : List Content) where
         | inr past ↦ ap (λ n. page_of page (take n log)) next ∙ past.1 ∙ stays a d (omega (arith, within)) (omega (arith, past.0, same, ap (count_before page log) next))
       ]
 
-  -- where as many blocks change the page, it is the same
+  -- if as many blocks change the page, it is the same
   pub same_page : (a b : ℕ) → a ≤ length log → b ≤ length log → count_before page log a ≡ count_before page log b → page_of page (take a log) ≡ page_of page (take b log)
   same_page a b one other same =
       elim (cases_lt a b) [

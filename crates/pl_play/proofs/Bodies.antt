@@ -1,4 +1,4 @@
--- The reply to what a decoder read of a body, where there was memory for it.
+-- The reply to what a decoder read of a body, if there was memory for it.
 use Rattle.std.proofs.Common.{◌≡◌, ◌≢◌, ℕ, List, Ok, refl, subst, sym}
 use Rattle.pl_block.specs.Faults.{Fails}
 use Rattle.pl_block.specs.declared.fault.Failed.{Failed}

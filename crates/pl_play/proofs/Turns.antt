@@ -23,7 +23,7 @@ LeavesLines None left lines = ⊤
 LeavesLines (Some text) None lines = ⊥
 LeavesLines (Some text) (Some rest) lines = text_lines text ≡ lines ++ text_lines rest
 
--- the lines of what is left, where that is known
+-- the lines of what is left, if that is known
 abbrev pub known_lines : Option (List ℕ) → List (List ℕ)
 known_lines None = []
 known_lines (Some text) = text_lines text

@@ -12,7 +12,7 @@ use Rattle.pl_table.specs.Tables.FirstMatch.{first_match_from, found_allows, row
 use Rattle.pl_table.specs.Tables.Reach.{any_ends, matches_at, NoEndBetween, AreAlike}
 use Rattle.pl_table.specs.Laws.{LowerLsnsAreAllowed}
 
--- where its LSN stays, it is as it is
+-- if its LSN stays, it is as it is
 same_lsn : (a : Asked) (n : ℕ) → option_map (λ own. n) a.lsn ≡ a.lsn → asked_at a n ≡ a
 same_lsn a n e = ap (λ (l : Option ℕ). record { principal = a.principal; role = a.role; op = a.op; partitions = a.partitions; lsn = l }) e
 
@@ -78,7 +78,7 @@ alike_from k [] a own other e each = refl
 alike_from k (row ∷ rows) a own other e each =
     rw (row_at row a own other e, row_at row a own own e, apart_alike row.allows row.through own other each.0, alike_from (k + 1) rows a own other e each.1) refl
 
--- where no row ends between the LSNs of a range, the request finds the same row at each
+-- if no row ends between the LSNs of a range, the request finds the same row at each
 pub are_alike : (rows : List Row) (a : Asked) (own : ℕ) (range : LsnRange) → a.lsn ≡ Some own → ((other : ℕ) → range.from ≤ other → other ≤ range.to → All (λ row. NoEndBetween own other row.through) rows) → AreAlike rows a range
 are_alike rows a own range e apart = λ lsn from to.
     alike_from 1 rows a own lsn e (recursion_from_All (λ row. NoEndBetween own lsn row.through) rows (apart lsn from to)) ∙ ap (first_match_from 1 rows) (own_asked a own e)
@@ -93,7 +93,7 @@ or_parts : (a b : Bool) → (a || b) ≡ false → (a ≡ false) × (b ≡ false
 or_parts true b h = cc
 or_parts false b h = (refl, h)
 
--- where no row ends, the request finds the same row at each LSN
+-- if no row ends, the request finds the same row at each LSN
 pub no_ends : (k : ℕ) (rows : List Row) (a : Asked) (n : ℕ) → any_ends rows ≡ false → first_match_from k rows (asked_at a n) ≡ first_match_from k rows a
 no_ends k [] a n e = refl
 no_ends k (row ∷ rows) a n e =

@@ -8,7 +8,7 @@ use Rattle.pl_table.specs.Requests.Asking.{Asked}
 use Rattle.pl_table.specs.Tables.Row.{row_matches}
 use Rattle.pl_table.specs.Tables.FirstMatch.{IsFirstMatch, first_match_from}
 
--- how many rows come before the one that is found, where the first of the list has the number k
+-- how many rows come before the one that is found, if the first of the list has the number k
 abbrev FirstFrom : ℕ → List Row → Asked → ℕ × Bool → Type 0
 FirstFrom k rows q found = (i : ℕ) × (found.0 ≡ k + i) × IsSomeAnd (slice_get rows i) (λ row. IsTrue (row_matches row q) × (row.allows ≡ found.1)) × AllByRecursion (λ row. row_matches row q ≡ false) (take i rows)
 
@@ -39,6 +39,6 @@ IsFirstMatch-first_match_from rows q =
     let at : found.0 - 1 ≡ r.0 = omega arith in
     record { number = omega arith; row = rw at r.2; above = rw at (All-from_recursion (λ row. row_matches row q ≡ false) (take r.0 rows) r.3) })
 
--- where no row is found none matches
+-- if no row is found none matches
 pub All-none_found : (rows : List Row) (q : Asked) → IfNone (first_match_from 1 rows q) (All (λ row. row_matches row q ≡ false) rows)
 All-none_found rows q = IfNone_then (first_match_from 1 rows q) (none_from 1 rows q) (All-from_recursion (λ row. row_matches row q ≡ false) rows)

@@ -124,7 +124,7 @@ nothing k (row ∷ rest) q are =
       | inr fails ↦ rw (unlisted row q fails) (nothing (k + 1) rest q (rw fails at are))
     ]
 
--- where no place is left no row matches
+-- if no place is left no row matches
 pub IsLeft-none : (all : List Row) (q : Asked) (list : List ℕ) → length list ≡ 0 → IsLeft all q list → first_match_from 1 all q ≡ None
 IsLeft-none all q [] none left = sym left.2 ∙ nothing left.0 (drop left.0 all) q left.1
 IsLeft-none all q (p ∷ ps) none left = absurd cc
@@ -142,7 +142,7 @@ asker_is id (name ∷ names) =
 name_found : (id : ℕ) (names : List ℕ) → Contains names id → asker_of id names ≡ Some id
 name_found id names there = asker_is id names ∙ ap (λ (b : Bool). cond b (Some id) None) (list_any-from_Contains nat_eq_equiv id names there)
 
--- a row that names a principal is of this asker exactly where it names this principal
+-- a row that names a principal is of this asker exactly if it names this principal
 same_who : (names : List ℕ) (who : Option ℕ) (id : ℕ) → IfSome who (Contains names) → part_matches (is_asker (asker_of id names)) who ≡ part_matches (λ w. eqb w id) who
 same_who names None id listed = refl
 same_who names (Some w) id listed =
@@ -249,7 +249,7 @@ each-named rows ids sorted names are moved is =
 
 -- ---- a list is as long as there are rows that can match
 
--- one row more: its place is listed where it can match
+-- one row more: its place is listed if it can match
 places-step : (test : Row → Bool) (rows : List Row) (i : ℕ) (row : Row) → i < length rows → row ≡ get_or rows i row → places_from i test (drop i rows) ≡ cond (test row) (i ∷ places_from (i + 1) test (drop (i + 1) rows)) (places_from (i + 1) test (drop (i + 1) rows))
 places-step test rows i row lt is = at_drop_more (places_from i test) rows i row lt ∙ rw (← is) refl
 

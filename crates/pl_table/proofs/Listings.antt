@@ -40,7 +40,7 @@ or_parts : (a b : Bool) → (a || b) ≡ false → (a ≡ false) × (b ≡ false
 or_parts true b h = cc
 or_parts false b h = (refl, h)
 
--- where id and token read, the principal reads
+-- if id and token read, the principal reads
 reads : (d : Data) (id : Option ℕ) (token : Option (List ℕ)) → id_under d ≡ id → token_under d ≡ token → is_some id ≡ true → is_some token ≡ true → is_some (principal_of d) ≡ true
 unfolding principal_of
 reads d (Some id) (Some token) i t h k = rw (i, t) refl
@@ -51,7 +51,7 @@ length-some : {A : Type 0} (o : Option A) (xs : List A) → is_some o ≡ true �
 length-some (Some x) xs h = refl
 length-some None xs h = cc
 
--- where each id and each token reads, there are as many principals as data
+-- if each id and each token reads, there are as many principals as data
 pub length-principals : {X : Type 0} (read : X → Data) (xs : List X) → list_all (λ x. is_some (id_under (read x))) xs ≡ true → list_all (λ x. is_some (token_under (read x))) xs ≡ true → length (filter_map (λ x. principal_of (read x)) xs) ≡ length xs
 length-principals read [] i t = refl
 length-principals read (x ∷ xs) i t =
@@ -92,7 +92,7 @@ IsDistinct-own_ids (p ∷ ps) h =
     let (here, more) = and_parts _ _ h in
     (none_equal p.id ps (not_true _ here), IsDistinct-own_ids ps more)
 
--- each fault of the principals, where those before it are not there
+-- each fault of the principals, if those before it are not there
 pub principals_of-keys : (vs : List Value) → list_all (λ v. is_principal (view v)) vs ≡ false → principals_of (map view vs) ≡ Err PrincipalKeys
 principals_of-keys vs k = rw (principals_of-view vs, k) refl
 
@@ -108,7 +108,7 @@ principals_of-repeated vs k i t o = rw (principals_of-view vs, k, i, t, o) refl
 pub principals_of-all : (vs : List Value) → list_all (λ v. is_principal (view v)) vs ≡ true → list_all (λ v. is_some (id_under (view v))) vs ≡ true → list_all (λ v. is_some (token_under (view v))) vs ≡ true → have_own_ids (filter_map (λ v. principal_of (view v)) vs) ≡ true → principals_of (map view vs) ≡ Ok (filter_map (λ v. principal_of (view v)) vs)
 principals_of-all vs k i t o = rw (principals_of-view vs, k, i, t, o) refl
 
--- each fault of the rows, where those before it are not there
+-- each fault of the rows, if those before it are not there
 pub rows_of-keys : (ps : List Principal) (vs : List Value) → list_all (λ v. is_row (view v)) vs ≡ false → rows_of ps (map view vs) ≡ Err RowKeys
 rows_of-keys ps vs k = rw (rows_of-view ps vs, k) refl
 

@@ -69,7 +69,7 @@ reached-missed rows q most low high list p ps row reached is here e = record {
   left = λ n gt le. missed-next rows (asked_at q n) p ps row (IsLeft-next rows (asked_at q n) list p ps is (reached.left n gt le)) here (misses row q n e);
 }
 
--- the next row decides one of the LSNs between, where it matches there
+-- the next row decides one of the LSNs between, if it matches there
 found_here : (rows : List Row) (q : Asked) (list : List ℕ) (p : ℕ) (ps : List ℕ) (row : Row) (own n : ℕ) (b : Bool) → q.lsn ≡ Some own → IsLeft rows (asked_at q n) list → list ≡ p ∷ ps → row ≡ get_or rows p row → is_about row q ≡ true → matches_at row n ≡ true → row.allows ≡ b → rows_allow rows (asked_at q n) ≡ b
 found_here rows q list p ps row own n b some left is here about matches allows =
     let next = IsLeft-next rows (asked_at q n) list p ps is left in
@@ -103,7 +103,7 @@ reached-about rows q most low high list p ps row new_low new_high names reached 
     (λ none. absurd (let clash : false ≡ true = rw none at names in cc))
     (λ own some. reached-after rows q most low high list p ps row own new_low new_high some reached is here about after)
 
--- where nothing is left between, low is how far the rows allow
+-- if nothing is left between, low is how far the rows allow
 pub reached-end : (rows : List Row) (q : Asked) (most low high : ℕ) (list : List ℕ) → IsReached rows q most low high list → ((n : ℕ) → low < n → n ≤ high → length list ≡ 0) → (lsn : ℕ) → lsn ≤ most → rows_allow rows (asked_at q lsn) ≡ nat_le lsn low
 reached-end rows q most low high list reached none lsn le =
     elim (cases_lt low lsn) [
@@ -118,7 +118,7 @@ reached-end rows q most low high list reached none lsn le =
           reached.allowed lsn upto ∙ sym below
     ]
 
--- where no row ends, the rows allow the request at each LSN
+-- if no row ends, the rows allow the request at each LSN
 pub reached-no_ends : (rows : List Row) (q : Asked) (most : ℕ) (has : Bool) → has ≡ any_ends rows → has ≡ false → rows_allow rows q ≡ true → (lsn : ℕ) → lsn ≤ most → rows_allow rows (asked_at q lsn) ≡ nat_le lsn most
 reached-no_ends rows q most has is none h lsn le =
     let below : nat_le lsn most ≡ true = grind (arith, nat_tests) in

@@ -28,7 +28,7 @@ pub fails_first : {A B : Type 0} (e : Failed TableFault) (read : Result A TableF
 fails_first NoMemory read f fails = tt
 fails_first (Malformed fault) read f fails = rw fails refl
 
--- what holds where a fault is not there
+-- what holds if a fault is not there
 unless : {A : Type 0} (b : Bool) (e : TableFault) (o : Result A TableFault) (P : A → Type 0) → (b ≡ false → IfOk o P) → IfOk (if b then Err e else o) P
 unless true e o P h = tt
 unless false e o P h = h refl

@@ -53,7 +53,7 @@ each_end : (allows : Bool) (through : Option ℕ) → part_matches (through_matc
 each_end allows None = refl
 each_end allows (Some end) = refl
 
--- where none is named each range matches
+-- if none is named each range matches
 each_range : (allows : Bool) (range : Option PartitionRange) → part_matches (range_matches allows []) range ≡ true
 each_range allows None = refl
 each_range true (Some range) = refl
@@ -67,7 +67,7 @@ first_at : (k id : ℕ) (q : Query) (row : Row) (rows : List Row) (b : Bool) →
 first_at k id q row rows true speaks matches later = rw (speaks, matches) refl
 first_at k id q row rows false speaks matches later = rw (speaks, matches) later
 
--- the first row that speaks of it allows where the first that matches does
+-- the first row that speaks of it allows if the first that matches does
 first_allows : (k id : ℕ) (q : Query) (rows : List Row) → AsksToSet id q → allows (find (is_about_setting id) rows) ≡ found_allows (first_match_from k rows (asked_in q))
 first_allows k id q [] asks = refl
 first_allows k id q (row ∷ rows) asks = first_at k id q row rows (row_matches row (asked_in q)) (row_of_setting id q row asks) refl (first_allows (k + 1) id q rows asks)

@@ -27,7 +27,7 @@ each_told id (p ∷ ps) apart =
 pub token_of-only : (id : ℕ) (ps : List Principal) → IsDistinct eqb (map (λ p. p.id) ps) → All (λ p. p.id ≡ id → token_of id ps ≡ Some p.token) ps
 token_of-only id ps apart = All-from_recursion (λ p. p.id ≡ id → token_of id ps ≡ Some p.token) ps (each_told id ps apart)
 
--- a token is found where a test finds the id
+-- a token is found if a test finds the id
 is_some-token_of : (id : ℕ) (ps : List Principal) → is_some (token_of id ps) ≡ list_any (eqb id) (map (λ p. p.id) ps)
 is_some-token_of id [] = refl
 is_some-token_of id (p ∷ ps) = grind (arith, nat_tests, is_some-token_of id ps)

@@ -64,12 +64,12 @@ pub has_only-Table : (names : List (List ℕ)) (m : BTreeMap (String Global) Val
 unfolding has_only
 has_only-Table names m = rw view-Table (sym (known_keys (is_one_of names) m.entries))
 
--- an array lists tables where each of its values is one
+-- an array lists tables if each of its values is one
 pub tables_in-Array : (v : Vec Value Global) (b : Bool) → list_all (λ x. is_table (view x)) v.items ≡ b → tables_in (view (Array v)) ≡ (if b then Some (map view v.items) else None)
 unfolding tables_in
 tables_in-Array v b e = rw (view-Array, list_of-items_view v.items, all_data is_table v.items, e) refl
 
--- an array lists operations where it has some value and each is one
+-- an array lists operations if it has some value and each is one
 pub ops_in-Array : (v : Vec Value Global) (b : Bool) → (nat_le 1 (length v.items) && list_all (λ x. is_some (op_in (view x))) v.items) ≡ b → ops_in (view (Array v)) ≡ (if b then Some (filter_map (λ x. op_in (view x)) v.items) else None)
 unfolding ops_in
 ops_in-Array v b e = rw (view-Array, list_of-items_view v.items, length-map v.items view, all_data (λ d. is_some (op_in d)) v.items, e, read_data op_in v.items) refl

@@ -29,7 +29,7 @@ pub record Tells {X : Type 0} (read : List ℕ → Result (X × List ℕ) WireFa
   pub takes : (bytes : List ℕ) (x : X × List ℕ) → AreBytes bytes → read bytes ≡ Ok x → IsFront bytes (spell x.0) x.1 × Fits x.0
   pub again : (x : X) (rest : List ℕ) → Fits x → read (spell x ++ rest) ≡ Ok (x, rest)
 
--- where a field was read, and then what follows it: the field, and the bytes after it
+-- if a field was read, and then what follows it: the field, and the bytes after it
 pub read_then : {X Z R : Type 0} {read : List ℕ → Result (X × List ℕ) WireFault} {spell : X → List ℕ} {Fits : X → Type 0} → Tells read spell Fits → (bytes : List ℕ) (k : X × List ℕ → Result Z WireFault) (z : Z) → AreBytes bytes → (read bytes >>= k) ≡ Ok z
     → ((x : X) (rest : List ℕ) → IsFront bytes (spell x) rest → Fits x → k (x, rest) ≡ Ok z → R) → R
 read_then {read = read} tells bytes k z fits e f =

@@ -1,4 +1,4 @@
--- Steps that may fail: what is known where none did.
+-- Steps that may fail: what is known if none did.
 use Rattle.std.proofs.Common.{◌≡◌, Bool, true, false, cond, Option, Some, None, Result, Ok, Err, refl}
 use Rattle.std.specs.Option.{ok_or}
 use Rattle.pl_block.specs.Faults.{◌>>=◌}

@@ -21,7 +21,7 @@ pub enum ReplyKind {
     Malformed = 10,
 }
 
-// The case with this number, of those that have one, or `None` where none has it.
+// The case with this number, of those that have one, or `None` if none has it.
 macro_rules! numbered {
     ($number:expr; $($case:path),*) => {
         match $number {

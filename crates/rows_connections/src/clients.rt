@@ -93,7 +93,7 @@ fn ask_once(stream: &mut TcpStream, part: Part) -> Result<Option<usize>, Stop> {
     first_refused(stream, replies)
 }
 
-// The same, and after a refusal once more: the pull alone where it was refused, and otherwise all, since nothing is
+// The same, and after a refusal once more: the pull alone if it was refused, and otherwise all, since nothing is
 // hardened without the writes and the report.
 fn ask_on(stream: &mut TcpStream, part: Part, refused: &mut bool) -> Result<(), Stop> {
     let Some(number) = ask_once(stream, part)? else {
@@ -165,7 +165,7 @@ fn ask_as<R: Net<Stream = TcpStream>>(
     }
 }
 
-// Serves the clients over the desks, and each client gets what it wants. Where one heard of a refusal, and went on, all
+// Serves the clients over the desks, and each client gets what it wants. If one heard of a refusal, and went on, all
 // else has to be as if there had been none.
 fn serve_clients<R>(
     rt: &R,
@@ -203,7 +203,7 @@ where
     serve_clients(rt, alloc, &desks, passes, clients, faults, refused)
 }
 
-// The same, and from its beginning, once, where memory was refused to the test itself or ended a conversation or a worker:
+// The same, and from its beginning, once, if memory was refused to the test itself or ended a conversation or a worker:
 // the service counts its connections, so that a client that was cut off has no other.
 fn serve_on<R>(
     rt: &R,

@@ -50,7 +50,7 @@ fn listen<R: Net<Listener = TcpListener, Stream = TcpStream>>(
 
 // This many connections were accepted, and this many ended in a fault, with a pass of each worker. A stop
 // that shows a refusal is one; and so are more faults, or fewer passes, since these show no cause: who
-// asks plays the test once more for them only where memory may be refused.
+// asks plays the test once more for them only if memory may be refused.
 fn check_served<P>(
     served: &Served<P>,
     accepted: u32,
@@ -78,7 +78,7 @@ impl Started {
         }
     }
 
-    // For the service: whether its client has not given up. Where no thread could be started the service
+    // For the service: whether its client has not given up. If no thread could be started the service
     // begins after its client.
     fn begins(&self) -> bool {
         self.word.swap(1, Ordering::SeqCst) == 0
@@ -94,7 +94,7 @@ impl Started {
     }
 }
 
-// What is served where the client has given up.
+// What is served if the client has given up.
 fn unserved<P>(passes: Vec<P>) -> Served<P> {
     Served {
         accepted: 0,

@@ -81,7 +81,7 @@ pub(crate) fn one_pass(alloc: Global) -> Result<SoloPass, Stop>
     Ok(SoloPass::new(dbs_of(alloc, 1)?, 1))
 }
 
-// The conversation of the pass over these bytes ends so, and writes this, where the writer takes so many bytes at once
+// The conversation of the pass over these bytes ends so, and writes this, if the writer takes so many bytes at once
 // and so many in all.
 fn talks_by(
     alloc: Global,
@@ -236,7 +236,7 @@ fn zeros_end(
     ends_at_once(alloc, &(&frame, end, told))
 }
 
-// The longest body is read where all of it is there at once, and one byte more is too long.
+// The longest body is read if all of it is there at once, and one byte more is too long.
 fn longest_body(alloc: Global) -> Result<(), Stop> {
     zeros_end(alloc, [0, 1, 0, 0], 65_536, Ok(1), &[0, 0, 0, 2, 10, 2])?;
     zeros_end(alloc, [0, 1, 0, 1], 65_537, Err(TOO_LONG), &[])
@@ -260,7 +260,7 @@ fn took_two<R: Source>(reader: &mut R) -> bool {
     true
 }
 
-// A buffered reader of four bytes, which is made again where memory is refused.
+// A buffered reader of four bytes, which is made again if memory is refused.
 fn buffered_on<'a>(
     alloc: Global,
     bytes: &'a [u8],
@@ -274,7 +274,7 @@ fn buffered_on<'a>(
     BufReader::with_capacity(alloc, 4, bytes)
 }
 
-// Reads to the end, and goes on after what was read where memory is refused. How many bytes come in all.
+// Reads to the end, and goes on after what was read if memory is refused. How many bytes come in all.
 fn read_on<R: Read>(reader: &mut R, rest: &mut Vec<u8>, refused: &mut bool) -> io::Result<usize> {
     match reader.read_to_end(rest) {
         Err(error) if error.kind() == ErrorKind::OutOfMemory && !*refused => {
@@ -379,7 +379,7 @@ fn input_cut_anywhere(rt: HostRuntime) {
     assert!(&rt; done.is_ok());
 }
 
-// Where the writer takes this many bytes in all, and then fails. How many entries there are in the end.
+// When the writer takes this many bytes in all, and then fails. How many entries there are in the end.
 fn cut_output(alloc: Global, room: usize, at_once: usize, entries: u64) -> Result<(), Stop> {
     let input = Input {
         left: FRAMES,

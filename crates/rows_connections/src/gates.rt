@@ -204,7 +204,7 @@ fn desks_answer<R: Wait + Drop>(
     ask_by_last(alloc, &desks, passes, seats, rows)
 }
 
-/// Desks of this many databases and seats reply so. They are made again, once, where memory was refused.
+/// Desks of this many databases and seats reply so. They are made again, once, if memory was refused.
 pub(crate) fn desks_answer_on<R: Wait + Drop + Copy>(
     rt: R,
     alloc: Global,

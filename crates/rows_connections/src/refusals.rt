@@ -1,4 +1,4 @@
-//! The conversation of the stored run where memory is refused once: it goes on with what was not answered,
+//! The conversation of the stored run when memory is refused once: it goes on with what was not answered,
 //! on the same database.
 
 ghost use Rattle.std.specs.Prelude.{◌≡◌, IfOk, vec_len};
@@ -63,7 +63,7 @@ type Frames = (usize, usize, usize);
 /// the end, at least and at most.
 type Again = (Frames, usize, (u64, u64));
 
-/// What was answered where one of the four frames was replied NoMemory, and what is asked once more: that
+/// What was answered if one of the four frames was replied NoMemory, and what is asked once more: that
 /// frame, and those that are denied without it.
 const REFUSED: [(&[u8], Again); 4] = [
     (
@@ -90,7 +90,7 @@ const REFUSED: [(&[u8], Again); 4] = [
     ),
 ];
 
-/// What is asked once more where the conversation ended with this many replies: all frames after these. The
+/// What is asked once more if the conversation ended with this many replies: all frames after these. The
 /// next one may have had its step.
 const ENDED: [Again; 5] = [
     ((0, 0, 0), 0, (4, 5)),
@@ -146,7 +146,7 @@ fn again_after(told: &[u8]) -> Result<Again, Stop> {
     Err(Stop::Changed)
 }
 
-// What is asked once more where it ended with this many replies, which are those of the run.
+// What is asked once more if it ended with this many replies, which are those of the run.
 fn again_from(answered: u64, told: &[u8]) -> Result<Again, Stop> {
     let again = *ENDED.get(answered as usize).ok_or(Stop::Changed)?;
     let (_, replied, _) = again;
@@ -241,7 +241,7 @@ fn goes_on_twice<R: Wait + Drop>(rt: R, alloc: Global, at_once: usize) -> Result
     Ok(u64::from(alone).saturating_add(u64::from(at_desk)))
 }
 
-// The same, once more where memory was refused to the test itself or to what it opens.
+// The same, once more if memory was refused to the test itself or to what it opens.
 fn goes_on_in_pieces<R: Wait + Drop + Copy>(
     rt: R,
     alloc: Global,
@@ -261,7 +261,7 @@ fn stored_run_goes_on(rt: HostRuntime) {
     assert!(&rt; matches!(goes_on_in_pieces(rt, alloc, 208), Ok(0 | 1)));
 }
 
-/// The same where they come byte by byte.
+/// The same if they come byte by byte.
 #[test]
 fn stored_run_goes_on_by_bytes(rt: HostRuntime) {
     let alloc = rt.alloc();

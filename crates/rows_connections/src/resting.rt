@@ -145,7 +145,7 @@ pub(crate) fn talk_of(alloc: Global, frames: &[u8], room: usize) -> Result<Talk<
     })
 }
 
-// What comes of the end of a turn: what it rests for, or nothing where there is another turn.
+// What comes of the end of a turn: what it rests for, or nothing if there is another turn.
 fn rest_of(end: Result<Rest, Cause>) -> Result<Option<Rest>, Stop> {
     match end {
         Ok(Rest::Again) => Ok(None),
@@ -204,7 +204,7 @@ pub(crate) fn cause_of(at: &mut Talk<'_>, room: &mut Room) -> Result<Cause, Stop
     Err(Stop::Changed)
 }
 
-/// How a conversation went. Where a reply that it wrote says that a body found no memory, of which the gate
+/// How a conversation went. If a reply that it wrote says that a body found no memory, of which the gate
 /// knows nothing, it went wrong for that.
 pub(crate) fn went(alloc: Global, writer: &Filling, done: Result<(), Stop>) -> Result<(), Stop> {
     if matches!(done, Err(Stop::Changed)) && has_refusal(alloc, &writer.text) {
@@ -292,7 +292,7 @@ fn in_turns_of(
     Err(Stop::Changed)
 }
 
-// The frames are there, and the writer takes this many bytes at each turn. Where that goes wrong, what still waits is
+// The frames are there, and the writer takes this many bytes at each turn. If that goes wrong, what still waits is
 // taken as well: it may say that a body found no memory.
 fn taken_in_pieces(
     alloc: Global,

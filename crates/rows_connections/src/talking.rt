@@ -293,7 +293,7 @@ fn first_wrong_of<R: Wait + Drop + Copy>(
 
 /// Whether each request of the text is answered as it says, in a conversation with a fresh database,
 /// over one caller's gate and over a desk, in each of these pieces. What is wrong is printed to standard
-/// error. The conversation is held from the beginning, once, where memory was refused.
+/// error. The conversation is held from the beginning, once, if memory was refused.
 pub(crate) fn converses_as<R: AllocGlobal + Eprint + Wait + Drop + Copy>(
     rt: R,
     text: &str,

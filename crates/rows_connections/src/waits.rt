@@ -221,7 +221,7 @@ fn answers_all_in_time(alloc: Global) -> Result<(), Stop> {
 }
 
 /// Twelve frames that come in pieces of any length, cut anywhere: whenever the reader has to wait, the
-/// replies to all frames before are written, also where a part of the next one has come.
+/// replies to all frames before are written, also if a part of the next one has come.
 #[test]
 fn replies_before_each_wait(rt: HostRuntime) {
     let mut done = answers_all_in_time(rt.alloc());
@@ -231,7 +231,7 @@ fn replies_before_each_wait(rt: HostRuntime) {
     assert!(&rt; done.is_ok());
 }
 
-// Where the writer takes this many bytes of the replies to these frames, which are all there at once.
+// When the writer takes this many bytes of the replies to these frames, which are all there at once.
 fn stops_soon(alloc: Global, frames: &[u8], room: usize) -> Result<(), Stop> {
     let tally = Tally::new();
     let end = talk(alloc, frames, frames.len(), room, &tally)?;
@@ -288,7 +288,7 @@ fn turns_stop_soon(alloc: Global, frames: &[u8], room: usize) -> Result<(), Stop
     check(tally.written.load(Ordering::SeqCst) == room as u64)
 }
 
-// Where the writer takes all, the turns answer all, and the conversation is over.
+// If the writer takes all, the turns answer all, and the conversation is over.
 fn turns_end(alloc: Global, frames: &[u8], count: u64) -> Result<(), Stop> {
     let tally = Tally::new();
     let end = turns(alloc, frames, usize::MAX, &tally)?;
@@ -306,7 +306,7 @@ fn stops_at_each(alloc: Global) -> Result<(), Stop> {
 }
 
 /// Twenty thousand frames that are all there at once, and a writer that fails: after the answered ones no
-/// more requests were handed to the gate than those whose replies wait, 256 KiB and one reply more. So too where the
+/// more requests were handed to the gate than those whose replies wait, 256 KiB and one reply more. So too if the
 /// conversation rests.
 #[test]
 fn steps_before_a_failed_write(rt: HostRuntime) {

@@ -33,7 +33,7 @@ pub(crate) struct Database {
     asked: usize,
 }
 
-/// What a request is made from, and made again where memory was refused.
+/// What a request is made from, and made again if memory was refused.
 #[derive(Clone, Copy, Drop)]
 pub(crate) enum Asked<'a> {
     Words(&'a [&'a str]),
@@ -126,7 +126,7 @@ impl Database {
         Ok(reply)
     }
 
-    // The reply to a request, which is made again, in its place, where memory was refused.
+    // The reply to a request, which is made again, in its place, if memory was refused.
     pub(crate) fn ask(&mut self, asked: Asked, refused: &mut bool) -> Result<Reply, Stop> {
         let reply = self.step(asked);
         if *refused || !matches!(reply, Ok(Reply::NoMemory) | Err(Stop::NoMemory)) {
@@ -160,7 +160,7 @@ impl Database {
         Ok(requests)
     }
 
-    // Pushes the replies to the requests of the queue, in one run. Where memory is refused to the run,
+    // Pushes the replies to the requests of the queue, in one run. If memory is refused to the run,
     // no step was taken, and the queue is as it was. One step of it may be refused memory.
     fn run(&mut self, out: &mut String, refused: &mut bool) -> Result<(), Stop> {
         let requests = self.queued()?;
@@ -195,7 +195,7 @@ impl Database {
     }
 
     // What it is that a step of the run was refused memory: the others have to be as if it had not been asked. That is
-    // seen where all that was asked was in runs.
+    // seen if all that was asked was in runs.
     fn amid(&self, replies: &[Reply]) -> Result<Stop, Stop> {
         if self.asked != self.queue.len() {
             return Ok(Stop::Amid);
@@ -204,7 +204,7 @@ impl Database {
         self.beside(&mut twin, replies)
     }
 
-    // The same, where the twin is asked, step by step, what this database was asked in runs.
+    // The same, if the twin is asked, step by step, what this database was asked in runs.
     fn beside(&self, twin: &mut Database, replies: &[Reply]) -> Result<Stop, Stop> {
         let (ran, waiting) = self.queues();
         twin.open_as(&self.opened)?;
@@ -340,7 +340,7 @@ fn encoded(alloc: Global, reply: &Reply) -> Result<Vec<u8>, Stop> {
     Ok(encode_reply(alloc, reply)?)
 }
 
-// The same, and once more where memory is refused.
+// The same, and once more if memory is refused.
 fn encoded_on(alloc: Global, reply: &Reply, refused: &mut bool) -> Result<Vec<u8>, Stop> {
     let bytes = encoded(alloc, reply);
     if *refused || !matches!(bytes, Err(Stop::NoMemory)) {

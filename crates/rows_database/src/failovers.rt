@@ -56,7 +56,7 @@ fn failover_stops_at_gap(rt: HostRuntime) {
     assert!(rt; plays::<Database>(&rt, FAILOVER_STOPS_AT_GAP));
 }
 
-// What was written before a failover and not hardened is annulled, even where it is written again:
+// What was written before a failover and not hardened is annulled, even if it is written again:
 // the copies of the old epoch count no more.
 const OLD_COPIES_COUNT_NO_MORE: &str = "\
 open start 2 65536          = Ok

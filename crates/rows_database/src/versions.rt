@@ -233,7 +233,7 @@ const GETS: &[Get] = &[
     (1, 3, false, 18),
     (1, 18, false, 18),
     (0, 18, false, 18),
-    // One block after, and where no block changes the page.
+    // One block after, and if no block changes the page.
     (1, 19, true, 19),
     (0, 20, true, 20),
     // At an old LSN, with a version and without one.
@@ -330,7 +330,7 @@ fn is_right(alloc: Global, row: &Row) -> Result<bool, AllocError> {
     }
 }
 
-// The row is right; it is played once more where an allocation failed.
+// The row is right; it is played once more if an allocation failed.
 fn holds(rt: &impl Abort, alloc: Global, row: &Row) {
     let mut end = is_right(alloc, row);
     if end.is_err() {
@@ -349,7 +349,7 @@ fn page_by_its_versions(rt: HostRuntime) {
     holds(&rt, rt.alloc(), &Row::Gets(GETS));
 }
 
-/// Two pages of 3,000 changes each are got in turn, 300,000 times, where each frame had a version
+/// Two pages of 3,000 changes each are got in turn, 300,000 times, when each frame had a version
 /// before: each replaces another one, and is then found. If one took the frame of the other, each get
 /// would make 3,000 changes, and the test would take minutes.
 #[test]

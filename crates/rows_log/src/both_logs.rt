@@ -81,7 +81,7 @@ impl Both {
         wants(self.log.agrees(block) == self.plain.agrees(block), "agrees")
     }
 
-    // Writes the block, where it may be written.
+    // Writes the block, if it may be written.
     fn write(&mut self, copy: u8, block: Block) -> Result<(), Stop> {
         self.compare_openness(&block)?;
         let may = self.log.in_window(block.lsn()) && self.log.agrees(&block);
@@ -93,7 +93,7 @@ impl Both {
         Ok(())
     }
 
-    // Offers the block, where it may be offered.
+    // Offers the block, if it may be offered.
     fn offer(&mut self, block: Block, refused: &mut bool) -> Result<(), Stop> {
         self.compare_openness(&block)?;
         if !self.log.in_window(block.lsn()) || !self.log.agrees(&block) {
@@ -111,7 +111,7 @@ impl Both {
         Ok(self.log.offer(again)?)
     }
 
-    // Hardens up to the LSN, where that may be hardened.
+    // Hardens up to the LSN, if that may be hardened.
     fn report(&mut self, lsn: u64, refused: &mut bool) -> Result<(), Stop> {
         let can = self.log.can_harden(lsn) == self.plain.can_harden(lsn);
         wants(can, "can_harden")?;
@@ -212,7 +212,7 @@ impl Both {
         wants(same_block(found, plain), "an annulled block")
     }
 
-    // Writes the next LSN to the last copies that are a quorum, where that may be.
+    // Writes the next LSN to the last copies that are a quorum, if that may be.
     fn land(&mut self, lsn: u64) -> Result<(), Stop> {
         let Zone { copies, quorum } = self.plain.zone();
         let next = block(self.alloc, lsn, Size::Short)?;
@@ -222,7 +222,7 @@ impl Both {
         Ok(())
     }
 
-    // Writes the next LSNs to a quorum of copies, where that may be, and hardens them.
+    // Writes the next LSNs to a quorum of copies, if that may be, and hardens them.
     fn harden(&mut self, count: u16, refused: &mut bool) -> Result<(), Stop> {
         let hard = self.log.hard();
         let last = hard.saturating_add(u64::from(count));

@@ -65,7 +65,7 @@ impl Driven {
         Ok(())
     }
 
-    // The block of the word, where it may be offered.
+    // The block of the word, if it may be offered.
     fn offered(&self, alloc: Global, word: &str) -> Result<Block, Stop>
         ensures window { IfOk result (λ block. IsTrue (in_window self.now.log block.lsn)) }
         ensures agrees { IfOk result (λ block. IsTrue (window_open_to self.now.log block)) }
@@ -103,7 +103,7 @@ impl Driven {
         Ok(self.log.report(lsn)?)
     }
 
-    // Writes the block of the word to a copy, and once more where memory is refused.
+    // Writes the block of the word to a copy, and once more if memory is refused.
     fn write_on(
         &mut self,
         alloc: Global,

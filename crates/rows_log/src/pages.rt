@@ -182,7 +182,7 @@ fn pages_at_each_lsn(rt: HostRuntime) {
 }
 
 // A block that makes the whole page is where a replay may begin: bytes from before it are gone, also
-// where a version from before it is kept, and records before it in its own block do not count.
+// if a version from before it is kept, and records before it in its own block do not count.
 const REPLAYS_BEGIN_AT_IMAGES: &str = "\
 pages                                 = Ok
 harden 1 1:01                         = Ok

@@ -98,7 +98,7 @@ pub(crate) trait Row: Copy {
     fn play(self, alloc: Global, refused: &mut bool) -> Result<(), Stop>;
 }
 
-/// Plays the row, once more where an allocation of its own failed.
+/// Plays the row, once more if an allocation of its own failed.
 pub(crate) fn plays<R: Row>(rt: &impl Abort, alloc: Global, row: R) {
     let mut refused = false;
     let mut end = row.play(alloc, &mut refused);

@@ -127,7 +127,7 @@ const NO_REQUESTS: &[&str] = &[
     "set_table too_long",
 ];
 
-// The text of the file, where it is too long for a table.
+// The text of the file, if it is too long for a table.
 fn long_text(alloc: Global, words: &str) -> Result<Option<Vec<u8>>, AllocError> {
     if words != "set_table too_long" {
         return Ok(None);

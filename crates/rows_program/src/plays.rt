@@ -34,7 +34,7 @@ fn fresh(alloc: Global) -> Result<Db, StartFault> {
     db_of(alloc, TABLE)
 }
 
-/// A database of which nothing was asked, with primary 2. It is made again where memory is refused, unless it was before.
+/// A database of which nothing was asked, with primary 2. It is made again if memory is refused, unless it was before.
 pub(crate) fn fresh_on(alloc: Global, refused: &mut bool) -> Option<Db> {
     match fresh(alloc) {
         Ok(db) => return Some(db),
@@ -92,7 +92,7 @@ fn are_answers(output: &[u8]) -> bool {
 }
 
 // Plays the lines after those that were answered, on the same database. The report may have two entries then, since its
-// step may have been taken where its answer was not written.
+// step may have been taken even if its answer was not written.
 fn answers_rest(alloc: Global, output: &mut Vec<u8>, db: &mut Db) -> bool {
     let before = answered(output).min(1);
     output.truncate(if before == 0 { 0 } else { ANSWER });
@@ -101,7 +101,7 @@ fn answers_rest(alloc: Global, output: &mut Vec<u8>, db: &mut Db) -> bool {
     end == Ok(lines) && are_answers(output) && matches!(db.audit_len(), 1 | 2)
 }
 
-// Plays both lines on the database. Where memory is refused, those that were not answered are played then.
+// Plays both lines on the database. If memory is refused, those that were not answered are played then.
 fn answers_both(alloc: Global, db: &mut Db, refused: &mut bool) -> Option<bool> {
     let mut output = room_on(alloc, 100, refused).ok()?;
     let end = play_after(alloc, 0, &mut output, db);

@@ -52,7 +52,7 @@ fn play_given(
     play(alloc, &mut reader, output, db)
 }
 
-// The same. Where memory is refused, what was not answered is played then, on the same database. How it ended, and after
+// The same. If memory is refused, what was not answered is played then, on the same database. How it ended, and after
 // how many lines.
 fn play_on(
     alloc: Global,
@@ -125,7 +125,7 @@ fn a_line_is_read_to_its_limit(rt: HostRuntime) {
     stops_at(&rt, rt.alloc(), 1, 131_073, true);
 }
 
-// Reads a text of this many zeros, after which a read fails; and once more where memory is refused.
+// Reads a text of this many zeros, after which a read fails; and once more if memory is refused.
 fn text_on(alloc: Global, len: usize, refused: &mut bool) -> Result<Vec<u8>, FileFault> {
     let read = read_text(alloc, Zeros { left: len });
     if *refused || !matches!(read, Err(FileFault::NoMemory)) {
@@ -144,7 +144,7 @@ fn a_text_is_read_to_its_limit(rt: HostRuntime) {
     assert!(rt; matches!(read, Err(FileFault::Long)));
 }
 
-// This many empty lines, which are made again where memory is refused.
+// This many empty lines, which are made again if memory is refused.
 fn feeds_on(alloc: Global, lines: usize, refused: &mut bool) -> Result<Vec<u8>, AllocError> {
     let made = feeds(alloc, lines);
     if *refused || made.is_ok() {

@@ -8,7 +8,7 @@ use std::io::{self, ErrorKind, Write};
 use std::process::Abort;
 
 /// Takes at most `at_once` bytes a write. The write after the first `before` fails, and those
-/// after it do not. It needs no memory, and fails where it is full.
+/// after it do not. It needs no memory, and fails when it is full.
 #[derive(Drop)]
 struct Pipe {
     bytes: [u8; 16],
@@ -54,7 +54,7 @@ impl Write for Pipe {
 
 const LINES: &[u8] = b"\n\n";
 
-// Plays the two empty lines on the database. Where memory is refused, those that were not answered are played then. How it
+// Plays the two empty lines on the database. If memory is refused, those that were not answered are played then. How it
 // ended, and how many lines it was to answer.
 fn play_both(
     alloc: Global,

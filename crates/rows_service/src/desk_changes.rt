@@ -188,7 +188,7 @@ fn push_write(out: &mut String, number: u64, lsn: u64, verdict: &str) -> Result<
     Ok(write!(out, " {number}/1/2/primary/1/write/{lsn}/0/{verdict}")?)
 }
 
-// An audit of the first 65 entries, where this many writes were allowed.
+// An audit of the first 65 entries, when this many writes were allowed.
 fn audit_of(alloc: Global, allowed: u64) -> Result<String, Stop> {
     let mut row = String::new(alloc);
     row.push_str("1 11 operator 2 audit 1 65 = Entries")?;
@@ -204,7 +204,7 @@ fn audit_of(alloc: Global, allowed: u64) -> Result<String, Stop> {
     Ok(row)
 }
 
-// The same, and once more where memory is refused.
+// The same, and once more if memory is refused.
 fn audit_on(alloc: Global, allowed: u64, refused: &mut bool) -> Result<String, Stop> {
     match audit_of(alloc, allowed) {
         Ok(row) => Ok(row),

@@ -56,7 +56,7 @@ fn text_of(alloc: Global, reply: &Reply) -> Result<String, Stop> {
     Ok(text)
 }
 
-// The same, and once more where memory is refused.
+// The same, and once more if memory is refused.
 fn text_on(alloc: Global, reply: &Reply, refused: &mut bool) -> Result<String, Stop> {
     match text_of(alloc, reply) {
         Ok(text) => Ok(text),
@@ -67,7 +67,7 @@ fn text_on(alloc: Global, reply: &Reply, refused: &mut bool) -> Result<String, S
     }
 }
 
-// The reply to the request of the line, which is asked again, in its place, where memory is refused to
+// The reply to the request of the line, which is asked again, in its place, if memory is refused to
 // it or to its words.
 fn reply_on(
     rt: &impl Wait,
@@ -90,7 +90,7 @@ fn reply_on(
     }
 }
 
-/// The reply to the request of the line for the number, as words. Where memory is refused, the request is asked again in
+/// The reply to the request of the line for the number, as words. If memory is refused, the request is asked again in
 /// its place, unless memory was refused before. An error is that it was refused again.
 pub(crate) fn ask(
     rt: &impl Wait,
@@ -228,7 +228,7 @@ fn statuses(alloc: Global, count: u32) -> Result<String, Stop> {
     Ok(row)
 }
 
-// The same, and once more where memory is refused.
+// The same, and once more if memory is refused.
 fn statuses_on(alloc: Global, count: u32, refused: &mut bool) -> Result<String, Stop> {
     match statuses(alloc, count) {
         Ok(row) => Ok(row),
@@ -338,7 +338,7 @@ fn status_end(reply: &Reply) -> Result<(), Stop> {
     }
 }
 
-// Enters a status, and once more where memory is refused.
+// Enters a status, and once more if memory is refused.
 fn enter_status(db: &mut Db, refused: &mut bool) -> Result<(), Stop> {
     match status_end(&db.step(1, status()?)) {
         Ok(()) => Ok(()),

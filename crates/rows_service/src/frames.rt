@@ -53,7 +53,7 @@ fn faults_of_frames(rt: HostRuntime) {
 }
 
 // A read is interrupted after this many bytes, and those after it would bring the others: the frame
-// ends there, as where any other read fails.
+// ends there, as when any other read fails.
 const INTERRUPTED_FRAMES: &str = "\
 interrupted 0 frames 65536 00000001aa   = Io 5
 interrupted 2 frames 65536 00000001aa   = Io 3

@@ -1,4 +1,4 @@
-//! Desks that are opened and closed: a second time, where memory was refused.
+//! Desks that are opened and closed: a second time, if memory was refused.
 
 ghost use Rattle.std.specs.Prelude.{◌≤◌, ◌^◌, IfOk};
 ghost use Rattle.std.specs.List.{All};
@@ -35,7 +35,7 @@ fn open(alloc: Global, audit: u64) -> Result<Db, Stop> {
     }
 }
 
-/// The same, and once more where memory is refused.
+/// The same, and once more if memory is refused.
 pub(crate) fn open_on(alloc: Global, audit: u64, refused: &mut bool) -> Result<Db, Stop> {
     match open(alloc, audit) {
         Ok(db) => Ok(db),
@@ -67,7 +67,7 @@ fn desk_again(alloc: Global, db: Db, seats: u32, turns: u64) -> Result<(Desk, Ve
     }
 }
 
-/// A desk of the database. Where memory is refused to it, the database comes back, and another desk is opened.
+/// A desk of the database. If memory is refused to it, the database comes back, and another desk is opened.
 pub(crate) fn desk_over(
     alloc: Global,
     db: Db,

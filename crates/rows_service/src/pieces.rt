@@ -20,7 +20,7 @@ pub(crate) struct Feed<'a> {
     at_once: usize,
     /// How many bytes it gives before a read is interrupted. The reads after that one go on.
     interrupted: Option<usize>,
-    /// Whether a read after the bytes fails, where else the input ends.
+    /// Whether a read after the bytes fails; if not, the input ends.
     fails: bool,
     pub(crate) reads: u64,
     given: u64,
@@ -72,7 +72,7 @@ impl Read for Feed<'_> {
     }
 }
 
-/// What a write comes to where the room is full.
+/// What a write comes to when the room is full.
 #[derive(Drop)]
 pub(crate) enum Full {
     /// It takes no byte.

@@ -21,7 +21,7 @@ fn open(alloc: Global, limit: u64) -> Result<Audit, Stop> {
     Ok(Audit::new(alloc, limit))
 }
 
-// The entry of the line, with the table where one is named.
+// The entry of the line, with the table if one is named.
 fn entry_of(alloc: Global, line: &str, table: &[&str]) -> Result<Entry, Stop> {
     let line = line_of(alloc, line)?;
     let table = match table {

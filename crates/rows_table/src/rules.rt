@@ -119,7 +119,7 @@ impl Rules {
     }
 
     // The verdict on the request. It is the same of a decider that was asked by an older table, and
-    // where the principal is not looked up again.
+    // when the principal is not looked up again.
     fn decide(&self, table: &Table, request: &Request) -> Result<Verdict, Stop> {
         let mut decider = Decider::new(self.alloc)?;
         if let Some(older) = &self.older {
@@ -159,7 +159,7 @@ impl Rules {
         }
     }
 
-    // The same for the request of the words, where there is such a request.
+    // The same for the request of the words, if there is such a request.
     fn ask(&self, question: &str, most: u64, words: &[&str], out: &mut String) -> Result<(), Stop> {
         match request_of(self.alloc, 0, words)? {
             Some(request) => self.push_answer(question, most, &request, out),

@@ -74,7 +74,7 @@ fn code_in(reply: &Reply) -> Result<u64, Stop> {
     }
 }
 
-/// The code that the database denies with where it is asked to put the text in force.
+/// The code that the database denies with if it is asked to put the text in force.
 pub(crate) fn set_table(db: &mut Db, text: TableText) -> Result<u64, Stop> {
     let request = Request::new(OPERATOR, Act::SetTable { text }).ok_or(Stop::Unread)?;
     code_in(&db.step(1, request))
@@ -204,7 +204,7 @@ fn walk_once(
     walk_many(rt, alloc, many)
 }
 
-/// Walks over the cases of three kinds; and once more, where an allocation failed.
+/// Walks over the cases of three kinds; and once more, if an allocation failed.
 pub(crate) fn walk(
     rt: &impl Abort,
     alloc: Global,

@@ -1,5 +1,5 @@
 //! Verdicts of a table's rows that are asked again: by the same table, and by another. A row is played
-//! once more, from its beginning, where an allocation was refused.
+//! once more, from its beginning, if an allocation was refused.
 
 mod ends;
 mod reaches;
@@ -107,7 +107,7 @@ fn are_denied(db: &mut Db) -> Result<bool, Stop> {
     Ok(true)
 }
 
-// The code with which the table of other rows is denied, or 0 where it is put in force.
+// The code with which the table of other rows is denied, or 0 if it is put in force.
 fn set_other(alloc: Global, db: &mut Db) -> Result<u64, Stop> {
     let text = kept_of(alloc, OTHER_ROWS.as_bytes())?;
     set_table(db, text)
@@ -170,7 +170,7 @@ fn many_verdicts_of_a_decider(rt: HostRuntime) {
 
 // No row of the start table matches a pull by principal 3 as page server; by the other rows, the pull
 // of partition 5 is denied by row 1, and that of partition 6 is not. Each verdict is cached, but that on
-// partition 6 where memory is refused to it: where it is refused to the one on 5, the second pull of 5
+// partition 6 if memory is refused to it: if it is refused to the one on 5, the second pull of 5
 // caches it.
 const BY_TWO_TABLES: Row = Row {
     tables: &[&[(START, 1)], &[(OTHER_ROWS, 1)]],

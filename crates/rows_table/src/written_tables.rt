@@ -156,7 +156,7 @@ fn rows_against_writes(rt: HostRuntime) {
     assert!(rt; plays::<Rules>(&rt, ROWS_AGAINST_WRITES));
 }
 
-// A request names no partition where its act does not: then each range matches.
+// A request names no partition if its act does not: then each range matches.
 const RANGES_AGAINST_REQUESTS_WITHOUT_PARTITIONS: &str = "\
 table ranges                                      = Ok
 first 1 00 primary   1 status                     = 1 deny

@@ -144,7 +144,7 @@ fn audit_of(words: &[&str]) -> Result<Act, Stop> {
     })
 }
 
-/// The request of the words, or `None` where a number of the act is out of its range.
+/// The request of the words, or `None` if a number of the act is out of its range.
 pub fn request_of(alloc: Global, database: u32, words: &[&str]) -> Result<Option<Request>, Stop> {
     let [principal, token, role, epoch, act @ ..] = words else {
         return Err(Stop::Unread);

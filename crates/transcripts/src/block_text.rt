@@ -1,7 +1,7 @@
 //! A block as a word, `LSN:RECORD,RECORD..`, and the other way round.
 //!
 //! A Put is its bytes in hexadecimal, or `COUNT*BYTE`, and `@PAGE` or `@PAGE+OFFSET` after them
-//! where they are not at the beginning of page 0. A Zero is `zero`, and `@PAGE` likewise.
+//! if they are not at the beginning of page 0. A Zero is `zero`, and `@PAGE` likewise.
 
 use crate::transcript::{Stop, pushed};
 use bytes::Bytes;
@@ -130,7 +130,7 @@ fn number_and_block(alloc: Global, number: u64) -> Result<(String, String), Allo
 }
 
 /// The word of the number, and the one of a block of one byte that is the number's last: `300` and
-/// `300:2c`. Where memory is refused they are made again, once.
+/// `300:2c`. If memory is refused they are made again, once.
 pub fn number_words(
     alloc: Global,
     number: u64,

@@ -76,7 +76,7 @@ impl Codec {
         )
     }
 
-    // Puts the block after what is there. Where memory is refused, it has what it had.
+    // Puts the block after what is there. If memory is refused, it has what it had.
     fn append(&mut self, block: &Block) -> Result<(), Stop> {
         let before = self.out.to_vec(self.alloc)?;
         match encode_onto(&mut self.out, block) {
@@ -86,7 +86,7 @@ impl Codec {
         }
     }
 
-    // The same, and once more where memory is refused.
+    // The same, and once more if memory is refused.
     fn onto(&mut self, word: &str, out: &mut String, refused: &mut bool) -> Result<(), Stop> {
         let block = block_of(self.alloc, word)?;
         let mut end = self.append(&block);

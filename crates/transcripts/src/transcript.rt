@@ -127,7 +127,7 @@ impl<S: Subject> Player<S> {
         Ok(out)
     }
 
-    // Asks, and once more, in its place, where an allocation failed.
+    // Asks, and once more, in its place, if an allocation failed.
     fn asks_on(&mut self, asked: &str, wanted: &str) -> Result<String, Stop> {
         let answer = self.asks(asked, wanted);
         if self.refused || !matches!(answer, Err(Stop::NoMemory)) {

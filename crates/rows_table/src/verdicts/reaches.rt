@@ -36,7 +36,7 @@ const FIRST: Text = &[(TWO_PRINCIPALS, 1), (ROWS_THAT_END, 1), (ROW_BEFORE, 17)]
 
 const ALLOWED: Verdict = Verdict::Allowed;
 
-/// By a table whose rows come after 17 others, and then by one in which the first of them ends later. Where
+/// By a table whose rows come after 17 others, and then by one in which the first of them ends later. If
 /// memory is refused a verdict may not be cached, and no reach is another. Then the rows come before 17
 /// others: a pull that one allows which ends is cached, and one that the last of them allows, which does not
 /// end, is not.

@@ -21,7 +21,7 @@ pub(crate) enum Step {
     Reaches(&'static [Reach]),
     /// How many verdicts are cached.
     Cached(usize),
-    /// How many are cached, and one less where memory was refused to the step before.
+    /// How many are cached, and one less if memory was refused to the step before.
     CachedBefore(usize),
     /// What is cached is not that of the table of this place.
     Differs(usize),
@@ -29,7 +29,7 @@ pub(crate) enum Step {
     NewTable(usize),
 }
 
-/// What a step shows, whether it is wanted where memory was refused too, and the step.
+/// What a step shows, whether it is wanted if memory was refused too, and the step.
 pub(crate) type Line = (&'static str, bool, Step);
 
 /// A row: its tables, of which the first is in force, who pulls as page server, what the log has, and
@@ -65,7 +65,7 @@ pub(crate) fn pull_of(who: u8, partition: u16, lsn: u64) -> Option<Request> {
     Request::new(head, act)
 }
 
-// What is decided on the pull, where each cached verdict is that of the table.
+// What is decided on the pull, if each cached verdict is that of the table.
 fn decided(
     decider: &mut Decider,
     table: &Table,
@@ -225,7 +225,7 @@ pub(crate) fn is_right(rt: &impl Abort, wrong: Result<Option<&'static str>, Stop
     }
 }
 
-/// Takes the steps of the row; and once more, where an allocation failed.
+/// Takes the steps of the row; and once more, if an allocation failed.
 pub(crate) fn decides(rt: &(impl Abort + Env), alloc: Global, row: &Row) {
     let mut wrong = wrong_of(rt, alloc, row);
     if wrong.is_err() {

@@ -21,7 +21,7 @@ long_text (Some bytes) n front text empty over same =
     let cut : text ≡ take n bytes = subst (λ (f : List ℕ). text ≡ f ++ take n bytes) empty same in
     omega (arith, over, ap length cut, length-take n bytes)
 
--- what holds of what was read holds where the read gave something
+-- what holds of what was read holds if the read gave something
 where_read : {E : Type 0} (read : Result ℕ E) (B : Type 0) → IsOk read → OnOk read B → B
 where_read (Ok n) B is bytes = bytes
 where_read (Err e) B is bytes = cc

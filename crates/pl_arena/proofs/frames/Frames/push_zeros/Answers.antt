@@ -42,7 +42,7 @@ returns-then-has_room-clause-ok c =
     ∙ flat_grown zeros chunks n last
     ∙ ap (λ (x : Row). x ++ zeros ∷ []) c.self.view_is
 
--- where a chunk is made, the last has 64 frames
+-- if a chunk is made, the last has 64 frames
 whole : (c : After-new) (n : ℕ) → n + 1 ≡ length c.self.inside.chunks.items → length (get_or c.self.inside.chunks.items n []) ≡ 64
 whole c n e =
     let chunks = c.self.inside.chunks.items in

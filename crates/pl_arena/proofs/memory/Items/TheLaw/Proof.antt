@@ -1,4 +1,4 @@
--- A `&` to the items is made where one to an item is. Assumes `Logic`.
+-- A `&` to the items is made when one to an item is. Assumes `Logic`.
 use mathlib.Core.List.{[], ◌++◌}
 use base.Fml.{Incl-trans}
 use contract.BorrowLft.{meet_⊑_left}
