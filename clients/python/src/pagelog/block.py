@@ -132,6 +132,20 @@ class Block:
         return len(self.data) == EMPTY_BLOCK_SIZE
 
 
+def check_record(record: Record) -> None:
+    """Raises for a faulty record what `Block.of` raises for it."""
+    _check_record(record)
+    try:
+        encode_record(record)
+    except struct.error as error:
+        raise ValueError(f"a page or an offset is no whole number: {error}") from error
+
+
+def size_of_record(record: Record) -> int:
+    """How many bytes a record has in a block."""
+    return PUT_HEAD_SIZE + len(record.data) if isinstance(record, Put) else ZERO_SIZE
+
+
 def encode_record(record: Record) -> bytes:
     """The bytes of a record as they are in a block. The record is not checked."""
     if isinstance(record, Put):

@@ -9,6 +9,7 @@ import socket
 import threading
 import time
 from collections import deque
+from contextlib import suppress
 from dataclasses import dataclass
 from itertools import islice
 from types import TracebackType
@@ -97,6 +98,7 @@ class Connection:
         self.when_sent: Callable[[], None] | None = None
         """Called where all requests are on their way, before their replies are waited for. It raises nothing."""
         self._socket: socket.socket | None = None
+        self._poll = select.poll()
         self._out = bytearray()
         self._in = bytearray()
         self._failures = 0
@@ -249,6 +251,7 @@ class Connection:
             raise Unreachable(f"{self.address}: {error}") from error
         made.setsockopt(socket.IPPROTO_TCP, socket.TCP_NODELAY, 1)
         made.setblocking(False)
+        self._poll = select.poll()
         self._socket = made
         self._check_closed()  # before, it had no socket to wake this thread by
         self.connects += 1
@@ -286,20 +289,11 @@ class Connection:
     def _move(self, left: float) -> None:
         """Waits until bytes can go or have come, for as long as there is left, and moves them. Raises `TimedOut` or `ConnectionLost`."""
         assert self._socket is not None
-        poll = select.poll()
-        poll.register(self._socket, select.POLLIN | (select.POLLOUT if self._out else 0))
-        ready = poll.poll(1000 * min(self.timeout, left))
-        if not ready and left < self.timeout:
-            return
-        if not ready:
-            raise TimedOut(f"{self.address}: nothing came in {self.timeout} s")
-        events = ready[0][1]
         try:
-            if events & select.POLLOUT:
-                del self._out[: self._socket.send(self._out)]
-                if not self._out and self.when_sent is not None:
-                    self.when_sent()
-            if events & ~select.POLLOUT:
+            self._send()
+            self._poll.register(self._socket, select.POLLIN | (select.POLLOUT if self._out else 0))
+            ready = self._poll.poll(1000 * min(self.timeout, left))
+            if ready and ready[0][1] & ~select.POLLOUT:
                 data = self._socket.recv(_RECEIVE_SIZE)
                 if not data:
                     raise ConnectionLost(f"{self.address}: the service ended the connection")
@@ -308,3 +302,13 @@ class Connection:
             return
         except OSError as error:
             raise ConnectionLost(f"{self.address}: {error}") from error
+        if not ready and left >= self.timeout:
+            raise TimedOut(f"{self.address}: nothing came in {self.timeout} s")
+
+    def _send(self) -> None:
+        """Sends as much as goes at once of what is to be sent."""
+        if self._out and self._socket is not None:
+            with suppress(BlockingIOError):
+                del self._out[: self._socket.send(self._out)]
+            if not self._out and self.when_sent is not None:
+                self.when_sent()

@@ -9,7 +9,7 @@ from __future__ import annotations
 import threading
 from typing import Sequence
 
-from pagelog.block import Block, Record
+from pagelog.block import Block, Record, check_record
 from pagelog.errors import InDoubt, PagelogError, TimedOut
 from pagelog.named import NamedPrimary
 from pagelog.place import Lost
@@ -62,7 +62,7 @@ class Group:
         """Returns the position of its end once the archive has all up to there. Raises as `NamedPrimary.append` for a faulty
         record: then nothing of it is taken. Where its wait is interrupted it may be committed all the same."""
         for record in records:
-            Block.of(1, (record,))
+            check_record(record)
         mine = _Commit(records)
         with mine.under_way:
             try:

@@ -13,7 +13,7 @@ import hashlib
 import time
 from typing import Sequence
 
-from pagelog.block import Block, Record
+from pagelog.block import Block, Record, check_record
 from pagelog.client import FIRST_EPOCH
 from pagelog.credentials import Credentials
 from pagelog.errors import InDoubt, OutOfMemory, PagelogError, TimedOut
@@ -87,7 +87,7 @@ class NamedPrimary(Following):
     def append(self, *records: Record) -> None:
         """Puts records into the commit that is open. Raises as `Primary.append` for a faulty one, which is not taken."""
         for record in records:
-            Block.of(1, (record,))
+            check_record(record)
             self._records.append(record)
 
     def commit(self, *, durable: bool = False) -> int:

@@ -4,7 +4,7 @@ from __future__ import annotations
 
 from typing import Sequence
 
-from pagelog.block import BLOCK_SIZE, EMPTY_BLOCK_SIZE, Block, Record, encode_record
+from pagelog.block import BLOCK_SIZE, EMPTY_BLOCK_SIZE, Block, Record, size_of_record
 
 _MOST_RECORDS = 65535
 
@@ -20,7 +20,7 @@ class Packer:
     def add(self, record: Record) -> bool:
         """Adds the record, if it fits."""
         partition = record.partition
-        size = self._size + len(encode_record(record)) + (0 if partition in self._partitions else 2)
+        size = self._size + size_of_record(record) + (0 if partition in self._partitions else 2)
         if size > BLOCK_SIZE or len(self.records) == _MOST_RECORDS:
             return False
         self._size = size

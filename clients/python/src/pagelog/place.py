@@ -82,6 +82,8 @@ class _Line:
         place = Address.parse(address)
         self._socket = dial(place.host, place.port, _ANSWER)
         self._socket.setsockopt(socket.IPPROTO_TCP, socket.TCP_NODELAY, 1)
+        self._socket.setblocking(False)
+        self._poll = select.poll()
         self._left = b""
 
     def close(self) -> None:
@@ -90,20 +92,33 @@ class _Line:
     def answer(self, timeout: float) -> list[str]:
         """The words of the answer, however slowly they come. Raises `OSError`."""
         deadline = time.monotonic() + timeout
-        while (answer := self.take()) is None:
-            if time.monotonic() > deadline:
-                raise TimeoutError("no whole answer came")
-        return answer
+        while True:
+            self._wait(select.POLLIN, deadline)
+            if (answer := self.take()) is not None:
+                return answer
 
     def send(self, words: Sequence[object], timeout: float) -> None:
         """Sends a question. Raises `OSError`."""
-        self._socket.settimeout(timeout)
-        self._socket.sendall(" ".join(map(str, words)).encode() + b"\n")
+        question = " ".join(map(str, words)).encode() + b"\n"
+        deadline = time.monotonic() + timeout
+        while question:
+            try:
+                question = question[self._socket.send(question) :]
+            except BlockingIOError:
+                self._wait(select.POLLOUT, deadline)
+
+    def _wait(self, event: int, deadline: float) -> None:
+        self._poll.register(self._socket, event)
+        if not self._poll.poll(1000 * max(0.0, deadline - time.monotonic())):
+            raise TimeoutError("the keeper does not answer")
 
     def take(self) -> list[str] | None:
         """Takes what comes next. Returns the words of the answer, or None where it is not whole yet. Raises `OSError`."""
         if b"\n" not in self._left:
-            data = self._socket.recv(_LONGEST)
+            try:
+                data = self._socket.recv(_LONGEST)
+            except BlockingIOError:
+                return None
             if not data or len(self._left) > _LONGEST:
                 raise ConnectionError("the keeper ended the connection")
             self._left += data

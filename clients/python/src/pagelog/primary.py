@@ -8,7 +8,7 @@ from contextlib import closing
 from itertools import chain, takewhile
 from typing import TYPE_CHECKING, Iterable, Iterator, Sequence
 
-from pagelog.block import Block, Record
+from pagelog.block import Block, Record, check_record
 from pagelog.client import PageClient, reported_epoch
 from pagelog.connection import Answer, Connection
 from pagelog.credentials import Credentials
@@ -156,7 +156,7 @@ class Primary(PageClient):
         """
         self._prepare()
         for record in records:
-            Block.of(1, (record,))
+            check_record(record)
             if not self._packer.add(record):
                 self._close_block()
                 self._packer.add(record)
@@ -170,6 +170,8 @@ class Primary(PageClient):
         """
         self._prepare()
         self._close_block()
+        if not self._unhardened:
+            return self.durable
         self._hardened(self.durable)  # what an interrupt has left of the commit before
         left = [sent.block for sent in self._unhardened]
         for _ in self._harden((left[at : at + WINDOW] for at in range(0, len(left), WINDOW)), 2 * WINDOW):

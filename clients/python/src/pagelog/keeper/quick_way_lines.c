@@ -76,13 +76,17 @@ int way_take(struct way *way, struct way_line *taken) {
 
 /* Takes what other threads have left. Returns whether it goes on. */
 bool take_orders(struct way *way) {
+    bool is_woken = way->polled_room == 0 || way->polled[0].revents != 0;
+    if (!is_woken) {
+        return !way->is_over;
+    }
     uint64_t count;
     ssize_t got = read(way->control, &count, sizeof count);
     (void)got;
     pthread_mutex_lock(&way->lock);
     struct line *added = way->added;
     way->added = NULL;
-    bool stops = way->stops;
+    way->is_over = way->stops;
     if (way->kicked) {
         way->kicked = false;
         way->rung = way->news_wanted = true;
@@ -98,7 +102,7 @@ bool take_orders(struct way *way) {
         way->count++;
         added = next;
     }
-    return !stops;
+    return !way->is_over;
 }
 
 /* Leaves the line at this place of the list to the keeper. */

@@ -55,7 +55,7 @@ struct way {
     size_t count;
     struct pollfd *polled;
     size_t polled_room;
-    bool rung, news_wanted, news_due, warned, has_row;
+    bool is_over, rung, news_wanted, news_due, warned, has_row;
     int64_t due, asked_at;
     int64_t confirm_at;                 /* when a standby is asked for again that had not flushed all; 0: it is being asked for */
     uint64_t wanted, standby;           /* how far one has to have flushed; how far it had; 0: not known */
