@@ -149,11 +149,12 @@ def commits(pair, share):
 
 
 def writers(pair, share, is_apart):
-    """One writer and PostgreSQL in turn, and 64 writers."""
-    rounds, count = 25, max(4, round(40 * share))
+    """One writer and PostgreSQL in turn, commit by commit, so that all find the disk, the processors and their caches alike; one
+    writer alone; and 64 writers."""
+    count = max(100, round(1000 * share))
     plain = PlainCommits(pair.url)
     with keeping(pair, standby=False) as kept, kept.primary() as primary, contextlib.ExitStack() as placed:
-        pid, keeper, client = kept.processes["a"].pid, 0.0, 0.0
+        pid = kept.processes["a"].pid
         if is_apart:
             placed.enter_context(apart(pair, pid))
 
@@ -163,21 +164,22 @@ def writers(pair, share, is_apart):
 
         timed(lambda: commit(True), 10), timed(plain.commit, 10)
         times = {"PostgreSQL": [], "durable": [], "trip": []}
-        for _ in range(rounds):
-            times["PostgreSQL"] += timed(plain.commit, count)
-            keeper, client = keeper - processor_seconds(pid), client - time.process_time()
-            times["durable"] += timed(lambda: commit(True), count)
-            keeper, client = keeper + processor_seconds(pid), client + time.process_time()
-            times["trip"] += timed(lambda: commit(False), count)
+        for _ in range(count):
+            times["PostgreSQL"] += timed(plain.commit, 1)
+            times["durable"] += timed(lambda: commit(True), 1)
+            times["trip"] += timed(lambda: commit(False), 1)
             primary.durable(primary.end)
+        keeper, client = processor_seconds(pid), time.process_time()
+        alone = timed(lambda: commit(True), count)
+        keeper, client = processor_seconds(pid) - keeper, time.process_time() - client
         ours, theirs, trip = (at(50, times[what]) for what in ("durable", "PostgreSQL", "trip"))
         for what in ("PostgreSQL", "durable"):
             print(f"commit of one block, {what}: p50 {at(50, times[what]):.2f} ms, p99 {at(99, times[what]):.2f} ms")
         print(f"durable of PostgreSQL's p50: {ours / theirs:.2f}; without a round trip of {trip:.2f} ms {(ours - trip) / theirs:.2f}; "
               f"of its p99 {at(99, times['durable']) / at(99, times['PostgreSQL']):.2f}")  # fmt: skip
-        print(f"of a processor a durable commit takes {1e3 * keeper / rounds / count:.2f} ms of the keeper's and "
-              f"{1e3 * client / rounds / count:.2f} of the client's")  # fmt: skip
-        many_writers(kept, primary, 1 / statistics.mean(times["durable"]), max(3, round(20 * share)))
+        print(f"of a processor a durable commit takes {1e3 * keeper / count:.2f} ms of the keeper's and "
+              f"{1e3 * client / count:.2f} of the client's")  # fmt: skip
+        many_writers(kept, primary, 1 / statistics.mean(alone), max(3, round(20 * share)))
 
 
 def many_writers(kept, primary, one, count):
