@@ -1,19 +1,14 @@
 -- What the verdict says of each rule.
-use Rattle.std.proofs.Common.{◌≡◌, ℕ, ◌+◌, ◌-◌, ◌^◌, Bool, true, false, not, eqb, List, [], ◌∷◌, ◌++◌, length, Option, Some, None, Result, Ok, Err, refl, sym, ap, ◌∙◌, arith}
-use Rattle.std.specs.Prelude.{IsSome, IsOk, is_ok, is_none}
+use Rattle.std.proofs.Common.{◌≡◌, ℕ, Bool, true, false, not, eqb, List, [], ◌∷◌, ◌++◌, length, Option, Some, None, refl, sym, ap, ◌∙◌, arith}
 use Rattle.std.specs.List.{Contains}
-use Rattle.std.proofs.lemmas.Bool.{leb-false, ltb-false, not-false, eq-eqb, and_right}
+use Rattle.std.proofs.lemmas.Bool.{and_right}
 use Rattle.std.proofs.lemmas.List.Elements.{All-contains, Contains-append_left, Contains-append_right}
-use Rattle.pl_table.specs.declared.requests.head.Head.{Head}
-use Rattle.pl_table.specs.declared.requests.act.Act.{Act}
-use Rattle.pl_table.specs.declared.requests.act.Act.TheVariants as acts
 use Rattle.pl_table.specs.declared.tables.verdict.Section.TheVariants as sections
 use Rattle.pl_table.specs.declared.tables.verdict.Verdict.{Verdict}
 use Rattle.pl_table.specs.declared.tables.verdict.Verdict.TheVariants as verdicts
 use Rattle.pl_table.specs.Requests.Request.{Query}
 use Rattle.pl_table.specs.Requests.Asking.{asked_in}
-use Rattle.pl_table.specs.Tables.Table.{WrittenTable, token_of}
-use Rattle.pl_table.specs.Tables.TableText.{table_reading}
+use Rattle.pl_table.specs.Tables.Table.{WrittenTable}
 use Rattle.pl_table.specs.Tables.FirstMatch.{first_match_from, found_allows, rows_allow}
 use Rattle.pl_decide.specs.declared.rule.Rule.{Rule}
 use Rattle.pl_decide.specs.declared.rule.Rule.TheVariants as rules
@@ -22,7 +17,7 @@ use Rattle.pl_decide.specs.declared.view.View.{View}
 use Rattle.pl_decide.specs.Asked.{is_known}
 use Rattle.pl_decide.specs.Rules.{stands_against, rule_place}
 use Rattle.pl_decide.specs.WrittenOrder.{section_a, section_b, section_c, order_of, first_denial, decision, NoneStands}
-use Rattle.pl_decide.specs.Laws.{RowsAllowTheAllowed, AllowedMeetsNoRule, AllowedMayBeServed, MayBeServed, is_unknown, KnownIsNotUnknown}
+use Rattle.pl_decide.specs.Laws.{RowsAllowTheAllowed, AllowedMeetsNoRule, is_unknown, KnownIsNotUnknown}
 use Rattle.pl_decide.proofs.FirstDenial.{passes, allowed_exactly, denied_by_the_first}
 use Rattle.pl_decide.proofs.Rows.{denies_first-is, none_matches-is, rows-none, rows-deny, denies_at, is_unmatched}
 
@@ -62,7 +57,7 @@ rows-pass q t e v allow row =
     (denies_first-is row t.rows (asked_in q) ∙ passed.0, none_matches-is 1 t.rows (asked_in q) ∙ passed.1)
 
 -- no rule denies what is allowed
-stands_not : (rule : Rule) (q : Query) (t : WrittenTable) (e : Epochs) (v : View) → decision q t e v ≡ verdicts.Allowed → stands_against rule q t e v ≡ false
+pub stands_not : (rule : Rule) (q : Query) (t : WrittenTable) (e : Epochs) (v : View) → decision q t e v ≡ verdicts.Allowed → stands_against rule q t e v ≡ false
 stands_not rules.UnknownPrincipal q t e v h = member (order_of t) rules.UnknownPrincipal q t e v ((allowed_exactly (order_of t) q t e v).0 h) (in_a t rules.UnknownPrincipal (0, omega arith, refl))
 stands_not rules.OlderEpoch q t e v h = member (order_of t) rules.OlderEpoch q t e v ((allowed_exactly (order_of t) q t e v).0 h) (in_a t rules.OlderEpoch (1, omega arith, refl))
 stands_not rules.NewerEpoch q t e v h = member (order_of t) rules.NewerEpoch q t e v ((allowed_exactly (order_of t) q t e v).0 h) (in_a t rules.NewerEpoch (2, omega arith, refl))
@@ -82,57 +77,6 @@ stands_not rules.LastEpoch q t e v h = member (order_of t) rules.LastEpoch q t e
 
 pub meets_no_rule : AllowedMeetsNoRule
 meets_no_rule q t e v h rule = stands_not rule q t e v h
-
--- ---- what an allowed act has
-
-some_of : {A : Type 0} (o : Option A) → is_none o ≡ false → IsSome o
-some_of None h = absurd cc
-some_of (Some x) h = refl
-
-ok_of : {A B : Type 0} (r : Result A B) → not (is_ok r) ≡ false → IsOk r
-ok_of (Ok x) h = refl
-ok_of (Err x) h = absurd cc
-
-act_served : (head : Head) (act : Act) (t : WrittenTable) (e : Epochs) (v : View) → decision (record { head = head; act = act }) t e v ≡ verdicts.Allowed → MayBeServed act t e v
-act_served head (acts.Write copy block) t e v h =
-    let q : Query = record { head = head; act = acts.Write copy block } in
-    record {
-      above = leb-false block.lsn v.hard (stands_not rules.HardenedAlready q t e v h);
-      within = ltb-false (v.hard + 64) block.lsn (stands_not rules.AboveTheWindow q t e v h);
-      agrees = not-false v.agrees (stands_not rules.OtherContent q t e v h);
-      copy = leb-false v.copies copy (stands_not rules.NoSuchCopy q t e v h);
-    }
-act_served head (acts.Offer block) t e v h =
-    let q : Query = record { head = head; act = acts.Offer block } in
-    record {
-      above = leb-false block.lsn v.hard (stands_not rules.HardenedAlready q t e v h);
-      within = ltb-false (v.hard + 64) block.lsn (stands_not rules.AboveTheWindow q t e v h);
-      agrees = not-false v.agrees (stands_not rules.OtherContent q t e v h);
-    }
-act_served head (acts.Report lsn) t e v h = not-false v.can_harden (stands_not rules.BelowQuorum (record { head = head; act = acts.Report lsn }) t e v h)
-act_served head (acts.Get page lsn exact) t e v h = ltb-false v.hard lsn (stands_not rules.AboveTheEnd (record { head = head; act = acts.Get page lsn exact }) t e v h)
-act_served head (acts.Pull lo hi lsn max) t e v h = ltb-false v.hard lsn (stands_not rules.AboveTheEnd (record { head = head; act = acts.Pull lo hi lsn max }) t e v h)
-act_served head (acts.Advance partition steps) t e v h = tt
-act_served head acts.Status t e v h = tt
-act_served head (acts.Failover primary) t e v h =
-    let q : Query = record { head = head; act = acts.Failover primary } in
-    record {
-      listed = some_of (token_of primary t.principals) (stands_not rules.UnlistedPrimary q t e v h);
-      not_last = λ last. let clash : true ≡ false = sym (eq-eqb e.epoch (2 ^ 32 - 1) last) ∙ stands_not rules.LastEpoch q t e v h in cc;
-    }
-act_served head (acts.SetTable text) t e v h = ok_of (table_reading text) (stands_not rules.NoTable (record { head = head; act = acts.SetTable text }) t e v h)
-act_served head (acts.Audit first max) t e v h = tt
-act_served head acts.Tidy t e v h = tt
-
-pub may_be_served : AllowedMayBeServed
-may_be_served q t e v h =
-    let not_below = ltb-false q.head.epoch e.epoch (stands_not rules.OlderEpoch q t e v h) in
-    let not_above = ltb-false e.epoch q.head.epoch (stands_not rules.NewerEpoch q t e v h) in
-    record {
-      known = not-false (is_known t q.head) (stands_not rules.UnknownPrincipal q t e v h);
-      epoch = omega arith;
-      act = act_served q.head q.act t e v h;
-    }
 
 -- ---- only the first rule's denial is that of an unknown principal
 

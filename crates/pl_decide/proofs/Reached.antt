@@ -5,38 +5,24 @@ use Rattle.std.proofs.lemmas.Bool.{lt-ltb, le-ltb, both_ways}
 use Rattle.std.proofs.lemmas.List.Elements.{All-nil, All-cons}
 use Rattle.pl_table.specs.declared.requests.head.Head.{Head}
 use Rattle.pl_table.specs.declared.requests.act.Act.{Act}
-use Rattle.pl_table.specs.declared.requests.act.Act.TheVariants as acts
 use Rattle.pl_table.specs.declared.tables.verdict.Section.TheVariants as sections
 use Rattle.pl_table.specs.declared.tables.verdict.Verdict.TheVariants as verdicts
 use Rattle.pl_table.specs.Requests.Request.{Query, op_of}
-use Rattle.pl_table.specs.Requests.Acts.{number_of, block_of, partitions_of}
-use Rattle.pl_table.specs.Requests.Asking.{asked_in, asked_at}
+use Rattle.pl_table.specs.Requests.Asking.{asked_in}
 use Rattle.pl_table.specs.Tables.Table.{WrittenTable}
 use Rattle.pl_table.specs.Tables.FirstMatch.{first_match_from, found_allows, rows_allow}
 use Rattle.pl_decide.specs.declared.rule.Rule.{Rule}
 use Rattle.pl_decide.specs.declared.rule.Rule.TheVariants as rules
 use Rattle.pl_decide.specs.declared.view.Epochs.{Epochs}
 use Rattle.pl_decide.specs.declared.view.View.{View}
-use Rattle.pl_decide.specs.Asked.{reads_the_log, copy_of, primary_named, text_in_act, act_at}
+use Rattle.pl_decide.specs.Asked.{reads_the_log, act_at}
 use Rattle.pl_decide.specs.Rules.{stands_against, denial}
 use Rattle.pl_decide.specs.WrittenOrder.{section_a, section_b, section_c, order_of, first_denial, decision, NoneStands}
 use Rattle.pl_decide.specs.Laws.{ReadsReachTheEnd, RequestsAskAt}
 use Rattle.pl_decide.proofs.FirstDenial.{allowed_exactly, denied_by_the_first, passed_over}
 use Rattle.pl_decide.proofs.Rows.{rows-none, rows-deny}
 use Rattle.pl_decide.proofs.Each.{meets_no_rule, rows-pass}
-
--- the request of a head for an act
-abbrev asks : Head → Act → Query
-asks head act = record { head = head; act = act }
-
--- two acts have one operation and the same arguments, but for the LSN
-record IsSameActAs (a b : Act) : Type 0 where
-  op : op_of a ≡ op_of b
-  partitions : partitions_of a ≡ partitions_of b
-  block : block_of a ≡ block_of b
-  copy : copy_of a ≡ copy_of b
-  primary : primary_named a ≡ primary_named b
-  text : text_in_act a ≡ text_in_act b
+use Rattle.pl_decide.proofs.Acts.{asks, IsSameActAs, IsAt, read_at, asks_at}
 
 -- A rule denies both of two such acts, or neither; or it is a rule on the rows, and does not deny if they
 -- allow; or it is the one on the hardened end.
@@ -57,25 +43,6 @@ number_only rules.BelowQuorum head a b t e v alike = inl (rw alike.op refl)
 number_only rules.NoTable head a b t e v alike = inl (rw alike.text refl)
 number_only rules.UnlistedPrimary head a b t e v alike = inl (rw alike.primary refl)
 number_only rules.LastEpoch head a b t e v alike = inl (rw alike.op refl)
-
--- an act at another LSN
-record IsAt (act : Act) (lsn : ℕ) : Type 0 where
-  alike : IsSameActAs act (act_at act lsn)
-  number : number_of (act_at act lsn) ≡ Some lsn
-
--- so is one that reads the log
-read_at : (act : Act) (lsn : ℕ) → reads_the_log (op_of act) ≡ true → IsAt act lsn
-read_at (acts.Write copy block) lsn reads = absurd cc
-read_at (acts.Offer block) lsn reads = absurd cc
-read_at (acts.Report n) lsn reads = absurd cc
-read_at (acts.Get page n exact) lsn reads = record { alike = record { op = refl; partitions = refl; block = refl; copy = refl; primary = refl; text = refl }; number = refl }
-read_at (acts.Pull lo hi n max) lsn reads = record { alike = record { op = refl; partitions = refl; block = refl; copy = refl; primary = refl; text = refl }; number = refl }
-read_at (acts.Advance partition steps) lsn reads = absurd cc
-read_at acts.Status lsn reads = absurd cc
-read_at (acts.Failover primary) lsn reads = absurd cc
-read_at (acts.SetTable text) lsn reads = absurd cc
-read_at (acts.Audit first max) lsn reads = absurd cc
-read_at acts.Tidy lsn reads = absurd cc
 
 -- the rule on the hardened end, at that LSN
 above_the_end : (head : Head) (act : Act) (lsn : ℕ) (t : WrittenTable) (e : Epochs) (v : View) (above : Bool) → reads_the_log (op_of act) ≡ true → IsAt act lsn → nat_lt v.hard lsn ≡ above → stands_against rules.AboveTheEnd (asks head (act_at act lsn)) t e v ≡ above
@@ -142,21 +109,6 @@ ended_at head act lsn t e v at allowed rows =
     let q = asks head (act_at act lsn) in
     let denied = by_rows q t e v (first_match_from 1 t.rows (asked_in q)) refl rows in
     (denied.0, passed_over section_a (section_b (length t.rows) ++ section_c) q t e v (none_of_a head act lsn t e v at allowed) ∙ denied.1)
-
--- ---- what is asked at another LSN
-
-asks_at : (head : Head) (act : Act) (lsn : ℕ) → asked_in (asks head (act_at act lsn)) ≡ asked_at (asked_in (asks head act)) lsn
-asks_at head (acts.Write copy block) lsn = refl
-asks_at head (acts.Offer block) lsn = refl
-asks_at head (acts.Report n) lsn = refl
-asks_at head (acts.Get page n exact) lsn = refl
-asks_at head (acts.Pull lo hi n max) lsn = refl
-asks_at head (acts.Advance partition steps) lsn = refl
-asks_at head acts.Status lsn = refl
-asks_at head (acts.Failover primary) lsn = refl
-asks_at head (acts.SetTable text) lsn = refl
-asks_at head (acts.Audit first max) lsn = refl
-asks_at head acts.Tidy lsn = refl
 
 pub requests_ask_at : RequestsAskAt
 requests_ask_at q lsn = asks_at q.head q.act lsn

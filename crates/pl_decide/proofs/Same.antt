@@ -1,12 +1,11 @@
 -- Keys that compare as equal are one.
-use Rattle.std.proofs.Common.{◌≡◌, ℕ, ◌+◌, Bool, true, false, ◌&&◌, ◌==◌, List, [], ◌∷◌, map, get_or, Option, Some, None, Contains, refl, sym, ap, subst, ◌∙◌, inl, inr}
+use Rattle.std.proofs.Common.{◌≡◌, ℕ, ◌+◌, Bool, true, false, ◌&&◌, ◌==◌, List, [], ◌∷◌, length, map, get_or, Option, Some, None, Contains, refl, sym, ap, subst, ◌∙◌, inl, inr}
 use Rattle.std.specs.Prelude.{IfSome, ◌⊎◌, Result, Ok, Err, OnOk, OnErr, ◌↔◌, IsTrue}
 use Rattle.std.specs.Bool.{beq}
 use Rattle.std.specs.List.{range_with_len}
 use Rattle.pl_table.specs.contracts.requests.op.OpPartialEq.TheImpl as op_eq
 use Rattle.pl_table.specs.contracts.requests.op.RolePartialEq.TheImpl as role_eq
 use Rattle.pl_table.specs.declared.requests.op.Op.{Op}
-use Rattle.pl_table.specs.declared.requests.op.Op.TheVariants as ops
 use Rattle.pl_table.specs.declared.requests.op.Role.{Role}
 use Rattle.pl_table.specs.declared.requests.op.Role.TheVariants as roles
 use Rattle.pl_table.specs.Requests.Ops.{role_of_number, op_of_number, all_ops}
@@ -18,6 +17,7 @@ use Rattle.lru.proofs.CallerLemmas.{Contains-lookup, Contains-put_entries}
 use Rattle.pl_decide.specs.declared.key.VerdictKey.{VerdictKey}
 use Rattle.pl_decide.specs.declared.row_verdict.RowVerdict.{RowVerdict}
 use Rattle.pl_decide.specs.Keys.{CachedVerdict}
+use Rattle.pl_decide.proofs.Acts.{op_placed}
 
 got : {A : Type 0} (x y : A) → Some x ≡ Some y → x ≡ y
 got x y e = cc
@@ -38,20 +38,7 @@ role_by place are = by_number place (λ n. role_of_number (n + 1)) (role_placed 
 role_same : (a b : Role) → (role_eq.eq-value).it a b ≡ true → a ≡ b
 role_same = role_by _ refl
 
-op_placed : (place : Op → ℕ) → map place all_ops ≡ range_with_len 0 11 → (x : Op) → op_of_number (place x + 1) ≡ Some x
-op_placed place are ops.Write = ap (λ (l : List ℕ). op_of_number (get_or l 0 0 + 1)) are
-op_placed place are ops.Offer = ap (λ (l : List ℕ). op_of_number (get_or l 1 0 + 1)) are
-op_placed place are ops.Report = ap (λ (l : List ℕ). op_of_number (get_or l 2 0 + 1)) are
-op_placed place are ops.Get = ap (λ (l : List ℕ). op_of_number (get_or l 3 0 + 1)) are
-op_placed place are ops.Pull = ap (λ (l : List ℕ). op_of_number (get_or l 4 0 + 1)) are
-op_placed place are ops.Advance = ap (λ (l : List ℕ). op_of_number (get_or l 5 0 + 1)) are
-op_placed place are ops.Status = ap (λ (l : List ℕ). op_of_number (get_or l 6 0 + 1)) are
-op_placed place are ops.Failover = ap (λ (l : List ℕ). op_of_number (get_or l 7 0 + 1)) are
-op_placed place are ops.SetTable = ap (λ (l : List ℕ). op_of_number (get_or l 8 0 + 1)) are
-op_placed place are ops.Audit = ap (λ (l : List ℕ). op_of_number (get_or l 9 0 + 1)) are
-op_placed place are ops.Tidy = ap (λ (l : List ℕ). op_of_number (get_or l 10 0 + 1)) are
-
-op_by : (place : Op → ℕ) → map place all_ops ≡ range_with_len 0 11 → (a b : Op) → (place a == place b) ≡ true → a ≡ b
+op_by : (place : Op → ℕ) → map place all_ops ≡ range_with_len 0 (length all_ops) → (a b : Op) → (place a == place b) ≡ true → a ≡ b
 op_by place are = by_number place (λ n. op_of_number (n + 1)) (op_placed place are)
 
 op_same : (a b : Op) → (op_eq.eq-value).it a b ≡ true → a ≡ b

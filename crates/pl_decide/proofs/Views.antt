@@ -1,60 +1,17 @@
 -- Two views that differ in what no rule looks at decide alike.
-use Rattle.std.proofs.Common.{◌≡◌, ℕ, zero, suc, ◌+◌, ◌<◌, ◌≤◌, Bool, true, cond, [], ◌∷◌, ◌++◌, length, map, refl, ap, ◌∙◌, inl, inr}
-use Rattle.std.specs.Prelude.{IfSome}
+use Rattle.std.proofs.Common.{◌≡◌, ℕ, zero, suc, ◌+◌, cond, [], ◌∷◌, ◌++◌, length, map, refl, ap, ◌∙◌, inl, inr}
 use Rattle.std.specs.List.{range_with_len}
-use Rattle.std.proofs.lemmas.Bool.{cases_lt, cases_order, le-leb, lt-leb, lt-ltb}
-use Rattle.pl_table.specs.declared.requests.head.Head.{Head}
-use Rattle.pl_table.specs.declared.requests.op.Op.TheVariants as ops
-use Rattle.pl_table.specs.declared.requests.act.Act.{Act}
-use Rattle.pl_table.specs.declared.requests.act.Act.TheVariants as acts
+use Rattle.std.proofs.lemmas.Bool.{cases_order, lt-ltb}
 use Rattle.pl_table.specs.declared.tables.verdict.Verdict.{Verdict}
-use Rattle.pl_table.specs.Requests.Ops.{same_op}
-use Rattle.pl_table.specs.Requests.Request.{Query, op_of}
+use Rattle.pl_table.specs.Requests.Request.{Query}
 use Rattle.pl_table.specs.Tables.Table.{WrittenTable}
 use Rattle.pl_decide.specs.declared.rule.Rule.TheVariants as rules
 use Rattle.pl_decide.specs.declared.view.Epochs.{Epochs}
 use Rattle.pl_decide.specs.declared.view.View.{View}
-use Rattle.pl_table.specs.Requests.Acts.{block_of}
-use Rattle.pl_block.specs.Bounds.{window}
 use Rattle.pl_decide.specs.Rules.{stands_against, denial}
 use Rattle.pl_decide.specs.WrittenOrder.{section_c, first_denial, decision}
 use Rattle.pl_decide.specs.Laws.{LooksAlike, ViewsDecideAlike}
-
--- a view by its parts
-abbrev seen : ℕ → ℕ → Bool → Bool → View
-seen hard copies agrees can = record { hard = hard; agrees = agrees; copies = copies; can_harden = can }
-
--- section C, with one hardened end and as many copies
-same_log : (head : Head) (act : Act) (t : WrittenTable) (e : Epochs) (hard copies : ℕ) (x y can can' : Bool)
-    → IfSome (block_of act) (λ block. hard < block.lsn → block.lsn ≤ hard + window → x ≡ y)
-    → (same_op (op_of act) ops.Report ≡ true → can ≡ can')
-    → first_denial section_c (record { head = head; act = act }) t e (seen hard copies x can) ≡ first_denial section_c (record { head = head; act = act }) t e (seen hard copies y can')
-same_log head (acts.Write copy block) t e hard copies x y can can' agrees cans =
-    elim (cases_lt hard block.lsn) [
-      | inl above ↦ elim (cases_lt (hard + 64) block.lsn) [
-        | inl far ↦ rw (lt-leb block.lsn hard above, lt-ltb (hard + 64) block.lsn far) refl
-        | inr within ↦ ap (λ (a : Bool). first_denial section_c (record { head = head; act = acts.Write copy block }) t e (seen hard copies a can)) (agrees above within)
-      ]
-      | inr below ↦ rw (le-leb block.lsn hard below) refl
-    ]
-same_log head (acts.Offer block) t e hard copies x y can can' agrees cans =
-    elim (cases_lt hard block.lsn) [
-      | inl above ↦ elim (cases_lt (hard + 64) block.lsn) [
-        | inl far ↦ rw (lt-leb block.lsn hard above, lt-ltb (hard + 64) block.lsn far) refl
-        | inr within ↦ ap (λ (a : Bool). first_denial section_c (record { head = head; act = acts.Offer block }) t e (seen hard copies a can)) (agrees above within)
-      ]
-      | inr below ↦ rw (le-leb block.lsn hard below) refl
-    ]
-same_log head (acts.Report lsn) t e hard copies x y can can' agrees cans =
-    ap (λ (c : Bool). first_denial section_c (record { head = head; act = acts.Report lsn }) t e (seen hard copies x c)) (cans refl)
-same_log head (acts.Get page lsn exact) t e hard copies x y can can' agrees cans = refl
-same_log head (acts.Pull lo hi lsn max) t e hard copies x y can can' agrees cans = refl
-same_log head (acts.Advance partition steps) t e hard copies x y can can' agrees cans = refl
-same_log head acts.Status t e hard copies x y can can' agrees cans = refl
-same_log head (acts.Failover primary) t e hard copies x y can can' agrees cans = refl
-same_log head (acts.SetTable text) t e hard copies x y can can' agrees cans = refl
-same_log head (acts.Audit first max) t e hard copies x y can can' agrees cans = refl
-same_log head acts.Tidy t e hard copies x y can can' agrees cans = refl
+use Rattle.pl_decide.proofs.Acts.{seen, same_log}
 
 -- sections A and B look at no view
 same_rows : (k n : ℕ) (q : Query) (t : WrittenTable) (e : Epochs) (v w : View) → first_denial section_c q t e v ≡ first_denial section_c q t e w

@@ -1,5 +1,6 @@
 pub mod Spans
 pub mod Tokens
+pub mod Acts
 pub mod Listed
 pub mod FirstMatch
 pub mod Ends

@@ -1,5 +1,5 @@
 -- Rows that are listed, and rows that can match.
-use Rattle.std.proofs.Common.{◌≡◌, ℕ, zero, suc, ◌+◌, ◌-◌, ◌<◌, ◌≤◌, Bool, true, false, ◌&&◌, cond, eqb, List, [], ◌∷◌, ◌++◌, length, map, filter, drop, Option, Some, None, All, IfSome, Contains, refl, sym, ap, ◌∙◌, inl, inr, arith, slice_get, option_map, get_or, Result, MatchResult, if◌then◌else◌}
+use Rattle.std.proofs.Common.{◌≡◌, ℕ, zero, suc, ◌+◌, ◌<◌, ◌≤◌, Bool, true, false, ◌&&◌, cond, eqb, List, [], ◌∷◌, ◌++◌, length, map, filter, drop, Option, Some, None, All, IfSome, Contains, refl, sym, ap, ◌∙◌, inl, inr, arith, slice_get, option_map, get_or, Result, MatchResult, if◌then◌else◌}
 use Rattle.std.specs.Cmp.{nat_eq_equiv}
 use Rattle.std.specs.Ordering.{nat_cmp}
 use Rattle.std.specs.List.Sorted.{IsStrictlyIncreasing, IsBinarySearchResult, IsPermutation}
@@ -16,9 +16,8 @@ use Rattle.std.proofs.lemmas.List.Sorted.{Contains-permutation}
 use Rattle.std.proofs.lemmas.Map.Views.{list_any-from_Contains}
 use Rattle.pl_table.specs.declared.tables.index.OpLists.{OpLists}
 use Rattle.pl_table.specs.declared.requests.op.Op.{Op}
-use Rattle.pl_table.specs.declared.requests.op.Op.TheVariants.{Write, Offer, Report, Get, Pull, Advance, Status, Failover, SetTable, Audit, Tidy}
 use Rattle.pl_table.specs.declared.tables.row.Row.{Row}
-use Rattle.pl_table.specs.Requests.Ops.{same_role, op_number, all_ops}
+use Rattle.pl_table.specs.Requests.Ops.{same_role}
 use Rattle.pl_table.specs.Tables.Absent.{part_matches}
 use Rattle.pl_table.specs.Requests.Asking.{Asked}
 use Rattle.pl_table.specs.Tables.Row.{range_matches, is_about, row_matches}
@@ -163,19 +162,6 @@ same_places names [] q k each = refl
 same_places names (row ∷ rows) q k each =
     let same : can_be (asker_of q.principal names) q.op row ≡ can_match q row = ap (λ (b : Bool). b && can_be_for q.op row) (same_who names row.who q.principal each.0) in
     rw (same, same_places names rows q (k + 1) each.1) refl
-
-pub op_at : (op : Op) → slice_get all_ops (op_number op - 1) ≡ Some op
-op_at Write = refl
-op_at Offer = refl
-op_at Report = refl
-op_at Get = refl
-op_at Pull = refl
-op_at Advance = refl
-op_at Status = refl
-op_at Failover = refl
-op_at SetTable = refl
-op_at Audit = refl
-op_at Tidy = refl
 
 -- two lists whose elements are the same, seen by f and by g
 pub mapped_within : {A B C : Type 0} (f : A → C) (g : B → C) (xs : List A) (ys : List B) (i : ℕ) (y : B) → map f xs ≡ map g ys → slice_get ys i ≡ Some y → i < length xs

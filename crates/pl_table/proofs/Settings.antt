@@ -6,49 +6,20 @@ use Rattle.std.proofs.lemmas.List.Folds.{Any-from_list_any, list_any-from_Any}
 use Rattle.pl_table.specs.declared.requests.op.Role.TheVariants.{Operator}
 use Rattle.pl_table.specs.declared.requests.op.Op.TheVariants as ops
 use Rattle.pl_table.specs.declared.tables.range.PartitionRange.{PartitionRange}
-use Rattle.pl_table.specs.declared.requests.act.Act.{Act}
-use Rattle.pl_table.specs.declared.requests.act.Act.TheVariants.{Write, Offer, Report, Get, Pull, Advance, Status, Failover, SetTable, Audit, Tidy}
+use Rattle.pl_table.specs.declared.requests.act.Act.TheVariants.{SetTable}
 use Rattle.pl_table.specs.declared.tables.row.Row.{Row}
 use Rattle.pl_table.specs.declared.tables.table.Principal.{Principal}
 use Rattle.pl_table.specs.Requests.Ops.{lists_op}
 use Rattle.pl_table.specs.Tables.Absent.{part_matches}
-use Rattle.pl_table.specs.Requests.Request.{Query, op_of}
-use Rattle.pl_table.specs.Requests.Acts.{number_of, partitions_of}
+use Rattle.pl_table.specs.Requests.Request.{Query}
 use Rattle.pl_table.specs.Requests.Asking.{asked_in}
 use Rattle.pl_table.specs.Tables.Row.{row_matches, range_matches, through_matches}
 use Rattle.pl_table.specs.Tables.FirstMatch.{first_match_from, found_allows}
 use Rattle.pl_table.specs.Tables.Setting.{is_about_setting, allows, somebody_sets}
 use Rattle.pl_table.specs.Laws.{AsksToSet, RowsAreAboutSetting, SomebodyIsAllowed}
+use Rattle.pl_table.proofs.Acts.{names_none, has_no_number}
 
--- what sets a table names no partition
-names_none : (act : Act) → op_of act ≡ ops.SetTable → partitions_of act ≡ []
-names_none (Write copy block) e = cc
-names_none (Offer block) e = cc
-names_none (Report lsn) e = refl
-names_none (Get page lsn exact) e = cc
-names_none (Pull lo hi lsn max) e = cc
-names_none (Advance partition steps) e = cc
-names_none Status e = refl
-names_none (Failover primary) e = refl
-names_none (SetTable text) e = refl
-names_none (Audit first max) e = refl
-names_none Tidy e = refl
-
--- nor an LSN
-has_no_number : (act : Act) → op_of act ≡ ops.SetTable → number_of act ≡ None
-has_no_number (Write copy block) e = cc
-has_no_number (Offer block) e = cc
-has_no_number (Report lsn) e = cc
-has_no_number (Get page lsn exact) e = cc
-has_no_number (Pull lo hi lsn max) e = cc
-has_no_number (Advance partition steps) e = refl
-has_no_number Status e = refl
-has_no_number (Failover primary) e = refl
-has_no_number (SetTable text) e = refl
-has_no_number (Audit first max) e = refl
-has_no_number Tidy e = refl
-
--- so that a row matches wherever it ends
+-- what sets a table has no LSN, so that a row matches wherever it ends
 each_end : (allows : Bool) (through : Option ℕ) → part_matches (through_matches allows None) through ≡ true
 each_end allows None = refl
 each_end allows (Some end) = refl

@@ -1,4 +1,4 @@
--- Arguments that are read are those of their spelling, and spelled arguments are read again.
+-- Arguments that are read are those of their spelling, and spelled arguments are read again; and each operation has its number.
 use Rattle.std.proofs.Common.{◌≡◌, ℕ, suc, ◌+◌, ◌^◌, ◌≤◌, Bool, true, false, cond, ltb, List, [], ◌∷◌, ◌++◌, length, drop, get_or, Some, Result, Ok, Err, refl, sym, ap, subst, ◌∙◌, arith}
 use Rattle.std.specs.Option.{ok_or}
 use Rattle.std.specs.Int.{Width, w16, w32, w64, byte_len, to_be_bytes}
@@ -15,10 +15,12 @@ use Rattle.pl_table.specs.declared.requests.op.Op.{Op}
 use Rattle.pl_table.specs.declared.requests.op.Op.TheVariants as ops
 use Rattle.pl_table.specs.declared.requests.act.Act.{Act}
 use Rattle.pl_table.specs.declared.requests.act.Act.TheVariants.{Write, Offer, Report, Get, Pull, Advance, Status, Failover, SetTable, Audit, Tidy}
+use Rattle.pl_table.specs.Requests.Ops.{op_number, op_of_number}
 use Rattle.pl_table.specs.Requests.Request.{op_of, FitsActFields}
 use Rattle.pl_wire.specs.declared.fault.WireFault.TheVariants.{EndsInField, BytesAfterEnd, OutOfRange}
 use Rattle.pl_wire.specs.Spelling.{flag_number, act_spelling}
 use Rattle.pl_wire.specs.Reading.{number_in, sized, block_or_fault, write_reading, offer_reading, report_reading, flag_of_number, get_reading, pull_reading, advance_reading, failover_reading, audit_reading, act_reading}
+use Rattle.pl_wire.proofs.Numbers.{IsNumbered, told_first}
 use Rattle.pl_wire.proofs.Steps.{bound, done, ok_is, ok_or-some, guard_ok}
 use Rattle.pl_wire.proofs.Places.{IsWide, wide16, wide32, wide64, number_cut, number_below, byte_cut}
 
@@ -136,6 +138,25 @@ audit_takes bytes act fits e =
     subst (IsRead ops.Audit bytes) s.1 (record { of_op = refl; fields = (number_below w64 (2 ^ 64) wide64 0 bytes fits, number_below w16 (2 ^ 16) wide16 8 bytes fits); spelled = whole })
 
 -- ---- all operations
+
+op_told : (n : ℕ) (op : Op) → op_of_number n ≡ Some op → n ≡ op_number op
+op_told n op e = told_first op_number (ops.Write ∷ ops.Offer ∷ ops.Report ∷ ops.Get ∷ ops.Pull ∷ ops.Advance ∷ ops.Status ∷ ops.Failover ∷ ops.SetTable ∷ ops.Audit ∷ ops.Tidy ∷ []) n op e
+
+op_found : (op : Op) → op_of_number (op_number op) ≡ Some op
+op_found ops.Write = refl
+op_found ops.Offer = refl
+op_found ops.Report = refl
+op_found ops.Get = refl
+op_found ops.Pull = refl
+op_found ops.Advance = refl
+op_found ops.Status = refl
+op_found ops.Failover = refl
+op_found ops.SetTable = refl
+op_found ops.Audit = refl
+op_found ops.Tidy = refl
+
+pub ops_numbered : IsNumbered op_of_number op_number
+ops_numbered = record { told = op_told; found = op_found }
 
 pub act_takes : OneSpelling → (op : Op) (bytes : List ℕ) (act : Act) → AreBytes bytes → act_reading op bytes ≡ Ok act → IsRead op bytes act
 act_takes law ops.Write bytes act fits e = write_takes law bytes act fits e

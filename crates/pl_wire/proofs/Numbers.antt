@@ -1,11 +1,9 @@
--- Roles, operations, sections and kinds of reply, each by its number.
+-- Roles, sections and kinds of reply, each by its number.
 use Rattle.std.proofs.Common.{◌≡◌, ℕ, Bool, true, false, cond, List, [], ◌∷◌, Option, Some, None, refl, ap, ◌∙◌}
 use Rattle.std.proofs.Math.Dec.{eqb}
 use Rattle.std.proofs.lemmas.Bool.{eqb-true}
-use Rattle.pl_table.specs.Requests.Ops.{role_number, role_of_number, op_number, op_of_number}
+use Rattle.pl_table.specs.Requests.Ops.{role_number, role_of_number}
 use Rattle.pl_table.specs.Tables.Section.{section_number}
-use Rattle.pl_table.specs.declared.requests.op.Op.{Op}
-use Rattle.pl_table.specs.declared.requests.op.Op.TheVariants as ops
 use Rattle.pl_table.specs.declared.requests.op.Role.{Role}
 use Rattle.pl_table.specs.declared.requests.op.Role.TheVariants as roles
 use Rattle.pl_table.specs.declared.tables.verdict.Section.{Section}
@@ -24,7 +22,7 @@ some_is : {X : Type 0} (y x : X) → Some y ≡ Some x → y ≡ x
 some_is y x e = cc
 
 -- the first of these that has the number
-abbrev first : {X : Type 0} → (X → ℕ) → List X → ℕ → Option X
+abbrev pub first : {X : Type 0} → (X → ℕ) → List X → ℕ → Option X
 first number [] n = None
 first number (x ∷ xs) n = cond (eqb n (number x)) (Some x) (first number xs n)
 
@@ -32,7 +30,7 @@ told_row : {X : Type 0} (number : X → ℕ) (x y : X) (rest : Option X) (n : �
 told_row number x y rest n true same below e = eqb-true n (number x) same ∙ ap number (some_is x y e)
 told_row number x y rest n false other below e = below e
 
-told_first : {X : Type 0} (number : X → ℕ) (xs : List X) (n : ℕ) (y : X) → first number xs n ≡ Some y → n ≡ number y
+pub told_first : {X : Type 0} (number : X → ℕ) (xs : List X) (n : ℕ) (y : X) → first number xs n ≡ Some y → n ≡ number y
 told_first number [] n y e = absurd cc
 told_first number (x ∷ xs) n y e = told_row number x y (first number xs n) n (eqb n (number x)) refl (told_first number xs n y) e
 
@@ -47,25 +45,6 @@ role_found roles.Operator = refl
 
 pub roles_numbered : IsNumbered role_of_number role_number
 roles_numbered = record { told = role_told; found = role_found }
-
-op_told : (n : ℕ) (op : Op) → op_of_number n ≡ Some op → n ≡ op_number op
-op_told n op e = told_first op_number (ops.Write ∷ ops.Offer ∷ ops.Report ∷ ops.Get ∷ ops.Pull ∷ ops.Advance ∷ ops.Status ∷ ops.Failover ∷ ops.SetTable ∷ ops.Audit ∷ ops.Tidy ∷ []) n op e
-
-op_found : (op : Op) → op_of_number (op_number op) ≡ Some op
-op_found ops.Write = refl
-op_found ops.Offer = refl
-op_found ops.Report = refl
-op_found ops.Get = refl
-op_found ops.Pull = refl
-op_found ops.Advance = refl
-op_found ops.Status = refl
-op_found ops.Failover = refl
-op_found ops.SetTable = refl
-op_found ops.Audit = refl
-op_found ops.Tidy = refl
-
-pub ops_numbered : IsNumbered op_of_number op_number
-ops_numbered = record { told = op_told; found = op_found }
 
 section_told : (n : ℕ) (s : Section) → section_of_number n ≡ Some s → n ≡ section_number s
 section_told n s e = told_first section_number (A ∷ B ∷ C ∷ []) n s e

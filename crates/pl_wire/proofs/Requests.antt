@@ -21,8 +21,8 @@ use Rattle.pl_wire.specs.Spelling.{act_spelling, request_spelling}
 use Rattle.pl_wire.specs.Reading.{MayLackMemory, ReadsRequest, head_in, act_reading, ranged, opening_reading, request_reading}
 use Rattle.pl_wire.proofs.Places.{AreBytes-drop}
 use Rattle.pl_wire.proofs.Heads.{headed, headed_is, IsHead-head_in, head_takes, head_again, arguments_in, role_in, op_in}
-use Rattle.pl_wire.proofs.Acts.{act_takes, act_again}
-use Rattle.pl_wire.proofs.Numbers.{roles_numbered, ops_numbered}
+use Rattle.pl_wire.proofs.Acts.{act_takes, act_again, ops_numbered}
+use Rattle.pl_wire.proofs.Numbers.{roles_numbered}
 use Rattle.pl_wire.proofs.Steps.{done, ok_is, guard_ok, guard_passed, ok_or-some, bind_ok}
 
 -- the role of a body that was opened, and where it is

@@ -20,7 +20,7 @@ pub enum WireFault {
     TooShort,
     /// The number of a role is not 1 to 4: code 2.
     UnknownRole,
-    /// The number of an operation is not 1 to 11, or the kind of a reply is above 10: code 3.
+    /// No operation has this number, or the kind of a reply is above 10: code 3.
     UnknownKind,
     /// The body ends inside a field: code 4. If the block of a request is cut, the fault is the
     /// block's.

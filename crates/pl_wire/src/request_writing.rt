@@ -21,9 +21,9 @@ fn arguments_len(act: &Act) -> usize
         Act::Get { .. } => 13,
         Act::Pull { .. } => 14,
         Act::Advance { .. } | Act::Failover { .. } => 4,
-        Act::Status | Act::Tidy => 0,
         Act::SetTable { text } => text.text().len(),
         Act::Audit { .. } => 10,
+        _ => 0,
     }
 }
 
@@ -92,10 +92,10 @@ fn put_arguments(out: &mut Vec<u8>, act: &Act) -> Result<(), AllocError>
         Act::Get { page, lsn, exact } => put_get(out, *page, *lsn, *exact),
         Act::Pull { lo, hi, lsn, max } => put_pull(out, *lo, *hi, *lsn, *max),
         Act::Advance { partition, steps } => put_advance(out, *partition, *steps),
-        Act::Status | Act::Tidy => Ok(()),
         Act::Failover { primary } => out.put_u32(*primary),
         Act::SetTable { text } => out.put_slice(text.text()),
         Act::Audit { first, max } => put_audit(out, *first, *max),
+        _ => Ok(()),
     }
 }
 

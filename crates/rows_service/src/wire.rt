@@ -61,7 +61,7 @@ fn push_act(out: &mut String, act: &Act) -> Result<(), Stop> {
         }
         Act::Failover { primary } => push_numbers(out, &[u64::from(*primary)]),
         Act::Audit { first, max } => push_numbers(out, &[*first, u64::from(*max)]),
-        Act::Status | Act::SetTable { .. } | Act::Tidy => Ok(()),
+        _ => Ok(()),
     }
 }
 

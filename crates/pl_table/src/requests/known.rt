@@ -50,6 +50,6 @@ pub(crate) fn act_fits(act: &Act)
         Act::Audit { first, max } => {
             let _entries = (*first, *max);
         }
-        Act::Status | Act::SetTable { .. } | Act::Tidy => {}
+        _ => {}
     }
 }

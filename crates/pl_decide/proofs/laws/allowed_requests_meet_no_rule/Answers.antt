@@ -1,4 +1,5 @@
-use Rattle.pl_decide.proofs.Each.{meets_no_rule, may_be_served}
+use Rattle.pl_decide.proofs.Each.{meets_no_rule}
+use Rattle.pl_decide.proofs.Acts.{may_be_served}
 use Rattle.pl_decide.proofs.laws.allowed_requests_meet_no_rule.Goals as goal
 
 pub returns-clause-rules : goal.returns-clause-rules

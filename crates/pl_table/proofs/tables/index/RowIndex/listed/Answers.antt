@@ -3,7 +3,8 @@ use Rattle.pl_table.specs.declared.tables.row.Row.{Row}
 use Rattle.pl_table.specs.Requests.Ops.{op_number, all_ops}
 use Rattle.pl_table.specs.Tables.Index.{askers, asker_of, can_be, places_from, places_by_op, lists_of}
 use Rattle.pl_table.specs.Requests.Asking.{asked_by}
-use Rattle.pl_table.proofs.Listed.{mapped_within, mapped_read, op_at, places-of_request}
+use Rattle.pl_table.proofs.Acts.{op_at}
+use Rattle.pl_table.proofs.Listed.{mapped_within, mapped_read, places-of_request}
 use Rattle.pl_table.proofs.tables.index.RowIndex.listed.Goals as goal
 
 pub index-requires-2 : goal.index-requires-2
