@@ -43,24 +43,22 @@ def block_fields(data):
     return {"lsn": block.lsn, "partitions": sorted(block.touched), "records": records}
 
 
-# Requests. The fields of each operation after those of the head, in the order of the wire.
+# Requests. The fields of an operation after those of the head, in the order of the wire; the others have none.
 
 ARGUMENTS = {
     "write": ("copy", "block"), "offer": ("block",), "report": ("lsn",), "get": ("page", "lsn", "exact"),
-    "pull": ("lo", "hi", "lsn", "max"), "advance": ("partition", "steps"), "status": (), "failover": ("primary",),
-    "set_table": ("text",), "audit": ("first", "max"), "tidy": (),
+    "pull": ("lo", "hi", "lsn", "max"), "advance": ("partition", "steps"), "failover": ("primary",), "set_table": ("text",),
+    "audit": ("first", "max"),
 }
-WRITERS = {"write": wire.write, "offer": wire.offer, "report": wire.report, "get": wire.get, "pull": wire.pull,
-           "advance": wire.advance, "failover": wire.failover, "set_table": lambda text: text, "audit": wire.audit}
 
 
 def request_bytes(fields):
-    op = fields["op"]
-    arguments = [fields[name] for name in ARGUMENTS[op]]
+    op = numbered(OPS, fields["op"])
+    arguments = [fields[name] for name in ARGUMENTS.get(fields["op"], ())]
     arguments = [bytes.fromhex(part) if isinstance(part, str) else part for part in arguments]
-    head = wire.head(fields["principal"], numbered(ROLES, fields["role"]), numbered(OPS, op), fields["epoch"],
-                     fields["database"], bytes.fromhex(fields["token"]))
-    return head + (WRITERS[op](*arguments) if arguments else b"")
+    head = wire.head(fields["principal"], numbered(ROLES, fields["role"]), op, fields["epoch"], fields["database"],
+                     bytes.fromhex(fields["token"]))
+    return head + (b"" if op in wire.WITHOUT_ARGUMENTS else wire.WRITERS[op](*arguments))
 
 
 def request_fields(data):
@@ -68,7 +66,7 @@ def request_fields(data):
     op = OPS[q["op"]]
     fields = {"principal": q["who"], "token": q["token"].hex(), "role": ROLES[q["role"]], "database": q["database"],
               "epoch": q["epoch"], "op": op}
-    for name in ARGUMENTS[op]:
+    for name in ARGUMENTS.get(op, ()):
         part = q["most" if name == "max" else name]
         fields[name] = part.spelled.hex() if name == "block" else part.hex() if name == "text" else part
     return fields

@@ -23,7 +23,7 @@ import wire
 from clients import Service, asked
 from trial_lines import ENTRIES_OF_PLAY, Trial, put
 from trial_parts import PARTS
-from wire import ADVANCE, AUDIT, FAILOVER, GET, OFFER, PULL, REPORT, SET_TABLE, STATUS, TIDY, WRITE
+from wire import ADVANCE, AUDIT, FAILOVER, GET, OFFER, OPS, PULL, REPORT, SET_TABLE, STATUS, WITHOUT_ARGUMENTS, WRITE
 from wire import OPERATOR, PAGE_SERVER, PAGES_OF_A_PARTITION, PRIMARY, SECONDARY
 
 ROOT = pathlib.Path(__file__).resolve().parent.parent
@@ -33,7 +33,7 @@ OUT = ROOT / "crates" / "pagelog" / "out"
 SEED, RANDOM_LINES = 20, 2600
 
 
-# Random lines: for each operation who asks for it, as what, and with which arguments.
+# Random lines: for each operation with arguments who asks for it, as what, and with which ones.
 
 
 def near(chance, hard):
@@ -78,10 +78,6 @@ def advance(chance, model):
     return 4, PAGE_SERVER, wire.advance(chance.randrange(5), steps)
 
 
-def status(chance, model):
-    return model.primary, PRIMARY, b""
-
-
 def failover(chance, model):
     return 1, OPERATOR, wire.failover(chance.choice([2, 2, 5, 5, 9]))
 
@@ -98,14 +94,22 @@ def audit(chance, model):
     return 1, OPERATOR, wire.audit(first, chance.choice([1, 2, 5, 20]))
 
 
-def tidy(chance, model):
-    return 1, OPERATOR, b""
+ASKED = {WRITE: write, OFFER: offer, REPORT: report, GET: get, PULL: pull, ADVANCE: advance, FAILOVER: failover,
+         SET_TABLE: set_table, AUDIT: audit}
+# How often these are asked for, for once that any other is: pages and audit lists make long replies.
+OFTEN = {WRITE: 64, OFFER: 12, REPORT: 18, PULL: 10, ADVANCE: 3, STATUS: 3, FAILOVER: 2, AUDIT: 2}
 
 
-# How often each is asked for; pages and audit lists make long replies.
-ASKED = {WRITE: (write, 64), OFFER: (offer, 12), REPORT: (report, 18), GET: (get, 1), PULL: (pull, 10),
-         ADVANCE: (advance, 3), STATUS: (status, 3), FAILOVER: (failover, 2), SET_TABLE: (set_table, 1),
-         AUDIT: (audit, 2), TIDY: (tidy, 1)}
+def request(chance, model):
+    """An operation, who asks for it, as what, and the bytes of its arguments."""
+    op = chance.choices(list(OPS), [OFTEN.get(op, 1) for op in OPS])[0]
+    return op, *(without_arguments(op, model) if op in WITHOUT_ARGUMENTS else ASKED[op](chance, model))
+
+
+def without_arguments(op, model):
+    """As the first role that has the operation."""
+    role = wire.roles_of(op)[0]
+    return {PRIMARY: model.primary, SECONDARY: 3, PAGE_SERVER: 4, OPERATOR: 1}[role], role, b""
 
 
 def random_line(trial):
@@ -114,8 +118,7 @@ def random_line(trial):
     if chance.random() < 0.002:
         trial.sweep()
         return
-    op = chance.choices(list(ASKED), [weight for _, weight in ASKED.values()])[0]
-    who, role, rest = ASKED[op][0](chance, trial.model)
+    op, who, role, rest = request(chance, trial.model)
     epoch, key, strange = None, None, chance.random()
     if strange < 0.03:
         who = chance.randrange(1, 7)

@@ -8,7 +8,7 @@ import itertools
 import tables
 import wire
 from trial_lines import put
-from wire import ADVANCE, AUDIT, FAILOVER, GET, OFFER, PULL, REPORT, SET_TABLE, STATUS, TIDY, WRITE
+from wire import ADVANCE, AUDIT, FAILOVER, GET, OFFER, OPS, PULL, REPORT, SET_TABLE, STATUS, WITHOUT_ARGUMENTS, WRITE
 from wire import OPERATOR, PAGE_SERVER, PAGES_OF_A_PARTITION, PRIMARY, SECONDARY
 
 
@@ -136,14 +136,16 @@ def audits(trial):
 
 
 def ask_each_operation(trial, who):
-    """One request of each operation in each role."""
-    asked = ((WRITE, wire.write(2, wire.block(who, put(who)))), (OFFER, wire.offer(wire.block(who + 1, put(who + 1)))),
-             (REPORT, wire.report(0)), (GET, wire.get(2 ** 32 - who, 0, who % 2)), (PULL, wire.pull(2, 9, 1, 16)),
-             (ADVANCE, wire.advance(who % 4, 1024)), (STATUS, b""), (FAILOVER, wire.failover(2)),
-             (SET_TABLE, tables.START.text), (SET_TABLE, b"x"), (AUDIT, wire.audit(who, 2)), (TIDY, b""))
+    """One request of each operation in each role, and of set_table two."""
+    asked = {WRITE: [wire.write(2, wire.block(who, put(who)))], OFFER: [wire.offer(wire.block(who + 1, put(who + 1)))],
+             REPORT: [wire.report(0)], GET: [wire.get(2 ** 32 - who, 0, who % 2)], PULL: [wire.pull(2, 9, 1, 16)],
+             ADVANCE: [wire.advance(who % 4, 1024)], FAILOVER: [wire.failover(2)],
+             SET_TABLE: [wire.set_table(tables.START.text), wire.set_table(b"x")], AUDIT: [wire.audit(who, 2)]}
+    asked.update((op, [b""]) for op in WITHOUT_ARGUMENTS)
     for role in (PRIMARY, SECONDARY, PAGE_SERVER, OPERATOR):
-        for op, rest in asked:
-            trial.play(trial.body(who, role, op, rest))
+        for op in OPS:
+            for rest in asked[op]:
+                trial.play(trial.body(who, role, op, rest))
 
 
 def failovers(trial):
@@ -308,12 +310,12 @@ def faults_of_bodies(trial):
     trial.open()
     status, report = trial.body(1, OPERATOR, STATUS), trial.body(2, PRIMARY, REPORT, wire.report(1))
     pull = trial.body(3, SECONDARY, PULL, wire.pull(0, 1, 1, 1))
-    tidy = trial.body(1, OPERATOR, TIDY)
+    others = [trial.body(1, OPERATOR, op) for op in WITHOUT_ARGUMENTS if op != STATUS]
     bodies = [status[:at] for at in (0, 1, 4, 20, 29)]
-    bodies += [status + b"\0", report[:-1], report + b"\0", pull[:-2], pull + b"\1\1", tidy + b"\0"]
+    bodies += [status + b"\0", report[:-1], report + b"\0", pull[:-2], pull + b"\1\1", *(body + b"\0" for body in others)]
     bodies += faulty_arguments(trial)
     for role in (0, 1, 4, 5, 255):
-        bodies += [status[:20] + bytes([role]) + status[21:29] + bytes([op]) for op in (0, 1, 2, 7, 10, 12, 255)]
+        bodies += [status[:20] + bytes([role]) + status[21:29] + bytes([op]) for op in (0, 1, 2, 7, 10, wire.NO_OPERATION, 255)]
     bodies += [report[:30] + wire.report(lsn) for lsn in (2 ** 48, 2 ** 48 + 1, 2 ** 64 - 1)]
     out_of_range = ((2, 1, 1, 1), (0, 0, 0, 1), (0, 0, 2 ** 48 + 1, 1), (0, 0, 1, 0), (0, 0, 1, 17))
     bodies += [pull[:30] + wire.pull(*parts) for parts in out_of_range]
@@ -370,8 +372,8 @@ def full_audit_list(trial):
             trial.report(lsn)
             trial.pull(1, most=3)
             trial.get(0, 0, True)
-            trial.status()
-            trial.tidy()
+            for op in WITHOUT_ARGUMENTS:
+                trial.play(trial.body(1, OPERATOR, op))
             trial.audit(lsn, 2)
             trial.play(b"")
 

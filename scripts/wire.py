@@ -1,4 +1,8 @@
-"""Blocks, requests and frames as bytes, written from docs/FORMATS.md; shared by the scripts and bench/play.py."""
+"""Blocks, requests and frames as bytes, written from docs/FORMATS.md; shared by the scripts and bench/play.py.
+
+A script names an operation only if it has arguments, or if there is something to say of that very one. It goes through OPS and
+WITHOUT_ARGUMENTS for the others, so that one which is new is asked for by all of them.
+"""
 
 import pathlib
 import sys
@@ -6,8 +10,8 @@ import sys
 # The numbers are those of the plain model, which is installed with pagelogctl and needs nothing else of its package.
 sys.path.insert(0, str(pathlib.Path(__file__).resolve().parent.parent / "clients" / "python" / "src"))
 from pagelog_model.wire import (  # noqa: E402, F401
-    ADVANCE, AUDIT, FAILOVER, GET, LONGEST_BLOCK, OFFER, OPERATOR, PAGE_BYTES, PAGE_SERVER, PAGES_OF_A_PARTITION, PRIMARY, PULL,
-    REPORT, SECONDARY, SET_TABLE, STATUS, TIDY, WRITE, number)
+    ADVANCE, AUDIT, FAILOVER, GET, HAS, LONGEST_BLOCK, OFFER, OPERATOR, OPS, PAGE_BYTES, PAGE_SERVER, PAGES_OF_A_PARTITION,
+    PRIMARY, PULL, REPORT, ROLES, SECONDARY, SET_TABLE, STATUS, TIDY, WRITE, number)
 
 
 def token(principal):
@@ -85,5 +89,22 @@ def failover(primary):
     return number(primary, 4)
 
 
+def set_table(text):
+    return text
+
+
 def audit(first, most):
     return number(first, 8) + number(most, 2)
+
+
+# What writes the arguments of an operation, which are taken in the order of the wire.
+WRITERS = {WRITE: write, OFFER: offer, REPORT: report, GET: get, PULL: pull, ADVANCE: advance, FAILOVER: failover,
+           SET_TABLE: set_table, AUDIT: audit}
+WITHOUT_ARGUMENTS = [op for op in OPS if op not in WRITERS]
+# A number above those of the operations.
+NO_OPERATION = max(OPS) + 1
+
+
+def roles_of(op):
+    """The roles that have an operation."""
+    return [role for role in ROLES if op in HAS[role]]

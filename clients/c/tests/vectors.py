@@ -15,9 +15,18 @@ from binding import (AUDIT_FULL, DENIED, DONE, FENCED, LOST, MALFORMED, NO_MEMOR
 from check import run, same, true
 from service import CLIENT, ROOT, Service, exactly, plain_environment, wire
 
-ROLES = {"primary": 1, "secondary": 2, "page_server": 3, "operator": 4}
-OPERATIONS = dict(zip(["write", "offer", "report", "get", "pull", "advance", "status", "failover", "set_table", "audit",
-                       "tidy"], range(1, 12)))
+
+def numbers_of(enum):
+    """The words of an enum of pagelog.h, each with its number."""
+    listed = re.search(rf"^enum {enum} \{{(.*?)\}};", (CLIENT / "pagelog.h").read_text(), flags=re.S | re.M)[1]
+    found, number = {}, -1
+    for word, given in re.findall(r"PAGELOG_(\w+)(?: = (\d+))?", listed):
+        number = int(given) if given else number + 1
+        found[word.lower()] = number
+    return found
+
+
+ROLES, OPERATIONS = numbers_of("pagelog_role"), numbers_of("pagelog_operation")
 KINDS = ["done", "blocks", "page", "entries", "status", "denied", "no_memory", "audit_full", "spent", "no_database",
          "malformed"]
 
@@ -134,7 +143,8 @@ def test_faults_of_replies():
     cases = [(b"", 1), (b"\x0b", 3), (b"\xff", 3), (b"\5\0", 6), (b"\5\4", 6), (b"\5\1\0\2", 4), (b"\x0a\0", 6),
              (b"\x0a\x10", 6), (b"\x0a", 4), (b"\0\0", 5), (page, 0), (page + b"\0", 5), (page[:-1], 4),
              (entries((20, b"\1")), 0), (entries((20, b"\0")), 2), (entries((20, b"\5")), 2), (entries((25, b"\0")), 3),
-             (entries((25, b"\x0c")), 3), (entries((42, b"\4")), 6), (entries((42, b"\0")), 6),
+             *((entries((25, bytes([operation]))), 0) for operation in wire.OPS), (entries((25, bytes([wire.NO_OPERATION]))), 3),
+             (entries((42, b"\4")), 6), (entries((42, b"\0")), 6),
              (b"\3\4\1", 6), (b"\3\4\0", 4), (b"\1" + bytes(8) + b"\0\x11", 6), (b"\1" + bytes(8) + b"\0\x10", 4),
              (blocks(wire.block(1, [(0, 0, b"a")])), 0), (blocks(wire.block(0, [])), 8),
              (blocks(wire.block(1, []), 32769), 15), (blocks(wire.block(1, [])[:-1]), 7),

@@ -27,17 +27,17 @@ def test_requests_are_spelled_as_the_scripts_spell_them():
         (request(2, wire.GET, page=4294967295, lsn=7, exact=1), 2, wire.GET, wire.get(4294967295, 7, 1)),
         (request(2, wire.PULL, lo=1, hi=65535, lsn=9, max=16), 2, wire.PULL, wire.pull(1, 65535, 9, 16)),
         (request(3, wire.ADVANCE, partition=5, steps=1024), 3, wire.ADVANCE, wire.advance(5, 1024)),
-        (request(1, wire.STATUS), 1, wire.STATUS, b""),
         (request(4, wire.FAILOVER, to=7), 4, wire.FAILOVER, wire.failover(7)),
         (request(4, wire.SET_TABLE, b""), 4, wire.SET_TABLE, b""),
         (request(4, wire.AUDIT, lsn=1, max=1024), 4, wire.AUDIT, wire.audit(1, 1024)),
-        (request(4, wire.TIDY), 4, wire.TIDY, b""),
+        *((request(role, op), role, op, b"") for op in wire.WITHOUT_ARGUMENTS for role in wire.roles_of(op)),
     ]
+    same("each operation", set(wire.OPS), {op for _, _, op, _ in cases})
     for made, role, op, rest in cases:
         made.principal, made.epoch, made.database = 3, 9, 2
         made.token[:] = token(3)[:]
         same(f"operation {op}", wire.head(3, role, op, 9, 2) + rest, encode(made))
-    wrong = [request(0, 7), request(5, 7), request(1, 0), request(1, 12), request(1, 3, lsn=(1 << 48) + 1),
+    wrong = [request(0, 7), request(5, 7), request(1, 0), request(1, wire.NO_OPERATION), request(1, 3, lsn=(1 << 48) + 1),
              request(2, 5, lo=2, hi=1, lsn=1, max=1), request(2, 5, lsn=0, max=1), request(2, 5, lsn=1, max=17),
              request(3, 6, steps=0), request(3, 6, steps=1025), request(4, 10, lsn=0, max=1),
              request(4, 10, lsn=1, max=1025), request(1, 4, exact=2), request(4, 9, b"x" * 65507)]
@@ -71,7 +71,8 @@ def test_each_operation_is_answered():
         same("not exact", (DONE, 1), (outcome, page.at))
         with Log(service.address, 1) as admin:
             same("status of an operator", DONE, admin.status(OPERATOR)[0])
-            same("tidy", DONE, admin.ask(OPERATOR, wire.TIDY)[0])
+            for op in wire.WITHOUT_ARGUMENTS:
+                same(f"operation {op}", DONE, admin.ask(OPERATOR, op)[0])
             outcome, entries = admin.ask(OPERATOR, wire.AUDIT, lsn=2, max=3)
             same("audit", (DONE, 3, 159), (outcome, entries.count, entries.length))
             same("set_table", DONE, admin.ask(OPERATOR, wire.SET_TABLE, TABLE.read_bytes())[0])

@@ -80,8 +80,9 @@ def each_request():
     """A request of each operation."""
     return [request(PRIMARY, wire.WRITE, BLOCK), request(PRIMARY, wire.OFFER, BLOCK), request(PRIMARY, wire.REPORT, lsn=1),
             request(SECONDARY, wire.GET, lsn=1, exact=1), request(SECONDARY, wire.PULL, hi=65535, lsn=1, max=16),
-            request(PAGE_SERVER, wire.ADVANCE, steps=1), request(OPERATOR, wire.STATUS), request(OPERATOR, wire.FAILOVER, to=2),
-            request(OPERATOR, wire.SET_TABLE, b""), request(OPERATOR, wire.AUDIT, lsn=1, max=16), request(OPERATOR, wire.TIDY)]
+            request(PAGE_SERVER, wire.ADVANCE, steps=1), request(OPERATOR, wire.FAILOVER, to=2),
+            request(OPERATOR, wire.SET_TABLE, b""), request(OPERATOR, wire.AUDIT, lsn=1, max=16),
+            *(request(OPERATOR, op) for op in wire.WITHOUT_ARGUMENTS)]
 
 
 def test_each_row_of_a_denial_has_its_outcome_and_its_value():

@@ -20,8 +20,8 @@ from pagelog.reply import (
     encode_entry, encode_reply, expect,
 )  # fmt: skip
 from pagelog.request import (
-    Act, Advance, Audit, Failover, Get, Head, Offer, Operation, Pull, Report, Request, Role, SetTable, Status, Tidy, Write,
-    decode_request,
+    ACTS, WITHOUT_ARGUMENTS, Act, Advance, Audit, Failover, Get, Head, Offer, Operation, Pull, Report, Request, Role, SetTable,
+    Write, decode_request,
 )  # fmt: skip
 from pagelog.rules import Section
 
@@ -61,7 +61,7 @@ class Trial(unittest.TestCase):
                     request = decode_request(asked)
                     self.assertEqual(request.encode(), asked)
                     seen.add(type(request.act))
-        self.assertEqual(seen, {Write, Offer, Report, Get, Pull, Advance, Status, Failover, SetTable, Audit, Tidy, *range(1, 16)})
+        self.assertEqual(seen, {*ACTS.values(), *range(1, 16)})
 
     def test_its_replies_are_read_and_written(self) -> None:
         seen = set()
@@ -180,9 +180,9 @@ class Replies(unittest.TestCase):
             ("1,025 lines", b"\x03\x04\x01", faults.FieldOutOfRange, 6),
             ("a line that is cut", entries(line)[:-1], faults.ReplyEndsInField, 4),
             ("a role of a cut line", entries(at(20, 5)[:21]), faults.UnknownRoleOfLine, 2),
-            ("an operation of a cut line", entries(at(25, 12)[:26]), faults.UnknownReply, 3),
+            ("an operation of a cut line", entries(at(25, max(Operation) + 1)[:26]), faults.UnknownReply, 3),
             ("role 0", entries(at(20, 0)), faults.UnknownRoleOfLine, 2),
-            ("operation 12", entries(at(25, 12)), faults.UnknownReply, 3),
+            ("an operation that there is not", entries(at(25, max(Operation) + 1)), faults.UnknownReply, 3),
             ("section 4 of a line", entries(at(42, 4)), faults.FieldOutOfRange, 6),
             ("a row without a section", entries(at(44, 1)), faults.FieldOutOfRange, 6),
             ("section 0 of a denial", b"\x05\x00" + bytes(10), faults.FieldOutOfRange, 6),
@@ -248,6 +248,13 @@ class Blocks_(unittest.TestCase):
 
 
 class Requests(unittest.TestCase):
+    def test_the_operations_are_those_of_the_model(self) -> None:
+        """Their numbers and words, the roles that have them, and which have no arguments."""
+        self.assertEqual({int(operation): operation.word for operation in Operation}, trial.wire.OPS)
+        self.assertEqual({int(operation): sorted(act.roles) for operation, act in ACTS.items()},
+                         {number: trial.wire.roles_of(number) for number in trial.wire.OPS})  # fmt: skip
+        self.assertEqual(list(WITHOUT_ARGUMENTS), trial.wire.WITHOUT_ARGUMENTS)
+
     def test_arguments_out_of_range(self) -> None:
         head = Head(2, TOKEN, Role.PRIMARY, 0, 1)
         acts: list[Act] = [

@@ -11,9 +11,9 @@ import time
 import unittest
 
 import pagelog
-from pagelog import Operation, Put
+from pagelog import Operation, Put, Role
 from pagelog.reply import Denied
-from pagelog.request import Get, Pull
+from pagelog.request import WITHOUT_ARGUMENTS, Get, Pull
 from pagelog.tables import TableText
 from service import PATIENCE, SOURCE, WIDE_TABLE, Service, fill, put
 
@@ -247,7 +247,8 @@ class Operators(unittest.TestCase):
             self.assertEqual(operator.count_of_entries(), 0)
             primary.append(put(70000, b"x"))
             primary.commit()
-            operator.tidy()
+            for operation in (one for one, act in WITHOUT_ARGUMENTS.items() if Role.OPERATOR in act.roles):
+                getattr(operator, operation.word)()
             with self.assertRaises(pagelog.BelowQuorum):
                 pagelog.reply.expect(pagelog.reply.Done, primary._ask(pagelog.request.Report(9)))
             entries = list(operator.entries(1))

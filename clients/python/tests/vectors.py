@@ -2,14 +2,13 @@
 
 from __future__ import annotations
 
+import dataclasses
 from typing import Any
 
 from pagelog import reply as replies
 from pagelog.block import Block, Put, Record, Zero
 from pagelog.reply import Entry, Reply
-from pagelog.request import (
-    Act, Advance, Audit, Failover, Get, Head, Offer, Operation, Pull, Report, Request, Role, SetTable, Status, Tidy, Write,
-)  # fmt: skip
+from pagelog.request import ACTS, Act, Failover, Head, Operation, Request, Role
 from pagelog.rules import Section
 
 
@@ -33,43 +32,34 @@ def fields_of_request(request: Request) -> dict[str, Any]:
     head, act = request.head, request.act
     fields = {"principal": head.principal, "token": head.token.hex(), "role": head.role.word, "database": head.database,
               "epoch": head.epoch, "op": act.operation.word}  # fmt: skip
-    if isinstance(act, (Write, Offer)):
-        return fields | ({"copy": act.copy} if isinstance(act, Write) else {}) | {"block": act.block.data.hex()}
-    if isinstance(act, Get):
-        return fields | {"page": act.page, "lsn": act.lsn, "exact": int(act.exact)}
-    if isinstance(act, Pull):
-        return fields | {"lo": act.lo, "hi": act.hi, "lsn": act.lsn, "max": act.max}
-    if isinstance(act, Report):
-        return fields | {"lsn": act.lsn}
-    if isinstance(act, Advance):
-        return fields | {"partition": act.partition, "steps": act.steps}
-    if isinstance(act, Audit):
-        return fields | {"first": act.first, "max": act.max}
-    if isinstance(act, Failover):
-        return fields | {"primary": act.principal}
-    return fields | ({"text": act.text.hex()} if isinstance(act, SetTable) else {})
+    return fields | {name: spelled(getattr(act, argument)) for argument, name in names(type(act)).items()}
 
 
 def request_of_fields(fields: dict[str, Any]) -> Request:
-    role, operation = Role[fields["role"].upper()], Operation[fields["op"].upper()]
+    role, kind = Role[fields["role"].upper()], ACTS[Operation[fields["op"].upper()]]
     head = Head(fields["principal"], bytes.fromhex(fields["token"]), role, fields["database"], fields["epoch"])
-    return Request(head, act_of_fields(operation, fields))
+    return Request(head, kind(**{argument: read(name, fields[name]) for argument, name in names(kind).items()}))
 
 
-def act_of_fields(operation: Operation, fields: dict[str, Any]) -> Act:
-    acts = {
-        Operation.WRITE: lambda: Write(fields["copy"], Block.decode(bytes.fromhex(fields["block"]))),
-        Operation.OFFER: lambda: Offer(Block.decode(bytes.fromhex(fields["block"]))),
-        Operation.REPORT: lambda: Report(fields["lsn"]),
-        Operation.GET: lambda: Get(fields["page"], fields["lsn"], bool(fields["exact"])),
-        Operation.PULL: lambda: Pull(fields["lsn"], fields["max"], fields["lo"], fields["hi"]),
-        Operation.ADVANCE: lambda: Advance(fields["partition"], fields["steps"]),
-        Operation.STATUS: Status, Operation.TIDY: Tidy,
-        Operation.FAILOVER: lambda: Failover(fields["primary"]),
-        Operation.SET_TABLE: lambda: SetTable(bytes.fromhex(fields["text"])),
-        Operation.AUDIT: lambda: Audit(fields["first"], fields["max"]),
-    }  # fmt: skip
-    return acts[operation]()  # type: ignore[no-any-return, operator]
+def names(kind: type[Act]) -> dict[str, str]:
+    """The arguments of an act of this class, each with its name in the vectors."""
+    return {one.name: "primary" if kind is Failover else one.name for one in dataclasses.fields(kind)}
+
+
+def spelled(value: Any) -> Any:
+    """The value of an argument as the vectors have it."""
+    if isinstance(value, Block):
+        return value.data.hex()
+    return value.hex() if isinstance(value, bytes) else int(value)
+
+
+def read(name: str, value: Any) -> Any:
+    """The value of an argument that the vectors have under this name."""
+    if name == "block":
+        return Block.decode(bytes.fromhex(value))
+    if name == "text":
+        return bytes.fromhex(value)
+    return bool(value) if name == "exact" else value
 
 
 WORDS = {replies.Done: "done", replies.NoMemory: "no_memory", replies.AuditFull: "audit_full", replies.Spent: "spent",

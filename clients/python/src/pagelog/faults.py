@@ -107,7 +107,7 @@ class UnknownRole(RequestFault):
 
 
 class UnknownOperation(RequestFault):
-    """The operation is not 1 to 11."""
+    """There is no operation of this number."""
 
     code = 3
 
@@ -187,7 +187,7 @@ class UnknownRoleOfLine(ReplyFault):
 
 
 class UnknownReply(ReplyFault):
-    """The kind of the reply is above 10, or the operation of a line is not 1 to 11."""
+    """There is no reply of this kind, or no operation of a line's number."""
 
     code = 3
 

@@ -3,9 +3,9 @@
 from __future__ import annotations
 
 import struct
-from dataclasses import dataclass, field
+from dataclasses import dataclass, field, fields
 from enum import IntEnum
-from typing import ClassVar, Union
+from typing import ClassVar, Union, get_args
 
 from pagelog.block import HIGHEST_LSN, HIGHEST_PAGE, HIGHEST_PARTITION, Block
 from pagelog.faults import (
@@ -81,6 +81,7 @@ class Write:
     copy: int
     block: Block
     operation: ClassVar[Operation] = Operation.WRITE
+    roles: ClassVar[tuple[Role, ...]] = (Role.PRIMARY,)
     repeatable: ClassVar[bool] = True
 
     def arguments(self) -> bytes:
@@ -94,6 +95,7 @@ class Offer:
 
     block: Block
     operation: ClassVar[Operation] = Operation.OFFER
+    roles: ClassVar[tuple[Role, ...]] = (Role.PRIMARY,)
     repeatable: ClassVar[bool] = True
 
     def arguments(self) -> bytes:
@@ -107,6 +109,7 @@ class Report:
 
     lsn: int
     operation: ClassVar[Operation] = Operation.REPORT
+    roles: ClassVar[tuple[Role, ...]] = (Role.PRIMARY,)
     repeatable: ClassVar[bool] = True
 
     def arguments(self) -> bytes:
@@ -122,6 +125,7 @@ class Get:
     lsn: int
     exact: bool = True
     operation: ClassVar[Operation] = Operation.GET
+    roles: ClassVar[tuple[Role, ...]] = (Role.SECONDARY, Role.PRIMARY)
     repeatable: ClassVar[bool] = True
 
     def arguments(self) -> bytes:
@@ -139,6 +143,7 @@ class Pull:
     lo: int = 0
     hi: int = HIGHEST_PARTITION
     operation: ClassVar[Operation] = Operation.PULL
+    roles: ClassVar[tuple[Role, ...]] = (Role.SECONDARY, Role.PAGE_SERVER)
     repeatable: ClassVar[bool] = True
 
     def arguments(self) -> bytes:
@@ -155,6 +160,7 @@ class Advance:
     partition: int
     steps: int
     operation: ClassVar[Operation] = Operation.ADVANCE
+    roles: ClassVar[tuple[Role, ...]] = (Role.PAGE_SERVER,)
     repeatable: ClassVar[bool] = False
 
     def arguments(self) -> bytes:
@@ -168,6 +174,7 @@ class Status:
     """Epoch, primary and hardened end."""
 
     operation: ClassVar[Operation] = Operation.STATUS
+    roles: ClassVar[tuple[Role, ...]] = (Role.OPERATOR, Role.PRIMARY, Role.SECONDARY, Role.PAGE_SERVER)
     repeatable: ClassVar[bool] = True
 
     def arguments(self) -> bytes:
@@ -181,6 +188,7 @@ class Failover:
 
     principal: int
     operation: ClassVar[Operation] = Operation.FAILOVER
+    roles: ClassVar[tuple[Role, ...]] = (Role.OPERATOR,)
     repeatable: ClassVar[bool] = False
 
     def arguments(self) -> bytes:
@@ -197,6 +205,7 @@ class SetTable:
 
     text: bytes = field(repr=False)
     operation: ClassVar[Operation] = Operation.SET_TABLE
+    roles: ClassVar[tuple[Role, ...]] = (Role.OPERATOR,)
     repeatable: ClassVar[bool] = False
 
     def arguments(self) -> bytes:
@@ -213,6 +222,7 @@ class Audit:
     first: int
     max: int = AUDIT_MAX
     operation: ClassVar[Operation] = Operation.AUDIT
+    roles: ClassVar[tuple[Role, ...]] = (Role.OPERATOR,)
     repeatable: ClassVar[bool] = True
 
     def arguments(self) -> bytes:
@@ -225,6 +235,7 @@ class Tidy:
     """Moves hardened blocks to the segments, where they take less memory. May be repeated."""
 
     operation: ClassVar[Operation] = Operation.TIDY
+    roles: ClassVar[tuple[Role, ...]] = (Role.OPERATOR,)
     repeatable: ClassVar[bool] = True
 
     def arguments(self) -> bytes:
@@ -233,6 +244,11 @@ class Tidy:
 
 
 Act = Union[Write, Offer, Report, Get, Pull, Advance, Status, Failover, SetTable, Audit, Tidy]
+"""What is asked for. Of the roles that have it, the first is the one that mostly asks for it."""
+ACTS: dict[Operation, type[Act]] = {act.operation: act for act in get_args(Act)}
+"""The class of each operation."""
+WITHOUT_ARGUMENTS: dict[Operation, Act] = {act.operation: act() for act in get_args(Act) if not fields(act)}
+"""The act of each operation that has no arguments."""
 
 
 @dataclass(frozen=True)
@@ -310,10 +326,11 @@ def _decode_block(data: bytes) -> Block:
 
 def _decode_numbers(operation: Operation, rest: bytes) -> Act:
     sizes = {Operation.REPORT: 8, Operation.GET: 13, Operation.PULL: 14, Operation.ADVANCE: 4, Operation.FAILOVER: 4,
-             Operation.AUDIT: 10, Operation.STATUS: 0, Operation.TIDY: 0}  # fmt: skip
-    if len(rest) < sizes[operation]:
+             Operation.AUDIT: 10}  # fmt: skip
+    size = sizes.get(operation, 0)
+    if len(rest) < size:
         raise BodyEndsInArgument()
-    if len(rest) > sizes[operation]:
+    if len(rest) > size:
         raise BytesAfterArguments()
     if operation is Operation.REPORT:
         return Report(int.from_bytes(rest, "big"))
@@ -331,7 +348,7 @@ def _decode_numbers(operation: Operation, rest: bytes) -> Act:
         return Failover(int.from_bytes(rest, "big"))
     if operation is Operation.AUDIT:
         return Audit(*_AUDIT.unpack(rest))
-    return Status() if operation is Operation.STATUS else Tidy()
+    return WITHOUT_ARGUMENTS[operation]
 
 
 def _in_range(act: Act) -> Act:

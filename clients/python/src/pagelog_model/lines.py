@@ -44,10 +44,9 @@ def request_of(line: Line) -> Optional[Request]:
     A line has neither the block of a write or an offer nor the text of a table: of the block the LSN is known, and the text is
     None. It has no token either.
     """
-    reader = _READERS.get(line.op)
-    if reader is None or line.role not in wire.ROLES:
+    if line.op not in wire.OPS or line.role not in wire.ROLES:
         return None
-    rest = reader(line.a, line.b)
+    rest = _READERS.get(line.op, _nothing)(line.a, line.b)
     return None if rest is None else {"who": line.who, "role": line.role, "epoch": line.epoch, "op": line.op, **rest}
 
 
@@ -92,7 +91,8 @@ def _nothing(a: int, b: int) -> Optional[Request]:
     return {} if a == b == 0 else None
 
 
+# The other operations have no arguments.
 _READERS = {
     wire.WRITE: _write, wire.OFFER: _offer, wire.REPORT: _report, wire.GET: _get, wire.PULL: _pull, wire.ADVANCE: _advance,
-    wire.STATUS: _nothing, wire.FAILOVER: _failover, wire.SET_TABLE: _set_table, wire.AUDIT: _audit, wire.TIDY: _nothing,
+    wire.FAILOVER: _failover, wire.SET_TABLE: _set_table, wire.AUDIT: _audit,
 }  # fmt: skip

@@ -15,7 +15,7 @@ from typing import Any, Sequence
 from pagelog.block import PAGES_OF_PARTITION, Block, Zero
 from pagelog.errors import Fault, PagelogError
 from pagelog.reply import Denied, Reply, decode_reply
-from pagelog.request import Act, Advance, Audit, Failover, Get, Head, Offer, Pull, Report, Request, Role, SetTable, Status, Tidy, Write
+from pagelog.request import ACTS, WITHOUT_ARGUMENTS, Act, Advance, Audit, Failover, Get, Head, Offer, Pull, Report, Request, Role, SetTable, Write
 from pagelog.rules import Section, TableFault, rule_of
 
 PROGRAM_VARIABLE = "PAGELOG"
@@ -23,11 +23,8 @@ PROGRAM_VARIABLE = "PAGELOG"
 UNKNOWN_TOKEN = bytes(16)
 _WITH_LSN = ("write", "offer", "report", "get", "pull")
 _ZONE_KEYS = ("copies", "quorum")
-_ROLES = {
-    "write": Role.PRIMARY, "offer": Role.PRIMARY, "report": Role.PRIMARY, "get": Role.SECONDARY, "pull": Role.SECONDARY,
-    "advance": Role.PAGE_SERVER, "status": Role.OPERATOR, "failover": Role.OPERATOR, "set_table": Role.OPERATOR,
-    "audit": Role.OPERATOR, "tidy": Role.OPERATOR,
-}  # fmt: skip
+_ROLES = {operation.word: act.roles[0] for operation, act in ACTS.items()}
+_WITHOUT_ARGUMENTS = {operation.word: act for operation, act in WITHOUT_ARGUMENTS.items()}
 
 
 class ExplainError(PagelogError):
@@ -75,8 +72,8 @@ class Question:
         block = Block.of(first if self.operation in ("write", "offer") else 1, records)
         acts: dict[str, Act] = {
             "write": Write(0, block), "offer": Offer(block), "report": Report(least), "get": Get(number or 0, least), "pull": Pull(first, 1, lo, hi),
-            "advance": Advance(number or 0, 1), "status": Status(), "failover": Failover(self.principal if number is None else number),
-            "set_table": SetTable(text), "audit": Audit(1), "tidy": Tidy(),
+            "advance": Advance(number or 0, 1), "failover": Failover(self.principal if number is None else number),
+            "set_table": SetTable(text), "audit": Audit(1), **_WITHOUT_ARGUMENTS,
         }  # fmt: skip
         return acts[self.operation]
 

@@ -7,15 +7,7 @@ from typing import Iterator
 
 from pagelog.block import HIGHEST_LSN, HIGHEST_PARTITION, PAGES_OF_PARTITION
 from pagelog.desk.explain import Difference, Question, Table, explain_each, is_allowed, play
-from pagelog.request import Role
-
-_OPERATIONS = {
-    Role.PRIMARY: ("write", "offer", "report", "get", "status"),
-    Role.SECONDARY: ("pull", "get", "status"),
-    Role.PAGE_SERVER: ("pull", "advance", "status"),
-    Role.OPERATOR: ("set_table", "audit", "tidy", "status", "failover"),
-}
-"""The operations that a role has; any other is denied A5, whatever the table says. The failover is the last of all."""
+from pagelog.request import ACTS, Role
 
 
 def all_differences(old: Table, new: Table) -> Iterator[Difference]:
@@ -48,6 +40,11 @@ def _words(principal: int, old: Table, new: Table) -> Iterator[str]:
         "get": product([at * PAGES_OF_PARTITION for at in partitions], lsns), "pull": product(pulls, lsns), "advance": product(partitions, [""]),
     }  # fmt: skip
     listed = {operation: [f" {at}{lsn}".rstrip() if at != "" else lsn for at, lsn in found] for operation, found in arguments.items()}
-    for role, operations in _OPERATIONS.items():
-        for operation in operations:
+    for role in Role:
+        for operation in _operations(role):
             yield from (f"principal {principal} as {role.word} {operation}{argument}" for argument in listed.get(operation, [""]))
+
+
+def _operations(role: Role) -> list[str]:
+    """The operations that a role has; any other is denied A5, whatever the table says. The failover is the last of all."""
+    return sorted((operation.word for operation, act in ACTS.items() if role in act.roles), key=lambda word: word == "failover")
