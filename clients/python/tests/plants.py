@@ -129,6 +129,8 @@ PLANTS = {
                               "quick_way", "with_a_trail"),
     "quick way, standby": Plant("keeping", "confirms=settings.require_standby)", "confirms=False)", "disks", "quick_way_waits"),
     "quick way, behind": Plant("quick_way_referee.c", "way->standby < way->wanted", "way->standby == 0", "quick_way", "until_it_has_what"),
+    "quick way, told as it asks": Plant("quick_way_referee.c", "        way->wanted = 0;\n", "        way->wanted = 0;\n        enter(way);\n", "quick_way",
+                                        "cut_anywhere_is_told_once"),
     "late pull": Plant("puller", "            if not is_whole:\n", "            if False:\n", "quick", "hangs_or_is_gone"),
     "late state": Plant("looker", "            if not is_whole:\n", "            if False:\n", "looks", "late_answer"),
     "look in a thread": Plant("work", "            if not await served.looked_at_once():\n                await", "            await", "looks",
