@@ -260,9 +260,10 @@ class Keeping:
         with socket.create_connection(("127.0.0.1", self.ports[name]), PATIENCE) as line, line.makefile("rw") as text:
             yield text
 
-    def metrics(self) -> dict[tuple[str, str], float]:
-        """Those of the one keeper, by name and the value of the last label: the database or its state."""
-        [address] = set(re.findall(r"metrics at (\S+)", self.said()))
+    def metrics(self, keeper: str = "*") -> dict[tuple[str, str], float]:
+        """Those of a keeper, or of the one that there is, by name and the value of the last label: the database or its state."""
+        [file] = self.folder.glob(f"{keeper}.log")
+        address = re.findall(r"metrics at (\S+)", file.read_text())[-1]
         with urllib.request.urlopen(f"http://{address}/metrics", timeout=PATIENCE) as reply:
             families = text_string_to_metric_families(reply.read().decode())
             return {(sample.name, ["", *sample.labels.values()][-1]): sample.value for family in families for sample in family.samples}

@@ -278,9 +278,33 @@ class Watched(Kept):
                 gate.open()
                 self.assertEqual(text.readline().split()[0], "durable")
                 eventually(lambda: self.of_shop() == (1, place.generation, 2, 0, 0), "a look after it")
-        check_alerts(self, {name for name, _ in self.keeping.metrics()}, of_keeper=True)
+        found = self.keeping.metrics()
+        shares = found["pagelog_keeper_list_share", "shop"], found["pagelog_keeper_memory_share", "shop"]
+        self.assertTrue(all(0 < share < 0.1 for share in shares), shares)
+        eventually(lambda: self.looks() > found["pagelog_keeper_looks_total", ""], "a look that is counted")
         self.keeping.word("drop", "shop", "--force")
         eventually(lambda: not any(label == "shop" for _, label in self.keeping.metrics()), "the end of its metrics")
+
+    def looks(self) -> float:
+        return self.keeping.metrics()["pagelog_keeper_looks_total", ""]
+
+    def test_a_standby_that_is_lacking_is_in_the_metrics(self) -> None:
+        self.keeping.start("a")
+        self.keeping.place()
+        self.keeping.start("b", program="/bin/false")
+        eventually(lambda: self.standby("b") == 0, "a standby that is lacking")
+        self.keeping.kill("b")
+        self.keeping.start("b")
+        eventually(lambda: self.standby("b") == 1, "a standby")
+        self.assertEqual(self.standby("a"), None)
+        check_alerts(self, {name for keeper in "ab" for name, _ in self.keeping.metrics(keeper)}, of_keeper=True)
+        self.keeping.word("pause", "shop")
+        self.keeping.kill("a", signal.SIGTERM)
+        eventually(lambda: self.keeping.row().address is None, "its release")
+        eventually(lambda: self.standby("b") is None, "a look that shows it")
+
+    def standby(self, keeper: str) -> float | None:
+        return self.keeping.metrics(keeper).get(("pagelog_keeper_standby", "shop"))
 
     def of_shop(self) -> tuple[float | None, ...]:
         found = self.keeping.metrics()
@@ -301,17 +325,28 @@ class Watched(Kept):
         self.keeping.file.write_text(self.keeping.file.read_text().replace(self.keeping.url, line.url(self.keeping.url)))
         self.keeping.launch("a")
         self.assertEqual([self.systemd.recv(100) for _ in range(4)], [b"READY=1", b"WATCHDOG=1", b"WATCHDOG=1", b"WATCHDOG=1"])
-        self.assertEqual(self.keeping.row().holder, None)
+        self.assertEqual((self.keeping.row().holder, self.looks()), (None, 0))
         line.count_from_now()
-        eventually(lambda: self.keeping.row().holder == "a", "the keeper's first look")
+        eventually(lambda: self.keeping.row().holder == "a" and self.looks() > 0, "the keeper's first look")
+        said = self.keeping.said().count("the referee: ")
+        line.count_from_now(0, 0)
+        eventually(lambda: self.keeping.said().count("the referee: ") > said, "a look that was cut")
+        looks = self.looks()
+        self.forget()
+        self.assertEqual([self.systemd.recv(100) for _ in range(4)], 4 * [b"WATCHDOG=1"])
+        self.assertEqual(self.looks(), looks)
         self.keeping.kill("a", signal.SIGSTOP)
+        self.forget()
+        self.keeping.kill("a", signal.SIGCONT)
+        self.assertEqual(self.systemd.recv(100), b"WATCHDOG=1")
+
+    def forget(self) -> None:
+        """What was said until now."""
         self.systemd.setblocking(False)
         with self.assertRaises(BlockingIOError):
-            while True:  # what it has said until it stood still
+            while True:
                 self.systemd.recv(100)
-        self.keeping.kill("a", signal.SIGCONT)
         self.systemd.settimeout(PATIENCE)
-        self.assertEqual(self.systemd.recv(100), b"WATCHDOG=1")
 
 
 class SmallList(Kept):

@@ -266,7 +266,8 @@ def scrape(address: str) -> dict[str, float]:
 def check_alerts(test: unittest.TestCase, names: set[str], *, of_keeper: bool = False) -> None:
     """Each name of a metric that the example of alerts has is one that is served, by an exporter or by a keeper."""
     text = (HERE.parent / "prometheus" / "alerts.yml").read_text()
-    used = set(re.findall(r"pagelog_\w+", "\n".join(line for line in text.splitlines() if "expr" in line or "(" in line)))
+    expressions = re.findall(r"^ +expr:(.*?)^ +(?:for|labels):", text, re.MULTILINE | re.DOTALL)
+    used = {name for each in expressions for name in re.findall(r"pagelog_\w+", re.sub(r'"[^"]*"', "", each))}
     test.assertEqual({name for name in used if name.startswith("pagelog_keeper_") == of_keeper} - names, set())
 
 

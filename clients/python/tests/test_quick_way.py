@@ -826,7 +826,7 @@ class Stalled(Hot):
         await self.commit_quickly(client)
 
 
-class Confirmed(Hot):
+class Confirming(Hot):
     """It asks how far a standby is; here a table says so."""
 
     async def asyncSetUp(self) -> None:
@@ -848,6 +848,8 @@ class Confirmed(Hot):
         await self.until(lambda: self.archived() == position)
         return position
 
+
+class Confirmed(Confirming):
     async def test_a_standby_is_asked_until_it_has_what_was_flushed_here(self) -> None:
         client = await self.hot()
         position = await self.kept(client)
@@ -885,6 +887,38 @@ class Confirmed(Hot):
         self.assertEqual((self.ends, self.served.reached), ([End.STOPPED], position))
         self.archiver.turn.release()
         self.assertEqual(await client.answer(), self.durable(position))
+
+
+class CutAsItIsConfirmed(Confirming):
+    """Its line to PostgreSQL is cut, at any time until a standby is known to have it."""
+
+    goes_through_line = True
+
+    async def test_what_is_cut_anywhere_is_told_once_it_was_looked_up(self) -> None:
+        client, early = await self.hot(), list[bool]()
+        look_up = Committer.look_up
+
+        async def seen(committer: Committer, log: int, run: str) -> Kept:
+            self.line.count_from_now()
+            early.append(client.has_answer())
+            kept = await look_up(committer, log, run)
+            self.assertEqual(kept.archived, len(self.written))
+            return kept
+
+        self.enterContext(patch.object(Committer, "look_up", seen))
+        self.line.count_from_now(1 << 40, 1 << 40)
+        await self.commit_quickly(client)
+        to, back = (1 << 40) - self.line.left["to"], (1 << 40) - self.line.left["back"]
+        for way, at in (("to", to - 6), ("to", to - 1), *(("back", at) for at in range(0, back, 5)), ("back", back - 1)):
+            await self.hot(client)
+            self.ends.clear()
+            self.line.count_from_now(**{way: at})
+            position = self.write()
+            client.send(self.durable(position))
+            await self.until(lambda: self.ends, "its end")
+            self.assertEqual((self.ends[0], way, at, await client.answer()), (End.DOUBT, way, at, self.durable(position)))
+            self.assertEqual(set(early), {False}, (way, at))
+        self.assert_whole()
 
 
 class Services(Hot):
@@ -1191,4 +1225,4 @@ def load_tests(loader: unittest.TestLoader, *_: object) -> unittest.TestSuite:
 
 
 def _cases() -> Iterator[type[unittest.TestCase]]:
-    yield from (Tells, Shifted, Lines, Statements, Fences, Cut, Stalled, Confirmed, Services, Ends, Without, Moves)
+    yield from (Tells, Shifted, Lines, Statements, Fences, Cut, Stalled, Confirmed, CutAsItIsConfirmed, Services, Ends, Without, Moves)

@@ -32,6 +32,7 @@ from service import PATIENCE, token  # noqa: E402
 
 TTL = 2.0
 NAME = "shop"
+REQUIRE = "--require-standby"
 THREADS = 6
 PIDFD_GETFD = 438
 """The number of this call of Linux, which Python does not have."""
@@ -192,10 +193,11 @@ def shut(line: socket.socket) -> bool:
 
 
 class Torture(LongRun):
-    def __init__(self, seconds: float, seed: int) -> None:
+    def __init__(self, seconds: float, seed: int, *, requires_standby: bool) -> None:
         self.seconds, self.chance = seconds, random.Random(seed)
         self.pair = Pair()
-        super().__init__(__file__, Keeping(ttl=TTL, url=self.pair.url))
+        more = "require_standby = true\n" if requires_standby else ""
+        super().__init__(__file__, Keeping(ttl=TTL, url=self.pair.url, more=more))
         self.done: Counter[str] = Counter()
         self.is_first_round, self.shut = True, 0
         self.deeds: list[tuple[int, Callable[[], None]]] = [
@@ -400,7 +402,9 @@ class Check:
 def main(words: list[str]) -> int:
     if is_client(words, {"write": write, "share": share, "read": read}):
         return 0
-    return Torture(float(words[0]) if words else 120.0, int(words[1]) if len(words) > 1 else 1).whole()
+    requires_standby = words[:1] == [REQUIRE]
+    words = words[requires_standby:]
+    return Torture(float(words[0]) if words else 120.0, int(words[1]) if len(words) > 1 else 1, requires_standby=requires_standby).whole()
 
 
 if __name__ == "__main__":

@@ -134,7 +134,7 @@ def _serve_metrics(keeper: Keeper, listen: str) -> None:
 
     host, _, port = listen.rpartition(":")
     try:
-        bound = serve(KeeperCollector(keeper.states, lambda: keeper.synchronous), host.strip("[]"), int(port))
+        bound = serve(KeeperCollector(keeper.states, keeper.itself), host.strip("[]"), int(port))
     except (OSError, ValueError) as error:
         fail(f"[keeper] metrics: {listen}: {error}")
     logging.getLogger("pagelog.keeper").info("metrics at %s:%d", host, bound)

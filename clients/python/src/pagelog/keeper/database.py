@@ -147,6 +147,12 @@ class Database:
         return None if self.served is None or self.holds else min(self.served.reached, self._confirmed)
 
     @property
+    def should_stand_by(self) -> bool:
+        """Whether this keeper is to have a standby of it: another one has it, and serves."""
+        settings, row = self.shared.settings, self.row
+        return settings.standby and self.is_known and row.address is not None and row.holder != settings.name and not self.shared.ending
+
+    @property
     def is_moving(self) -> bool:
         """Whether this keeper is about to publish a generation of it."""
         served = self.served

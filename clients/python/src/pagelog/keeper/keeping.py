@@ -25,7 +25,7 @@ from pagelog.keeper.quick_way import QuickWays
 from pagelog.keeper.referee import NAME, KeeperError, Referee, Superseded
 from pagelog.keeper.rows import Look, StandbyRow, Synchronous, released_of
 from pagelog.keeper.run import end_orphans, has_services
-from pagelog.keeper.served import seconds
+from pagelog.keeper.served import Served, seconds
 from pagelog.keeper.session import Session
 from pagelog.keeper.settings import Settings
 from pagelog.keeper.shared import Shared
@@ -65,6 +65,8 @@ class Keeper:
         self._lives: dict[str, Stillness] = {}
         self._living: set[str] = set()
         self.synchronous = Synchronous()
+        self._looks = 0
+        """How many PostgreSQL has confirmed."""
         self._said = ""
         self._stops = False
         self._may_have = False
@@ -216,6 +218,7 @@ class Keeper:
             await asyncio.sleep(self.settings.ttl / LOOKS / 4)
             return
         self.synchronous = self.look.synchronous
+        self._looks += 1
         self._say_of_referee(self.synchronous.meaning)
         self._see_lives()
         for row in self.look.rows:
@@ -362,6 +365,18 @@ class Keeper:
         return [
             {"name": each.row.name, "state": each.state.value, "generation": each.row.generation, "archived": each.row.archived,
              "behind": 0 if each.served is None else max(0, each.served.hard - each.served.reached), "waits": len(each.waits),
-             "quick": int(each.work.is_quick)}
+             "quick": int(each.work.is_quick), "standby": int(each.is_noted) if each.should_stand_by else None,
+             **self._shares(each.served)}
             for each in list(self.databases.values()) if not each.row.dropped
         ]  # fmt: skip
+
+    def _shares(self, served: Served | None) -> dict[str, float | None]:
+        """How full the list and the memory of a service are, where that is known."""
+        audit, limit = self.settings.program.audit, self.settings.memory
+        if served is None:
+            return {"list_share": None, "memory_share": None}
+        return {"list_share": served.entries / audit, "memory_share": served.held / limit if limit else None}
+
+    def itself(self) -> dict[str, int]:
+        """What is known of the keeper, for the metrics."""
+        return {"looks": self._looks, "synchronous_standbys": self.synchronous.count or 0}

@@ -2,12 +2,10 @@
 
 from __future__ import annotations
 
-from typing import Any, Callable, Iterable
+from typing import Any, Callable, Iterable, Mapping
 
-from prometheus_client.core import GaugeMetricFamily, Metric
+from prometheus_client.core import CounterMetricFamily, GaugeMetricFamily, Metric
 from prometheus_client.registry import Collector
-
-from pagelog.keeper.rows import Synchronous
 
 _GAUGES = {
     "pagelog_keeper_generation": "The generation of a named database.",
@@ -15,14 +13,18 @@ _GAUGES = {
     "pagelog_keeper_behind": "Blocks that its service has hardened and that are not archived.",
     "pagelog_keeper_waits": "Connections that wait for something to be durable.",
     "pagelog_keeper_quick": "1 while its durable commits go the quick way, which one database of a keeper has at a time.",
+    "pagelog_keeper_standby": "1 while a standby is here that may take over, 0 while one should be. None where none should be.",
+    "pagelog_keeper_list_share": "The share of its service's audit list that is full. At 0.5 the next generation is made, by default.",
+    "pagelog_keeper_memory_share": "The share of `memory` that its service holds. None without that limit.",
 }
 
 
 class KeeperCollector(Collector):
-    """The databases of a keeper, as `states` returns them, and how many synchronous standbys PostgreSQL has."""
+    """The databases of a keeper, as `states` returns them, and what it knows of itself: how many `looks` PostgreSQL has confirmed,
+    and how many `synchronous_standbys` that has."""
 
-    def __init__(self, states: Callable[[], list[dict[str, Any]]], synchronous: Callable[[], Synchronous]) -> None:
-        self._states, self._synchronous = states, synchronous
+    def __init__(self, states: Callable[[], list[dict[str, Any]]], itself: Callable[[], Mapping[str, int]]) -> None:
+        self._states, self._itself = states, itself
 
     def collect(self) -> Iterable[Metric]:
         """The metrics of all databases."""
@@ -31,10 +33,13 @@ class KeeperCollector(Collector):
         for found in self._states():
             state.add_metric([found["name"], found["state"]], 1)
             for name, gauge in gauges.items():
-                gauge.add_metric([found["name"]], found[name.rpartition("_")[2]])
+                if (value := found[name.removeprefix("pagelog_keeper_")]) is not None:
+                    gauge.add_metric([found["name"]], value)
+        itself = self._itself()
         standbys = GaugeMetricFamily(
             "pagelog_keeper_synchronous_standbys",
             "Synchronous standbys of PostgreSQL, by the last look. With 0 durable means one disk, or PostgreSQL did not answer.",
-            value=self._synchronous().count or 0,
+            value=itself["synchronous_standbys"],
         )
-        yield from (state, standbys, *gauges.values())
+        looks = CounterMetricFamily("pagelog_keeper_looks", "Looks that PostgreSQL has confirmed: four in a ttl.", value=itself["looks"])
+        yield from (state, standbys, looks, *gauges.values())
