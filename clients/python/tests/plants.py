@@ -181,6 +181,8 @@ PLANTS = {
     "group, left meanwhile": Plant("../group", "self._leader is not None and not self._leader.under", "not self._leader.under", "group", "has_left"),
     "group, left twice": Plant("../group", "not self._leader.under_way.locked():", "False:", "named", "middle_of_what"),
     "most of the archive": Plant("../place", "(place.generation, place.archived))", "place.generation)", "named", "who_knows_most"),
+    "not open, not asked": Plant("../named", "place if place.generation > newest else None", "None", "named", "lets_nobody_in_yet"),
+    "not open, asked again": Plant("../named", "newest, wait = max(newest, place.generation), min", "wait = min", "named", "lets_nobody_in_still"),
     "silent address": Plant("../dialing", "max(_LEAST, (ends - time.monotonic()) / (len(found) - tried))", "timeout", "connection", "leaves_the_others"),
     "broken series": Plant("machine", " or now - self._last > self.ttl / 2", "", "machine", "broken"),
 }  # fmt: skip
