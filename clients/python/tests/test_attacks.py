@@ -28,6 +28,7 @@ from pagelog.desk.words import pagelogctl
 from pagelog.keeper import referee as referee_module
 from pagelog.keeper.bases import Base, Bases
 from pagelog.keeper.committer import Committer, Fenced
+from pagelog.keeper.quick import SMALL
 from pagelog.keeper.referee import Doubt, Referee, digest
 from pagelog.keeper.rows import Batch, Kept as KeptBatch
 from pagelog.keeper.run import Facts, Run
@@ -345,6 +346,31 @@ class Committers(Referees):
                 running.cancel()
 
         self.assertEqual(asyncio.run(asyncio.wait_for(keep(), PATIENCE)), 3)
+
+    def test_a_small_batch_waits_for_no_connection_that_is_made(self) -> None:
+        """It goes over the connection of the looks. One whose statement is long waits: the beat would wait for it."""
+        line = Line(0, stalls=True)
+        self.addCleanup(line.close)
+        own, beside = Session(Referee(line.url(self.url), "two"), PATIENCE), Session(self.new("two"), PATIENCE)
+        first = batch_of(self.row, self.taken(), "r1")
+        large = (b"x" * (SMALL + 1),)
+        second = replace(first, old=first.new, blocks=large, chain=digest(first.chain, large))
+
+        async def keep() -> list[int]:
+            committer = Committer(own, PATIENCE, beside=beside)
+            running = asyncio.create_task(committer.run())
+            try:
+                archived = [(await committer.keep(first)).archived]
+                line.count_from_now()
+                for each in line.open:
+                    each.close()
+                return [*archived, (await committer.keep(second)).archived]
+            finally:
+                running.cancel()
+
+        with patch.object(beside, "keep", wraps=beside.keep) as kept:
+            self.assertEqual(asyncio.run(asyncio.wait_for(keep(), PATIENCE)), [3, 4])
+        self.assertEqual(kept.call_count, 1)
 
     def test_a_batch_of_a_run_that_is_over_is_fenced(self) -> None:
         kept = self.taken()

@@ -57,7 +57,7 @@ class Keeper:
                                 settings.ttl)  # fmt: skip
         self._writer = QuickSession(QuickReferee(settings.url, settings.name, self.life, requires_standby=settings.require_standby),
                                     2 * settings.ttl)  # fmt: skip
-        committer = Committer(self._writer, settings.ttl, partial(self._say, "the archive"))
+        committer = Committer(self._writer, settings.ttl, partial(self._say, "the archive"), beside=self._session)
         self._shared = Shared(settings, self.life, self._session, committer, self._say, self._changed, self._trails(), self._ways())
         self._server = Server(self)
         self._places = Places(self.where)
