@@ -184,6 +184,7 @@ PLANTS = {
     "beside": Plant("committer", "self._beside is None or is_there", "True", "attacks", "no_connection_that_is_made"),
     "beside, large": Plant("committer", " or sum(len(block) for batch in batches for block in batch.blocks) > SMALL:", ":", "attacks",
                            "no_connection_that_is_made"),
+    "left, asked": Plant("../named", "        if self.keepers.has_left(place):\n", "        if False:\n", "named", "is_being_ended_is_not_asked"),
     "not open, not asked": Plant("../named", "place if place.generation > newest else None", "None", "named", "lets_nobody_in_yet"),
     "not open, asked again": Plant("../named", "newest, wait = max(newest, place.generation), min", "wait = min", "named", "lets_nobody_in_still"),
     "silent address": Plant("../dialing", "max(_LEAST, (ends - time.monotonic()) / (len(found) - tried))", "timeout", "connection", "leaves_the_others"),

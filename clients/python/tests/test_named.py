@@ -15,6 +15,7 @@ from unittest.mock import Mock, patch
 import pagelog
 from pagelog import Credentials, Group, InDoubt, Lost, NamedPrimary, NamedReader, Unwritten
 from pagelog.dialing import dial
+from pagelog.keeper.referee import digest
 from pagelog.keeper.run import Program
 from pagelog.keeper.served import Served
 from pagelog.keeper.table import token_of
@@ -34,6 +35,7 @@ class Named(unittest.TestCase):
         self.places: list[Place] = []
         self.keepers = Mock(Keepers, patience=PATIENCE)
         self.keepers.name = "shop"
+        self.keepers.has_left.return_value = False
         self.keepers.place.side_effect = self.keepers.after.side_effect = lambda *_: self.places[-1]
         self.keepers.fate.side_effect = lambda generation, position, _: Fate(position, generation != self.places[-1].generation)
 
@@ -246,6 +248,53 @@ class Unopened(Saying):
         with patch("pagelog.place._HELD", 0.01):
             self.commit()
         self.assertEqual(self.asked, [1, 2])
+
+
+class Left(Saying):
+    """A service that its keeper has released, and is killing: it is silent until its memory is freed."""
+
+    def started(self, run: str) -> Served:
+        served = Served("shop", run, WIDE_TABLE, b"s" * 16, timeout=PATIENCE)
+        served.start(Program(PROGRAM, "127.0.0.1", Path(self.enterContext(tempfile.TemporaryDirectory()))))
+        self.addCleanup(served.end)
+        served.open()
+        return served
+
+    def test_a_service_that_is_being_ended_is_not_asked_who_writes(self) -> None:
+        services, known, asked = [self.started("run1"), self.started("run2")], [1], list[str]()
+
+        def at(generation: int) -> bytes:
+            served = services[generation - 1]
+            return f"at shop {generation} {served.run} {served.where.address} 0 {own} 0 0 {generation - 1}\n".encode()
+
+        def another(words: list[str]) -> bytes:
+            """It has not heard of the release yet."""
+            return at(2 if words[0] == "next" else 1)
+
+        def holder(words: list[str]) -> bytes:
+            """It has released it when it is asked for the next generation, and knows of that once this is waited for."""
+            if words[0] == "next":
+                known[:] = [2]
+            elif words[-1] == "2" and known == [1]:
+                known.clear()
+            return at(known[0]) if known else b"nowhere shop\n"
+
+        own = self.keeper(holder)
+        primary = NamedPrimary("shop", [self.keeper(another), own], 2, token(2), (1, token(1)), patience=PATIENCE, timeout=PATIENCE)
+        self.addCleanup(primary.close)
+        primary.append(put(0, b"1"))
+        self.assertEqual(primary.commit(), 1)
+        services[1].fill([services[0].pulled(0)], 1, digest(b"", services[0].pulled(0)))
+        services[0].close()
+
+        def operator(connection: pagelog.Connection, credentials: Credentials) -> pagelog.Operator:
+            asked.append(str(connection.address))
+            return pagelog.Operator(connection, credentials)
+
+        with patch("pagelog.named.Operator", operator):
+            primary.append(put(0, b"2"))
+            self.assertEqual(primary.commit(), 2)
+        self.assertEqual(set(asked), {services[1].where.address})
 
 
 class Words(Saying):

@@ -243,7 +243,10 @@ class NamedPrimary(Following):
             raise error
 
     def _is_anothers(self, place: Place) -> bool:
-        """Whether another client's failover is what denied; it may have been the keeper, who closes the generation."""
+        """Whether another client's failover is what denied; it may have been the keeper, who closes the generation. A service that is
+        being killed is not asked: it would be silent until all its memory is freed."""
+        if self.keepers.has_left(place):
+            return False
         try:
             with Operator(self._connection(place), self._operator.of(place)) as operator:
                 return operator.status().primary != KEEPER

@@ -288,6 +288,10 @@ class Keepers:
         found = _place(self._ask(place.lines, ("where", self.name, place.generation + 1), _SILENCE))
         return found if found is not None and found.generation > place.generation else self.place(place.generation)
 
+    def has_left(self, place: Place) -> bool:
+        """Whether its own keeper says that nobody serves it: it has released it, and is ending the service, or has not let clients in."""
+        return self._ask(place.lines, ("where", self.name))[:1] == ["nowhere"]
+
     def standby(self) -> Place | None:
         """A standby of it, which has durable blocks alone; None where no keeper knows of one."""
         for address in self._asks():
