@@ -186,6 +186,7 @@ PLANTS = {
                                     "return False", "standbys", "no_usual_look"),
     "awaited by its holder": Plant("database", "            return any(row.wanted in (standby.keeper, \"*\") for standby in self._others)",
                                    "            return False", "standbys", "no_usual_look"),
+    "another thread": Plant("referee", "return _checked(self._ask(", "return _checked(self._ask_bounded(", "attacks", "without_another_thread"),
     "beside": Plant("committer", "self._beside is None or is_there", "True", "attacks", "no_connection_that_is_made"),
     "beside, large": Plant("committer", " or sum(len(block) for batch in batches for block in batch.blocks) > SMALL:", ":", "attacks",
                            "no_connection_that_is_made"),

@@ -17,7 +17,7 @@ import unittest
 from concurrent.futures import ThreadPoolExecutor
 from dataclasses import replace
 from pathlib import Path
-from unittest.mock import patch
+from unittest.mock import Mock, patch
 
 import psycopg
 from click.testing import CliRunner
@@ -33,6 +33,7 @@ from pagelog.keeper.referee import Doubt, Referee, digest
 from pagelog.keeper.rows import Batch, Kept as KeptBatch
 from pagelog.keeper.run import Facts, Run
 from pagelog.keeper.session import Session
+from pagelog.keeper.shared import Shared
 from pagelog.keeper.table import KEEPER, keeper_of
 from pagelog.place import Fate, Keepers
 from pagelog.reply import State
@@ -371,6 +372,14 @@ class Committers(Referees):
         with patch.object(beside, "keep", wraps=beside.keep) as kept:
             self.assertEqual(asyncio.run(asyncio.wait_for(keep(), PATIENCE)), [3, 4])
         self.assertEqual(kept.call_count, 1)
+
+    def test_what_a_take_lacks_is_read_without_another_thread(self) -> None:
+        batch = batch_of(self.row, self.taken(), "r1")
+        self.referee.keep([batch])
+        shared, served = Shared(Mock(), "", Session(self.referee, PATIENCE), Mock(), print, print), Mock(reached=1, loaded=1)
+        with patch("pagelog.keeper.referee.threading.Timer", side_effect=AssertionError("a thread")):
+            asyncio.run(shared.fill(served, self.row.id, 3, batch.chain))
+        served.fill.assert_called_once_with([list(blocks(2, 2))], 3, batch.chain)
 
     def test_a_batch_of_a_run_that_is_over_is_fenced(self) -> None:
         kept = self.taken()
