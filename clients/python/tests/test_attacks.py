@@ -17,7 +17,7 @@ import unittest
 from concurrent.futures import ThreadPoolExecutor
 from dataclasses import replace
 from pathlib import Path
-from unittest.mock import patch
+from unittest.mock import Mock, patch
 
 import psycopg
 from click.testing import CliRunner
@@ -28,10 +28,12 @@ from pagelog.desk.words import pagelogctl
 from pagelog.keeper import referee as referee_module
 from pagelog.keeper.bases import Base, Bases
 from pagelog.keeper.committer import Committer, Fenced
+from pagelog.keeper.quick import SMALL
 from pagelog.keeper.referee import Doubt, Referee, digest
 from pagelog.keeper.rows import Batch, Kept as KeptBatch
 from pagelog.keeper.run import Facts, Run
 from pagelog.keeper.session import Session
+from pagelog.keeper.shared import Shared
 from pagelog.keeper.table import KEEPER, keeper_of
 from pagelog.place import Fate, Keepers
 from pagelog.reply import State
@@ -345,6 +347,39 @@ class Committers(Referees):
                 running.cancel()
 
         self.assertEqual(asyncio.run(asyncio.wait_for(keep(), PATIENCE)), 3)
+
+    def test_a_small_batch_waits_for_no_connection_that_is_made(self) -> None:
+        """It goes over the connection of the looks. One whose statement is long waits: the beat would wait for it."""
+        line = Line(0, stalls=True)
+        self.addCleanup(line.close)
+        own, beside = Session(Referee(line.url(self.url), "two"), PATIENCE), Session(self.new("two"), PATIENCE)
+        first = batch_of(self.row, self.taken(), "r1")
+        large = (b"x" * (SMALL + 1),)
+        second = replace(first, old=first.new, blocks=large, chain=digest(first.chain, large))
+
+        async def keep() -> list[int]:
+            committer = Committer(own, PATIENCE, beside=beside)
+            running = asyncio.create_task(committer.run())
+            try:
+                archived = [(await committer.keep(first)).archived]
+                line.count_from_now()
+                for each in line.open:
+                    each.close()
+                return [*archived, (await committer.keep(second)).archived]
+            finally:
+                running.cancel()
+
+        with patch.object(beside, "keep", wraps=beside.keep) as kept:
+            self.assertEqual(asyncio.run(asyncio.wait_for(keep(), PATIENCE)), [3, 4])
+        self.assertEqual(kept.call_count, 1)
+
+    def test_what_a_take_lacks_is_read_without_another_thread(self) -> None:
+        batch = batch_of(self.row, self.taken(), "r1")
+        self.referee.keep([batch])
+        shared, served = Shared(Mock(), "", Session(self.referee, PATIENCE), Mock(), print, print), Mock(reached=1, loaded=1)
+        with patch("pagelog.keeper.referee.threading.Timer", side_effect=AssertionError("a thread")):
+            asyncio.run(shared.fill(served, self.row.id, 3, batch.chain))
+        served.fill.assert_called_once_with([list(blocks(2, 2))], 3, batch.chain)
 
     def test_a_batch_of_a_run_that_is_over_is_fenced(self) -> None:
         kept = self.taken()

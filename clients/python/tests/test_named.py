@@ -4,18 +4,23 @@ from __future__ import annotations
 
 import itertools
 import socket
+import tempfile
 import threading
 import unittest
 from dataclasses import replace
+from pathlib import Path
 from typing import Any, Callable
 from unittest.mock import Mock, patch
 
 import pagelog
 from pagelog import Credentials, Group, InDoubt, Lost, NamedPrimary, NamedReader, Unwritten
 from pagelog.dialing import dial
+from pagelog.keeper.referee import digest
+from pagelog.keeper.run import Program
+from pagelog.keeper.served import Served
 from pagelog.keeper.table import token_of
 from pagelog.place import Fate, Keepers, Place, _Line
-from service import PATIENCE, WIDE_TABLE, Service, accept_each, interrupted, put, token
+from service import PATIENCE, PROGRAM, WIDE_TABLE, Service, accept_each, interrupted, put, token
 
 NARROW_TABLE = WIDE_TABLE.rpartition("[[row]]")[0]
 """By it a writer pulls nothing."""
@@ -30,6 +35,7 @@ class Named(unittest.TestCase):
         self.places: list[Place] = []
         self.keepers = Mock(Keepers, patience=PATIENCE)
         self.keepers.name = "shop"
+        self.keepers.has_left.return_value = False
         self.keepers.place.side_effect = self.keepers.after.side_effect = lambda *_: self.places[-1]
         self.keepers.fate.side_effect = lambda generation, position, _: Fate(position, generation != self.places[-1].generation)
 
@@ -184,13 +190,11 @@ class Groups(unittest.TestCase):
                 self.assertEqual(list(map(type, self.told_another(group))), [wanted])
 
 
-class Words(unittest.TestCase):
-    """Keepers that say what the test says, and clients of their lines."""
+class Saying(unittest.TestCase):
+    """Keepers that say what the test says."""
 
     def setUp(self) -> None:
         self.said: Callable[[list[str]], bytes] = lambda _: b""
-        self.keepers = Keepers("shop", [self.keeper(), self.keeper()], 0.0)
-        self.addCleanup(self.keepers.close)
 
     def keeper(self, said: Callable[[list[str]], bytes] | None = None) -> str:
         def serve(client: socket.socket) -> None:
@@ -204,6 +208,102 @@ class Words(unittest.TestCase):
         listener = self.enterContext(socket.create_server(("127.0.0.1", 0)))
         accept_each(listener, serve)
         return f"127.0.0.1:{listener.getsockname()[1]}"
+
+
+class Unopened(Saying):
+    """Another keeper sees a take, and tells the place, before the one that took has let anybody in."""
+
+    def setUp(self) -> None:
+        super().setUp()
+        self.served = Served("shop", "run", WIDE_TABLE, b"s" * 16, timeout=PATIENCE)
+        self.served.start(Program(PROGRAM, "127.0.0.1", Path(self.enterContext(tempfile.TemporaryDirectory()))))
+        self.addCleanup(self.served.end)
+        self.asked: list[int] = []
+        self.own = self.keeper(self.holder)
+        self.primary = NamedPrimary("shop", [self.keeper(self.another), self.own], 2, token(2), (1, token(1)), patience=PATIENCE, timeout=PATIENCE)
+        self.addCleanup(self.primary.close)
+
+    def another(self, words: list[str]) -> bytes:
+        return f"at shop 1 run {self.served.where.address} 0 {self.own} 0 0 0\n".encode() if words[-1] in ("shop", "1") else b""
+
+    def holder(self, words: list[str]) -> bytes:
+        if words[0] == "next":
+            self.asked.append(int(words[2]))
+            self.next_asked()
+        return self.another(words) if self.served.is_open or words[0] == "next" else b"nowhere shop\n"
+
+    def next_asked(self) -> None:
+        self.served.open()
+
+    def commit(self) -> None:
+        self.primary.append(put(0, b"1"))
+        self.assertEqual(self.primary.commit(), 1)
+
+    def test_a_place_that_lets_nobody_in_yet_is_waited_for_at_its_own_keeper(self) -> None:
+        self.commit()
+        self.assertEqual(self.asked, [1])
+
+    def test_one_that_lets_nobody_in_still_is_not_asked_for_again_and_again(self) -> None:
+        self.next_asked = lambda: None if len(self.asked) == 1 else self.served.open()  # type: ignore[method-assign]
+        with patch("pagelog.place._HELD", 0.01):
+            self.commit()
+        self.assertEqual(self.asked, [1, 2])
+
+
+class Left(Saying):
+    """A service that its keeper has released, and is killing: it is silent until its memory is freed."""
+
+    def started(self, run: str) -> Served:
+        served = Served("shop", run, WIDE_TABLE, b"s" * 16, timeout=PATIENCE)
+        served.start(Program(PROGRAM, "127.0.0.1", Path(self.enterContext(tempfile.TemporaryDirectory()))))
+        self.addCleanup(served.end)
+        served.open()
+        return served
+
+    def test_a_service_that_is_being_ended_is_not_asked_who_writes(self) -> None:
+        services, known, asked = [self.started("run1"), self.started("run2")], [1], list[str]()
+
+        def at(generation: int) -> bytes:
+            served = services[generation - 1]
+            return f"at shop {generation} {served.run} {served.where.address} 0 {own} 0 0 {generation - 1}\n".encode()
+
+        def another(words: list[str]) -> bytes:
+            """It has not heard of the release yet."""
+            return at(2 if words[0] == "next" else 1)
+
+        def holder(words: list[str]) -> bytes:
+            """It has released it when it is asked for the next generation, and knows of that once this is waited for."""
+            if words[0] == "next":
+                known[:] = [2]
+            elif words[-1] == "2" and known == [1]:
+                known.clear()
+            return at(known[0]) if known else b"nowhere shop\n"
+
+        own = self.keeper(holder)
+        primary = NamedPrimary("shop", [self.keeper(another), own], 2, token(2), (1, token(1)), patience=PATIENCE, timeout=PATIENCE)
+        self.addCleanup(primary.close)
+        primary.append(put(0, b"1"))
+        self.assertEqual(primary.commit(), 1)
+        services[1].fill([services[0].pulled(0)], 1, digest(b"", services[0].pulled(0)))
+        services[0].close()
+
+        def operator(connection: pagelog.Connection, credentials: Credentials) -> pagelog.Operator:
+            asked.append(str(connection.address))
+            return pagelog.Operator(connection, credentials)
+
+        with patch("pagelog.named.Operator", operator):
+            primary.append(put(0, b"2"))
+            self.assertEqual(primary.commit(), 2)
+        self.assertEqual(set(asked), {services[1].where.address})
+
+
+class Words(Saying):
+    """Clients of the keepers' lines."""
+
+    def setUp(self) -> None:
+        super().setUp()
+        self.keepers = Keepers("shop", [self.keeper(), self.keeper()], 0.0)
+        self.addCleanup(self.keepers.close)
 
     def test_an_interrupt_anywhere_leaves_no_answer_to_the_next_question(self) -> None:
         at_generation = "at shop {} r 127.0.0.1:1 5 127.0.0.1:2 0 0 0\n"

@@ -18,6 +18,7 @@ from keepers import Gate, Kept, Tried, Trigger, blocks, eventually
 from pagelog import Connection, Lost, Reader
 from pagelog.keeper.keeping import LOOKS
 from pagelog.keeper.loading import Loader
+from pagelog.keeper.machine import NEAR
 from pagelog.keeper.run import end_orphans
 from pagelog.keeper.table import keeper_of
 from pagelog.place import Fate, Keepers
@@ -288,10 +289,8 @@ class ForLong(Two):
             self.assertEqual((self.keeping.place().generation, self.texts()), (before.generation, [b"1", b"2"]))
 
 
-class Heard(Two):
-    """A keeper that has heard of a release, and has not looked since."""
-
-    options = {"ttl": 120.0}
+class Ringing(Two):
+    """Keepers that do not look by themselves for long."""
 
     def seen(self, condition: Callable[[], bool], what: str) -> None:
         """Waits for what a look shows."""
@@ -301,6 +300,29 @@ class Heard(Two):
             return condition()
 
         eventually(is_so, what)
+
+
+class Behind(Ringing):
+    options = {"ttl": 8 * PATIENCE}
+
+    def test_a_switchover_waits_for_no_usual_look_of_a_standby_that_lacks_much(self) -> None:
+        """Else one whose writer adds more in a look than it may lack would wait for ever."""
+        with self.keeping.primary() as primary:
+            self.commit(primary, "1", durable=True)
+            self.seen(lambda: 1 in self.keeping.standbys().values(), "a standby")
+            target, before = self.other(), self.keeping.row().generation
+            for number in range(2, NEAR + 3):
+                self.commit(primary, f"{number}")
+            primary.durable(NEAR + 2)
+            self.keeping.referee.wish("shop", target)
+            eventually(lambda: self.keeping.row().generation == before + 1, "the switchover")
+            self.assertEqual((self.commit(primary, "more", durable=True), self.holder()), (NEAR + 3, target))
+
+
+class Heard(Ringing):
+    """A keeper that has heard of a release, and has not looked since."""
+
+    options = {"ttl": 120.0}
 
     def answers(self, keeper: str, *questions: str) -> list[list[str]]:
         with self.keeping.line(keeper) as text:

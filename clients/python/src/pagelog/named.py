@@ -201,6 +201,7 @@ class NamedPrimary(Following):
         """
         before = -1 if self.place is None else self.place.generation
         deadline, wait, may_stay = time.monotonic() + self.keepers.patience, QUICKEST, not isinstance(error, _DENIED)
+        newest = before
         while True:
             place = self.keepers.place() if self.place is None else self.keepers.after(self.place)
             is_next = place.generation > before
@@ -213,8 +214,9 @@ class NamedPrimary(Following):
             may_stay = True
             if time.monotonic() > deadline:
                 raise error or TimedOut(f"in {self.keepers.patience} s no generation of {self.keepers.name} could be used")
-            self.keepers.wait_for(place.generation + 1, wait)
-            wait = min(SLOWEST, 2 * wait)
+            # Another keeper may have seen the take, and told of it, before the one that took has let anybody in.
+            self.keepers.wait_for(place.generation + 1, wait, place if place.generation > newest else None)
+            newest, wait = max(newest, place.generation), min(SLOWEST, 2 * wait)
 
     def _count_at(self, place: Place) -> None:
         """What of the blocks above the end is in the log, though no reply has said so."""
@@ -241,7 +243,10 @@ class NamedPrimary(Following):
             raise error
 
     def _is_anothers(self, place: Place) -> bool:
-        """Whether another client's failover is what denied; it may have been the keeper, who closes the generation."""
+        """Whether another client's failover is what denied; it may have been the keeper, who closes the generation. A service that is
+        being killed is not asked: it would be silent until all its memory is freed."""
+        if self.keepers.has_left(place):
+            return False
         try:
             with Operator(self._connection(place), self._operator.of(place)) as operator:
                 return operator.status().primary != KEEPER

@@ -202,29 +202,34 @@ class Keepers:
             self.wait_for(least, wait)
             wait = min(SLOWEST, 2 * wait)
 
-    def wait_for(self, least: int, seconds: float) -> None:
-        """Returns once a keeper says that generation `least` or a later one has a place, and after a while in any case.
+    def wait_for(self, least: int, seconds: float, unopened: Place | None = None) -> None:
+        """Returns once a keeper says that generation `least` or a later one has a place, and after a while in any case. A place that is
+        `unopened` was told before its own keeper has let anybody in: once that one tells it, too.
 
         All are asked, and hold their answers back until then. Where none does it waits for so many seconds.
         """
         self._forget_parent()
+        wanted = dict.fromkeys(self._asks(), least)
+        if unopened is not None:
+            wanted[unopened.lines] = unopened.generation
         waiting: dict[int, tuple[str, _Line]] = {}
         poll = select.poll()
         try:
-            for address in self._asks():
-                if (line := self._asked(address, ("next", self.name, least), _ANSWER)) is not None:
+            for address in wanted:
+                if (line := self._asked(address, ("next", self.name, wanted[address]), _ANSWER)) is not None:
                     waiting[line.fileno()] = address, line
                     poll.register(line, select.POLLIN)
             deadline = time.monotonic() + _HELD
             while waiting and (left := deadline - time.monotonic()) > 0:
                 for descriptor, _ in poll.poll(1000 * left):
-                    words = self._taken(*waiting[descriptor])
+                    address, line = waiting[descriptor]
+                    words = self._taken(address, line)
                     if words is None:
                         continue
                     poll.unregister(descriptor)
                     del waiting[descriptor]
                     place = _place(words)
-                    if place is not None and place.generation >= least:
+                    if place is not None and place.generation >= wanted[address]:
                         return
         finally:
             for _, line in waiting.values():
@@ -297,6 +302,10 @@ class Keepers:
         """The place of a later generation, if its keeper is about to publish one; else as `place`."""
         found = _place(self._ask(place.lines, ("where", self.name, place.generation + 1), _SILENCE))
         return found if found is not None and found.generation > place.generation else self.place(place.generation)
+
+    def has_left(self, place: Place) -> bool:
+        """Whether its own keeper says that nobody serves it: it has released it, and is ending the service, or has not let clients in."""
+        return self._ask(place.lines, ("where", self.name))[:1] == ["nowhere"]
 
     def standby(self) -> Place | None:
         """A standby of it, which has durable blocks alone; None where no keeper knows of one."""

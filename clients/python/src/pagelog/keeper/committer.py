@@ -6,8 +6,9 @@ import asyncio
 from contextlib import suppress
 from dataclasses import dataclass, field
 from functools import partial
-from typing import Callable
+from typing import Callable, Sequence
 
+from pagelog.keeper.quick import SMALL
 from pagelog.keeper.referee import Away, Doubt, KeeperError, OneDisk, Refused
 from pagelog.keeper.rows import Batch, Kept
 from pagelog.keeper.session import Session
@@ -37,14 +38,16 @@ class Committer:
     by a statement that writes, for as long as that takes.
     """
 
-    def __init__(self, session: Session, idle: float, say: Callable[[str], None] = _nothing) -> None:
-        """Without a batch for `idle` seconds the connection is closed. What PostgreSQL refuses is said, once."""
-        self._session = session
+    def __init__(self, session: Session, idle: float, say: Callable[[str], None] = _nothing, beside: Session | None = None) -> None:
+        """Without a batch for `idle` seconds the connection is closed. What PostgreSQL refuses is said, once. `beside` is connected in
+        any case, and keeps what is small while the connection is made, which may take longer than a whole switchover."""
+        self._session, self._beside = session, beside
         self._say, self._said = say, ""
         self._idle = idle
         self._due: list[_Due] = []
         self._came = asyncio.Event()
         self._is_warm = False
+        self._warming = 0
         self._looking: set[asyncio.Task[None]] = set()
         self.kept = 0
         """How many blocks were archived."""
@@ -58,8 +61,12 @@ class Committer:
 
     async def warm(self) -> None:
         """Connects, so that the first batch of a database that is wanted here finds a connection with its statement prepared."""
-        with suppress(Doubt, Refused, Away):
-            await self._session.keep(())
+        self._warming += 1
+        try:
+            with suppress(Doubt, Refused, Away):
+                await self._session.keep(())
+        finally:
+            self._warming -= 1
         self._is_warm = True  # it is closed again if none comes
         self._came.set()
 
@@ -76,7 +83,7 @@ class Committer:
             idle = asyncio.get_running_loop().call_later(self._idle, self._came.set)
             await self._came.wait()
             idle.cancel()
-            if not self._due and not self._is_warm:
+            if not self._due and not self._is_warm and not self._warming:
                 self._came.clear()  # first: one may come while it is closed
                 await self._session.close()
                 await self._came.wait()
@@ -85,7 +92,7 @@ class Committer:
             if not batches:
                 continue
             try:
-                kept = await self._session.keep([due.batch for due in batches])
+                kept = await self._keep([due.batch for due in batches])
                 self._said = ""
             except (Doubt, Refused, Away) as error:
                 self._tell(error)
@@ -95,6 +102,16 @@ class Committer:
                     self._answer(due, Kept(due.batch.new, due.batch.chain, due.batch.generation, is_told=True))
                 else:  # beside what comes next: a row that is locked holds up no other database
                     self._begin_look_up(due)
+
+    async def _keep(self, batches: Sequence[Batch]) -> frozenset[int]:
+        is_there = self._session.referee.descriptor is not None and not self._warming
+        if self._beside is None or is_there or sum(len(block) for batch in batches for block in batch.blocks) > SMALL:
+            return await self._session.keep(batches)
+        if not self._warming:
+            warming = asyncio.create_task(self.warm())
+            self._looking.add(warming)
+            warming.add_done_callback(self._looking.discard)
+        return await self._beside.keep(batches)
 
     def _taken(self) -> list[_Due]:
         """Those of the next statement: one of a database, since two would be taken for one. What was given up is left out."""

@@ -160,6 +160,16 @@ class Database:
         return is_dead or self.doing in (Action.TAKE, Action.FILL, Action.RELEASE, Action.SUCCEED)
 
     @property
+    def is_awaited(self) -> bool:
+        """Whether a switchover may wait for a standby to be near: for this keeper's, or as this keeper holds it for another's."""
+        row = self.row
+        if self.served is None or row.wanted is None or row.paused:
+            return False
+        if self.holds:
+            return any(row.wanted in (standby.keeper, "*") for standby in self._others)
+        return self.served.kind is Kind.STANDBY and row.wanted in (self.shared.settings.name, "*")
+
+    @property
     def is_at_rest(self) -> bool:
         """Whether this keeper has no service of it, none of an earlier life either, and does nothing about it."""
         is_mine = self.is_known and self.row.run is not None and self.row.holder == self.shared.settings.name

@@ -38,6 +38,8 @@ HELD_BACK = 1.0
 """Seconds for which the answer to a `where` may wait for the next generation."""
 LOOKS = 4
 """How many looks there are in a ttl."""
+_SOON = 0.05
+"""Seconds between two looks while a switchover waits for its standby: they alone tell how near it is, which a fast writer undoes."""
 _log = logging.getLogger("pagelog.keeper")
 
 
@@ -57,7 +59,7 @@ class Keeper:
                                 settings.ttl)  # fmt: skip
         self._writer = QuickSession(QuickReferee(settings.url, settings.name, self.life, requires_standby=settings.require_standby),
                                     2 * settings.ttl)  # fmt: skip
-        committer = Committer(self._writer, settings.ttl, partial(self._say, "the archive"))
+        committer = Committer(self._writer, settings.ttl, partial(self._say, "the archive"), beside=self._session)
         self._shared = Shared(settings, self.life, self._session, committer, self._say, self._changed, self._trails(), self._ways())
         self._server = Server(self)
         self._places = Places(self.where)
@@ -126,7 +128,7 @@ class Keeper:
                     return 1  # its next life adopts what it has
                 await self._hear()
                 await self._look()
-                await self._session.rest(self.settings.ttl / LOOKS)
+                await self._session.rest(self._pause)
             return 0
         except Superseded as error:
             _log.error("%s", error)
@@ -197,6 +199,12 @@ class Keeper:
         self._folder.leave()
 
     # Looking.
+
+    @property
+    def _pause(self) -> float:
+        """Seconds until the next look, if nothing is heard before."""
+        usual = self.settings.ttl / LOOKS
+        return min(usual, _SOON) if any(each.is_awaited for each in self.databases.values()) else usual
 
     async def _hear(self) -> None:
         """Takes what a release has said for true, before a look shows it: what follows has its own conditions."""

@@ -3,7 +3,8 @@ they answer.
 
     where NAME [LEAST]              at NAME GENERATION RUN ADDRESS ARCHIVED LINES BASE SHIFT KEPT | nowhere NAME | unknown NAME
                                     held back for a second at most by a keeper that is about to publish generation LEAST
-    next NAME LEAST                 the same, held back for a second at most until there is a place of generation LEAST or a later one
+    next NAME LEAST                 the same, held back for a second at most until there is a place of generation LEAST or a later one;
+                                    its own keeper says so once it lets clients in, another may as soon as it is taken
     standby NAME                    standby NAME ADDRESS RUN REACHED BASE SHIFT | standby NAME - - - - -
     durable NAME GENERATION N       durable NAME GENERATION M, M at or above N: all up to M is archived
                                     over NAME GENERATION END: all up to END is archived, and nothing above it will ever be

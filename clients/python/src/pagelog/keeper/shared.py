@@ -55,8 +55,8 @@ class Shared:
         if archived <= served.reached:
             return
         if 0 < served.loaded and archived <= served.loaded + PIECE:
-            pieces = await self.session.ask(lambda *of: list(self.session.referee.blocks(*of)), log, served.loaded + 1, archived)
-            return await asyncio.to_thread(served.fill, pieces, archived, chain)
+            piece = await self.session.ask(self.session.referee.few_blocks, log, served.loaded + 1, archived)
+            return await asyncio.to_thread(served.fill, [piece], archived, chain)
         referee = Referee(self.settings.url, self.settings.name, self.life)
         try:
             await asyncio.to_thread(served.follow, referee, log, archived, chain)
