@@ -285,8 +285,9 @@ inline speak() {
 #endif
        writes++;                                           // taken += first + more;
        if
-       :: failed || replies > 0 || held == 0 -> break      // if end.is_err() || sent < text.len()
-                                                           // || taken == bytes.len() { return (taken, sent, end); }
+       :: failed || replies > 0 -> break                   // if end.is_err() || sent < text.len() {
+                                                           // return (taken, sent, end); }
+       :: !failed && replies == 0 && held == 0 -> break    // if taken == bytes.len() { return (taken, sent, Ok(())); }
        :: !failed && replies == 0 && held > 0
        fi
     :: writes == WRITES -> break                           // }

@@ -154,8 +154,11 @@ fn speak<W: Write, G: Gate>(
         let text = outbox.text();
         let (sent, end) = write_ready(writer, text);
         taken += first + more;
-        if end.is_err() || sent < text.len() || taken == bytes.len() {
+        if end.is_err() || sent < text.len() {
             return (taken, sent, end);
+        }
+        if taken == bytes.len() {
+            return (taken, sent, Ok(()));
         }
     }
     (taken, outbox.text().len(), Ok(()))
