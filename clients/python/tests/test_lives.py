@@ -5,10 +5,11 @@ from __future__ import annotations
 import json
 import os
 import signal
+import socket
 
 import psycopg
 
-from keepers import Kept, Line, Trigger, batch_of, eventually
+from keepers import Kept, Line, Trigger, batch_of, end_services, eventually, services
 from pagelog import Reader
 from pagelog.archive import Archive
 from pagelog.connection import Connection
@@ -17,6 +18,50 @@ from pagelog.keeper.referee import Referee, digest
 from pagelog.keeper.schema import FORMAT
 from pagelog.keeper.table import token_of
 from service import PATIENCE, stand_still, token
+
+
+KILLED = """
+import os, psycopg, signal, socket, subprocess, sys
+from pagelog.keeper.run import Run
+line, start = socket.socket(socket.AF_UNIX), subprocess.Popen
+line.connect(sys.argv.pop(1))
+
+def started(*words, **how):
+    made = start(*words, **how)
+    socket.send_fds(line, [b"x"], [made.stdout.fileno()])
+    return made
+
+subprocess.Popen, Run._note = started, lambda *_, **__: os.kill(os.getpid(), signal.SIGKILL)
+import pagelog.__main__
+"""
+"""A keeper that is killed as it is about to note its first service. What that says goes to who listens at the path that is its first
+argument, so that it goes on as one that had said it before the kill."""
+
+
+class Starts(Kept):
+    keepers = ""
+
+    def test_a_service_that_its_keeper_could_not_note_any_more_ends(self) -> None:
+        keeping = self.keeping
+        self.addCleanup(end_services, keeping.folder / "a")
+        with socket.socket(socket.AF_UNIX) as listener:
+            listener.bind(str(keeping.folder / "line"))
+            listener.listen()
+            keeping.keeper = ("-c", KILLED, keeping.folder / "line")
+            keeping.launch("a")
+            line, _ = listener.accept()
+        with line:
+            [said] = socket.recv_fds(line, 1, 1)[1]
+        self.addCleanup(os.close, said)
+        self.assertEqual(keeping.processes["a"].wait(PATIENCE), -signal.SIGKILL)
+        keeping.processes["a"].stdout.close()  # type: ignore[union-attr]
+        run = keeping.row().run
+        keeping.keeper = ("-m", "pagelog")
+        keeping.start("a")
+        with keeping.primary() as primary:
+            self.commit(primary, "1", durable=True)
+        self.assertNotEqual(keeping.row().run, run)
+        eventually(lambda: services(keeping.folder / "a") == [keeping.pid()], "the end of the service that nobody knows")
 
 
 class Ends(Kept):
