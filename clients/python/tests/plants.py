@@ -41,8 +41,8 @@ PLANTS = {
     "take": Plant("statements", "generation = %(generation)s AND archived = %(archived)s AND run IS NOT DISTINCT FROM %(seen_run)s::text\n"
                   "    AND", "", "referee", "eight_takes"),
     "select": Plant("statements", "UPDATE pagelog_keeper SET beat = beat + 1, report = COALESCE(%(report)s::jsonb, report)\n"
-                    "  WHERE name = %(me)s AND run = %(run)s RETURNING name",
-                    "SELECT name FROM pagelog_keeper WHERE %(report)s::jsonb IS NULL AND name = %(me)s AND run = %(run)s",
+                    "  WHERE name = %(me)s AND run = %(run)s RETURNING name, beat",
+                    "SELECT name, beat FROM pagelog_keeper WHERE %(report)s::jsonb IS NULL AND name = %(me)s AND run = %(run)s",
                     "referee", "a_look_waits"),
     "warn": Plant("referee", "if self._warnings:", "if False:", "referee", "a_cancelled_commit_is_in_doubt"),
     "locks": Plant("referee", "self._end_sessions(seen.holder)", "pass", "referee", "stands_still_anywhere"),
@@ -81,6 +81,17 @@ PLANTS = {
     "no room for the log, told": Plant("committer", "                kept = frozenset()\n",
                                        "                kept = frozenset(due.batch.log for due in batches)\n", "disks", "for_want_of_room"),
     "unknown to an old leader": Plant("referee", "        if len(kept) < len(batches):\n", "        if False:\n", "disks", "old_leader_does_not_know"),
+    "life, unknown to an old leader": Plant("referee", "            if later:\n", "            if later or beat is None:\n", "disks",
+                                           "keeper_that_it_does_not_know"),
+    "life, asked nobody else": Plant("referee", "        for _ in range(self._hosts):\n            [[beat", "        for _ in range(1):\n            [[beat",
+                                    "disks", "does_not_know_a_life"),
+    "later life, not confirmed": Plant("statements", "UPDATE pagelog_keeper SET beat = beat WHERE name = %(me)s AND run <> %(run)s AND beat > "
+                                       "%(beat)s RETURNING name", "SELECT name FROM pagelog_keeper WHERE name = %(me)s AND run <> %(run)s AND "
+                                       "beat > %(beat)s", "disks", "does_not_know_a_life"),
+    "earlier life": Plant("statements", " AND run <> %(run)s AND beat > %(beat)s RETURNING name", " AND run <> %(run)s RETURNING name", "lives",
+                          "earlier_life_alone"),
+    "not told again": Plant("referee", "        self.register(self._lines, self._beat)\n", "", "referee", "takes_its_name_again"),
+    "told again, a twin": Plant("referee", "self.register(self._lines, self._beat)", "self.register(self._lines)", "referee", "amid_a_look"),
     "selected, looked up": Plant("referee", '"UPDATE pagelog_log SET archived = archived WHERE id = %s AND run = %s "\n                          '
                                  '"RETURNING archived, chain, generation"', '"SELECT archived, chain, generation FROM pagelog_log WHERE id = %s '
                                  'AND run = %s"', "disks", "what_it_has_alone"),

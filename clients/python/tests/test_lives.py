@@ -193,6 +193,20 @@ class WentBack(Kept):
             self.assertEqual(self.texts(), [b"%d" % number for number in range(1, 8)])
             self.assertEqual((self.keeping.place().run, self.keeping.pid()), (place.run, pid))
 
+    def test_a_keeper_of_which_it_knows_an_earlier_life_alone_goes_on(self) -> None:
+        with self.keeping.primary() as primary:
+            for number in range(1, 4):
+                self.commit(primary, f"{number}", durable=True)
+            place, pid = self.keeping.place(), self.keeping.pid()
+            with psycopg.connect(self.keeping.url) as session:
+                session.execute("UPDATE pagelog_keeper SET run = 'an earlier life', beat = 0 WHERE name = 'a'")
+            self.put_back(1)
+            eventually(lambda: "it went back, and is told again" in self.keeping.said(), "the word that it went back")
+            keeper = self.keeping.referee.everything().keeper("a")
+            self.assertNotIn("earlier", keeper.run)  # type: ignore[union-attr]
+            self.assertEqual(self.commit(primary, "4", durable=True), 4)
+            self.assertEqual((self.keeping.place().run, self.keeping.pid(), self.texts()), (place.run, pid, [b"1", b"2", b"3", b"4"]))
+
     def test_a_service_that_may_be_the_only_copy_outlives_its_keeper(self) -> None:
         with self.keeping.primary() as primary:
             for number in range(1, 4):
