@@ -70,10 +70,12 @@ PLANTS = {
                          "reader", "failover_comes_between"),
     "given number": Plant("statements", " AND next_generation > %(next)s", "", "bases", "under_the_fence"),
     "the rest": Plant("archiver", "return await self._batch_of(blocks, recorder) if", "return await self._batch_of((), recorder) if", "runs", "was_not_archived"),
-    "one disk": Plant("referee", "        if self._requires_standby:\n", "        if False:\n", "disks", "until_a_standby_has_it"),
-    "one disk, taken": Plant("referee", "        if self._requires_standby:\n", "        if False:\n", "disks", "nobody_takes_over"),
+    "one disk": Plant("referee", "        if self._requires_standby and rows:", "        if False:", "disks", "until_a_standby_has_it"),
+    "one disk, taken": Plant("referee", "        if self._requires_standby and rows:", "        if False:", "disks", "nobody_takes_over"),
     "standby is there": Plant("referee", "            if reached is None:\n", "            if reached is None:\n                return\n"
                               "            if False:\n", "disks", "wait_is_given_up"),
+    "one disk of an old leader": Plant("referee", "if self._requires_standby and rows:", "if self._requires_standby:", "disks",
+                                       "left_where_a_standby"),
     "doubt of a dead server": Plant("committer", "                kept = frozenset()\n", "                kept = frozenset(due.batch.log for due in batches)\n",
                                     "disks", "go_on_in_their_generation"),
     "no room, told": Plant("committer", "                kept = frozenset()\n", "                kept = frozenset(due.batch.log for due in batches)\n",
@@ -81,9 +83,10 @@ PLANTS = {
     "no room for the log, told": Plant("committer", "                kept = frozenset()\n",
                                        "                kept = frozenset(due.batch.log for due in batches)\n", "disks", "for_want_of_room"),
     "unknown to an old leader": Plant("referee", "        if len(kept) < len(batches):\n", "        if False:\n", "disks", "old_leader_does_not_know"),
-    "life, unknown to an old leader": Plant("referee", "            if later:\n", "            if later or beat is None:\n", "disks",
+    "life, unknown to an old leader": Plant("referee", "            self.close()\n            self.turn_hosts()\n        self.register", "            raise Superseded(self.me)\n"
+                                           "        self.register", "disks",
                                            "keeper_that_it_does_not_know"),
-    "life, asked nobody else": Plant("referee", "        for _ in range(self._hosts):\n            [[beat", "        for _ in range(1):\n            [[beat",
+    "life, asked nobody else": Plant("referee", "        for _ in range(self._hosts):\n", "        for _ in range(1):\n",
                                     "disks", "does_not_know_a_life"),
     "later life, not confirmed": Plant("statements", "UPDATE pagelog_keeper SET beat = beat WHERE name = %(me)s AND run <> %(run)s AND beat > "
                                        "%(beat)s RETURNING name", "SELECT name FROM pagelog_keeper WHERE name = %(me)s AND run <> %(run)s AND "

@@ -9,7 +9,7 @@ import signal
 import threading
 import unittest
 from dataclasses import replace
-from typing import Any
+from typing import Any, Callable
 
 import psycopg
 
@@ -212,6 +212,24 @@ class Referees(unittest.TestCase):
         self.pair.fail_over_beside(beside)
         for each in (earlier, self.plain):
             each.close()
+
+    def test_an_old_leader_is_left_where_a_standby_is_required(self) -> None:
+        old = self.pair.leader
+
+        def beside() -> None:
+            new = self.pair.leader
+            keeper = self.new("fourth", f"postgresql://pagelog@/kept?host={new.folder},{old.folder}", requires_standby=True)
+            keeper.register("fourth:1")
+            kept = keeper.take(self.row, "r1")
+            assert kept is not None
+            batch = batch_of(self.row, kept, "r1")
+            self.go_to(old, keeper)  # which changes nothing of what it is asked then, and has no standby
+            self.assertIsNotNone(keeper.look())
+            self.go_to(old, keeper)
+            self.assertEqual([keeper.keep([batch]), keeper.keep([batch])], [frozenset(), {self.row.id}])
+
+        self.pair.fail_over_beside(beside)
+        self.plain.close()
 
     def test_what_a_role_may_not_see_is_no_standby_to_it(self) -> None:
         with boss() as session:

@@ -174,7 +174,7 @@ class Referee:
         except psycopg.Error as error:
             raise self._meaning(error) from error
         self._check_warnings()
-        if self._requires_standby:
+        if self._requires_standby and rows:  # else nothing was changed
             self._confirm(connection)
         return rows
 
@@ -248,10 +248,9 @@ class Referee:
         """
         values = {"me": self.me, "run": self.run, "report": report, "logs": array_of(reached), "reached": array_of(reached.values())}
         for _ in range(self._hosts):
-            [[beat, later, *found]] = self._ask(statements.LOOK, {**values, "beat": self._beat})
-            if later:
-                raise Superseded(f"another keeper has the name {self.me}")
-            if beat is not None:
+            for beat, *found in self._ask(statements.LOOK, {**values, "beat": self._beat}):
+                if beat is None:
+                    raise Superseded(f"another keeper has the name {self.me}")
                 self._beat = beat
                 return look_of(*found)
             self.close()
@@ -261,7 +260,7 @@ class Referee:
 
     def everything(self) -> Look:
         """What a look returns, for who is no keeper."""
-        [[_, _, *found]] = self._ask(statements.LOOK, {"me": "", "run": "", "report": None, "logs": "{}", "reached": "{}", "beat": 0})
+        [[_, *found]] = self._ask(statements.LOOK, {"me": "", "run": "", "report": None, "logs": "{}", "reached": "{}", "beat": 0})
         return look_of(*found)
 
     def table(self, log: int) -> tuple[str, bytes]:

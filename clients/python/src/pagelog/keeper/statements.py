@@ -12,7 +12,7 @@ stood AS (
   UPDATE pagelog_standby s SET reached = v.reached
   FROM unnest(%(logs)s::integer[], %(reached)s::bigint[]) AS v(log, reached)
   WHERE s.log = v.log AND s.keeper IN (SELECT name FROM me) AND s.reached <> v.reached RETURNING 1)
-SELECT (SELECT beat FROM me), (SELECT count(*) FROM later),
+SELECT (SELECT beat FROM me),
   (SELECT COALESCE(json_agg(k), '[]') FROM (SELECT name, run, lines, beat, report FROM pagelog_keeper) k),
   (SELECT COALESCE(json_agg(l), '[]') FROM (
     SELECT id, name, generation, run, holder, address, archived, base, shift, images, encode(chain, 'hex') AS chain, wanted,
@@ -21,6 +21,7 @@ SELECT (SELECT beat FROM me), (SELECT count(*) FROM later),
   current_setting('synchronous_standby_names'),
   CASE WHEN pg_has_role('pg_read_all_stats', 'USAGE')
     THEN (SELECT count(*) FROM pg_stat_replication WHERE sync_state IN ('sync', 'quorum')) END
+WHERE %(me)s = '' OR EXISTS (SELECT 1 FROM me) OR EXISTS (SELECT 1 FROM later)
 """
 
 RELEASED = f"pg_notify('{CHANNEL}', concat_ws(' ', name, generation, archived, encode(chain, 'hex')))"
