@@ -95,9 +95,11 @@ PLANTS = {
                           "earlier_life_alone"),
     "not told again": Plant("referee", "        self.register(self._lines, self._beat)\n", "", "referee", "takes_its_name_again"),
     "told again, a twin": Plant("referee", "self.register(self._lines, self._beat)", "self.register(self._lines)", "referee", "amid_a_look"),
-    "selected, looked up": Plant("referee", '"UPDATE pagelog_log SET archived = archived WHERE id = %s AND run = %s "\n                          '
-                                 '"RETURNING archived, chain, generation"', '"SELECT archived, chain, generation FROM pagelog_log WHERE id = %s '
-                                 'AND run = %s"', "disks", "what_it_has_alone"),
+    "selected, looked up": Plant("referee", '"UPDATE pagelog_log SET archived = archived WHERE id = %s RETURNING archived, chain, generation, run"',
+                                 '"SELECT archived, chain, generation, run FROM pagelog_log WHERE id = %s"', "disks", "what_it_has_alone"),
+    "looked up at an old leader": Plant("referee", 'SET archived = archived WHERE id = %s RETURNING archived, chain, generation, run", (log,))',
+                                        'SET archived = archived WHERE id = %s AND run = %s RETURNING archived, chain, generation, run", (log, run))',
+                                        "disks", "switch_of_which_an_old_leader"),
     "once": Plant("keeping", "        if sentence != self._said:\n", "        if True:\n", "disks", "said_once"),
     "away": Plant("keeping", "            self.synchronous = Synchronous()\n", "", "disks", "nothing_is_durable_until"),
     "watchdog": Plant("keeping", '        self._shared.spawn(self._live(), "the watchdog")\n', "", "keepers", "systemd_hears"),

@@ -20,6 +20,7 @@ from pagelog.keeper.quick import QuickReferee, QuickSession
 from pagelog.keeper.referee import Doubt, OneDisk, Referee, Superseded
 from pagelog.keeper.rows import Look, Synchronous
 from pagelog.keeper.session import Session
+from pagelog.keeper.switch import Switch, has_begun, number, succeed
 from pagelog.place import Fate
 from replicated import Pair, Server
 from service import PATIENCE
@@ -92,6 +93,26 @@ class Referees(unittest.TestCase):
         while str(referee._connected().info.host) != str(server.folder):
             referee.close()
             referee.turn_hosts()
+
+    def cut_at(self, server: Server, referee: Referee, call: Callable[[], object]) -> object:
+        """What a call there returns or raises, which is cut once its commit waits for a standby that the server has not."""
+        self.go_to(server, referee)
+        found: list[object] = []
+
+        def ask() -> None:
+            try:
+                found.append(call())
+            except Exception as error:
+                found.append(error)
+
+        asks = threading.Thread(target=ask, daemon=True)
+        asks.start()
+        waits = f"SELECT 1 FROM pg_stat_activity WHERE wait_event = 'SyncRep' AND application_name = 'pagelog keeper {referee.me}'"
+        with psycopg.connect(f"postgresql://pagelog@/kept?host={server.folder}", autocommit=True) as session:
+            eventually(lambda: bool(found) or session.execute(waits).fetchone() is not None, "a commit that waits")
+        referee.cut()
+        asks.join(PATIENCE)
+        return found[0]
 
     def test_a_batch_that_is_on_one_disk_is_in_doubt_until_a_standby_has_it(self) -> None:
         kept = self.careful.take(self.row, "r1")
@@ -187,21 +208,7 @@ class Referees(unittest.TestCase):
             with psycopg.connect(f"postgresql://pagelog@/kept?host={old.folder}", autocommit=True) as session:
                 session.execute("SET synchronous_commit = local")  # as where its wait was cut off
                 session.execute("UPDATE pagelog_keeper SET run = 'latest', beat = beat + 100 WHERE name = 'again'")
-                raised: list[BaseException] = []
-
-                def look() -> None:
-                    try:
-                        look_at_old(again)
-                    except Exception as error:
-                        raised.append(error)
-
-                looks = threading.Thread(target=look, daemon=True)
-                looks.start()
-                waits = "SELECT 1 FROM pg_stat_activity WHERE wait_event = 'SyncRep' AND application_name = 'pagelog keeper again'"
-                eventually(lambda: bool(raised) or session.execute(waits).fetchone() is not None, "a look that waits")
-                again.cut()
-                looks.join(PATIENCE)
-            self.assertEqual([type(error) for error in raised], [Doubt])
+            self.assertIsInstance(self.cut_at(old, again, again.look), Doubt)
             self.assertIsNotNone(again.look())
             latest = Referee(f"postgresql://pagelog@/kept?host={new.folder}", "fresh", "latest")
             self.addCleanup(latest.close)
@@ -212,6 +219,23 @@ class Referees(unittest.TestCase):
         self.pair.fail_over_beside(beside)
         for each in (earlier, self.plain):
             each.close()
+
+    def test_a_switch_of_which_an_old_leader_does_not_know_is_looked_up_at_the_new_one(self) -> None:
+        old = self.pair.leader
+
+        def beside() -> None:
+            keeper = self.new("fifth", f"postgresql://pagelog@/kept?host={self.pair.leader.folder},{old.folder}")
+            kept = keeper.take(self.row, "r1")
+            assert kept is not None
+            given = number(keeper, self.row.id, "r1", kept.generation)
+            assert given is not None
+            switch = Switch(self.row.id, "r1", kept.generation, kept.archived, (), kept.chain, given, "r2", "x:1", 0, 0)
+            self.assertTrue(succeed(keeper, switch))
+            self.assertIsInstance(self.cut_at(old, keeper, lambda: has_begun(keeper, switch)), Doubt)
+            self.assertIs(has_begun(keeper, switch), True)
+
+        self.pair.fail_over_beside(beside)
+        self.plain.close()
 
     def test_an_old_leader_is_left_where_a_standby_is_required(self) -> None:
         old = self.pair.leader

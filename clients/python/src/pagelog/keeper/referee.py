@@ -326,11 +326,11 @@ class Referee:
     def kept(self, log: int, run: str) -> Kept | None:
         """What is archived of a run, after a batch in doubt or one that was not kept: it waits for one that still runs.
 
-        None where the run holds the database no more.
+        None where the run holds the database no more. Also that is said by a write: an old primary that goes on has not heard of a run
+        that began after it.
         """
-        found = self._ask("UPDATE pagelog_log SET archived = archived WHERE id = %s AND run = %s "
-                          "RETURNING archived, chain, generation", (log, run))  # fmt: skip
-        return Kept(found[0][0], bytes(found[0][1]), found[0][2]) if found else None
+        found = self._ask("UPDATE pagelog_log SET archived = archived WHERE id = %s RETURNING archived, chain, generation, run", (log,))
+        return Kept(found[0][0], bytes(found[0][1]), found[0][2]) if found and found[0][3] == run else None
 
     def fate(self, name: str, generation: int) -> int | None:
         """The position at which a generation ended. All up to it is durable, and nothing above it will ever be.
