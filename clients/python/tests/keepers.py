@@ -299,6 +299,23 @@ class Keeping:
         return found
 
 
+def services(folder: Path) -> list[int]:
+    """The processes of the services of a keeper's folder, noted or not: what is wrong each of them says to a file there."""
+    found = []
+    for process in Path("/proc").glob("[0-9]*"):
+        try:
+            found += [int(process.name)] if os.readlink(process / "fd" / "2").startswith(f"{folder}/") else []
+        except OSError:
+            pass  # it has ended, or is another's
+    return found
+
+
+def end_services(folder: Path) -> None:
+    """Ends them all, for a test that has failed."""
+    for process in services(folder):
+        os.kill(process, signal.SIGKILL)
+
+
 def eventually(condition: Callable[[], bool], what: str = "") -> None:
     """Waits for what has to come."""
     deadline = time.monotonic() + PATIENCE

@@ -41,8 +41,8 @@ PLANTS = {
     "take": Plant("statements", "generation = %(generation)s AND archived = %(archived)s AND run IS NOT DISTINCT FROM %(seen_run)s::text\n"
                   "    AND", "", "referee", "eight_takes"),
     "select": Plant("statements", "UPDATE pagelog_keeper SET beat = beat + 1, report = COALESCE(%(report)s::jsonb, report)\n"
-                    "  WHERE name = %(me)s AND run = %(run)s RETURNING name",
-                    "SELECT name FROM pagelog_keeper WHERE %(report)s::jsonb IS NULL AND name = %(me)s AND run = %(run)s",
+                    "  WHERE name = %(me)s AND run = %(run)s RETURNING name, beat",
+                    "SELECT name, beat FROM pagelog_keeper WHERE %(report)s::jsonb IS NULL AND name = %(me)s AND run = %(run)s",
                     "referee", "a_look_waits"),
     "warn": Plant("referee", "if self._warnings:", "if False:", "referee", "a_cancelled_commit_is_in_doubt"),
     "locks": Plant("referee", "self._end_sessions(seen.holder)", "pass", "referee", "stands_still_anywhere"),
@@ -70,10 +70,12 @@ PLANTS = {
                          "reader", "failover_comes_between"),
     "given number": Plant("statements", " AND next_generation > %(next)s", "", "bases", "under_the_fence"),
     "the rest": Plant("archiver", "return await self._batch_of(blocks, recorder) if", "return await self._batch_of((), recorder) if", "runs", "was_not_archived"),
-    "one disk": Plant("referee", "        if self._requires_standby:\n", "        if False:\n", "disks", "until_a_standby_has_it"),
-    "one disk, taken": Plant("referee", "        if self._requires_standby:\n", "        if False:\n", "disks", "nobody_takes_over"),
+    "one disk": Plant("referee", "        if self._requires_standby and rows:", "        if False:", "disks", "until_a_standby_has_it"),
+    "one disk, taken": Plant("referee", "        if self._requires_standby and rows:", "        if False:", "disks", "nobody_takes_over"),
     "standby is there": Plant("referee", "            if reached is None:\n", "            if reached is None:\n                return\n"
                               "            if False:\n", "disks", "wait_is_given_up"),
+    "one disk of an old leader": Plant("referee", "if self._requires_standby and rows:", "if self._requires_standby:", "disks",
+                                       "left_where_a_standby"),
     "doubt of a dead server": Plant("committer", "                kept = frozenset()\n", "                kept = frozenset(due.batch.log for due in batches)\n",
                                     "disks", "go_on_in_their_generation"),
     "no room, told": Plant("committer", "                kept = frozenset()\n", "                kept = frozenset(due.batch.log for due in batches)\n",
@@ -81,9 +83,23 @@ PLANTS = {
     "no room for the log, told": Plant("committer", "                kept = frozenset()\n",
                                        "                kept = frozenset(due.batch.log for due in batches)\n", "disks", "for_want_of_room"),
     "unknown to an old leader": Plant("referee", "        if len(kept) < len(batches):\n", "        if False:\n", "disks", "old_leader_does_not_know"),
-    "selected, looked up": Plant("referee", '"UPDATE pagelog_log SET archived = archived WHERE id = %s AND run = %s "\n                          '
-                                 '"RETURNING archived, chain, generation"', '"SELECT archived, chain, generation FROM pagelog_log WHERE id = %s '
-                                 'AND run = %s"', "disks", "what_it_has_alone"),
+    "life, unknown to an old leader": Plant("referee", "            self.close()\n            self.turn_hosts()\n        self.register", "            raise Superseded(self.me)\n"
+                                           "        self.register", "disks",
+                                           "keeper_that_it_does_not_know"),
+    "life, asked nobody else": Plant("referee", "        for _ in range(self._hosts):\n", "        for _ in range(1):\n",
+                                    "disks", "does_not_know_a_life"),
+    "later life, not confirmed": Plant("statements", "UPDATE pagelog_keeper SET beat = beat WHERE name = %(me)s AND run <> %(run)s AND beat > "
+                                       "%(beat)s RETURNING name", "SELECT name FROM pagelog_keeper WHERE name = %(me)s AND run <> %(run)s AND "
+                                       "beat > %(beat)s", "disks", "does_not_know_a_life"),
+    "earlier life": Plant("statements", " AND run <> %(run)s AND beat > %(beat)s RETURNING name", " AND run <> %(run)s RETURNING name", "lives",
+                          "earlier_life_alone"),
+    "not told again": Plant("referee", "        self.register(self._lines, self._beat)\n", "", "referee", "takes_its_name_again"),
+    "told again, a twin": Plant("referee", "self.register(self._lines, self._beat)", "self.register(self._lines)", "referee", "amid_a_look"),
+    "selected, looked up": Plant("referee", '"UPDATE pagelog_log SET archived = archived WHERE id = %s RETURNING archived, chain, generation, run"',
+                                 '"SELECT archived, chain, generation, run FROM pagelog_log WHERE id = %s"', "disks", "what_it_has_alone"),
+    "looked up at an old leader": Plant("referee", 'SET archived = archived WHERE id = %s RETURNING archived, chain, generation, run", (log,))',
+                                        'SET archived = archived WHERE id = %s AND run = %s RETURNING archived, chain, generation, run", (log, run))',
+                                        "disks", "switch_of_which_an_old_leader"),
     "once": Plant("keeping", "        if sentence != self._said:\n", "        if True:\n", "disks", "said_once"),
     "away": Plant("keeping", "            self.synchronous = Synchronous()\n", "", "disks", "nothing_is_durable_until"),
     "watchdog": Plant("keeping", '        self._shared.spawn(self._live(), "the watchdog")\n', "", "keepers", "systemd_hears"),
@@ -105,6 +121,10 @@ PLANTS = {
     "one of a database": Plant("committer", "due.batch.log in taken or ", "", "attacks", "two_batches"),
     "let go": Plant("ending", "            self._database.let_go = last.generation  # first: whether it is released may be in doubt\n", "", "lives", "release_was"),
     "left": Plant("run", "        file.unlink(missing_ok=True)\n    return ended", "        pass\n    return ended", "runs", "was_killed_while"),
+    "noted late": Plant("run", "            made._note()\n            _give(child, table)\n", "            _give(child, table)\n            made._note()\n",
+                        "runs", "wherever_a_keeper_is_killed"),
+    "noted late, by a keeper": Plant("run", "            made._note()\n            _give(child, table)\n",
+                                     "            _give(child, table)\n            made._note()\n", "lives", "could_not_note"),
     "not listening": Plant("run", "(facts.run in wanted and facts.address is not None):", "facts.run in wanted:", "runs", "was_killed_while"),
     "ended session": Plant("refusal", "not is_ended and ", "", "referee", "ends_a_session"),
     "unknown completion": Plant("refusal", ', "40003"', "", "referee", "ends_a_session"),

@@ -86,8 +86,10 @@ class Pair:
         """The standby leads, and has a standby; the leader goes on beside it, and is killed after what is done meanwhile."""
         old = self._promote()
         fresh = Server(self.leader)
-        meanwhile()
-        self._replace(old, fresh, old.kill())
+        try:
+            meanwhile()
+        finally:
+            self._replace(old, fresh, old.kill())
 
     def _promote(self) -> Server:
         """Returns who led before."""

@@ -9,7 +9,7 @@ import signal
 import threading
 import unittest
 from dataclasses import replace
-from typing import Any
+from typing import Any, Callable
 
 import psycopg
 
@@ -17,11 +17,12 @@ from keepers import Kept, batch_of, eventually, new_database
 from pagelog import NamedPrimary, Put
 from pagelog.keeper import quick_way
 from pagelog.keeper.quick import QuickReferee, QuickSession
-from pagelog.keeper.referee import Doubt, OneDisk, Referee
-from pagelog.keeper.rows import Synchronous
+from pagelog.keeper.referee import Doubt, OneDisk, Referee, Superseded
+from pagelog.keeper.rows import Look, Synchronous
 from pagelog.keeper.session import Session
+from pagelog.keeper.switch import Switch, has_begun, number, succeed
 from pagelog.place import Fate
-from replicated import Pair
+from replicated import Pair, Server
 from service import PATIENCE
 from small_disk import SmallDisks
 
@@ -86,6 +87,32 @@ class Referees(unittest.TestCase):
         made = Referee(url or self.pair.url, me, f"life of {me}", **options)
         self.addCleanup(made.close)
         return made
+
+    def go_to(self, server: Server, referee: Referee) -> None:
+        """Its next statement is for this server, as after a doubt at the other one."""
+        while str(referee._connected().info.host) != str(server.folder):
+            referee.close()
+            referee.turn_hosts()
+
+    def cut_at(self, server: Server, referee: Referee, call: Callable[[], object]) -> object:
+        """What a call there returns or raises, which is cut once its commit waits for a standby that the server has not."""
+        self.go_to(server, referee)
+        found: list[object] = []
+
+        def ask() -> None:
+            try:
+                found.append(call())
+            except Exception as error:
+                found.append(error)
+
+        asks = threading.Thread(target=ask, daemon=True)
+        asks.start()
+        waits = f"SELECT 1 FROM pg_stat_activity WHERE wait_event = 'SyncRep' AND application_name = 'pagelog keeper {referee.me}'"
+        with psycopg.connect(f"postgresql://pagelog@/kept?host={server.folder}", autocommit=True) as session:
+            eventually(lambda: bool(found) or session.execute(waits).fetchone() is not None, "a commit that waits")
+        referee.cut()
+        asks.join(PATIENCE)
+        return found[0]
 
     def test_a_batch_that_is_on_one_disk_is_in_doubt_until_a_standby_has_it(self) -> None:
         kept = self.careful.take(self.row, "r1")
@@ -156,6 +183,74 @@ class Referees(unittest.TestCase):
 
                 self.assertEqual(asyncio.run(keep()), [frozenset(), frozenset(), {self.row.id}])
                 kept = replace(kept, archived=batch.new, chain=batch.chain)
+
+        self.pair.fail_over_beside(beside)
+        self.plain.close()
+
+    def test_a_look_at_an_old_leader_that_does_not_know_a_life_goes_to_the_new_one(self) -> None:
+        old = self.pair.leader
+        earlier = self.new("again")
+        earlier.register("again:1")
+
+        def look_at_old(referee: Referee) -> Look:
+            self.go_to(old, referee)
+            return referee.look()
+
+        def beside() -> None:
+            new = self.pair.leader
+            keepers = [Referee(f"postgresql://pagelog@/kept?host={new.folder},{old.folder}", name, "later") for name in ("again", "fresh")]
+            for each in keepers:
+                self.addCleanup(each.close)
+                each.register(f"{each.me}:2")
+                beats = [keeper.beat for keeper in (each.look().keeper(each.me), look_at_old(each).keeper(each.me)) if keeper is not None]
+                self.assertEqual((beats[1] - beats[0], each._connected().info.host), (1, str(new.folder)))
+            again, fresh = keepers
+            with psycopg.connect(f"postgresql://pagelog@/kept?host={old.folder}", autocommit=True) as session:
+                session.execute("SET synchronous_commit = local")  # as where its wait was cut off
+                session.execute("UPDATE pagelog_keeper SET run = 'latest', beat = beat + 100 WHERE name = 'again'")
+            self.assertIsInstance(self.cut_at(old, again, again.look), Doubt)
+            self.assertIsNotNone(again.look())
+            latest = Referee(f"postgresql://pagelog@/kept?host={new.folder}", "fresh", "latest")
+            self.addCleanup(latest.close)
+            latest.register("fresh:3")
+            with self.assertRaises(Superseded):
+                look_at_old(fresh)
+
+        self.pair.fail_over_beside(beside)
+        for each in (earlier, self.plain):
+            each.close()
+
+    def test_a_switch_of_which_an_old_leader_does_not_know_is_looked_up_at_the_new_one(self) -> None:
+        old = self.pair.leader
+
+        def beside() -> None:
+            keeper = self.new("fifth", f"postgresql://pagelog@/kept?host={self.pair.leader.folder},{old.folder}")
+            kept = keeper.take(self.row, "r1")
+            assert kept is not None
+            given = number(keeper, self.row.id, "r1", kept.generation)
+            assert given is not None
+            switch = Switch(self.row.id, "r1", kept.generation, kept.archived, (), kept.chain, given, "r2", "x:1", 0, 0)
+            self.assertTrue(succeed(keeper, switch))
+            self.assertIsInstance(self.cut_at(old, keeper, lambda: has_begun(keeper, switch)), Doubt)
+            self.assertIs(has_begun(keeper, switch), True)
+
+        self.pair.fail_over_beside(beside)
+        self.plain.close()
+
+    def test_an_old_leader_is_left_where_a_standby_is_required(self) -> None:
+        old = self.pair.leader
+
+        def beside() -> None:
+            new = self.pair.leader
+            keeper = self.new("fourth", f"postgresql://pagelog@/kept?host={new.folder},{old.folder}", requires_standby=True)
+            keeper.register("fourth:1")
+            kept = keeper.take(self.row, "r1")
+            assert kept is not None
+            batch = batch_of(self.row, kept, "r1")
+            self.go_to(old, keeper)  # which changes nothing of what it is asked then, and has no standby
+            self.assertIsNotNone(keeper.look())
+            self.go_to(old, keeper)
+            self.assertEqual([keeper.keep([batch]), keeper.keep([batch])], [frozenset(), {self.row.id}])
 
         self.pair.fail_over_beside(beside)
         self.plain.close()
@@ -314,6 +409,45 @@ class AServerComesBack(Durable):
             self.assertEqual(text.readline().split(), ["durable", "shop", str(generation), "2"])
             primary.durable(2)
             self.assertEqual((self.keeping.place().generation, self.texts()), (generation, [b"1", b"2"]))
+
+
+class AnOldLeaderGoesOn(Durable):
+    keepers = ""
+    ttl = 20.0
+
+    def test_a_keeper_that_it_does_not_know_goes_on(self) -> None:
+        keeping, old = self.keeping, _pairs[0].leader
+
+        def beside() -> None:
+            url = f"postgresql://pagelog@/kept?host={_pairs[0].leader.folder}"
+            keeping.file.write_text(keeping.file.read_text().replace(keeping.url, f"{url},{old.folder}"))
+            keeping.start("a")
+            with keeping.primary() as primary, psycopg.connect(url, autocommit=True) as session:
+                self.commit(primary, "1", durable=True)
+                place, pid, keeper = keeping.place(), keeping.pid(), keeping.processes["a"]
+                old.setting("log_statement", "all")
+                with psycopg.connect(url) as other:
+                    other.execute("SELECT 1 FROM pagelog_keeper FOR UPDATE")  # so that a look is under way as its session is ended
+                    looks = "wait_event_type = 'Lock' AND application_name = 'pagelog keeper a'"
+                    waits = f"SELECT pg_notify('pagelog_keeper', ''), count(*) FROM pg_stat_activity WHERE {looks}"
+                    eventually(lambda: session.execute(waits).fetchone()[1] == 1, "a look that waits")  # type: ignore[index]
+                    session.execute("SELECT pg_terminate_backend(pid) FROM pg_stat_activity WHERE application_name = 'pagelog keeper a'")
+                    eventually(lambda: "SET beat = beat + 1" in (old.folder / "log").read_text(), "a look at the old leader")
+                beat = "SELECT beat FROM pagelog_keeper WHERE name = 'a'"
+                before = session.execute(beat).fetchone()
+
+                def is_seen() -> bool:
+                    session.execute("NOTIFY pagelog_keeper")
+                    return keeper.poll() is not None or session.execute(beat).fetchone() != before
+
+                eventually(is_seen, "a look at the new one")
+                self.assertIsNone(keeper.poll())
+                self.assertEqual(self.commit(primary, "2", durable=True), 2)
+                self.assertEqual((keeping.place().run, keeping.pid()), (place.run, pid))
+
+        _pairs[0].fail_over_beside(beside)
+        keeping.referee.close()
+        self.assertEqual(self.texts(), [b"1", b"2"])
 
 
 class StandbyRequired(Durable):

@@ -5,10 +5,11 @@ from __future__ import annotations
 import json
 import os
 import signal
+import socket
 
 import psycopg
 
-from keepers import Kept, Line, Trigger, batch_of, eventually
+from keepers import Kept, Line, Trigger, batch_of, end_services, eventually, services
 from pagelog import Reader
 from pagelog.archive import Archive
 from pagelog.connection import Connection
@@ -17,6 +18,50 @@ from pagelog.keeper.referee import Referee, digest
 from pagelog.keeper.schema import FORMAT
 from pagelog.keeper.table import token_of
 from service import PATIENCE, stand_still, token
+
+
+KILLED = """
+import os, psycopg, signal, socket, subprocess, sys
+from pagelog.keeper.run import Run
+line, start = socket.socket(socket.AF_UNIX), subprocess.Popen
+line.connect(sys.argv.pop(1))
+
+def started(*words, **how):
+    made = start(*words, **how)
+    socket.send_fds(line, [b"x"], [made.stdout.fileno()])
+    return made
+
+subprocess.Popen, Run._note = started, lambda *_, **__: os.kill(os.getpid(), signal.SIGKILL)
+import pagelog.__main__
+"""
+"""A keeper that is killed as it is about to note its first service. What that says goes to who listens at the path that is its first
+argument, so that it goes on as one that had said it before the kill."""
+
+
+class Starts(Kept):
+    keepers = ""
+
+    def test_a_service_that_its_keeper_could_not_note_any_more_ends(self) -> None:
+        keeping = self.keeping
+        self.addCleanup(end_services, keeping.folder / "a")
+        with socket.socket(socket.AF_UNIX) as listener:
+            listener.bind(str(keeping.folder / "line"))
+            listener.listen()
+            keeping.keeper = ("-c", KILLED, keeping.folder / "line")
+            keeping.launch("a")
+            line, _ = listener.accept()
+        with line:
+            [said] = socket.recv_fds(line, 1, 1)[1]
+        self.addCleanup(os.close, said)
+        self.assertEqual(keeping.processes["a"].wait(PATIENCE), -signal.SIGKILL)
+        keeping.processes["a"].stdout.close()  # type: ignore[union-attr]
+        run = keeping.row().run
+        keeping.keeper = ("-m", "pagelog")
+        keeping.start("a")
+        with keeping.primary() as primary:
+            self.commit(primary, "1", durable=True)
+        self.assertNotEqual(keeping.row().run, run)
+        eventually(lambda: services(keeping.folder / "a") == [keeping.pid()], "the end of the service that nobody knows")
 
 
 class Ends(Kept):
@@ -147,6 +192,20 @@ class WentBack(Kept):
             self.assertEqual(self.commit(primary, "7", durable=True), 7)
             self.assertEqual(self.texts(), [b"%d" % number for number in range(1, 8)])
             self.assertEqual((self.keeping.place().run, self.keeping.pid()), (place.run, pid))
+
+    def test_a_keeper_of_which_it_knows_an_earlier_life_alone_goes_on(self) -> None:
+        with self.keeping.primary() as primary:
+            for number in range(1, 4):
+                self.commit(primary, f"{number}", durable=True)
+            place, pid = self.keeping.place(), self.keeping.pid()
+            with psycopg.connect(self.keeping.url) as session:
+                session.execute("UPDATE pagelog_keeper SET run = 'an earlier life', beat = 0 WHERE name = 'a'")
+            self.put_back(1)
+            eventually(lambda: "it went back, and is told again" in self.keeping.said(), "the word that it went back")
+            keeper = self.keeping.referee.everything().keeper("a")
+            self.assertNotIn("earlier", keeper.run)  # type: ignore[union-attr]
+            self.assertEqual(self.commit(primary, "4", durable=True), 4)
+            self.assertEqual((self.keeping.place().run, self.keeping.pid(), self.texts()), (place.run, pid, [b"1", b"2", b"3", b"4"]))
 
     def test_a_service_that_may_be_the_only_copy_outlives_its_keeper(self) -> None:
         with self.keeping.primary() as primary:

@@ -9,11 +9,12 @@ from unittest.mock import patch
 
 import psycopg
 
-from keepers import Line, Replying, batch_of, blocks, new_database, new_url
+from keepers import Line, Replying, batch_of, blocks, eventually, new_database, new_url
 from pagelog.keeper import statements
 from pagelog.keeper.referee import Away, BrokenArchive, Doubt, Referee, Refused, Superseded, digest
 from pagelog.keeper.rows import Batch, Kept, Row, Where, released_of
 from postgres import SilentProxy, postgres
+from service import PATIENCE
 
 
 class Referees(unittest.TestCase):
@@ -194,6 +195,46 @@ class Fates(Referees):
         with self.assertRaises(Superseded):
             self.referee.look()
         self.assertEqual([keeper.lines for keeper in twin.look().keepers], ["one:2"])
+
+    def life(self) -> tuple[object, ...] | None:
+        """Which life of the keeper is noted."""
+        with psycopg.connect(self.url) as session:
+            return session.execute("SELECT run, beat FROM pagelog_keeper WHERE name = 'one'").fetchone()
+
+    def put_back(self, statement: str) -> None:
+        with psycopg.connect(self.url) as session:
+            session.execute(statement)
+
+    def test_a_keeper_that_postgresql_does_not_know_any_more_takes_its_name_again(self) -> None:
+        for _ in range(5):
+            self.referee.look()
+        earlier = "UPDATE pagelog_keeper SET run = 'an earlier life', beat = 3 WHERE name = 'one'"
+        for statement, beat in ((earlier, 4), ("DELETE FROM pagelog_keeper WHERE name = 'one'", 0)):
+            self.put_back(statement)
+            with self.assertRaisesRegex(Doubt, "it went back, and is told again"):
+                self.referee.look()
+            self.assertEqual(self.life(), (self.referee.run, beat))
+            found = self.referee.look().keeper("one")
+            self.assertEqual((found and found.lines, self.life()), ("one:1", (self.referee.run, beat + 1)))
+
+    def test_a_twin_that_comes_amid_a_look_keeps_the_name(self) -> None:
+        raised: list[BaseException] = []
+
+        def look() -> None:
+            try:
+                self.referee.look()
+            except Doubt as error:
+                raised.append(error)
+
+        looks = threading.Thread(target=look)
+        with psycopg.connect(self.url) as session, psycopg.connect(self.url, autocommit=True) as other:
+            session.execute("UPDATE pagelog_keeper SET run = 'a later life', beat = beat + 1 WHERE name = 'one'")
+            looks.start()
+            waits = "SELECT 1 FROM pg_stat_activity WHERE wait_event_type = 'Lock' AND application_name = 'pagelog keeper one'"
+            eventually(lambda: other.execute(waits).fetchone() is not None, "a look that waits")
+        looks.join(PATIENCE)
+        self.assertEqual(([type(error) for error in raised], self.life()), ([Doubt], ("a later life", 1)))
+        self.assertRaises(Superseded, self.referee.look)
 
     def test_standbys_are_seen_by_all(self) -> None:
         self.referee.stand_by(self.row.id, "z:1", "s1", 4)

@@ -4,19 +4,23 @@ from __future__ import annotations
 
 import asyncio
 import errno
+import itertools
 import json
 import os
 import signal
+import socket
 import subprocess
+import sys
 import tempfile
 import tomllib
 import unittest
 from dataclasses import replace
 from pathlib import Path
+from types import FrameType
 from typing import Any, Iterator
 from unittest.mock import patch
 
-from keepers import blocks
+from keepers import blocks, end_services, eventually, services
 from pagelog import (
     Connection, Credentials, HardenedAlready, OlderEpoch, Operator, OtherPrimary, Primary, Put, Reader, TableRow, UnknownPrincipal,
 )  # fmt: skip
@@ -25,6 +29,7 @@ from pagelog.keeper.committer import Committer
 from pagelog.keeper.loading import Loader
 from pagelog.keeper.referee import Away, BrokenArchive, digest
 from pagelog.keeper.rows import Row
+from pagelog.keeper import run as run_module
 from pagelog.keeper.run import NotStarted, Program, Run, _facts_of, end_orphans, new_run
 from pagelog.keeper.served import Served
 from pagelog.keeper.succession import _closed
@@ -267,10 +272,61 @@ class Runs(unittest.TestCase):
         run = self.start()
         file = self.folder / run.facts.file_name
         file.write_text(json.dumps({**vars(run.facts), "address": None}))  # it does not listen yet: nobody could adopt it
-        for name in (f"shop.{run.name}.table", "ship.r.table", "ship.r.said", "ship.r.json.new"):
+        for name in ("ship.r.said", "ship.r.json.new"):
             (self.folder / name).touch()
         self.assertEqual(end_orphans(self.folder, {run.name}), ["shop"])
         self.assertEqual((run.is_alive, list(self.folder.iterdir())), (False, []))
+
+    def started(self, run: str, at: int) -> int:
+        """Starts it in a process that is killed before this line of what it does. Returns how that has ended."""
+        lines, (here, there) = itertools.count(1), socket.socketpair()
+        start = subprocess.Popen
+
+        def traced(frame: FrameType, event: str, _: object) -> Any:
+            if frame.f_code.co_filename != run_module.__file__:
+                return None
+            if event == "line" and next(lines) == at:
+                os.kill(os.getpid(), signal.SIGKILL)
+            return traced
+
+        def held(*words: Any, **how: Any) -> subprocess.Popen[bytes]:
+            made = start(*words, **how)
+            assert made.stdout is not None
+            socket.send_fds(there, [b"x"], [made.stdout.fileno()])  # as where it had said where it listens before the kill
+            return made
+
+        keeper = os.fork()
+        if keeper == 0:
+            try:
+                with patch("subprocess.Popen", held):
+                    sys.settrace(traced)
+                    Run.start(self.program, "shop", run, table_of_run(WIDE_TABLE, SECRET, "shop", run, Form.OPEN))
+                os._exit(0)
+            finally:
+                os._exit(1)
+        there.close()
+        with here:
+            for descriptor in socket.recv_fds(here, 1, 1)[1]:
+                self.addCleanup(os.close, descriptor)
+        return os.waitstatus_to_exitcode(os.waitpid(keeper, 0)[1])
+
+    def test_wherever_a_keeper_is_killed_as_it_starts_a_service_that_can_be_adopted_or_ends(self) -> None:
+        self.addCleanup(end_services, self.folder)
+        status, kinds = -signal.SIGKILL, set()
+        for at in itertools.count(1):
+            run = new_run()
+            status = self.started(run, at)
+            ended = end_orphans(self.folder, {run})
+            adopted = Run.adopt(self.folder, "shop", run)
+            kept = [] if adopted is None else [adopted.facts.pid]
+            eventually(lambda: services(self.folder) == kept, f"the end of a service whose keeper was killed before line {at}")
+            kinds.add((bool(ended), bool(kept)))
+            if adopted is not None:
+                adopted.end()
+            self.assertEqual(list(self.folder.iterdir()), [])
+            if status != -signal.SIGKILL:
+                break
+        self.assertEqual((status, kinds), (0, {(False, False), (True, False), (False, True)}))
 
     def test_a_service_that_does_not_start_leaves_nothing(self) -> None:
         before = os.listdir("/proc/self/fd")

@@ -93,6 +93,8 @@ class Referee:
         self._patience = patience
         self._listens = listens
         self._requires_standby = requires_standby
+        self._lines, self._beat = "", -1
+        """What was registered, and the last beat that is known of this life."""
         self._connection: psycopg.Connection[Any] | None = None
         self._warnings: list[str] = []
         self.notified: list[str] = []
@@ -120,8 +122,13 @@ class Referee:
         connection = self._connection
         return None if connection is None or connection.closed else connection.fileno()
 
+    @property
+    def _hosts(self) -> int:
+        """How many there are."""
+        return 1 + str(self._options.get("host") or "").count(",")
+
     def _connected(self) -> psycopg.Connection[Any]:
-        left = 1 + str(self._options.get("host") or "").count(",")
+        left = self._hosts
         while self._connection is None or self._connection.closed:
             try:
                 self._connect()
@@ -167,7 +174,7 @@ class Referee:
         except psycopg.Error as error:
             raise self._meaning(error) from error
         self._check_warnings()
-        if self._requires_standby:
+        if self._requires_standby and rows:  # else nothing was changed
             self._confirm(connection)
         return rows
 
@@ -224,27 +231,36 @@ class Referee:
             self.close()
             raise Refused(f"PostgreSQL: {line_of(error)}") from error
 
-    def register(self, lines: str) -> None:
-        """Takes the keeper's name for this life of it. An earlier one that still runs finds itself superseded."""
-        self._ask("INSERT INTO pagelog_keeper (name, run, lines) VALUES (%s, %s, %s) ON CONFLICT (name) DO UPDATE "
-                  "SET run = excluded.run, lines = excluded.lines, beat = pagelog_keeper.beat + 1 RETURNING beat",
-                  (self.me, self.run, lines))  # fmt: skip
+    def register(self, lines: str, most: int = (1 << 63) - 1) -> None:
+        """Takes the keeper's name for this life of it, from one whose beat is at most that. An earlier one that still runs finds itself
+        superseded."""
+        found = self._ask("INSERT INTO pagelog_keeper (name, run, lines) VALUES (%s, %s, %s) ON CONFLICT (name) DO UPDATE "
+                          "SET run = excluded.run, lines = excluded.lines, beat = pagelog_keeper.beat + 1 "
+                          "WHERE pagelog_keeper.beat <= %s RETURNING beat", (self.me, self.run, lines, most))  # fmt: skip
+        self._lines, self._beat = lines, found[0][0] if found else self._beat
 
     def look(self, reached: Mapping[int, int] = {}, report: str | None = None) -> Look:
         """Raises the own beat, says how far the own standbys are, and returns all there is.
 
-        Raises `Superseded` where another keeper has the name by now.
+        Raises `Superseded` where another keeper has the name by now: a later life's beat is above all of this one. An old primary that
+        goes on knows an earlier life at most, or none, and says so at once, since it has nothing to wait for: another host is asked.
+        Where all know no more, PostgreSQL went back, and the name is taken again.
         """
-        [[own, *found]] = self._ask(statements.LOOK, {
-            "me": self.me, "run": self.run, "report": report, "logs": array_of(reached), "reached": array_of(reached.values()),
-        })  # fmt: skip
-        if own != 1:
-            raise Superseded(f"another keeper has the name {self.me}")
-        return look_of(*found)
+        values = {"me": self.me, "run": self.run, "report": report, "logs": array_of(reached), "reached": array_of(reached.values())}
+        for _ in range(self._hosts):
+            for beat, *found in self._ask(statements.LOOK, {**values, "beat": self._beat}):
+                if beat is None:
+                    raise Superseded(f"another keeper has the name {self.me}")
+                self._beat = beat
+                return look_of(*found)
+            self.close()
+            self.turn_hosts()
+        self.register(self._lines, self._beat)
+        raise Doubt(f"PostgreSQL does not know this life of keeper {self.me}: it went back, and is told again")
 
     def everything(self) -> Look:
         """What a look returns, for who is no keeper."""
-        [[_, *found]] = self._ask(statements.LOOK, {"me": "", "run": "", "report": None, "logs": "{}", "reached": "{}"})
+        [[_, *found]] = self._ask(statements.LOOK, {"me": "", "run": "", "report": None, "logs": "{}", "reached": "{}", "beat": 0})
         return look_of(*found)
 
     def table(self, log: int) -> tuple[str, bytes]:
@@ -310,11 +326,11 @@ class Referee:
     def kept(self, log: int, run: str) -> Kept | None:
         """What is archived of a run, after a batch in doubt or one that was not kept: it waits for one that still runs.
 
-        None where the run holds the database no more.
+        None where the run holds the database no more. Also that is said by a write: an old primary that goes on has not heard of a run
+        that began after it.
         """
-        found = self._ask("UPDATE pagelog_log SET archived = archived WHERE id = %s AND run = %s "
-                          "RETURNING archived, chain, generation", (log, run))  # fmt: skip
-        return Kept(found[0][0], bytes(found[0][1]), found[0][2]) if found else None
+        found = self._ask("UPDATE pagelog_log SET archived = archived WHERE id = %s RETURNING archived, chain, generation, run", (log,))
+        return Kept(found[0][0], bytes(found[0][1]), found[0][2]) if found and found[0][3] == run else None
 
     def fate(self, name: str, generation: int) -> int | None:
         """The position at which a generation ended. All up to it is durable, and nothing above it will ever be.

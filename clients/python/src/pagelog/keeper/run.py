@@ -86,21 +86,23 @@ class Run:
 
     @classmethod
     def start(cls, program: Program, name: str, run: str, table: str, *, listen: str | None = None) -> Run:
-        """Starts a service with this table, and waits until it listens. Raises `NotStarted`."""
-        file, said = program.folder / f"{name}.{run}.table", program.folder / f"{name}.{run}.said"
-        words = [program.path, "serve", "--listen", listen or f"{program.host}:0", "--table", str(file), "--primary", str(KEEPER),
+        """Starts a service with this table, and waits until it listens. Raises `NotStarted`.
+
+        It waits for its table until it is noted, and ends where its keeper is killed before: nobody would know of it.
+        """
+        said = program.folder / f"{name}.{run}.said"
+        words = [program.path, "serve", "--listen", listen or f"{program.host}:0", "--table", "/dev/stdin", "--primary", str(KEEPER),
                  "--dbs", "1", "--workers", str(WORKERS), "--connections", str((1 << 32) - 1), "--audit", str(program.audit),
                  "--idle-polls", "0"]  # fmt: skip
         child = None
         descriptor = None
         try:
-            with os.fdopen(os.open(file, os.O_WRONLY | os.O_CREAT | os.O_EXCL, 0o600), "w") as opened:
-                opened.write(table)
             with said.open("wb") as errors:
-                child = subprocess.Popen(words, stdin=subprocess.DEVNULL, stdout=subprocess.PIPE, stderr=errors, start_new_session=True)
+                child = subprocess.Popen(words, stdin=subprocess.PIPE, stdout=subprocess.PIPE, stderr=errors, start_new_session=True)
             descriptor = os.pidfd_open(child.pid)
             made = cls(program.folder, _facts_of(name, run, child.pid), descriptor, child)
             made._note()
+            _give(child, table)
             made._note(address=_address(child, program.patience))
             return made
         except (OSError, NotStarted) as error:
@@ -108,15 +110,14 @@ class Run:
                 child.kill()
                 with suppress(subprocess.TimeoutExpired):
                     child.wait(_END)
-                if child.stdout is not None:
-                    child.stdout.close()
+                for line in (child.stdin, child.stdout):
+                    if line is not None:
+                        line.close()
             if descriptor is not None:
                 os.close(descriptor)
             why = _text_of(said)
             _forget(program.folder, name, run)
             raise NotStarted(f"{name}: the service did not start: {why or error}") from error
-        finally:
-            file.unlink(missing_ok=True)
 
     @classmethod
     def adopt(cls, folder: Path, name: str, run: str) -> Run | None:
@@ -212,7 +213,7 @@ def end_orphans(folder: Path, wanted: set[str]) -> list[str]:
             Run(folder, facts, descriptor).end()
             ended.append(facts.name)
     left = [file for file in folder.glob("*.said") if not file.with_suffix(".json").exists()]
-    for file in (*left, *folder.glob("*.table"), *folder.glob("*.new")):
+    for file in (*left, *folder.glob("*.new")):
         file.unlink(missing_ok=True)
     return ended
 
@@ -267,6 +268,13 @@ def _is_readable(descriptor: int, patience: float) -> bool:
     return bool(poll.poll(1000 * patience))
 
 
+def _give(child: subprocess.Popen[bytes], table: str) -> None:
+    """A pipe has room for the longest table, so that this waits for nobody."""
+    assert child.stdin is not None
+    with child.stdin as line:
+        line.write(table.encode())
+
+
 def _address(child: subprocess.Popen[bytes], patience: float) -> str:
     assert child.stdout is not None
     if not _is_readable(child.stdout.fileno(), patience):
@@ -286,5 +294,5 @@ def _text_of(file: Path) -> str:
 
 
 def _forget(folder: Path, name: str, run: str) -> None:
-    for end in ("json", "said", "table"):
+    for end in ("json", "said"):
         (folder / f"{name}.{run}.{end}").unlink(missing_ok=True)

@@ -5,12 +5,14 @@ from pagelog.keeper.schema import CHANNEL, FORMAT
 LOOK = f"""
 WITH me AS (
   UPDATE pagelog_keeper SET beat = beat + 1, report = COALESCE(%(report)s::jsonb, report)
-  WHERE name = %(me)s AND run = %(run)s RETURNING name),
+  WHERE name = %(me)s AND run = %(run)s RETURNING name, beat),
+later AS (
+  UPDATE pagelog_keeper SET beat = beat WHERE name = %(me)s AND run <> %(run)s AND beat > %(beat)s RETURNING name),
 stood AS (
   UPDATE pagelog_standby s SET reached = v.reached
   FROM unnest(%(logs)s::integer[], %(reached)s::bigint[]) AS v(log, reached)
   WHERE s.log = v.log AND s.keeper IN (SELECT name FROM me) AND s.reached <> v.reached RETURNING 1)
-SELECT (SELECT count(*) FROM me),
+SELECT (SELECT beat FROM me),
   (SELECT COALESCE(json_agg(k), '[]') FROM (SELECT name, run, lines, beat, report FROM pagelog_keeper) k),
   (SELECT COALESCE(json_agg(l), '[]') FROM (
     SELECT id, name, generation, run, holder, address, archived, base, shift, images, encode(chain, 'hex') AS chain, wanted,
@@ -19,6 +21,7 @@ SELECT (SELECT count(*) FROM me),
   current_setting('synchronous_standby_names'),
   CASE WHEN pg_has_role('pg_read_all_stats', 'USAGE')
     THEN (SELECT count(*) FROM pg_stat_replication WHERE sync_state IN ('sync', 'quorum')) END
+WHERE %(me)s = '' OR EXISTS (SELECT 1 FROM me) OR EXISTS (SELECT 1 FROM later)
 """
 
 RELEASED = f"pg_notify('{CHANNEL}', concat_ws(' ', name, generation, archived, encode(chain, 'hex')))"
