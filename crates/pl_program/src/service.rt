@@ -92,7 +92,8 @@ fn serve_over<R: Threads + Wait + Net + Sync + Drop, W: Watch>(
     ensures paged { IfSome result (λ s. AreLeftBy paging s.pager) }
     ensures none { IsNone result → IsSome paging }
 {
-    let terms = *terms;
+    let (alloc, listener, watch) = (terms.alloc, terms.listener, terms.watch);
+    let (connections, idle_polls) = (terms.connections, terms.idle_polls);
     thread::scope(
         thread::scope_env(),
         rt,
@@ -100,11 +101,20 @@ fn serve_over<R: Threads + Wait + Net + Sync + Drop, W: Watch>(
             requires own { All (ArePassesOf desks.now) passes.items }
             requires pager { IfSome paging (λ p. ArePassesOf desks.now p.passes) }
             ensures serves { IfSome result (λ s. ServesConnections DesksCall
-                (ArePassesOf desks.entry.now) passes.items terms.connections
+                (ArePassesOf desks.entry.now) passes.items connections
                 s.connections.accepted s.connections.stop s.connections.passes.items) }
             ensures paged { IfSome result (λ s. AreLeftBy paging s.pager) }
             ensures none { IsNone result → IsSome paging }
-        { serve_in(scope, rt, &terms, desks, passes, paging) },
+        {
+            let terms = Terms {
+                alloc,
+                listener,
+                connections,
+                idle_polls,
+                watch,
+            };
+            serve_in(scope, rt, &terms, desks, passes, paging)
+        },
     )
 }
 
