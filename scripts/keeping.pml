@@ -233,9 +233,9 @@ end:
           late_run[ME] = 0; late_old[ME] = 0; late_next[ME] = 0; late_number[ME] = 0 }
     /* A batch in doubt is looked up. Who holds it no more ends its service. */
 // referee.py: kept
-                    // found = self._ask("UPDATE pagelog_log SET archived = archived WHERE id = %s AND run = %s "
-                    // "RETURNING archived, chain, generation", (log, run))
-                    // ..
+                    // found = self._ask("UPDATE pagelog_log SET archived = archived WHERE id = %s
+                    // RETURNING archived, chain, generation, run", (log,))
+                    // return Kept(found[0][0], bytes(found[0][1]), found[0][2]) if found and found[0][3] == run else None
     :: d_step { doubts ->
           doubts = 0;
           if
