@@ -8,11 +8,12 @@ import socket
 import subprocess
 import tempfile
 import time
+from collections import Counter
 
 import wire
 from clients import asked, read_reply, same
 from hostile_service import (DONE, EMPTY, NO_MEMORY, NO_REQUEST, PROGRAM, SPINNING, STATUS, TABLE, WRITE, Serve, answered,
-                             asked_beside, at_most, grows, has_sanitizer, until, used)
+                             asked_beside, at_most, grows, has_sanitizer, sleeps, until)
 from wire import frame
 
 # The address space of a service that is to run out of memory.
@@ -75,12 +76,17 @@ def sets_limit(what, count):
 
 
 def workers_of(service, clients):
-    """The threads that serve these: those that run while they ask."""
-    before = {thread: used(thread) for thread in service.threads()}
-    for client in 30 * clients:
-        same("a connection of a worker", EMPTY, asked(client, STATUS))
-    ran = {thread: used(thread) - count for thread, count in before.items()}
-    return [thread for thread, count in ran.items() if count > sum(ran.values()) / 5]
+    """The threads that serve these: the one that goes to sleep again each time that a client has asked."""
+    found = set()
+    for client in clients:
+        woken = Counter()
+        for _ in range(5):
+            before = {thread: sleeps(thread) for thread in service.threads()}
+            same("a connection of a worker", EMPTY, asked(client, STATUS))
+            until("a worker that sleeps again", lambda: any(sleeps(thread) > count for thread, count in before.items()))
+            woken.update(thread for thread, count in before.items() if sleeps(thread) > count)
+        found.add(woken.most_common(1)[0][0])
+    return sorted(found)
 
 
 def beyond_its_room(more):

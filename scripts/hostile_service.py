@@ -2,6 +2,7 @@
 
 import os
 import pathlib
+import re
 import select
 import socket
 import subprocess
@@ -63,6 +64,11 @@ def is_asleep(thread):
 def used(thread):
     """The nanoseconds that it ran."""
     return int((thread / "schedstat").read_text().split()[0])
+
+
+def sleeps(thread):
+    """How often it has gone to sleep by itself."""
+    return int(re.search(r"^voluntary_ctxt_switches:\s*(\d+)$", (thread / "status").read_text(), re.M)[1])
 
 
 def has_sanitizer():
