@@ -5,7 +5,7 @@ use Rattle.std.specs.Borrow.{Bor}
 use Rattle.std.specs.Str.{bytes_eq}
 use Rattle.std.specs.Str.Parse.{ParsesUnsigned}
 use Rattle.clap.specs.Lexer.{without_minus}
-use Rattle.clap.specs.Walk.{Row, Text, rows_of}
+use Rattle.clap.specs.Walk.{Row, Text, first_of, rows_of}
 use Rattle.clap.specs.Matches.{ReadsOne, first_value, matched_of, one_text, raw_values}
 use Rattle.clap.specs.declared.parser.matches.Found.{Found}
 use Rattle.clap.proofs.CallerReads.{signed_reads}
@@ -67,6 +67,16 @@ none_of (Some x) never = absurd (never x refl)
 pub text_missing : (f : Found) (name : Text) (r : Option (Bor Text)) → option_map (λ t. t.now) r ≡ first_value f name → r ≡ None → GivesText (rows_of f) name → ⊥
 text_missing f name r value none given =
     true≢false (sym (ap is_some (value ∙ first_value-rows f name ∙ given.1)) ∙ ap (λ o. is_some (option_map (λ (t : Bor Text). t.now) o)) none)
+
+-- if no text is read, the option was left out
+pub left_out : (f : Found) (name : Text) (r : Option (Bor Text)) → option_map (λ t. t.now) r ≡ first_value f name → r ≡ None → first_of name (rows_of f) ≡ None
+left_out f name r value none = sym (first_value-rows f name) ∙ sym value ∙ ap (option_map (λ (t : Bor Text). t.now)) none
+
+-- if a text is read, it was not
+pub not_left_out : (f : Found) (name : Text) (r : Option (Bor Text)) (t : Bor Text) → option_map (λ t. t.now) r ≡ first_value f name → r ≡ Some t
+    → first_of name (rows_of f) ≡ None → ⊥
+not_left_out f name r t value is left =
+    true≢false (sym (ap (λ o. is_some (option_map (λ (t : Bor Text). t.now) o)) is) ∙ ap is_some (value ∙ first_value-rows f name ∙ left))
 
 -- the text that is read is the one that was found
 pub has_text : (f : Found) (name : Text) (r : Option (Bor Text)) (t : Bor Text) (copy : Text) → option_map (λ t. t.now) r ≡ first_value f name → r ≡ Some t

@@ -1,5 +1,5 @@
 -- What the options of a subcommand leave if `clap` takes the words: each was found, and each number lies in its range.
-use Rattle.std.proofs.Common.{◌≡◌, ◌∙◌, ◌&&◌, ◌||◌, ◌∷◌, ◌++◌, ℕ, Bool, true, false, not, cond, refl, sym, ap, subst, true≢false, fold, List, [], Option, Some, None, codes}
+use Rattle.std.proofs.Common.{◌≡◌, ◌∙◌, ◌&&◌, ◌||◌, ◌∷◌, ◌++◌, ℕ, Bool, true, false, not, cond, refl, sym, ap, subst, true≢false, inl, inr, fold, List, [], Option, Some, None, codes}
 use Rattle.std.specs.Prelude.{IfSome, pos, unwrap_or, slice_get, option_and_then, option_map}
 use Rattle.std.specs.List.{find}
 use Rattle.std.specs.Option.{option_map_or}
@@ -19,7 +19,7 @@ use Rattle.clap.specs.declared.parser.matches.ValueSource.TheVariants.{CommandLi
 use Rattle.clap.proofs.TakesLemmas.{passes_as}
 use Rattle.clap.proofs.ValueTestLemmas.{accepts-Accepts}
 use Rattle.clap.proofs.WalkLemmas.{both}
-use Rattle.pl_command.specs.CommandLine.{GivesNumber, GivesText, GivesWords, number_option, text_option, words_rule}
+use Rattle.pl_command.specs.CommandLine.{GivesNumber, GivesText, GivesWords, MayGiveNumber, number_option, text_option, words_rule}
 use Rattle.pl_command.proofs.Passes.{Each, Keeps}
 
 -- the least and the most number of an option, by its name, if it has a number
@@ -194,6 +194,16 @@ module _ (limits : Limits) where
             ∙ ap (λ how. Some (read_as how f.good.0)) read.0;
         number = read.1;
       }
+
+  may_give : (id : Text) (least most : ℕ) (rows : List Row) (o : Option Row) → find (λ r. bytes_eq r.id id) rows ≡ o
+      → limits id ≡ Some (least, most) → IfSome o (Named id) → MayGiveNumber rows id least most
+  may_give id least most rows None is limit g = inl (ap (λ o. option_and_then (λ (r : Row). slice_get r.values 0) o) is)
+  may_give id least most rows (Some r) is limit g =
+      inr (gives_number id least most rows limit (record { row = r; found = is; same = g.0; good = g.1 }))
+
+  -- an option without a default was left out, or has a number in its range
+  pub may_give_number : (id : Text) (least most : ℕ) (rows : List Row) → limits id ≡ Some (least, most) → AllGood rows → MayGiveNumber rows id least most
+  may_give_number id least most rows limit g = may_give id least most rows (find (λ r. bytes_eq r.id id) rows) refl limit (found_good id rows g)
 
 -- ---- the options that have a default have a row
 

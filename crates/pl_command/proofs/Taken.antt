@@ -15,7 +15,7 @@ use Rattle.clap.proofs.ValueTestLemmas.{accepts-Accepts}
 use Rattle.clap.proofs.WalkLemmas.{both}
 use Rattle.pl_command.specs.CommandLine.{GivesAsk, GivesPlay, GivesServe, IsWholeCommand, most_u32, own_app, play_app}
 use Rattle.pl_command.proofs.Passes.{Each, NoHelpStop, settled_keeps, walk_keeps, walk_stop}
-use Rattle.pl_command.proofs.Rows.{AllGood, Defaulted, Limits, Use, defaults_good, gives_number, gives_text, gives_words, given_row, help_use, kept_row, limits_in, no_default, number_use, text_use, there, keeps_default, words_use}
+use Rattle.pl_command.proofs.Rows.{AllGood, Defaulted, Limits, Use, defaults_good, gives_number, gives_text, gives_words, given_row, help_use, kept_row, limits_in, no_default, number_use, text_use, there, keeps_default, may_give_number, words_use}
 
 -- ---- the program, as `clap` builds it
 
@@ -92,7 +92,7 @@ serve_uses = (
                   (
                     number_use serve_limits serve 1 (codes "rounds") 0 most_u32 false (codes "0" ∷ []) refl,
                     (
-                      number_use serve_limits serve 1 (codes "idle-polls") 0 10000 false (codes "300" ∷ []) refl,
+                      number_use serve_limits serve 1 (codes "idle-polls") 0 10000 false [] refl,
                       (
                         help_use serve_limits serve 1,
                         tt,
@@ -158,7 +158,7 @@ serve_defaults = (
                   (
                     keeps_default serve_limits (rule_at serve.rules 9) (codes "0") refl (refl, accepts-Accepts false (Signed (pos 0) (pos most_u32)) (codes "0") refl),
                     (
-                      keeps_default serve_limits (rule_at serve.rules 10) (codes "300") refl (refl, accepts-Accepts false (Signed (pos 0) (pos 10000)) (codes "300") refl),
+                      no_default serve_limits (rule_at serve.rules 10) refl,
                       (
                         no_default serve_limits (rule_at serve.rules 11) refl,
                         tt,
@@ -242,8 +242,6 @@ serve_passes rest e =
     let partition : has_row (codes "partition") rows ≡ true =
     there (codes "partition") (take 8 serve.rules) (drop 9 serve.rules) (rule_at serve.rules 8) (codes "0") left refl refl refl in
     let rounds : has_row (codes "rounds") rows ≡ true = there (codes "rounds") (take 9 serve.rules) (drop 10 serve.rules) (rule_at serve.rules 9) (codes "0") left refl refl refl in
-    let idle_polls : has_row (codes "idle-polls") rows ≡ true =
-    there (codes "idle-polls") (take 10 serve.rules) (drop 11 serve.rules) (rule_at serve.rules 10) (codes "300") left refl refl refl in
     record {
       listen = gives_text serve_limits (codes "listen") rows (given_row serve_limits (codes "listen") rows good listen.0);
       table = gives_text serve_limits (codes "table") rows (given_row serve_limits (codes "table") rows good table.0);
@@ -255,7 +253,7 @@ serve_passes rest e =
       pager = gives_number serve_limits (codes "pager") 0 most_u32 rows refl (kept_row serve_limits (codes "pager") rows good pager);
       partition = gives_number serve_limits (codes "partition") 0 65535 rows refl (kept_row serve_limits (codes "partition") rows good partition);
       rounds = gives_number serve_limits (codes "rounds") 0 most_u32 rows refl (kept_row serve_limits (codes "rounds") rows good rounds);
-      idle_polls = gives_number serve_limits (codes "idle-polls") 0 10000 rows refl (kept_row serve_limits (codes "idle-polls") rows good idle_polls);
+      idle_polls = may_give_number serve_limits (codes "idle-polls") 0 10000 rows refl good;
     }
 
 ask_passes : (rest : List Text) → level_passes ask [] nothing_held rest false ≡ true → GivesAsk (rows_after ask.rules [] rest)

@@ -1,5 +1,5 @@
 -- What the words of a call ask for: how `clap` matches them with the program's subcommands.
-use Rattle.std.specs.Prelude.{◌≡◌, ◌≤◌, ◌⊎◌, ℕ, ⊤, true, false, List, [], ◌∷◌, fold, map, Option, Some, pos, codes, string_bytes}
+use Rattle.std.specs.Prelude.{◌≡◌, ◌≤◌, ◌⊎◌, ℕ, ⊤, true, false, List, [], ◌∷◌, fold, map, Option, Some, None, pos, codes, string_bytes}
 use Rattle.std.specs.Str.Parse.{digits_value, without_leading_plus}
 use Rattle.clap.specs.Lexer.{usize_max, without_minus}
 use Rattle.clap.specs.Values.{IsSignedIn}
@@ -38,6 +38,10 @@ abbrev pub number_or : Text → Text → ℕ → Rule
 number_or default name most =
     record (number_option name 0 most) { required = false; defaults = default ∷ [] }
 
+-- a number from 0 on, of an option that may be left out
+abbrev pub optional_number : Text → ℕ → Rule
+optional_number name most = record (number_option name 0 most) { required = false }
+
 -- words after the options, at least one
 abbrev pub words_option : Text → Rule
 words_option name = record (new_rule name) {
@@ -55,6 +59,7 @@ abbrev pub rule_that : Text → Takes → Rule
 rule_that name (takes.Text value) = text_option name
 rule_that name (takes.Number least most) = number_option name least most
 rule_that name (takes.NumberOr default most) = number_or default.now name most
+rule_that name (takes.OptionalNumber most) = optional_number name most
 rule_that name takes.Words = words_option name
 
 -- a subcommand with these options
@@ -66,7 +71,7 @@ abbrev pub play_app : App
 play_app = subcommand_with (codes "play")
     (text_option (codes "table") ∷ number_option (codes "primary") 0 most_u32 ∷ [])
 
--- `serve` with its options, of which the last four have a number if they are not given
+-- `serve` with its options: three have a default, and the last may be left out
 abbrev pub serve_app : App
 serve_app = subcommand_with (codes "serve")
     (text_option (codes "listen") ∷ text_option (codes "table")
@@ -74,7 +79,7 @@ serve_app = subcommand_with (codes "serve")
     ∷ number_option (codes "workers") 1 64 ∷ number_option (codes "connections") 1 most_u32
     ∷ number_option (codes "audit") 1 16777216 ∷ number_or (codes "0") (codes "pager") most_u32
     ∷ number_or (codes "0") (codes "partition") 65535 ∷ number_or (codes "0") (codes "rounds") most_u32
-    ∷ number_or (codes "300") (codes "idle-polls") 10000 ∷ [])
+    ∷ optional_number (codes "idle-polls") 10000 ∷ [])
 
 -- `ask` with its options, and then words
 abbrev pub ask_app : App
@@ -107,6 +112,11 @@ pub record HasNumber (rows : List Row) (name : Text) (least most n : ℕ) : Type
   pub at_least : least ≤ n
   pub at_most : n ≤ most
 
+-- the option of this name was left out, or has a number
+abbrev pub MayHaveNumber : List Row → Text → ℕ → ℕ → Option ℕ → Type 0
+MayHaveNumber rows name least most None = first_of name rows ≡ None
+MayHaveNumber rows name least most (Some n) = HasNumber rows name least most n
+
 -- the words after the options
 abbrev pub HasWords : List Row → List Text → Type 0
 HasWords rows words = all_of (codes "words") rows ≡ Some words
@@ -126,7 +136,7 @@ pub record HasNumbers (rows : List Row) (numbers : ServeNumbers) : Type 0 where
   pub pager_is : HasNumber rows (codes "pager") 0 most_u32 numbers.pager
   pub partition_is : HasNumber rows (codes "partition") 0 65535 numbers.partition
   pub rounds_is : HasNumber rows (codes "rounds") 0 most_u32 numbers.rounds
-  pub idle_polls_is : HasNumber rows (codes "idle-polls") 0 10000 numbers.idle_polls
+  pub idle_polls_is : MayHaveNumber rows (codes "idle-polls") 0 10000 numbers.idle_polls
 
 -- `serve` with these options
 pub record HasServe (rows : List Row) (listen table : Text) (numbers : ServeNumbers) : Type 0 where
@@ -185,6 +195,10 @@ pub record GivesNumber (rows : List Row) (name : Text) (least most : ℕ) : Type
   pub value : one_of name rows ≡ Some (without_minus digits)
   pub number : IsSignedIn (pos least) (pos most) digits
 
+-- the option of this name was left out, or has a number in the range
+abbrev pub MayGiveNumber : List Row → Text → ℕ → ℕ → Type 0
+MayGiveNumber rows name least most = (first_of name rows ≡ None) ⊎ GivesNumber rows name least most
+
 -- there are words after the options
 abbrev pub GivesWords : List Row → Type 0
 GivesWords rows = (words : List Text) × (all_of (codes "words") rows ≡ Some words)
@@ -206,7 +220,7 @@ pub record GivesServe (rows : List Row) : Type 0 where
   pub pager : GivesNumber rows (codes "pager") 0 most_u32
   pub partition : GivesNumber rows (codes "partition") 0 65535
   pub rounds : GivesNumber rows (codes "rounds") 0 most_u32
-  pub idle_polls : GivesNumber rows (codes "idle-polls") 0 10000
+  pub idle_polls : MayGiveNumber rows (codes "idle-polls") 0 10000
 
 -- all options of `ask` and its words were found
 pub record GivesAsk (rows : List Row) : Type 0 where

@@ -2,7 +2,7 @@
 
 ghost use Rattle.std.specs.Prelude.{◌≡◌, ◌≢◌, ◌⊎◌, true, Some, None, codes, IfErr, IfOk, IfSome, IsErr, IsNone, map, string_bytes};
 ghost use Rattle.clap.specs.Words.{IsAmong, app_of, fault_of, found_of, kind_of, rows_of, subcommand_of, subcommand_rows_of, takes};
-ghost use Rattle.pl_command.specs.CommandLine.{AsksFor, GivesAsk, GivesNumber, GivesPlay, GivesServe, GivesWords, Has, HasNumber, HasNumbers, HasWords, IsWholeCommand, IsHelp, IsUsage, Names, own_app};
+ghost use Rattle.pl_command.specs.CommandLine.{AsksFor, GivesAsk, GivesNumber, GivesPlay, GivesServe, GivesWords, Has, HasNumber, HasNumbers, HasWords, IsWholeCommand, IsHelp, IsUsage, MayGiveNumber, MayHaveNumber, Names, own_app};
 
 use crate::options::program;
 use clap::error::ErrorKind;
@@ -69,8 +69,8 @@ pub struct ServeNumbers {
     pub partition: u16,
     /// How often it advances the partition of each database.
     pub rounds: u32,
-    /// How often one worker at a time polls its sockets again before it sleeps, 0 to 10,000.
-    pub idle_polls: u32,
+    /// How often one worker at a time polls its sockets again before it sleeps, 0 to 10,000. `None` leaves it to the program.
+    pub idle_polls: Option<u32>,
 }
 
 /// Why the arguments ask for nothing.
@@ -106,6 +106,19 @@ fn number_of(found: &ArgMatches<'_>, name: &str, least: u32, most: u32) -> Optio
         return None;
     }
     Some(number)
+}
+
+// The number that was found for this option, if it is in the range, or `Some(None)` if the option was left out.
+fn number_if_given(found: &ArgMatches<'_>, name: &str, least: u32, most: u32) -> Option<Option<u32>>
+    ensures some { IfSome result
+        (MayHaveNumber (rows_of (found_of found.now)) name.now least most) }
+    ensures none { IsNone result →
+        MayGiveNumber (rows_of (found_of found.now)) name.now least most → ⊥ }
+{
+    match found.get_str(name) {
+        Some(_) => Some(Some(number_of(found, name, least, most)?)),
+        None => Some(None),
+    }
 }
 
 // The words that were found.
@@ -155,7 +168,7 @@ fn serve_numbers(found: &ArgMatches<'_>) -> Option<ServeNumbers>
         pager: number_of(found, "pager", 0, u32::MAX)?,
         partition: number_of(found, "partition", 0, 65_535)? as u16,
         rounds: number_of(found, "rounds", 0, u32::MAX)?,
-        idle_polls: number_of(found, "idle-polls", 0, 10_000)?,
+        idle_polls: number_if_given(found, "idle-polls", 0, 10_000)?,
     })
 }
 

@@ -2,7 +2,7 @@
 
 ghost use Rattle.std.specs.Prelude.{◌≡◌, false, true, IfOk};
 ghost use Rattle.clap.specs.Words.{App, app_of, new_app, rule_of, with_rule, with_subcommand};
-ghost use Rattle.pl_command.specs.CommandLine.{ask_app, number_option, number_or, own_app, play_app, rule_that, serve_app, text_option, words_option};
+ghost use Rattle.pl_command.specs.CommandLine.{ask_app, number_option, number_or, optional_number, own_app, play_app, rule_that, serve_app, text_option, words_option};
 
 use clap::builder::ValueParser;
 use clap::{Arg, Command};
@@ -45,6 +45,14 @@ fn number_or<'a>(
         .default_value(default)
 }
 
+// The option `--name N`, with a number from 0 on, which may be left out.
+fn optional_number<'a>(alloc: Global, name: &'a str, most: u32, help: &'a str) -> Arg<'a>
+    ensures rule { rule_of result ≡ optional_number name.entry.now most }
+    ensures local { result.global ≡ false }
+{
+    number(alloc, name, 0, most, help).required(false)
+}
+
 // Words after the options, at least one.
 fn words<'a>(alloc: Global, name: &'a str, help: &'a str) -> Arg<'a>
     ensures rule { rule_of result ≡ words_option name.entry.now }
@@ -66,6 +74,8 @@ enum Takes<'a> {
     Number(u32, u32),
     // A number from 0 to this one, and the text if the option is not given.
     NumberOr(&'a str, u32),
+    // A number from 0 to this one, if the option is given.
+    OptionalNumber(u32),
     // The words after all options.
     Words,
 }
@@ -79,6 +89,7 @@ fn option_of<'a>(alloc: Global, name: &'a str, takes: Takes<'a>, help: &'a str) 
         Takes::Text(value) => text(alloc, name, value, help),
         Takes::Number(least, most) => number(alloc, name, least, most, help),
         Takes::NumberOr(default, most) => number_or(alloc, default, name, most, help),
+        Takes::OptionalNumber(most) => optional_number(alloc, name, most, help),
         Takes::Words => words(alloc, name, help),
     }
 }
@@ -155,7 +166,10 @@ fn serve_command<'a>(alloc: Global) -> Making<'a>
     let pager = "The id of the page server that advances a partition";
     let partition = "The partition that it advances";
     let rounds = "How often it advances the partition of each database";
-    let idle_polls = "How often one worker at a time polls again before it sleeps, 0 to 10,000";
+    let idle_polls = concat!(
+        "How often one worker at a time polls again before it sleeps, 0 to 10,000 ",
+        "[default: 300, or 0 below three processors]"
+    );
     Making::new(alloc, "serve", "Answers the requests of connections")
         .option("listen", Takes::Text("ADDRESS"), listen)
         .option("table", Takes::Text("FILE"), TABLE)
@@ -167,7 +181,7 @@ fn serve_command<'a>(alloc: Global) -> Making<'a>
         .option("pager", Takes::NumberOr("0", u32::MAX), pager)
         .option("partition", Takes::NumberOr("0", 65_535), partition)
         .option("rounds", Takes::NumberOr("0", u32::MAX), rounds)
-        .option("idle-polls", Takes::NumberOr("300", 10_000), idle_polls)
+        .option("idle-polls", Takes::OptionalNumber(10_000), idle_polls)
 }
 
 fn ask_command<'a>(alloc: Global) -> Making<'a>
@@ -202,9 +216,8 @@ fn with_sub<'a>(command: Command<'a>, subcommand: Making<'a>) -> Result<Command<
     }
 }
 
-/// What `--version` prints after the program's name: the version, which stands here alone, and the kit that the program is proved and
-/// compiled with.
-const VERSION: &str = "0.1.0 (rattle-kit-13f)";
+/// What `--version` prints after the program's name. The version has its one place here.
+const VERSION: &str = "0.2.0";
 
 // The program and its subcommands.
 pub(crate) fn program<'a>(alloc: Global) -> Result<Command<'a>, AllocError>

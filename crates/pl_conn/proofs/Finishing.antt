@@ -4,7 +4,7 @@ use Rattle.std.proofs.Math.Seq.{take-append_seam}
 use Rattle.std.proofs.lemmas.List.{length-append, length-take-le}
 use Rattle.std.proofs.lemmas.Grind.{flat_map-append}
 use Rattle.std.proofs.KnownBytes.{Appends-nil, Consumes-nil}
-use Rattle.std.specs.Io.KnownBytes.{Appends, Consumes}
+use Rattle.std.specs.Io.KnownBytes.{Appends, Consumes, IsAtEnd}
 use Rattle.std.specs.List.{AllByRecursion}
 use Rattle.pl_core.specs.declared.reply.Reply.{Reply}
 use Rattle.pl_core.specs.Reply.{FitsReply}
@@ -40,14 +40,14 @@ from_the_cut (f ∷ front) last (w ∷ whole) next more k same less within few =
 
 module _ {P : Type 0} (calls : Calls P) where
   -- the turn in what a turn came to
-  turn_of : (before after : Scene P) (old new : Middle) (rest : Rest) → Rests calls before old after new (Ok rest) → Resumes calls before old after new
+  pub turn_of : (before after : Scene P) (old new : Middle) (rest : Rest) → Rests calls before old after new (Ok rest) → Resumes calls before old after new
   turn_of before after old new rests.Again r = r.0
   turn_of before after old new rests.Input r = r.0
   turn_of before after old new rests.Output r = r.0
   turn_of before after old new rests.Over r = r.0
 
   -- nothing happened yet
-  begun : (s : Scene P) (m : Middle) → Resumes calls s m s m
+  pub begun : (s : Scene P) (m : Middle) → Resumes calls s m s m
   begun s m = record {
     heard = [];
     said = [];
@@ -125,8 +125,12 @@ module _ {P : Type 0} (calls : Calls P) where
         may_wait whole next more k parts less left (inr (then, is, w)) =
             from_the_cut w.front w.last whole next more k (sym w.parts ∙ parts) less (omega (arith, left, w.within)) w.few
 
+    -- it is over, and no reply and no byte is left
+    pub over : lost ≡ middle [] [] → IsAtEnd after.input → Came calls before after (Ok rests.Over)
+    over is end = (_, (all_told, talks_whole (ap (λ (m : Middle). m.waiting) is), refl, (refl, refl), ap (λ (m : Middle). m.unread) is), end)
+
     -- it ended for this cause
-    ended : (cause : Cause) → Ends cause (lost.waiting ≡ []) (0 < length lost.waiting) lost.unread after.input → Came calls before after (Err cause)
+    pub ended : (cause : Cause) → Ends cause (lost.waiting ≡ []) (0 < length lost.waiting) lost.unread after.input → Came calls before after (Err cause)
     ended causes.Short (none, some, cut, end) = (_, (all_told, talks_whole none, refl, ((refl, refl), some, cut, end), tt))
     ended causes.TooLong (none, end) = (_, (all_told, talks_whole none, refl, ((refl, refl), end), tt))
     ended causes.Read (none, end) = (_, (all_told, talks_whole none, refl, ((refl, refl), end), tt))
@@ -139,7 +143,7 @@ module _ {P : Type 0} (calls : Calls P) where
   all_turns before now after more kept new (Ok rests.Output) goes last = tt
   all_turns before now after more kept new (Ok rests.Over) goes (turn, is, end) =
       let r = resumes_then calls before now after (middle [] []) kept new (goes_as_one before before now more (middle [] []) (middle [] []) kept (begun before (middle [] [])) goes) turn in
-      (_, (all_told before after new r, talks_whole before after new r (ap (λ (m : Middle). m.waiting) is), refl, (refl, refl), ap (λ (m : Middle). m.unread) is), end)
+      over before after new r is end
   all_turns before now after more kept new (Err cause) goes (lost, turn, end) =
       ended before after lost (resumes_then calls before now after (middle [] []) kept lost
       (goes_as_one before before now more (middle [] []) (middle [] []) kept (begun before (middle [] [])) goes) turn) cause end

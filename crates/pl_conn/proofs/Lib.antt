@@ -12,4 +12,5 @@ pub mod Reading
 pub mod Filling
 pub mod Turning
 pub mod Finishing
+pub mod Among
 pub mod Listing

@@ -1,6 +1,9 @@
 -- The connections of a worker: which are open, and whose turn is due.
 use Rattle.std.specs.Prelude.{◌≡◌, ◌==◌, ◌||◌, ℕ, ◌+◌, ◌-◌, ◌^◌, ◌<◌, ◌⊎◌, Bool, false, true, List, [], ◌∷◌, ◌++◌, Option, None, Some, Result, Ok, Err, IsErr, if◌then◌else◌}
 use Rattle.slab.specs.Slab.{Slab, Updates, get}
+use Rattle.pl_wire.specs.Answering.{Calls}
+use Rattle.pl_conn.specs.Conversation.{Scene, scene}
+use Rattle.pl_conn.specs.Resting.{Rests}
 use Rattle.pl_conn.specs.declared.cause.Cause.{Cause}
 use Rattle.pl_conn.specs.declared.lines.Line.{Line}
 use Rattle.pl_conn.specs.declared.conversation.Rest.{Rest}
@@ -47,6 +50,15 @@ StaysClosing line now = now.is_closing ≡ line.is_closing
 abbrev pub ClosesIf : Bool → Line → Line → Type 0
 ClosesIf is_closed line now = now.is_closing ≡ line.is_closing || is_closed
 
+-- a socket, of which no contract knows the bytes, and a pass
+abbrev pub at_socket : {P : Type 0} → P → Scene P
+at_socket pass = scene None None pass
+
+-- A turn of its own conversation came to this end, and what the conversation kept before the turn it went on from. Whether its
+-- peer sends no more stays as it was.
+abbrev pub HasTurn : {P : Type 0} → Calls P → P → P → Result Rest Cause → Line → Line → Type 0
+HasTurn calls before after end line now = StaysClosing line now × Rests calls (at_socket before) line.talk (at_socket after) now.talk end
+
 -- its turn is due again: the conversation says so, or waits for input though its peer sends no more
 abbrev pub IsDueAgain : Result Rest Cause → Bool → Type 0
 IsDueAgain end is_closing = (end ≡ Ok rests.Again) ⊎ ((end ≡ Ok rests.Input) × (is_closing ≡ true))
@@ -68,3 +80,11 @@ pub record Settles (old : Roll) (place : ℕ) (end : Result Rest Cause) (new : R
   pub over : IsOver end → get new.lines place ≡ None
   pub fault : IsErr end → old.faults < 2 ^ 64 - 1 → new.faults ≡ old.faults + 1
   pub taken : new.taken ≡ old.taken
+
+-- The turn of the connection at this place, and how the worker goes on after it: by the end to which the turn came.
+pub record TakesTurn {P : Type 0} (calls : Calls P) (before : P) (old : Roll) (place : ℕ) (after : P) (new : Roll) : Type 0 where
+  pub end : Result Rest Cause
+  pub turned : Roll
+  pub turn : Keeps old.lines place turned.lines (HasTurn calls before after end)
+  pub same : (turned.due ≡ old.due) × (turned.taken ≡ old.taken) × (turned.faults ≡ old.faults)
+  pub settles : Settles turned place end new

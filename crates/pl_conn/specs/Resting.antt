@@ -8,6 +8,7 @@ use Rattle.pl_wire.specs.Answering.{Answered, AnswersBody, Calls}
 use Rattle.pl_wire.specs.FrameReading.{IsCut}
 use Rattle.pl_wire.specs.Frames.{frame, frames_of, longest_request}
 use Rattle.pl_conn.specs.Conversation.{Concludes, Ends, MayWait, Scene, replies_text}
+use Rattle.pl_conn.specs.Serving.{Reaches}
 use Rattle.pl_conn.specs.declared.cause.Cause.{Cause}
 use Rattle.pl_conn.specs.declared.conversation.Rest.{Rest}
 use Rattle.pl_conn.specs.declared.conversation.Rest.TheVariants as rests
@@ -106,3 +107,33 @@ Came calls before after (Err cause) = (count : ℕ) × Concludes (λ part. ⊤) 
 abbrev pub TurnsAreAConversation : {P : Type 0} → Calls P → Type 0
 TurnsAreAConversation {P} calls = (before now after : Scene P) (rests : List Rest) (kept new : Middle) (end : Result Rest Cause)
     → Goes calls before (middle [] []) rests now kept → Rests calls now kept after new end → Came calls before after end
+
+-- Between two turns of a conversation others may call the gate with the same pass, as the other connections of a worker do. Its
+-- reader and its writer stay.
+abbrev pub OthersCall : {P : Type 0} → Calls P → Scene P → Scene P → Type 0
+OthersCall calls before after = (after.input ≡ before.input) × (after.output ≡ before.output) × Reaches calls before.pass after.pass
+
+-- turns, one after the other, that came to these, with calls of others before each
+abbrev pub GoesAmong : {P : Type 0} → Calls P → Scene P → Middle → List Rest → Scene P → Middle → Type 0
+GoesAmong calls before old [] after new = (after ≡ before) × (new ≡ old)
+GoesAmong calls before old (rest ∷ more) after new = (then : Scene _) × (now : Scene _) × (kept : Middle)
+    × OthersCall calls before then × Rests calls then old now kept (Ok rest) × GoesAmong calls now kept more after new
+
+-- some calls of others, and then this one
+abbrev pub among : {P : Type 0} → Calls P → Calls P
+among {P} calls before request reply after = (then : P) × Reaches calls before then × calls then request reply after
+
+-- the scene with another pass
+abbrev pub with_pass : {P : Type 0} → Scene P → P → Scene P
+with_pass s pass = record s { pass = pass }
+
+-- Turns among calls of others are as one turn in which each call may come after some of others. The last of those may come after it.
+abbrev pub TurnsJoinAmongOthers : {P : Type 0} → Calls P → Type 0
+TurnsJoinAmongOthers {P} calls = (before now : Scene P) (old kept : Middle) (rests : List Rest) → GoesAmong calls before old rests now kept
+    → (left : P) × Reaches calls left now.pass × Resumes (among calls) before old (with_pass now left) kept
+
+-- from the beginning to the end, turns among calls of others are a conversation, in which each call may come after some of others
+abbrev pub TurnsAmongOthers : {P : Type 0} → Calls P → Type 0
+TurnsAmongOthers {P} calls = (before now then after : Scene P) (rests : List Rest) (kept new : Middle) (end : Result Rest Cause)
+    → GoesAmong calls before (middle [] []) rests now kept → OthersCall calls now then → Rests calls then kept after new end
+    → (left : P) × Reaches calls left after.pass × Came (among calls) before (with_pass after left) end

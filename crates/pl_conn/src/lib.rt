@@ -35,6 +35,6 @@ pub use service::{Served, Stop, serve, serve_watched};
 pub use solo::{Solo, SoloPass};
 pub use source::Source;
 pub use terms::Terms;
-pub use turn_laws::{turns_are_a_conversation, turns_join};
+pub use turn_laws::{turns_among_others_are_a_conversation, turns_are_a_conversation, turns_join};
 pub use watch::{Unwatched, Watch};
 pub use whole_conversation::converse;

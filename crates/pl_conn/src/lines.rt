@@ -2,7 +2,8 @@
 
 ghost use Rattle.std.specs.Prelude.{◌≡◌, ◌+◌, ◌-◌, ◌^◌, ◌<◌, ◌∷◌, ◌++◌, ◌↔◌, [], IfNone, IfSome, IsTrue, None, Some, false};
 ghost use Rattle.slab.specs.Slab.{Updates, get, slab_len};
-ghost use Rattle.pl_conn.specs.Lines.{ClosesIf, IsIdle, IsIdleAt, Keeps, Settles, StaysClosing};
+ghost use Rattle.pl_conn.specs.Lines.{ClosesIf, HasTurn, IsIdle, IsIdleAt, Keeps, Settles, StaysClosing, TakesTurn, at_socket};
+ghost use Rattle.pl_conn.specs.Resting.{Rests};
 ghost use Rattle.pl_conn.specs.Serving.{Reaches};
 
 use crate::cause::Cause;
@@ -119,6 +120,9 @@ fn turn<G: Gate>(
     requires own { G.owns gate.now pass.old }
     ensures own { G.owns gate.now pass.new }
     ensures reaches { Reaches (G.calls gate.now) pass.old pass.new }
+    // Its own conversation had the turn, and this is what the turn came to.
+    ensures value { Rests (G.calls gate.now) (at_socket pass.old) line.old.talk
+        (at_socket pass.new) line.new.talk result }
     ensures same { (line.new.is_due ≡ line.old.is_due)
         × (line.new.is_closing ≡ line.old.is_closing) }
 {
@@ -139,7 +143,8 @@ fn turn_of<G: Gate>(
     requires own { G.owns gate.now pass.old }
     ensures own { G.owns gate.now pass.new }
     ensures reaches { Reaches (G.calls gate.now) pass.old pass.new }
-    ensures value { Keeps items.old place items.new StaysClosing }
+    ensures value { Keeps items.old place items.new
+        (HasTurn (G.calls gate.now) pass.old pass.new result) }
     ensures none { get items.old place ≡ None → items.new ≡ items.old }
 {
     let Some(line) = items.get_mut(place) else {
@@ -297,6 +302,7 @@ impl Lines {
         requires idle { IsIdle self.old place }
         ensures own { G.owns gate.now pass.new }
         ensures reaches { Reaches (G.calls gate.now) pass.old pass.new }
+        ensures value { TakesTurn (G.calls gate.now) pass.old self.old place pass.new self.new }
     {
         let end = turn_of(&mut self.items, place, gate, pass, room);
         self.settle(place, end);

@@ -17,6 +17,7 @@ use std::alloc::AllocGlobal;
 use std::net::{Net, TcpListener, TcpStream};
 use std::rt::Files;
 use std::sync::Wait;
+use std::thread;
 use std::thread::Threads;
 
 /// Serves databases that begin with the table of this file.
@@ -83,6 +84,18 @@ where
     Ok(listener)
 }
 
+/// How often a worker polls again before it sleeps: as often as is asked for. Otherwise by the processors that the process may
+/// use: a worker that polls takes one from the client that it waits for, where there are one or two.
+fn idle_polls_of(rt: &impl Threads, asked: Option<u32>) -> u32 {
+    if let Some(polls) = asked {
+        return polls;
+    }
+    match thread::available_parallelism(rt) {
+        Ok(processors) if processors.get() > 2 => 300,
+        _ => 0,
+    }
+}
+
 /// Serves the databases to this listener until as many connections were accepted as the numbers say, and writes how many
 /// were.
 fn serve_at<R>(
@@ -103,7 +116,7 @@ where
         alloc: rt.alloc(),
         listener,
         connections: numbers.connections,
-        idle_polls: numbers.idle_polls,
+        idle_polls: idle_polls_of(rt, numbers.idle_polls),
         watch: &Teller { rt },
     };
     match serve_databases(rt, &terms, dbs, numbers.workers, pager) {

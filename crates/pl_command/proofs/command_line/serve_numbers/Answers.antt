@@ -25,5 +25,5 @@ returns-in_err-number_of-7-clause-none c none given = c.number_of-7.ensures.none
 pub returns-in_err-number_of-8-clause-none : goal.returns-in_err-number_of-8-clause-none
 returns-in_err-number_of-8-clause-none c none given = c.number_of-8.ensures.none (ap is_some c.in_err-number_of-8.was) given.rounds
 
-pub returns-in_err-number_of-9-clause-none : goal.returns-in_err-number_of-9-clause-none
-returns-in_err-number_of-9-clause-none c none given = c.number_of-9.ensures.none (ap is_some c.in_err-number_of-9.was) given.idle_polls
+pub returns-in_err-number_if_given-clause-none : goal.returns-in_err-number_if_given-clause-none
+returns-in_err-number_if_given-clause-none c none given = c.number_if_given.ensures.none (ap is_some c.in_err-number_if_given.was) given.idle_polls

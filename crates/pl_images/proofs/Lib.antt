@@ -1,0 +1,4 @@
+mod Counting
+mod Sizes
+mod Putting
+mod Generations

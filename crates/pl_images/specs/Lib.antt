@@ -1,0 +1,4 @@
+pub mod Image
+pub mod Position
+pub mod Packing
+pub mod Laws
