@@ -1,3 +1,4 @@
+/* SPDX-License-Identifier: MIT OR Apache-2.0 */
 /* The wire: one object is one connection to a log and page service, as one principal, to one database, in one
  * epoch.
  *

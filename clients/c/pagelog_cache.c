@@ -199,6 +199,13 @@ struct pagelog_frame *pagelog_cache_find(struct pagelog_cache *cache, uint32_t p
     return frame;
 }
 
+bool pagelog_cache_has(const struct pagelog_cache *cache, uint32_t page) {
+    const struct pagelog_frame *frame = *chain_of(cache, page);
+    while (frame && frame->page != page)
+        frame = frame->next_in_chain;
+    return frame != NULL;
+}
+
 /* Lets unchanged pages go that were used longest ago. LEAST_PAGES or more stay, so the two used last do. */
 static void make_room(struct pagelog_cache *cache) {
     while (cache->unchanged.count >= cache->most)
@@ -290,4 +297,8 @@ void pagelog_cache_forget_above(struct pagelog_cache *cache, uint32_t last) {
 
 size_t pagelog_cache_count(const struct pagelog_cache *cache) {
     return cache->changed.count + cache->unchanged.count;
+}
+
+size_t pagelog_cache_most(const struct pagelog_cache *cache) {
+    return cache->most;
 }

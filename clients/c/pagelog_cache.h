@@ -23,6 +23,9 @@ void pagelog_cache_free(struct pagelog_cache *cache);
 /* The frame of a page, as the one used last; NULL where there is none. */
 struct pagelog_frame *pagelog_cache_find(struct pagelog_cache *cache, uint32_t page);
 
+/* Whether there is such a frame; it is used by that no more than before. */
+bool pagelog_cache_has(const struct pagelog_cache *cache, uint32_t page);
+
 /* The frame of a page, a new one without a base where there was none. The unchanged page used longest ago may
  * go for it, so at most the two frames that were asked for last may be held on to. NULL where memory runs
  * out. */
@@ -47,5 +50,8 @@ void pagelog_cache_forget_above(struct pagelog_cache *cache, uint32_t last);
 void pagelog_cache_clear(struct pagelog_cache *cache);
 
 size_t pagelog_cache_count(const struct pagelog_cache *cache);
+
+/* How many unchanged pages it has room for. */
+size_t pagelog_cache_most(const struct pagelog_cache *cache);
 
 #endif

@@ -2,9 +2,8 @@
 #include "pagelog_inside.h"
 
 #include <string.h>
-#include <time.h>
 
-enum { GETS_IN_FLIGHT = 64, MOST_EPOCHS = 64, FEW_EPOCHS = 2 };
+enum { GETS_IN_FLIGHT = 64, MOST_EPOCHS = 64, FEW_EPOCHS = 2, QUICKEST_MS = 2, SLOWEST_MS = 64 };
 
 /* ---- Calls that are repeated ---- */
 
@@ -17,20 +16,22 @@ static bool takes_over_epoch(const struct pagelog *log, uint8_t role, uint32_t a
 }
 
 struct pagelog_patience pagelog_patience_of(struct pagelog *log) {
-    return (struct pagelog_patience){
-        .log = log, .until = pagelog_after(log->options.patience_ms), .ms = log->options.patience_ms};
+    struct pagelog_patience patience = {.log = log, .ms = log->options.patience_ms};
+    pagelog_progress(&patience);
+    return patience;
 }
 
 void pagelog_progress(struct pagelog_patience *patience) {
-    patience->tries = 0;
+    patience->wait_ms = 0;
     patience->until = pagelog_after(patience->ms);
 }
 
 bool pagelog_may_try_again(struct pagelog_patience *patience) {
-    unsigned doubled = patience->tries < 6 ? patience->tries : 6;
-    struct timespec pause = {.tv_nsec = 1000000L << doubled};
     if (pagelog_now() >= patience->until || !pagelog_waits_on(&patience->log->waiter)) return false;
-    if (patience->tries++ > 0) nanosleep(&pause, NULL);
+    if (patience->wait_ms == 0)
+        patience->wait_ms = QUICKEST_MS;
+    else
+        pagelog_back_off(&patience->wait_ms, SLOWEST_MS);
     return true;
 }
 

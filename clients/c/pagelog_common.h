@@ -1,5 +1,5 @@
-/* Numbers in bytes, the high one first, and a clock: what both the wire and the file need, and no caller
- * sees. */
+/* Numbers in bytes, the high one first, a clock, and the waits between tries: what both the wire and the file
+ * need, and no caller sees. */
 #ifndef PAGELOG_COMMON_H
 #define PAGELOG_COMMON_H
 
@@ -41,6 +41,13 @@ static inline uint64_t pagelog_end_of_wait(uint64_t ns, uint64_t ms) {
 
 static inline uint64_t pagelog_after(uint64_t ms) {
     return pagelog_end_of_wait(pagelog_now_ns(), ms);
+}
+
+/* Sleeps for `*ms` before the next try. The wait after it is twice as long, up to `most`. */
+static inline void pagelog_back_off(unsigned *ms, unsigned most) {
+    struct timespec wait = {.tv_sec = *ms / 1000, .tv_nsec = 1000000L * (*ms % 1000)};
+    *ms = 2 * *ms < most ? 2 * *ms : most;
+    nanosleep(&wait, NULL);
 }
 
 #endif

@@ -2,9 +2,9 @@
 #include "pagelog_move.h"
 
 #include <string.h>
-#include <time.h>
 
-enum { MOST_TAIL = 16 << 20, A_PART = MOST_TAIL / 8, GLANCE_MS = 1000, PAUSE_MS = 20 };
+enum { MOST_TAIL = 16 << 20, A_PART = MOST_TAIL / 8, GLANCE_MS = 1000, AT_ONCE_MS = 100 };
+enum { QUICKEST_MS = 5, SLOWEST_MS = 200 };
 
 /* A block without records. */
 enum { HEAD_BYTES = 12 };
@@ -13,14 +13,15 @@ enum { HEAD_BYTES = 12 };
  * nothing of the tail's blocks. */
 static void note_durable(struct pagelog_file *file, uint64_t position) {
     struct named *named = &file->named;
-    if (named->settled != named->place.generation) return;
+    if (!is_settled_here(named)) return;
     if (position > named->durable) named->durable = position;
     pagelog_tail_drop(&named->tail, position < named->told ? position : named->told);
 }
 
-enum pagelog_outcome pagelog_note_fate(struct pagelog_file *file, uint64_t generation,
+enum pagelog_outcome pagelog_note_fate(struct pagelog_file *file, const struct pagelog_place *place,
                                        const struct pagelog_fate *fate, uint64_t position) {
-    bool is_here = generation == file->named.place.generation;
+    bool is_here = strcmp(place->run, file->named.place.run) == 0;
+    if (is_here && fate->loss) return pagelog_lose_run(file, place, fate->loss);
     if (is_here) note_durable(file, fate->end);
     return is_here && fate->is_over && fate->end < position ? pagelog_move_on(file) : PAGELOG_DONE;
 }
@@ -28,8 +29,7 @@ enum pagelog_outcome pagelog_note_fate(struct pagelog_file *file, uint64_t gener
 bool pagelog_file_is_durable(const struct pagelog_file *file, struct pagelog_awaited *awaited) {
     const struct named *named = &file->named;
     if (awaited->position <= named->durable) return true;
-    awaited->generation = named->place.generation;
-    memcpy(awaited->lines, named->place.lines, sizeof awaited->lines);
+    awaited->place = named->place;
     return false;
 }
 
@@ -41,34 +41,35 @@ enum pagelog_outcome pagelog_file_take_fate(struct pagelog_file *file, const str
     if (named->told < awaited->position && named->durable < awaited->position)
         return pagelog_file_fail(file, PAGELOG_CONFLICT, "it was lost before it was durable");
     if (named->is_between) return pagelog_arrive(file); /* till then nothing here is known to be its own */
-    if (outcome == PAGELOG_DONE) return pagelog_note_fate(file, awaited->generation, fate, awaited->position);
+    if (outcome == PAGELOG_DONE) return pagelog_note_fate(file, &awaited->place, fate, awaited->position);
     outcome = pagelog_where(named->keepers, named->place.generation, &place);
+    if (outcome == PAGELOG_DENIED && pagelog_keepers_reason(named->keepers)) return pagelog_take_denial(file);
     if (outcome == PAGELOG_DONE && place.generation > named->place.generation) return pagelog_move_on(file);
     return pagelog_file_fail(file, PAGELOG_LOST, "no keeper says what is durable");
 }
 
-uint64_t pagelog_file_patience(const struct pagelog_file *file) {
-    return pagelog_after(file->options.move_ms);
+struct pagelog_file_patience pagelog_file_patience(const struct pagelog_file *file) {
+    return (struct pagelog_file_patience){.until = pagelog_after(file->options.move_ms),
+                                          .wait_ms = QUICKEST_MS};
 }
 
-bool pagelog_file_may_wait(struct pagelog_file *file, uint64_t until) {
-    const struct timespec pause = {.tv_nsec = 1000000L * PAUSE_MS};
-    if (pagelog_now() >= until || !pagelog_may_pause(file)) return false;
-    nanosleep(&pause, NULL);
+bool pagelog_file_may_wait(struct pagelog_file *file, struct pagelog_file_patience *patience) {
+    if (pagelog_now() >= patience->until || !pagelog_may_pause(file)) return false;
+    pagelog_back_off(&patience->wait_ms, SLOWEST_MS);
     return true;
 }
 
 /* Waits until a position is durable, for `move_ms` at most. */
 static enum pagelog_outcome wait_until_durable(struct pagelog_file *file, uint64_t position) {
     struct pagelog_awaited awaited = {.position = position};
-    uint64_t until = pagelog_file_patience(file);
+    struct pagelog_file_patience patience = pagelog_file_patience(file);
     while (!pagelog_file_is_durable(file, &awaited)) {
         struct pagelog_fate fate;
         enum pagelog_outcome outcome =
-            pagelog_fate_of(file->named.keepers, awaited.lines, awaited.generation, position, &fate);
+            pagelog_fate_of(file->named.keepers, awaited.place.lines, &awaited.place, position, &fate);
         outcome = pagelog_file_take_fate(file, &awaited, outcome, &fate);
         if (outcome == PAGELOG_DONE) continue;
-        if (outcome != PAGELOG_LOST || !pagelog_file_may_wait(file, until)) return outcome;
+        if (outcome != PAGELOG_LOST || !pagelog_file_may_wait(file, &patience)) return outcome;
     }
     return PAGELOG_DONE;
 }
@@ -138,20 +139,82 @@ enum pagelog_outcome pagelog_end_append(struct pagelog_file *file, enum pagelog_
     struct named *named = &file->named;
     if (outcome != PAGELOG_DONE && pagelog_may_move(file, outcome)) outcome = pagelog_move(file, outcome);
     if (outcome != PAGELOG_DONE) return let_go(file, outcome);
-    named->settled = named->place.generation;
+    named->settled = named->place;
     if (!pagelog_tail_is_empty(&named->tail)) named->told = named->own = named->tail.next - 1;
     return PAGELOG_DONE;
+}
+
+void pagelog_file_suspect(struct pagelog_file *file) {
+    file->named.is_suspect = true;
+}
+
+/* A reader of what is durable has the keeper archive what it sees in the log, as a commit does that waits. If
+ * that takes long it reads what is durable now, and asks for nothing for a while. */
+static enum pagelog_outcome hurry(struct pagelog_file *file) {
+    struct named *named = &file->named;
+    struct pagelog_place place = named->place;
+    struct pagelog_reply status;
+    struct pagelog_fate fate;
+    if (pagelog_now() < named->hurried || !is_settled_here(named)) return PAGELOG_DONE;
+    if (pagelog_status(file->log, PAGELOG_SECONDARY, &status) != PAGELOG_DONE) return PAGELOG_DONE;
+    uint64_t end = position_of(file, status.hard);
+    if (end <= named->durable) return PAGELOG_DONE;
+    enum pagelog_outcome outcome = pagelog_fate_at_once(named->keepers, &place, end, AT_ONCE_MS, &fate);
+    if (outcome == PAGELOG_DONE) {
+        named->hurry_ms = 0;
+        return pagelog_note_fate(file, &place, &fate, end);
+    }
+    named->hurry_ms = named->hurry_ms == 0 ? AT_ONCE_MS : 2 * named->hurry_ms;
+    if (named->hurry_ms > GLANCE_MS) named->hurry_ms = GLANCE_MS;
+    named->hurried = pagelog_after(named->hurry_ms);
+    return PAGELOG_DONE;
+}
+
+enum pagelog_outcome pagelog_file_reach(struct pagelog_file *file, uint64_t position) {
+    struct named *named = &file->named;
+    struct pagelog_file_patience patience = pagelog_file_patience(file);
+    file->reason = NULL;
+    if (position <= named->durable) return PAGELOG_DONE;
+    while (named->durable < position) {
+        struct pagelog_place place = named->place;
+        struct pagelog_fate fate;
+        enum pagelog_outcome outcome = pagelog_fate_of(named->keepers, place.lines, &place, position, &fate);
+        bool is_told = outcome == PAGELOG_DONE;
+        outcome = is_told ? pagelog_note_fate(file, &place, &fate, position) : pagelog_glance(file);
+        if (outcome != PAGELOG_DONE) return outcome;
+        if (named->durable < position && !pagelog_file_may_wait(file, &patience))
+            return pagelog_file_fail(file, PAGELOG_LOST,
+                                     "no keeper says that what was read before is durable");
+    }
+    file->is_checked = false;
+    return PAGELOG_DONE;
+}
+
+/* Whether PostgreSQL went back, and has lost the run with what this file has committed there. Its next commit
+ * is told so; a move would hide it. */
+static bool has_lost_run(struct pagelog_file *file, const struct pagelog_place *now) {
+    struct named *named = &file->named;
+    struct pagelog_fate fate;
+    bool is_told =
+        named->own > 0 && pagelog_tail_is_empty(&named->tail) &&
+        pagelog_fate_of(named->keepers, now->lines, &named->place, named->own, &fate) == PAGELOG_DONE;
+    return is_told && (fate.loss || (fate.is_over && fate.end < named->own));
 }
 
 enum pagelog_outcome pagelog_glance(struct pagelog_file *file) {
     struct named *named = &file->named;
     struct pagelog_place place;
     uint64_t now = pagelog_now();
-    bool is_wanted = !pagelog_tail_is_empty(&named->tail) && now - named->glanced >= GLANCE_MS;
+    bool was_suspect = named->is_suspect, has_tail = !pagelog_tail_is_empty(&named->tail);
+    bool is_wanted = was_suspect || (has_tail && now - named->glanced >= GLANCE_MS);
     if (!is_wanted && !file->options.durable_only && !named->is_closing) return PAGELOG_DONE;
     named->glanced = now;
-    if (pagelog_where(named->keepers, named->place.generation, &place) != PAGELOG_DONE) return PAGELOG_DONE;
-    if (place.generation > named->place.generation) return pagelog_move_on(file);
+    named->is_suspect = false;
+    enum pagelog_outcome outcome = pagelog_where(named->keepers, named->place.generation, &place);
+    if (outcome == PAGELOG_DENIED && pagelog_keepers_reason(named->keepers)) return pagelog_take_denial(file);
+    if (outcome != PAGELOG_DONE) return PAGELOG_DONE;
+    if (place.generation > named->place.generation)
+        return was_suspect && has_lost_run(file, &place) ? PAGELOG_DONE : pagelog_move_on(file);
     note_durable(file, place.archived);
-    return PAGELOG_DONE;
+    return file->options.durable_only && !file->options.at ? hurry(file) : PAGELOG_DONE;
 }

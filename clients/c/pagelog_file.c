@@ -7,7 +7,13 @@
 #include <string.h>
 #include <sys/random.h>
 
-enum { MOST_AHEAD = 32, DEFAULT_CACHE = 4096 };
+enum { DEFAULT_CACHE = 4096 };
+
+/* Where a file is read into memory: after so many misses twice as many pages are fetched with each, up to a
+ * group; and how many pages are looked at for each of those. */
+enum { MISSES_EACH = 2, MOST_MISSES = 6 * MISSES_EACH, LOOKED_FOR = 8 };
+
+_Static_assert(1 << MOST_MISSES / MISSES_EACH == GROUP, "as many as there is room for");
 
 /* ---- Making, opening, freeing ---- */
 
@@ -23,7 +29,9 @@ bool pagelog_begin_session(struct pagelog_file *file) {
 }
 
 enum pagelog_outcome pagelog_refuse_until_begin(struct pagelog_file *file) {
-    return pagelog_file_fail(file, PAGELOG_CONFLICT, "commits that nobody waited for were lost: begin again");
+    return pagelog_file_fail(file, PAGELOG_CONFLICT,
+                             file->named.lost ? file->named.lost
+                                              : "commits that nobody waited for were lost: begin again");
 }
 
 struct pagelog_file *pagelog_file_new(const struct pagelog_file_options *options) {
@@ -77,8 +85,9 @@ static enum pagelog_outcome recover(struct pagelog_file *file) {
     return outcome;
 }
 
-/* Compares the name of the database before a writer elsewhere is fenced, if its principal may look so. */
-static enum pagelog_outcome look_at_name(struct pagelog_file *file) {
+/* Looks whether the database is one of files, and has this name, before a writer elsewhere is fenced, if its
+ * principal may look so. */
+static enum pagelog_outcome look_at_mark(struct pagelog_file *file) {
     uint8_t page[PAGELOG_PAGE_BYTES];
     const uint32_t number = MARK_PAGE;
     struct pagelog_reply status;
@@ -86,7 +95,9 @@ static enum pagelog_outcome look_at_name(struct pagelog_file *file) {
     enum pagelog_outcome outcome = pagelog_status(file->log, PAGELOG_SECONDARY, &status);
     if (outcome == PAGELOG_DONE)
         outcome = pagelog_get(file->log, PAGELOG_SECONDARY, status.hard, &number, 1, page);
-    if (outcome == PAGELOG_DONE && pagelog_is_misnamed(file, page)) return pagelog_refuse_name(file);
+    if (outcome == PAGELOG_DONE && pagelog_is_foreign(file, page, status.hard))
+        return pagelog_refuse_foreign(file, PAGELOG_SECONDARY, page, status.hard);
+    if (outcome == PAGELOG_DONE && pagelog_is_misnamed(file, page)) return pagelog_refuse_name(file, page);
     return outcome == PAGELOG_DENIED ? PAGELOG_DONE : outcome;
 }
 
@@ -124,7 +135,7 @@ static enum pagelog_outcome open_fenced(struct pagelog_file *file) {
 }
 
 static enum pagelog_outcome open_writer(struct pagelog_file *file) {
-    enum pagelog_outcome outcome = look_at_name(file);
+    enum pagelog_outcome outcome = look_at_mark(file);
     if (outcome == PAGELOG_DONE) outcome = begin_to_write(file);
     bool is_overtaken =
         outcome == PAGELOG_FENCED && file->options.has_operator && !pagelog_is_restarted(file->log);
@@ -235,6 +246,7 @@ enum pagelog_outcome pagelog_file_begin(struct pagelog_file *file) {
     if (!file->is_open) return pagelog_file_fail(file, PAGELOG_MALFORMED, "the file is not open");
     pagelog_file_undo(file);
     file->is_over = false;
+    file->named.lost = NULL;
     file->begun = pagelog_now();
     enum pagelog_outcome outcome = look_after_commits(file, file->begun);
     if (outcome != PAGELOG_DONE) return outcome;
@@ -282,19 +294,38 @@ static bool is_fresh(const struct pagelog_file *file, uint32_t page) {
 static uint32_t pages_ahead(struct pagelog_file *file, uint32_t page) {
     bool follows = page == file->last_miss + file->ahead;
     uint32_t wanted = follows ? 2 * file->ahead : 1, left = pages_of(file->least) - page + 1;
-    if (wanted > MOST_AHEAD) wanted = MOST_AHEAD;
+    if (wanted > GROUP) wanted = GROUP;
     file->last_miss = page;
     file->ahead = wanted < left ? wanted : left;
     return file->ahead;
 }
 
-/* Fetches a page, and those after it that will probably be read next. */
-static enum pagelog_outcome fetch_page(struct pagelog_file *file, uint32_t page) {
-    uint32_t pages[MOST_AHEAD] = {0}, count = 0, ahead = pages_ahead(file, page);
-    for (uint32_t i = 0; i < ahead; i++) {
-        struct pagelog_frame *frame = i > 0 ? pagelog_cache_find(file->cache, page + i) : NULL;
-        if (!frame) pages[count++] = page + i;
+/* The same where all of the file has room in memory: more where who reads spends half of its time with pages
+ * that are missing, in whatever order. One that misses a page now and then fetches that alone. */
+static uint32_t pages_to_fill(struct pagelog_file *file, uint64_t now) {
+    bool is_busy = now - file->fetched_at <= file->fetched_in;
+    if (pages_of(file->least) > pagelog_cache_most(file->cache)) return 1;
+    file->misses = is_busy ? file->misses + 1 : file->misses / 2;
+    if (file->misses > MOST_MISSES) file->misses = MOST_MISSES;
+    return UINT32_C(1) << file->misses / MISSES_EACH;
+}
+
+/* The pages that are fetched for one that is missing, which is the first, and others that are. */
+static uint32_t choose_pages(struct pagelog_file *file, uint32_t page, uint64_t now, uint32_t pages[GROUP]) {
+    uint32_t ahead = pages_ahead(file, page), fill = pages_to_fill(file, now), last = pages_of(file->least);
+    uint32_t wanted = fill > ahead ? fill : ahead, looked = fill > ahead ? LOOKED_FOR * fill : ahead;
+    uint32_t count = 0, at = page;
+    for (uint32_t i = 0; i < looked && i < last && count < wanted; i++) {
+        if (i == 0 || !pagelog_cache_has(file->cache, at)) pages[count++] = at;
+        at = at < last ? at + 1 : 1;
     }
+    return count;
+}
+
+/* Fetches a page, and others that will probably be read next. */
+static enum pagelog_outcome fetch_page(struct pagelog_file *file, uint32_t page) {
+    uint64_t began = pagelog_now_ns();
+    uint32_t pages[GROUP] = {0}, count = choose_pages(file, page, began, pages);
     enum pagelog_outcome outcome = pagelog_fetch(file, file->mark.lsn, pages, count, file->fetched);
     for (uint32_t i = count; i > 0 && outcome == PAGELOG_DONE; i--) {
         struct pagelog_frame *frame = pagelog_cache_make(file->cache, pages[i - 1]);
@@ -302,6 +333,8 @@ static enum pagelog_outcome fetch_page(struct pagelog_file *file, uint32_t page)
         memcpy(frame->base, file->fetched + (size_t)(i - 1) * PAGELOG_PAGE_BYTES, PAGELOG_PAGE_BYTES);
         frame->has_base = true;
     }
+    file->fetched_at = pagelog_now_ns();
+    file->fetched_in = file->fetched_at - began;
     return outcome;
 }
 

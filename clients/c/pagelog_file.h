@@ -1,3 +1,4 @@
+/* SPDX-License-Identifier: MIT OR Apache-2.0 */
 /* A file of bytes with transactions, kept in a database of the service. It knows the wire, and nothing of
  * who uses it.
  *
@@ -17,6 +18,7 @@
 #define PAGELOG_FILE_H
 
 #include "pagelog.h"
+#include "pagelog_place.h"
 
 #ifdef __cplusplus
 extern "C" {
@@ -68,6 +70,7 @@ struct pagelog_file_state {
     bool is_misnamed;  /* the database has another name */
     bool is_over;      /* commits that were not waited for were lost: nothing but a begin goes on from here */
     bool is_named, is_gone; /* of a named database; what was read is not in this generation, until a begin */
+    bool is_dropped;        /* the database that was opened is no more */
     uint64_t generation, position, durable; /* of such a one: where `lsn` is in all generations, and up to
                                              * where it is known to be durable */
     uint64_t committed;     /* the position of the last commit of this file that is not lost */
@@ -171,16 +174,24 @@ enum pagelog_outcome pagelog_file_reserve(struct pagelog_file *file);
  * next reserve ask. */
 void pagelog_file_doubt(struct pagelog_file *file);
 
+/* Of a named database: keepers may have gone on without the run that is read, so that the next begin asks. */
+void pagelog_file_suspect(struct pagelog_file *file);
+
+/* Of a reader of what is durable: waits until this position is known to be, so that the next begin reads what
+ * another file has read before. LOST: no keeper has said it in time. Else as of a begin. */
+enum pagelog_outcome pagelog_file_reach(struct pagelog_file *file, uint64_t position);
+
+/* Where a named database is, as far as is known; NULL before it was opened. */
+const struct pagelog_place *pagelog_file_place(const struct pagelog_file *file);
+
 /* A position whose durability is waited for, and who knows of it. */
 struct pagelog_awaited {
-    uint64_t position, generation;
-    char lines[256];
+    uint64_t position;
+    struct pagelog_place place;
 };
 
 /* Whether a position is known to be durable; else who is to be asked. */
 bool pagelog_file_is_durable(const struct pagelog_file *file, struct pagelog_awaited *awaited);
-
-struct pagelog_fate;
 
 /* Takes an answer of the keepers, as of pagelog_fate_of, which was waited for without the file. DONE: it may
  * be asked whether it is durable. LOST: no keeper has said it, and it may be asked again. CONFLICT: it is not
@@ -189,9 +200,13 @@ enum pagelog_outcome pagelog_file_take_fate(struct pagelog_file *file, const str
                                             enum pagelog_outcome outcome, const struct pagelog_fate *fate);
 
 /* Until when a call that begins now waits, in milliseconds of pagelog's clock; and whether it waits on: it
- * sleeps a little then. */
-uint64_t pagelog_file_patience(const struct pagelog_file *file);
-bool pagelog_file_may_wait(struct pagelog_file *file, uint64_t until);
+ * sleeps then, longer each time. */
+struct pagelog_file_patience {
+    uint64_t until;
+    unsigned wait_ms;
+};
+struct pagelog_file_patience pagelog_file_patience(const struct pagelog_file *file);
+bool pagelog_file_may_wait(struct pagelog_file *file, struct pagelog_file_patience *patience);
 
 /* Waits until what was committed is in the log. Any outcome but DONE: as above. */
 enum pagelog_outcome pagelog_file_settle(struct pagelog_file *file);

@@ -8,7 +8,12 @@
 #include "pagelog_place.h"
 #include "pagelog_tail.h"
 
+#include <string.h>
+
 enum { MARK_PAGE = 0, MARK_BYTES = 40, NAME_PLACE = MARK_BYTES, GROUP = 64 };
+
+/* Of a reason with two names. */
+enum { REASON_BYTES = 2 * PAGELOG_NAME_BYTES + 64 };
 
 /* With each such commit that changes it, a page is written as a whole, so that no get replays many more
  * blocks. */
@@ -34,24 +39,34 @@ struct named {
     bool has_place;
     uint8_t token[PAGELOG_TOKEN_BYTES],
         operator_token[PAGELOG_TOKEN_BYTES]; /* of the table; each run has others */
-    struct pagelog_tail tail; /* of who may write: the blocks that are not known to be durable */
-    uint64_t settled;         /* the generation whose log had all of these */
-    uint64_t told;            /* position: the blocks up to it were in its log, and may be sent again */
-    uint64_t own;             /* position: of the last commit of this file that was acknowledged */
-    uint64_t durable;         /* position: all up to it is durable */
-    uint64_t glanced;         /* when the keepers were asked last whether the generation goes on */
-    uint64_t waited;          /* the same, amid a wait for the service */
+    struct pagelog_tail tail;     /* of who may write: the blocks that are not known to be durable */
+    struct pagelog_place settled; /* the generation whose log had all of these */
+    uint64_t told;                /* position: the blocks up to it were in its log, and may be sent again */
+    uint64_t own;                 /* position: of the last commit of this file that was acknowledged */
+    uint64_t durable;             /* position: all up to it is durable */
+    uint64_t glanced;             /* when the keepers were asked last whether the generation goes on */
+    uint64_t waited;              /* the same, amid a wait for the service */
+    uint64_t
+        hurried; /* until when what a reader sees in the log is not asked for again, and the pause after */
+    unsigned hurry_ms;
     bool (*goes_on)(void *argument); /* by whom waits are ended; NULL: by nobody */
     void *argument;
-    bool is_overtaken;  /* the last wait was ended because it does not */
-    bool is_pausing;    /* who waits is asked, and no service is waited for */
-    uint32_t epoch;     /* the last one whose primary was asked for */
-    bool is_closing;    /* that was the keeper, which closes the generation */
-    bool is_between;    /* it has come to this generation, and not looked yet what is there of it */
-    bool is_sent_again; /* blocks of the tail were sent in this move */
-    bool is_doubted;    /* another process may have written since the last begin */
-    bool is_gone;       /* the transaction that was read is not to be had here: nothing but a begin goes on */
-    uint64_t given_up;  /* how often that was so */
+    bool is_overtaken;   /* the last wait was ended because it does not */
+    bool is_suspect;     /* keepers may have gone on without the run that is read: the next begin asks */
+    bool is_pausing;     /* who waits is asked, and no service is waited for */
+    uint32_t epoch;      /* the last one whose primary was asked for */
+    bool is_closing;     /* that was the keeper, which closes the generation */
+    const char *dropped; /* why the database is no more, and nothing goes on; NULL: it is there */
+    const char *lost;    /* why commits were lost, until a begin; NULL: another writer has gone on */
+    bool is_accepted;    /* the service of this run has answered: it knows the principal */
+    uint64_t refused;    /* when that of this run said first that it does not; 0: it has not */
+    bool is_superseded;  /* PostgreSQL went on without the run that the file is in: another place is to be had
+                          */
+    bool is_between;     /* it has come to this generation, and not looked yet what is there of it */
+    bool is_sent_again;  /* blocks of the tail were sent in this move */
+    bool is_doubted;     /* another process may have written since the last begin */
+    bool is_gone;      /* the transaction that was read is not to be had here: nothing but a begin goes on */
+    uint64_t given_up; /* how often that was so */
     uint64_t moves, resent;
 };
 
@@ -83,10 +98,13 @@ struct pagelog_file {
     uint64_t begun;   /* when the last begin was asked for */
     uint64_t checked; /* when the service last said that this is the newest, or that the epoch is not over */
     bool is_checked;
-    uint32_t last_miss, ahead;   /* the page that was fetched last, and how many were with it */
-    uint8_t *fetched;            /* room for the pages of one fetch */
-    enum pagelog_outcome failed; /* the last outcome of a call that the wire did not give, and why */
+    uint32_t last_miss, ahead;       /* the page that was fetched last, and how many were with it */
+    uint32_t misses;                 /* that came soon after one another */
+    uint64_t fetched_at, fetched_in; /* when the last fetch ended, and how long it took, in nanoseconds */
+    uint8_t *fetched;                /* room for the pages of one fetch */
+    enum pagelog_outcome failed;     /* the last outcome of a call that the wire did not give, and why */
     const char *reason;
+    char words[REASON_BYTES]; /* of a reason that is made of several */
     uint64_t commits, repairs, pages_fetched, blocks_written;
 };
 
@@ -107,6 +125,11 @@ bool pagelog_has_gone_on(const struct pagelog_file *file);
 
 /* The epoch of a writer is over: it follows from now on. */
 void pagelog_become_follower(struct pagelog_file *file);
+
+/* Whether the log of the run that the file is in had the whole tail. */
+static inline bool is_settled_here(const struct named *named) {
+    return strcmp(named->settled.run, named->place.run) == 0;
+}
 
 static inline bool is_named(const struct pagelog_file *file) {
     return file->named.keepers != NULL;
@@ -156,8 +179,15 @@ enum pagelog_outcome pagelog_fetch_here(struct pagelog_file *file, uint64_t lsn,
 /* Whether page 0 has another name than the options. */
 bool pagelog_is_misnamed(const struct pagelog_file *file, const uint8_t *page);
 
-/* Notes that the database has another name, and returns MALFORMED. */
-enum pagelog_outcome pagelog_refuse_name(struct pagelog_file *file);
+/* Notes that the database has another name, which page 0 says, and returns MALFORMED. */
+enum pagelog_outcome pagelog_refuse_name(struct pagelog_file *file, const uint8_t *page);
+
+/* Whether page 0 at an LSN has what no file has there. */
+bool pagelog_is_foreign(const struct pagelog_file *file, const uint8_t *page, uint64_t lsn);
+
+/* Notes that, and at which LSN the file was there last, if that is to be known, and returns MALFORMED. */
+enum pagelog_outcome pagelog_refuse_foreign(struct pagelog_file *file, enum pagelog_role role,
+                                            const uint8_t *page, uint64_t lsn);
 
 /* Takes the newest transaction at an LSN of the log for the one that is read; what is in the cache stays only
  * where it is the same. */

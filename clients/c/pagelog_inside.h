@@ -169,8 +169,8 @@ enum pagelog_outcome pagelog_distrust(struct pagelog *log);
 struct pagelog_patience {
     struct pagelog *log;
     uint64_t until;
-    unsigned ms, tries;
-    unsigned epochs; /* that replies have reported, and the call was asked again in */
+    unsigned ms, wait_ms; /* the next wait before a try; 0: the first try, which comes at once */
+    unsigned epochs;      /* that replies have reported, and the call was asked again in */
 };
 struct pagelog_patience pagelog_patience_of(struct pagelog *log);
 

@@ -13,6 +13,8 @@
 
 enum { CONNECT_MS = 1000 }; /* for all addresses of a host together */
 
+static const char greeting[] = "hello 2\n";
+
 /* Splits "HOST:PORT" or "[HOST]:PORT". */
 bool pagelog_line_set_address(struct pagelog_line *line, const char *text, size_t length) {
     const char *colon = memrchr(text, ':', length);
@@ -33,8 +35,8 @@ void pagelog_line_leave(struct pagelog_line *line) {
     line->socket = -1; /* first: a fork() between the two must not leave the child a number that is free */
     if (socket >= 0) close(socket);
     line->is_asked = line->is_connecting = false;
-    line->unheard = 0;
-    line->length = 0;
+    line->unheard = line->version = 0;
+    line->length = line->greeted = 0;
 }
 
 static void connect_to(struct pagelog_line *line, const struct addrinfo *at) {
@@ -84,9 +86,19 @@ static bool has_ended(const struct pagelog_line *line) {
 void pagelog_line_ask(struct pagelog_line *line) {
     if (line->socket >= 0 && has_ended(line)) pagelog_line_leave(line);
     line->refused = 0;
+    line->is_silent = false;
     if (line->socket < 0) begin_connect(line);
     line->is_asked = line->socket >= 0;
     line->sent = 0;
+}
+
+/* Sends what has not left of a text, after `*sent` bytes of it. False where the connection is gone. */
+static bool send_rest(const struct pagelog_line *line, const char *text, size_t length, size_t *sent,
+                      int flags) {
+    ssize_t count = send(line->socket, text + *sent, length - *sent, MSG_NOSIGNAL | MSG_DONTWAIT | flags);
+    if (count < 0) return errno == EAGAIN || errno == EWOULDBLOCK || errno == EINTR;
+    *sent += (size_t)count;
+    return true;
 }
 
 /* Sends what has not left of the line. False where the connection is gone. */
@@ -97,10 +109,9 @@ bool pagelog_line_send(struct pagelog_line *line, const char *text, size_t lengt
         (getsockopt(line->socket, SOL_SOCKET, SO_ERROR, &error, &size) != 0 || error != 0))
         return false;
     line->is_connecting = false;
-    ssize_t count = send(line->socket, text + line->sent, length - line->sent, MSG_NOSIGNAL | MSG_DONTWAIT);
-    if (count < 0) return errno == EAGAIN || errno == EWOULDBLOCK || errno == EINTR;
-    line->sent += (size_t)count;
-    return true;
+    size_t whole = sizeof greeting - 1;
+    if (line->greeted < whole && !send_rest(line, greeting, whole, &line->greeted, MSG_MORE)) return false;
+    return line->greeted < whole || send_rest(line, text, length, &line->sent, 0);
 }
 
 /* Reads what has come. False where the connection is gone, or what came is no line. */
@@ -112,6 +123,12 @@ bool pagelog_line_read(struct pagelog_line *line) {
     return count > 0 && (line->length < sizeof line->input || memchr(line->input, '\n', line->length));
 }
 
+/* The version of a keeper by its answer to the greeting; one that knows none is of the first. */
+static unsigned version_of(const char *answer) {
+    unsigned version = 0;
+    return sscanf(answer, "hello %6u", &version) == 1 && version > 0 ? version : 1;
+}
+
 /* Takes the next answer, without its end; false where it has not come. */
 bool pagelog_line_take(struct pagelog_line *line, char text[PAGELOG_LINE_BYTES]) {
     char *end;
@@ -121,6 +138,10 @@ bool pagelog_line_take(struct pagelog_line *line, char text[PAGELOG_LINE_BYTES])
         text[length] = 0;
         line->length -= length + 1;
         memmove(line->input, end + 1, line->length);
+        if (line->version == 0) {
+            line->version = version_of(text);
+            continue;
+        }
         if (line->unheard == 0) return true;
         line->unheard--;
     }

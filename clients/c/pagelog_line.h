@@ -1,10 +1,14 @@
-/* A line to a keeper: one connection, over which lines of text go both ways. It knows what no line means. */
+/* A line to a keeper: one connection, over which lines of text go both ways. It greets the keeper, and learns
+ * its version; of all else it knows not what it means (docs/LINES.md). */
 #ifndef PAGELOG_LINE_H
 #define PAGELOG_LINE_H
 
 #include "pagelog_place.h"
 
 enum { PAGELOG_LINE_BYTES = 1024 };
+
+/* Of the lines. Keepers of version 1 name no database, and no run in what they say is durable. */
+enum { PAGELOG_LINES_VERSION = 2 };
 
 struct pagelog_line {
     char host[PAGELOG_PLACE_BYTES], port[16];
@@ -13,7 +17,10 @@ struct pagelog_line {
     bool is_asked;      /* its answer is awaited */
     uint64_t until;     /* when the address that is connecting has had its share of the time */
     unsigned refused;   /* addresses of its host that have refused the connect that is being made */
+    bool is_silent;     /* one of them has not even refused it in time */
     unsigned unheard;   /* answers before that, which nobody waits for any more */
+    size_t greeted;     /* bytes of the greeting that have left */
+    unsigned version;   /* the keeper's; 0: it has not answered the greeting yet */
     size_t sent;        /* bytes of the question that have left */
     char input[PAGELOG_LINE_BYTES];
     size_t length;

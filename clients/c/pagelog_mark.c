@@ -1,6 +1,7 @@
 /* The end mark: its bytes, how it is found, and how it ends the blocks of a transaction. */
 #include "pagelog_move.h"
 
+#include <stdio.h>
 #include <string.h>
 
 static const uint8_t magic[8] = {'p', 'l', 'f', 'i', 'l', 'e', '0', '1'};
@@ -71,13 +72,25 @@ enum pagelog_outcome pagelog_append_full_group(struct pagelog_file *file) {
 
 bool pagelog_is_misnamed(const struct pagelog_file *file, const uint8_t *page) {
     size_t length = strlen(file->name), named = page[NAME_PLACE];
+    const char *ancestor = file->named.place.ancestor;
     if (length == 0 || named == 0) return false;
+    bool is_of_copy = is_named(file) && strcmp(file->name, pagelog_keepers_name(file->named.keepers)) == 0;
+    if (is_of_copy && strlen(ancestor) == named && memcmp(page + NAME_PLACE + 1, ancestor, named) == 0)
+        return false;
     return length != named || memcmp(page + NAME_PLACE + 1, file->name, named) != 0;
 }
 
-enum pagelog_outcome pagelog_refuse_name(struct pagelog_file *file) {
+enum pagelog_outcome pagelog_refuse_name(struct pagelog_file *file, const uint8_t *page) {
+    char name[PAGELOG_NAME_BYTES + 1];
+    size_t length = page[NAME_PLACE];
+    for (size_t i = 0; i < length; i++) {
+        uint8_t byte = page[NAME_PLACE + 1 + i];
+        name[i] = (char)(byte < ' ' || byte == 0x7f ? '?' : byte); /* it may be another's, and is shown */
+    }
+    name[length] = 0;
     file->is_misnamed = true;
-    return pagelog_file_fail(file, PAGELOG_MALFORMED, "the database has another name");
+    snprintf(file->words, sizeof file->words, "the database has the name %s, and not %s", name, file->name);
+    return pagelog_file_fail(file, PAGELOG_MALFORMED, file->words);
 }
 
 /* Adds the name of the database, which page 0 has after the mark. */
@@ -112,6 +125,56 @@ static bool is_untouched(const uint8_t *page) {
     return page[0] == 0 && memcmp(page, page + 1, PAGELOG_PAGE_BYTES - 1) == 0;
 }
 
+/* Reads page 0 at an LSN: false where it is not what a file has there. */
+static bool read_mark_at(const struct pagelog_file *file, const uint8_t *page, uint64_t lsn,
+                         struct mark *mark) {
+    return pagelog_read_mark(file, page, mark) && mark->lsn <= lsn && (mark->lsn > 0 || is_untouched(page));
+}
+
+bool pagelog_is_foreign(const struct pagelog_file *file, const uint8_t *page, uint64_t lsn) {
+    struct mark mark;
+    return !read_mark_at(file, page, lsn, &mark);
+}
+
+/* The LSN of the last end mark before page 0 was written by another; 0 where that is not known. What is left
+ * of the mark may still say it: then it is there. */
+static uint64_t find_last_mark(struct pagelog_file *file, enum pagelog_role role, const uint8_t *page,
+                               uint64_t lsn) {
+    uint8_t before[PAGELOG_PAGE_BYTES];
+    const uint32_t number = MARK_PAGE;
+    struct mark mark;
+    uint64_t left = lsn_of(file, pagelog_read_number(page + sizeof magic, 8));
+    if (left > 0 && left < lsn && pagelog_get(file->log, role, left, &number, 1, before) == PAGELOG_DONE &&
+        read_mark_at(file, before, left, &mark) && mark.lsn == left)
+        return left;
+    return file->mark.lsn;
+}
+
+static void explain_foreign(struct pagelog_file *file, enum pagelog_role role, const uint8_t *page,
+                            uint64_t lsn) {
+    uint64_t last = find_last_mark(file, role, page, lsn);
+    char at[24] = "LSN";
+    if (last > 0) snprintf(at, sizeof at, "%llu", (unsigned long long)position_of(file, last));
+    snprintf(file->words, sizeof file->words,
+             "page 0 was written by another client: this is no SQLite database; at=%s still reads what was "
+             "before",
+             at);
+}
+
+enum pagelog_outcome pagelog_refuse_foreign(struct pagelog_file *file, enum pagelog_role role,
+                                            const uint8_t *page, uint64_t lsn) {
+    struct mark mark;
+    file->is_foreign = true;
+    if (pagelog_read_mark(file, page, &mark) && mark.lsn > lsn)
+        snprintf(
+            file->words, sizeof file->words,
+            "page 0 says that a SQLite database ends at LSN %llu, above LSN %llu: the log is not its own",
+            (unsigned long long)mark.lsn, (unsigned long long)lsn);
+    else
+        explain_foreign(file, role, page, lsn);
+    return pagelog_file_fail(file, PAGELOG_MALFORMED, file->words);
+}
+
 enum pagelog_outcome pagelog_take_mark(struct pagelog_file *file, uint64_t lsn) {
     uint8_t page[PAGELOG_PAGE_BYTES];
     const uint32_t number = MARK_PAGE;
@@ -124,19 +187,15 @@ enum pagelog_outcome pagelog_take_mark(struct pagelog_file *file, uint64_t lsn) 
     /* What was read before is not there, and is not asked for: another look may be had. */
     if (outcome == PAGELOG_LOST && is_gone_now) file->reason = NULL;
     if (outcome != PAGELOG_DONE) return outcome;
-    file->is_foreign =
-        !pagelog_read_mark(file, page, &mark) || mark.lsn > lsn || (mark.lsn == 0 && !is_untouched(page));
-    if (file->is_foreign) {
-        return pagelog_file_fail(file, PAGELOG_MALFORMED,
-                                 "page 0 is no end mark: the database holds something else");
-    }
+    file->is_foreign = !read_mark_at(file, page, lsn, &mark);
+    if (file->is_foreign) return pagelog_refuse_foreign(file, role_of(file), page, lsn);
     if (!pagelog_is_same_mark(&mark, &file->mark)) {
         pagelog_cache_clear(file->cache);
         file->pending.length = 0;
         file->is_far = false;
         file->next = mark.lsn + 1;
     }
-    if (pagelog_is_misnamed(file, page)) return pagelog_refuse_name(file);
+    if (pagelog_is_misnamed(file, page)) return pagelog_refuse_name(file, page);
     file->is_named = page[NAME_PLACE] > 0;
     file->mark = mark;
     file->named.is_gone = false;

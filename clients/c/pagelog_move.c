@@ -4,20 +4,19 @@
 #include <stdio.h>
 #include <stdlib.h>
 #include <string.h>
-#include <time.h>
 
 enum {
-    QUICKEST_MS = 5,
-    SLOWEST_MS = 200,
     GLANCE_MS = 1000,
     SERVICE_PATIENCE_MS = 200,
+    CONFIRM_MS = 300, /* for how long a service says that it does not know the principal, */
+    GONE_MS = 500,    /* or no keeper listens, before that is told */
     DEFAULT_MOVE_MS = 30000
 };
 
 /* What comes before the records of a block, where it touches no partition. */
 enum { HEAD_BYTES = 12, LSN_BYTES = 8 };
 
-enum { SECTION_B = 2 };
+enum { SECTION_A = 1, SECTION_B = 2 };
 
 /* ---- What a named file begins with ---- */
 
@@ -35,9 +34,16 @@ bool pagelog_make_named(struct pagelog_file *file) {
     return true;
 }
 
+/* Whether the service has no memory. Where this process has none, the file says why. */
+static bool is_service_full(const struct pagelog_file *file) {
+    return !file->reason && pagelog_refused(file->log)->kind == PAGELOG_REPLY_NO_MEMORY;
+}
+
 bool pagelog_may_move(const struct pagelog_file *file, enum pagelog_outcome outcome) {
     if (!is_named(file)) return false;
     switch (outcome) {
+    case PAGELOG_NO_MEMORY:
+        return is_service_full(file);
     case PAGELOG_LOST:
     case PAGELOG_FENCED:
     case PAGELOG_IN_DOUBT:
@@ -81,10 +87,17 @@ static enum pagelog_outcome enter(struct pagelog_file *file, const struct pagelo
     enum pagelog_outcome outcome = pagelog_enter(file->log, place->address, token);
     if (outcome != PAGELOG_DONE) return outcome;
     pagelog_token_of_run(named->keepers, named->operator_token, place->run, file->options.operator_token);
+    bool is_same_run = named->has_place && strcmp(named->place.run, place->run) == 0;
     carry(file, named->place.shift - place->shift);
     if (named->has_place) named->moves++;
     named->place = *place;
+    pagelog_keepers_are_of(named->keepers, place);
     named->has_place = named->is_between = true;
+    if (!is_same_run) {
+        named->is_accepted = false;
+        named->refused = 0;
+    }
+    named->is_superseded = false;
     if (file->options.durable_only && place->archived > named->durable) named->durable = place->archived;
     pagelog_become_follower(file);
     file->is_broken = file->is_far = false;
@@ -98,10 +111,14 @@ static enum pagelog_outcome enter(struct pagelog_file *file, const struct pagelo
 static enum pagelog_outcome learn_end(struct pagelog_file *file) {
     struct named *named = &file->named;
     struct pagelog_fate fate;
-    if (pagelog_tail_is_empty(&named->tail) || named->settled == named->place.generation) return PAGELOG_DONE;
-    enum pagelog_outcome outcome =
-        pagelog_fate_of(named->keepers, NULL, named->settled, named->tail.next - 1, &fate);
+    bool is_empty = pagelog_tail_is_empty(&named->tail);
+    uint64_t last = is_empty ? named->own : named->tail.next - 1; /* where all is durable, it may be lost */
+    if (is_settled_here(named) || last == 0) return PAGELOG_DONE;
+    enum pagelog_outcome outcome = pagelog_fate_of(named->keepers, NULL, &named->settled, last, &fate);
     if (outcome != PAGELOG_DONE) return outcome;
+    bool is_lost = fate.end < named->durable || (is_empty && fate.is_over && fate.end < last);
+    if (is_lost) fate.loss = PAGELOG_SUPERSEDED; /* of what was durable some is lost */
+    if (fate.loss) return pagelog_lose_run(file, &named->settled, fate.loss);
     uint64_t told = fate.end < named->told ? fate.end : named->told;
     if (told > named->durable) named->durable = told;
     pagelog_tail_drop(&named->tail, told);
@@ -197,24 +214,70 @@ static enum pagelog_outcome compare_with_base(struct pagelog_file *file) {
 /* ---- Losing and sending again ---- */
 
 /* From a position on the tail is not in the database, or cannot be found there. */
-static enum pagelog_outcome lose_from(struct pagelog_file *file, uint64_t position,
-                                      enum pagelog_outcome outcome) {
+static enum pagelog_outcome lose_to(struct pagelog_file *file, uint64_t position,
+                                    enum pagelog_outcome outcome, const char *why) {
     struct named *named = &file->named;
     bool was_told = position <= named->own;
     pagelog_tail_cut(&named->tail, position);
-    named->settled = named->place.generation;
+    named->settled = named->place;
     named->is_between = false;
     if (named->told >= position) named->told = position - 1;
     pagelog_become_follower(file);
     give_up_transaction(file);
-    if (!was_told)
-        return pagelog_file_fail(file, outcome, "another writer has gone on: it is not in the database");
+    if (!was_told) return pagelog_file_fail(file, outcome, why);
     named->own = position - 1;
     file->on_their_way = 0;
     file->losses++;
     file->is_over = true;
-    return pagelog_file_fail(file, outcome,
-                             "commits that were not durable are lost: another writer has gone on");
+    return pagelog_file_fail(file, outcome, why);
+}
+
+static enum pagelog_outcome lose_from(struct pagelog_file *file, uint64_t position,
+                                      enum pagelog_outcome outcome) {
+    bool was_told = position <= file->named.own;
+    return lose_to(file, position, outcome,
+                   was_told ? "commits that were not durable are lost: another writer has gone on"
+                            : "another writer has gone on: it is not in the database");
+}
+
+static const char *reason_of(enum pagelog_loss loss) {
+    switch (loss) {
+    case PAGELOG_DROPPED:
+        return "the database was dropped";
+    case PAGELOG_ANOTHER:
+        return "the keepers have another database of this name";
+    default:
+        return "PostgreSQL went back, and has gone on without this run: what was not durable is lost";
+    }
+}
+
+enum pagelog_outcome pagelog_lose_run(struct pagelog_file *file, const struct pagelog_place *place,
+                                      enum pagelog_loss loss) {
+    struct named *named = &file->named;
+    bool is_here = strcmp(place->run, named->place.run) == 0, is_no_more = loss != PAGELOG_SUPERSEDED;
+    uint64_t first = pagelog_tail_is_empty(&named->tail) ? named->durable + 1 : named->tail.first;
+    bool is_durable = named->own > 0 && named->own < first; /* so PostgreSQL may have lost it */
+    if (is_no_more)
+        named->dropped = reason_of(loss);
+    else if (is_durable)
+        first = named->own;
+    named->lost = reason_of(loss);
+    enum pagelog_outcome outcome =
+        lose_to(file, first, is_no_more ? PAGELOG_DENIED : PAGELOG_FENCED, reason_of(loss));
+    named->is_superseded = named->is_between = is_here && !is_no_more;
+    return outcome;
+}
+
+enum pagelog_outcome pagelog_take_denial(struct pagelog_file *file) {
+    struct named *named = &file->named;
+    const char *reason = pagelog_keepers_reason(named->keepers);
+    bool was_dropped = reason && named->has_place && strcmp(reason, reason_of(PAGELOG_DROPPED)) == 0;
+    bool is_another = reason && named->has_place && strcmp(reason, reason_of(PAGELOG_ANOTHER)) == 0;
+    if (was_dropped || is_another)
+        return pagelog_lose_run(file, &named->place, was_dropped ? PAGELOG_DROPPED : PAGELOG_ANOTHER);
+    snprintf(file->words, sizeof file->words, "the keepers know of no database %s",
+             pagelog_keepers_name(named->keepers));
+    return pagelog_file_fail(file, PAGELOG_DENIED, reason ? reason : file->words);
 }
 
 /* Sends the tail from the end of the log on, in the epoch of this file. */
@@ -243,8 +306,8 @@ static enum pagelog_outcome send_rest(struct pagelog_file *file) {
 static enum pagelog_outcome send_again(struct pagelog_file *file, const struct pagelog_reply *status) {
     const struct pagelog_file_options *options = &file->options;
     uint32_t writing = pagelog_writing_epoch(file->log);
-    bool is_anothers = file->named.settled == file->named.place.generation &&
-                       status->primary != PAGELOG_KEEPER && status->epoch != writing;
+    bool is_anothers =
+        is_settled_here(&file->named) && status->primary != PAGELOG_KEEPER && status->epoch != writing;
     if (is_anothers) return lose_from(file, position_of(file, status->hard) + 1, PAGELOG_FENCED);
     enum pagelog_outcome outcome =
         pagelog_take_over(file->log, options->operator_principal, options->operator_token, status->epoch);
@@ -301,6 +364,27 @@ static enum pagelog_outcome find_transaction(struct pagelog_file *file, uint64_t
     return outcome;
 }
 
+bool pagelog_is_unknown_principal(const struct pagelog_file *file) {
+    const struct pagelog_reply *refused = pagelog_refused(file->log);
+    return refused->section == SECTION_A && refused->row == 1;
+}
+
+enum pagelog_outcome pagelog_refuse_token(struct pagelog_file *file, const char *who, uint32_t id) {
+    snprintf(file->words, sizeof file->words, "the table does not list %s %u with this token", who, id);
+    return pagelog_file_fail(file, PAGELOG_DENIED, file->words);
+}
+
+/* The service lists no such principal with this token. It may be another's that has the address of one that
+ * is gone, which its keeper does not know at once: so it is final where this run has never answered, and its
+ * keepers have named it all the while. */
+static enum pagelog_outcome refuse_principal(struct pagelog_file *file) {
+    struct named *named = &file->named;
+    uint64_t now = pagelog_now();
+    if (named->refused == 0) named->refused = now;
+    if (named->is_accepted || now - named->refused < CONFIRM_MS) return PAGELOG_DENIED;
+    return pagelog_refuse_token(file, "principal", file->options.service.principal);
+}
+
 /* Goes on in the generation that the file is in. What is LOST is tried again, there or in the next one. */
 static enum pagelog_outcome go_on(struct pagelog_file *file) {
     struct named *named = &file->named;
@@ -308,10 +392,12 @@ static enum pagelog_outcome go_on(struct pagelog_file *file) {
     enum pagelog_outcome outcome = pagelog_status(file->log, PAGELOG_SECONDARY, &status);
     if (outcome == PAGELOG_DENIED && pagelog_refused(file->log)->section == SECTION_B)
         return pagelog_file_fail(file, outcome, "the principal has to be allowed to read as a secondary");
+    if (outcome == PAGELOG_DENIED && pagelog_is_unknown_principal(file)) return refuse_principal(file);
+    if (outcome == PAGELOG_DONE) named->is_accepted = true;
     if (outcome == PAGELOG_DONE) outcome = learn_end(file);
     if (outcome == PAGELOG_DONE) outcome = settle_tail(file, &status);
     if (outcome != PAGELOG_DONE) return outcome;
-    named->settled = named->place.generation;
+    named->settled = named->place;
     named->epoch = status.epoch;
     named->is_closing = status.primary == PAGELOG_KEEPER && status.epoch > 1;
     outcome = find_transaction(file, pagelog_end(file->log));
@@ -327,13 +413,14 @@ static bool is_passing(const struct pagelog_file *file, enum pagelog_outcome out
 
 /* ---- The move ---- */
 
-/* Waits a little before the next try. False once the time is over. */
-static bool pause_until(struct pagelog_file *file, uint64_t until, unsigned *ms) {
-    struct timespec pause = {.tv_nsec = 1000000L * *ms};
-    if (pagelog_now() >= until || !pagelog_may_pause(file)) return false;
-    nanosleep(&pause, NULL);
-    *ms = 2 * *ms < SLOWEST_MS ? 2 * *ms : SLOWEST_MS;
-    return true;
+/* Another run has the number of the generation that the file is in: PostgreSQL went back. LOST: it is not
+ * known with which of the two it has gone on. */
+static enum pagelog_outcome ask_own_fate(struct pagelog_file *file) {
+    struct named *named = &file->named;
+    struct pagelog_fate fate = {0};
+    enum pagelog_outcome outcome = pagelog_fate_of(named->keepers, NULL, &named->place, 0, &fate);
+    if (outcome == PAGELOG_DONE && fate.loss) return pagelog_lose_run(file, &named->place, fate.loss);
+    return PAGELOG_LOST;
 }
 
 /* One try: to the place that the keepers say, if it is another one, and on from there. */
@@ -343,10 +430,12 @@ static enum pagelog_outcome try_to_move(struct pagelog_file *file, bool is_over)
     uint64_t least = named->has_place ? named->place.generation : 0;
     pagelog_wait_again(file);
     enum pagelog_outcome outcome = pagelog_where(named->keepers, least, &place);
-    bool is_other = !named->has_place || place.generation > least;
-    if (outcome == PAGELOG_DENIED)
-        return pagelog_file_fail(file, outcome, "the keepers know of no database of this name");
+    if (outcome == PAGELOG_DENIED) return pagelog_take_denial(file);
     if (outcome != PAGELOG_DONE) return outcome;
+    bool is_same = named->has_place && strcmp(place.run, named->place.run) == 0;
+    bool is_other = !named->has_place || place.generation > least || (named->is_superseded && !is_same);
+    if (!is_other && !is_same) return ask_own_fate(file);
+    is_over |= named->is_superseded;
     if (!is_other && (is_over || pagelog_is_restarted(file->log))) return PAGELOG_LOST;
     if (is_other) outcome = enter(file, &place);
     return outcome == PAGELOG_DONE ? go_on(file) : outcome;
@@ -358,26 +447,67 @@ static bool may_be_there(const struct named *named) {
     return named->is_sent_again && !pagelog_tail_is_empty(&named->tail) && named->tail.next - 1 > named->told;
 }
 
-static enum pagelog_outcome move(struct pagelog_file *file, bool is_over, enum pagelog_outcome cause) {
-    uint64_t until = pagelog_after(file->options.move_ms), left = file->named.place.generation;
-    unsigned ms = QUICKEST_MS;
+/* The generation that the file has left, or is to leave, and for what. */
+struct leaving {
+    bool is_over; /* so the next one is waited for */
+    bool is_full; /* its service had no memory */
+    uint64_t generation;
+    enum pagelog_outcome cause;
+};
+
+/* Where the service has no memory its keeper is told so, and begins the next generation. */
+static void leave_if_full(struct pagelog_file *file, struct leaving *leaving) {
+    uint64_t generation = file->named.place.generation;
+    bool is_left = leaving->is_over && leaving->generation == generation;
+    if (!file->named.has_place || is_left || !is_service_full(file)) return;
+    leaving->is_over = leaving->is_full = true;
+    leaving->generation = generation;
+    if (leaving->cause == PAGELOG_LOST) leaving->cause = PAGELOG_NO_MEMORY;
+    pagelog_keepers_tell_full(file->named.keepers, &file->named.place);
+}
+
+static enum pagelog_outcome give_up_move(struct pagelog_file *file, const struct leaving *leaving) {
+    static const struct pagelog_reply no_memory = {.kind = PAGELOG_REPLY_NO_MEMORY};
+    const char *why = "no generation could be used in time";
+    if (leaving->is_full) why = "the service has no memory left, and no other has followed it in time";
+    if (leaving->cause == PAGELOG_NO_MEMORY) pagelog_restore(file->log, leaving->cause, &no_memory);
+    return pagelog_file_fail(file, may_be_there(&file->named) ? PAGELOG_IN_DOUBT : leaving->cause, why);
+}
+
+/* An open that no keeper listens to is not waited for: their addresses may be wrong. Who was there before
+ * waits for them, as they may be started again. */
+static bool are_keepers_gone(const struct pagelog_file *file, uint64_t *since) {
+    bool are_gone = !file->named.has_place && pagelog_keepers_are_gone(file->named.keepers);
+    uint64_t now = pagelog_now();
+    if (!are_gone || *since == 0) *since = are_gone ? now : 0;
+    return are_gone && now - *since >= GONE_MS;
+}
+
+static enum pagelog_outcome move(struct pagelog_file *file, struct leaving leaving) {
+    struct pagelog_file_patience patience = pagelog_file_patience(file);
+    uint64_t gone = 0;
+    leave_if_full(file, &leaving);
     file->reason = NULL;
     file->named.is_sent_again = false;
     for (;;) {
-        enum pagelog_outcome outcome = try_to_move(file, is_over && file->named.place.generation == left);
+        bool is_over = leaving.is_over && file->named.place.generation == leaving.generation;
+        enum pagelog_outcome outcome = try_to_move(file, is_over);
         if (outcome == PAGELOG_DONE || !is_passing(file, outcome)) return outcome;
+        leave_if_full(file, &leaving);
+        if (are_keepers_gone(file, &gone))
+            return pagelog_file_fail(file, outcome, "no keeper answers: all connections are refused");
         pagelog_disconnect(file->log);
-        if (!pause_until(file, until, &ms))
-            return pagelog_file_fail(file, may_be_there(&file->named) ? PAGELOG_IN_DOUBT : cause,
-                                     "no generation could be used in time");
+        if (!pagelog_file_may_wait(file, &patience)) return give_up_move(file, &leaving);
     }
 }
 
 enum pagelog_outcome pagelog_move(struct pagelog_file *file, enum pagelog_outcome cause) {
-    return move(file, false, cause == PAGELOG_IN_DOUBT || cause == PAGELOG_AUDIT_FULL ? cause : PAGELOG_LOST);
+    bool is_kept = cause == PAGELOG_IN_DOUBT || cause == PAGELOG_AUDIT_FULL || cause == PAGELOG_NO_MEMORY;
+    return move(file, (struct leaving){.cause = is_kept ? cause : PAGELOG_LOST});
 }
 
 enum pagelog_outcome pagelog_arrive(struct pagelog_file *file) {
+    if (file->named.dropped) return pagelog_file_fail(file, PAGELOG_DENIED, file->named.dropped);
     return file->named.is_between ? pagelog_move(file, PAGELOG_LOST) : PAGELOG_DONE;
 }
 
@@ -387,5 +517,6 @@ enum pagelog_outcome pagelog_move_on(struct pagelog_file *file) {
     uint64_t left = file->named.place.generation;
     enum pagelog_outcome outcome = file->on_their_way > 0 ? pagelog_file_settle(file) : PAGELOG_DONE;
     bool is_left = outcome == PAGELOG_DONE && file->named.place.generation == left;
-    return is_left ? move(file, true, PAGELOG_LOST) : outcome;
+    struct leaving leaving = {.is_over = true, .generation = left, .cause = PAGELOG_LOST};
+    return is_left ? move(file, leaving) : outcome;
 }

@@ -80,8 +80,21 @@ void pagelog_hold_pulled(struct pagelog_file *file, uint64_t from, const struct 
 enum pagelog_outcome pagelog_end_append(struct pagelog_file *file, enum pagelog_outcome outcome);
 
 /* Goes on from what the keepers have said of a position: DONE, or as of a move. */
-enum pagelog_outcome pagelog_note_fate(struct pagelog_file *file, uint64_t generation,
+enum pagelog_outcome pagelog_note_fate(struct pagelog_file *file, const struct pagelog_place *place,
                                        const struct pagelog_fate *fate, uint64_t position);
+
+/* A run is lost, or the database with it: what was not durable of it is told as a loss, and sent again by
+ * nobody. Where the database is no more nothing goes on with the file. */
+enum pagelog_outcome pagelog_lose_run(struct pagelog_file *file, const struct pagelog_place *place,
+                                      enum pagelog_loss loss);
+
+/* Whether the last reply said that the table lists no such principal with this token, and that as a reason.
+ */
+bool pagelog_is_unknown_principal(const struct pagelog_file *file);
+enum pagelog_outcome pagelog_refuse_token(struct pagelog_file *file, const char *who, uint32_t id);
+
+/* The keepers have denied the place. */
+enum pagelog_outcome pagelog_take_denial(struct pagelog_file *file);
 
 /* Once a second, while something is not known to be durable: whether the generation goes on. A writer that
  * asks nobody would go on with the service of a keeper which is cut off. DONE, or as of a move. */

@@ -8,8 +8,8 @@
  * the end. One that its keeper closes is waited for. */
 enum { MOST_MOVES = 16 };
 
-static bool may_try(struct pagelog_file *file, unsigned moves, uint64_t until) {
-    return moves < MOST_MOVES || (file->named.is_closing && pagelog_file_may_wait(file, until));
+static bool may_try(struct pagelog_file *file, unsigned moves, struct pagelog_file_patience *patience) {
+    return moves < MOST_MOVES || (file->named.is_closing && pagelog_file_may_wait(file, patience));
 }
 
 /* Blocks that are pulled when a file opens, so that their loss is not this file's too. */
@@ -58,9 +58,9 @@ static enum pagelog_outcome take_newest(struct pagelog_file *file) {
 static enum pagelog_outcome ask_wherever(struct pagelog_file *file, enum pagelog_outcome outcome,
                                          enum pagelog_outcome (*call)(struct pagelog_file *file)) {
     if (outcome == PAGELOG_DONE) return outcome;
-    uint64_t until = pagelog_file_patience(file);
-    for (unsigned moves = 0; !file->reason && pagelog_may_move(file, outcome) && may_try(file, moves, until);
-         moves++) {
+    struct pagelog_file_patience patience = pagelog_file_patience(file);
+    for (unsigned moves = 0;
+         !file->reason && pagelog_may_move(file, outcome) && may_try(file, moves, &patience); moves++) {
         outcome = pagelog_move(file, outcome);
         if (outcome != PAGELOG_DONE) return outcome;
         outcome = file->named.is_gone ? take_newest(file) : call(file);
@@ -118,8 +118,8 @@ enum pagelog_outcome pagelog_fetch_wherever(struct pagelog_file *file, uint64_t 
     if (file->named.is_gone && !was_gone) return pagelog_refuse_gone(file);
     outcome = pagelog_fetch_here(file, lsn_of(file, position), pages, count, out);
     if (outcome == PAGELOG_DONE) return outcome;
-    uint64_t until = pagelog_file_patience(file);
-    for (unsigned moves = 0; pagelog_may_move(file, outcome) && may_try(file, moves, until); moves++) {
+    struct pagelog_file_patience patience = pagelog_file_patience(file);
+    for (unsigned moves = 0; pagelog_may_move(file, outcome) && may_try(file, moves, &patience); moves++) {
         outcome = pagelog_move(file, outcome);
         if (outcome != PAGELOG_DONE) return outcome;
         if (file->named.is_gone) return was_gone ? PAGELOG_LOST : pagelog_refuse_gone(file);
@@ -168,8 +168,11 @@ static enum pagelog_outcome become_writer(struct pagelog_file *file) {
     uint64_t asked = pagelog_now();
     enum pagelog_outcome outcome = pagelog_status(file->log, PAGELOG_SECONDARY, &status);
     if (outcome == PAGELOG_DONE) outcome = compare_newest(file, PAGELOG_SECONDARY, status.hard);
+    bool is_let_in = outcome == PAGELOG_DONE;
     if (outcome == PAGELOG_DONE)
         outcome = pagelog_take_over(file->log, options->operator_principal, options->operator_token, 0);
+    if (is_let_in && outcome == PAGELOG_DENIED && pagelog_is_unknown_principal(file))
+        return pagelog_refuse_token(file, "operator", options->operator_principal);
     if (outcome == PAGELOG_DONE) outcome = compare_newest(file, PAGELOG_PRIMARY, pagelog_end(file->log));
     if (outcome != PAGELOG_DONE) return outcome;
     file->is_fenced = file->is_broken = false;
@@ -211,9 +214,9 @@ enum pagelog_outcome pagelog_file_reserve(struct pagelog_file *file) {
         return PAGELOG_FENCED;
     if (is_writer(file)) return PAGELOG_DONE;
     outcome = become_writer(file);
-    uint64_t until = pagelog_file_patience(file);
-    for (unsigned moves = 0; !file->reason && pagelog_may_move(file, outcome) && may_try(file, moves, until);
-         moves++) {
+    struct pagelog_file_patience patience = pagelog_file_patience(file);
+    for (unsigned moves = 0;
+         !file->reason && pagelog_may_move(file, outcome) && may_try(file, moves, &patience); moves++) {
         outcome = pagelog_move(file, outcome);
         if (outcome != PAGELOG_DONE) return outcome;
         if (file->named.is_gone) return pagelog_refuse_gone(file);

@@ -22,7 +22,16 @@ enum {
     SOON_MS = 200,     /* and once one has said that it is nowhere */
     SILENCE_MS = 3000, /* for what becomes durable; then another may know more */
     SLICE_MS = 10,
-    MOST_WORDS = 10,
+    MOST_WORDS = 64, /* also those of keys that are not known */
+    WHERE_BYTES = PAGELOG_PLACE_BYTES + 16,
+    LINE_BYTES = PAGELOG_PLACE_BYTES + PAGELOG_IDENTITY_BYTES + PAGELOG_RUN_BYTES + 80, /* of a question */
+};
+
+/* What the keepers have answered to a question for the place. */
+struct told {
+    size_t answers, unknown, old; /* how many; that have no database of the name; that are of version 1 */
+    bool is_found, is_other;      /* a place of this database, of another one of its name */
+    uint64_t until;               /* when no more answers are waited for */
 };
 
 struct pagelog_keepers {
@@ -31,6 +40,12 @@ struct pagelog_keepers {
     struct pagelog_line
         keepers[PAGELOG_MOST_KEEPERS + 1]; /* the last one: of the lines that a place has named */
     size_t count;
+    struct pagelog_place own; /* of the database that was opened */
+    bool has_own;
+    const char *reason; /* why the last question for the place was denied */
+    struct told told;   /* of the question that nobody waits for; and the place that it has found */
+    struct pagelog_place found;
+    bool are_gone; /* it was refused by all of them, and none was silent */
 };
 
 static bool set_addresses(struct pagelog_keepers *keepers, const char *addresses) {
@@ -81,28 +96,45 @@ bool pagelog_keepers_wait_on(struct pagelog_keepers *keepers) {
     return pagelog_waits_on(&keepers->waiter);
 }
 
+void pagelog_keepers_are_of(struct pagelog_keepers *keepers, const struct pagelog_place *place) {
+    keepers->own = *place;
+    keepers->has_own = true;
+}
+
+const char *pagelog_keepers_name(const struct pagelog_keepers *keepers) {
+    return keepers->name;
+}
+
+const char *pagelog_keepers_reason(const struct pagelog_keepers *keepers) {
+    return keepers->reason;
+}
+
+bool pagelog_keepers_are_gone(const struct pagelog_keepers *keepers) {
+    return keepers->are_gone;
+}
+
 /* ---- A question ---- */
 
-/* One round of a poll: those that are asked send and read. False where nobody is asked, or the wait is over.
- */
-static bool wait_once(struct pagelog_keepers *keepers, const char *line, uint64_t deadline) {
+/* One round of a poll, of so many milliseconds at most: those that are asked send and read. Returns how many
+ * had something to do; -1 where nobody is asked. */
+static int poll_once(struct pagelog_keepers *keepers, const char *line, uint64_t ms) {
     struct pollfd polled[PAGELOG_MOST_KEEPERS + 1];
     struct pagelog_line *of[PAGELOG_MOST_KEEPERS + 1];
     size_t count = 0, length = strlen(line);
     uint64_t now = pagelog_now();
     for (size_t i = 0; i <= PAGELOG_MOST_KEEPERS; i++) {
         struct pagelog_line *keeper = &keepers->keepers[i];
-        if (keeper->is_asked && pagelog_line_ends(keeper, UINT64_MAX) <= now) pagelog_line_lose(keeper);
+        if (keeper->is_asked && pagelog_line_ends(keeper, UINT64_MAX) <= now) {
+            keeper->is_silent = true;
+            pagelog_line_lose(keeper);
+        }
         if (!keeper->is_asked) continue;
         bool has_more = keeper->is_connecting || keeper->sent < length;
         polled[count] = (struct pollfd){.fd = keeper->socket, .events = has_more ? POLLOUT : POLLIN};
         of[count++] = keeper;
     }
-    if (count == 0 || now >= deadline || keepers->waiter.is_given_up) return false;
-    uint64_t left = deadline - now;
-    if (poll(polled, count, (int)(left < SLICE_MS ? left : SLICE_MS)) == 0)
-        return pagelog_waits_on(&keepers->waiter);
-    for (size_t i = 0; i < count; i++) {
+    int ready = count == 0 ? -1 : poll(polled, count, (int)ms);
+    for (size_t i = 0; i < count && ready > 0; i++) {
         bool is_good = true;
         if (polled[i].revents && of[i]->is_connecting | (of[i]->sent < length))
             is_good = pagelog_line_send(of[i], line, length);
@@ -110,19 +142,33 @@ static bool wait_once(struct pagelog_keepers *keepers, const char *line, uint64_
             is_good = pagelog_line_read(of[i]);
         if (!is_good) pagelog_line_lose(of[i]);
     }
-    return true;
+    return ready;
 }
 
-/* The next answer, and from whom; false once all have answered or are gone, or at the deadline. */
+/* A round that waits. False where nobody is asked, or the wait is over. */
+static bool wait_once(struct pagelog_keepers *keepers, const char *line, uint64_t deadline) {
+    uint64_t now = pagelog_now(), left = deadline - now;
+    if (now >= deadline || keepers->waiter.is_given_up) return false;
+    int ready = poll_once(keepers, line, left < SLICE_MS ? left : SLICE_MS);
+    return ready == 0 ? pagelog_waits_on(&keepers->waiter) : ready > 0;
+}
+
+/* Takes an answer that has come. */
+static bool take_next(struct pagelog_keepers *keepers, char answer[PAGELOG_LINE_BYTES]) {
+    for (size_t i = 0; i <= PAGELOG_MOST_KEEPERS; i++) {
+        struct pagelog_line *keeper = &keepers->keepers[i];
+        if (!keeper->is_asked || !pagelog_line_take(keeper, answer)) continue;
+        keeper->is_asked = false;
+        return true;
+    }
+    return false;
+}
+
+/* The next answer; false once all have answered or are gone, or at the deadline. */
 static bool next_answer(struct pagelog_keepers *keepers, const char *line, uint64_t deadline,
                         char answer[PAGELOG_LINE_BYTES]) {
     do {
-        for (size_t i = 0; i <= PAGELOG_MOST_KEEPERS; i++) {
-            struct pagelog_line *keeper = &keepers->keepers[i];
-            if (!keeper->is_asked || !pagelog_line_take(keeper, answer)) continue;
-            keeper->is_asked = false;
-            return true;
-        }
+        if (take_next(keepers, answer)) return true;
     } while (wait_once(keepers, line, deadline));
     return false;
 }
@@ -173,9 +219,29 @@ static bool copy_word(char *to, size_t room, const char *word) {
     return true;
 }
 
-/* at NAME GENERATION RUN ADDRESS ARCHIVED LINES BASE SHIFT .. */
+/* The value of a key, of the words behind those that have their place; NULL where it is not there. One that
+ * is not known is passed over. */
+static const char *value_of(char **words, size_t count, const char *key) {
+    size_t length = strlen(key);
+    for (size_t i = 0; i < count; i++)
+        if (strncmp(words[i], key, length) == 0 && words[i][length] == '=') return words[i] + length + 1;
+    return NULL;
+}
+
+/* of=DATABASE/RUN; a keeper of version 1 says none. */
+static bool read_identity(const char *of, char database[PAGELOG_IDENTITY_BYTES]) {
+    size_t length = of ? strcspn(of, "/") : 0;
+    if (length >= PAGELOG_IDENTITY_BYTES) return false;
+    snprintf(database, PAGELOG_IDENTITY_BYTES, "%.*s", (int)length, of ? of : "");
+    return true;
+}
+
+/* at NAME GENERATION RUN ADDRESS ARCHIVED LINES BASE SHIFT .. of=DATABASE/RUN */
 static bool read_place(char **words, size_t count, struct pagelog_place *place) {
-    return count >= 9 && strcmp(words[0], "at") == 0 && read_number(words[2], &place->generation) &&
+    const char *ancestor = value_of(words, count, "ancestor");
+    snprintf(place->ancestor, sizeof place->ancestor, "%s", ancestor ? ancestor : "");
+    return count >= 9 && read_identity(value_of(words, count, "of"), place->database) &&
+           strcmp(words[0], "at") == 0 && read_number(words[2], &place->generation) &&
            copy_word(place->run, sizeof place->run, words[3]) &&
            copy_word(place->address, sizeof place->address, words[4]) &&
            read_number(words[5], &place->archived) &&
@@ -190,37 +256,123 @@ static bool is_newer(const struct pagelog_place *told, const struct pagelog_plac
     return told->archived > place->archived;
 }
 
-enum pagelog_outcome pagelog_where(struct pagelog_keepers *keepers, uint64_t least,
-                                   struct pagelog_place *place) {
-    char line[PAGELOG_PLACE_BYTES + 16], answer[PAGELOG_LINE_BYTES], *words[MOST_WORDS];
-    uint64_t deadline = pagelog_after(ANSWER_MS);
-    bool is_found = false, is_unknown = false, is_known = false;
-    snprintf(line, sizeof line, "where %s\n", keepers->name);
+static bool is_own(const struct pagelog_keepers *keepers, const struct pagelog_place *place) {
+    return !keepers->has_own || strcmp(keepers->own.database, place->database) == 0;
+}
+
+/* Takes an answer. Returns whether it says where the database is. */
+static bool take_answer(const struct pagelog_keepers *keepers, char *answer, uint64_t least,
+                        struct told *told, struct pagelog_place *place) {
+    char *words[MOST_WORDS];
+    struct pagelog_place found;
+    size_t count = split(answer, words);
+    bool is_place = read_place(words, count, &found);
+    told->answers++;
+    told->unknown += count > 0 && strcmp(words[0], "unknown") == 0;
+    told->old += is_place && !*found.database;
+    if (!is_place || !*found.database) return false;
+    if (!is_own(keepers, &found)) told->is_other = true;
+    if (!is_own(keepers, &found) || found.generation < least) return false;
+    if (!told->is_found || is_newer(&found, place)) *place = found;
+    return told->is_found = true;
+}
+
+static enum pagelog_outcome ask_own(struct pagelog_keepers *keepers);
+
+/* What is to be said where no keeper has told a place of this database. */
+static enum pagelog_outcome refuse_place(struct pagelog_keepers *keepers, const struct told *told) {
+    bool is_unknown = told->unknown > 0 && told->unknown == told->answers;
+    if (keepers->has_own && (is_unknown || told->is_other) && ask_own(keepers) == PAGELOG_DENIED)
+        return PAGELOG_DENIED;
+    if (told->old < keepers->count) return is_unknown ? PAGELOG_DENIED : PAGELOG_LOST;
+    keepers->reason = "all keepers are of version 1: they are upgraded before their clients";
+    return PAGELOG_DENIED;
+}
+
+/* Begins a question for the place. */
+static struct told ask_where(struct pagelog_keepers *keepers, char line[WHERE_BYTES]) {
+    snprintf(line, WHERE_BYTES, "where %s\n", keepers->name);
     for (size_t i = 0; i < keepers->count; i++)
         pagelog_line_ask(&keepers->keepers[i]);
-    while (next_answer(keepers, line, deadline, answer)) {
-        struct pagelog_place told;
-        size_t count = split(answer, words);
-        bool is_unknown_here = count > 0 && strcmp(words[0], "unknown") == 0;
-        is_unknown |= is_unknown_here;
-        is_known |= !is_unknown_here;
-        bool is_here = read_place(words, count, &told) && told.generation >= least;
-        uint64_t soon = pagelog_after(is_here ? LATER_MS : SOON_MS);
-        if (!is_unknown_here && soon < deadline) deadline = soon;
-        if (!is_here) continue;
-        if (!is_found || is_newer(&told, place)) *place = told;
-        is_found = true;
-    }
+    return (struct told){.until = pagelog_after(ANSWER_MS)};
+}
+
+/* Takes an answer to it: for others it is not waited for long, once one has said something. */
+static void take_where(const struct pagelog_keepers *keepers, char *answer, uint64_t least, struct told *told,
+                       struct pagelog_place *place) {
+    size_t unknown = told->unknown;
+    bool is_here = take_answer(keepers, answer, least, told, place);
+    uint64_t soon = pagelog_after(is_here ? LATER_MS : SOON_MS);
+    if (told->unknown == unknown && soon < told->until) told->until = soon;
+}
+
+/* Whether none of those that were asked may still answer. */
+static bool none_is_silent(const struct pagelog_keepers *keepers) {
+    for (size_t i = 0; i < keepers->count; i++)
+        if (keepers->keepers[i].is_asked || keepers->keepers[i].is_silent) return false;
+    return true;
+}
+
+enum pagelog_outcome pagelog_where(struct pagelog_keepers *keepers, uint64_t least,
+                                   struct pagelog_place *place) {
+    char line[WHERE_BYTES], answer[PAGELOG_LINE_BYTES];
+    keepers->reason = NULL;
+    struct told told = ask_where(keepers, line);
+    while (next_answer(keepers, line, told.until, answer))
+        take_where(keepers, answer, least, &told, place);
+    keepers->are_gone = told.answers == 0 && none_is_silent(keepers);
     stop_asking(keepers, line, true);
-    if (is_found) return PAGELOG_DONE;
-    return is_unknown && !is_known ? PAGELOG_DENIED : PAGELOG_LOST;
+    return told.is_found ? PAGELOG_DONE : refuse_place(keepers, &told);
+}
+
+/* ---- A question that nobody waits for ---- */
+
+void pagelog_where_begin(struct pagelog_keepers *keepers) {
+    char line[WHERE_BYTES];
+    snprintf(line, sizeof line, "where %s\n", keepers->name);
+    stop_asking(keepers, line, true); /* one that nobody has heard the end of: its answers are old */
+    keepers->told = ask_where(keepers, line);
+}
+
+bool pagelog_where_take(struct pagelog_keepers *keepers, uint64_t ms, struct pagelog_told *said) {
+    char line[WHERE_BYTES], answer[PAGELOG_LINE_BYTES];
+    struct told *told = &keepers->told;
+    uint64_t until = pagelog_after(ms);
+    int ready = 1;
+    snprintf(line, sizeof line, "where %s\n", keepers->name);
+    while (ready > 0 || (ready == 0 && ms > 0 && pagelog_now() < until && pagelog_now() < told->until)) {
+        while (take_next(keepers, answer))
+            take_where(keepers, answer, 0, told, &keepers->found);
+        ready = poll_once(keepers, line, ms > 0 ? 1 : 0);
+    }
+    *said = (struct pagelog_told){
+        .generation = told->is_found ? keepers->found.generation : 0,
+        .is_doubtful = !told->is_found && (told->unknown > 0 || told->is_other),
+    };
+    if (ready >= 0 && pagelog_now() < told->until) return false;
+    stop_asking(keepers, line, true);
+    return true;
 }
 
 /* durable NAME GENERATION M, or over NAME GENERATION END */
-static bool read_fate(char **words, size_t count, uint64_t position, struct pagelog_fate *fate) {
-    if (count != 4 || !read_number(words[3], &fate->end)) return false;
+static bool read_end(char **words, size_t count, uint64_t position, struct pagelog_fate *fate) {
+    if (count < 4 || !read_number(words[3], &fate->end)) return false;
     fate->is_over = strcmp(words[0], "over") == 0;
     return fate->is_over || (strcmp(words[0], "durable") == 0 && fate->end >= position);
+}
+
+/* The same of this very run, or lost NAME GENERATION WHY by=N */
+static bool read_fate(char **words, size_t count, uint64_t position, const char *of,
+                      struct pagelog_fate *fate) {
+    const char *told = value_of(words, count, "of");
+    *fate = (struct pagelog_fate){0};
+    if (!told || strcmp(told, of) != 0) return false;
+    if (count < 4 || strcmp(words[0], "lost") != 0) return read_end(words, count, position, fate);
+    fate->is_over = true;
+    fate->loss = strcmp(words[3], "dropped") == 0   ? PAGELOG_DROPPED
+                 : strcmp(words[3], "another") == 0 ? PAGELOG_ANOTHER
+                                                    : PAGELOG_SUPERSEDED;
+    return true;
 }
 
 /* The keeper of these lines, which is given a place of its own where it is none of those that were named. */
@@ -237,30 +389,84 @@ static struct pagelog_line *find_keeper(struct pagelog_keepers *keepers, const c
     return other;
 }
 
-/* Asks one keeper. A `durable` that is not answered would be mixed with later answers: the connection is
- * left. */
-static bool ask_fate(struct pagelog_keepers *keepers, struct pagelog_line *keeper, const char *line,
-                     uint64_t position, struct pagelog_fate *fate) {
-    char answer[PAGELOG_LINE_BYTES], *words[MOST_WORDS];
+/* The answer of one keeper. One that does not come would be mixed with later ones: the connection is left. */
+static size_t ask_one(struct pagelog_keepers *keepers, struct pagelog_line *keeper, const char *line,
+                      uint64_t ms, char answer[PAGELOG_LINE_BYTES], char *words[MOST_WORDS]) {
     pagelog_line_ask(keeper);
-    bool is_told = next_answer(keepers, line, pagelog_after(SILENCE_MS), answer) &&
-                   read_fate(words, split(answer, words), position, fate);
+    size_t count = next_answer(keepers, line, pagelog_after(ms), answer) ? split(answer, words) : 0;
     stop_asking(keepers, line, false);
-    return is_told;
+    return count;
 }
 
-enum pagelog_outcome pagelog_fate_of(struct pagelog_keepers *keepers, const char *lines, uint64_t generation,
-                                     uint64_t position, struct pagelog_fate *fate) {
-    char line[PAGELOG_PLACE_BYTES + 64];
+/* A keeper of version 1 knows numbers alone: what it says is of this run if it has this run now. Of a
+ * generation that is over it may be of another run, or of another database. */
+static bool ask_older(struct pagelog_keepers *keepers, struct pagelog_line *keeper,
+                      const struct pagelog_place *place, uint64_t position, struct pagelog_fate *fate) {
+    char line[LINE_BYTES], answer[PAGELOG_LINE_BYTES], *words[MOST_WORDS];
+    struct pagelog_place now;
+    snprintf(line, sizeof line, "durable %s %llu %llu\n", keepers->name,
+             (unsigned long long)place->generation, (unsigned long long)position);
+    size_t count = ask_one(keepers, keeper, line, SILENCE_MS, answer, words);
+    *fate = (struct pagelog_fate){0};
+    if (!read_end(words, count, position, fate) || fate->is_over) return false;
+    snprintf(line, sizeof line, "where %s\n", keepers->name);
+    count = ask_one(keepers, keeper, line, SILENCE_MS, answer, words);
+    return read_place(words, count, &now) && now.generation == place->generation &&
+           strcmp(now.run, place->run) == 0;
+}
+
+/* Asks one keeper. */
+static bool ask_fate(struct pagelog_keepers *keepers, struct pagelog_line *keeper,
+                     const struct pagelog_place *place, uint64_t position, uint64_t ms,
+                     struct pagelog_fate *fate) {
+    char line[LINE_BYTES], of[PAGELOG_IDENTITY_BYTES + PAGELOG_RUN_BYTES], answer[PAGELOG_LINE_BYTES];
+    char *words[MOST_WORDS];
+    snprintf(of, sizeof of, "%s/%s", place->database, place->run);
+    snprintf(line, sizeof line, "durable %s %llu %llu of=%s\n", keepers->name,
+             (unsigned long long)place->generation, (unsigned long long)position, of);
+    size_t count = keeper->version == 1 ? 0 : ask_one(keepers, keeper, line, ms, answer, words);
+    if (keeper->version == 1) return ask_older(keepers, keeper, place, position, fate);
+    return read_fate(words, count, position, of, fate);
+}
+
+enum pagelog_outcome pagelog_fate_of(struct pagelog_keepers *keepers, const char *lines,
+                                     const struct pagelog_place *place, uint64_t position,
+                                     struct pagelog_fate *fate) {
     struct pagelog_line *first = find_keeper(keepers, lines);
-    snprintf(line, sizeof line, "durable %s %llu %llu\n", keepers->name, (unsigned long long)generation,
-             (unsigned long long)position);
-    if (first && ask_fate(keepers, first, line, position, fate)) return PAGELOG_DONE;
+    if (first && ask_fate(keepers, first, place, position, SILENCE_MS, fate)) return PAGELOG_DONE;
     for (size_t i = 0; i < keepers->count; i++) {
         struct pagelog_line *keeper = &keepers->keepers[i];
-        if (keeper != first && ask_fate(keepers, keeper, line, position, fate)) return PAGELOG_DONE;
+        if (keeper != first && ask_fate(keepers, keeper, place, position, SILENCE_MS, fate))
+            return PAGELOG_DONE;
     }
     return PAGELOG_LOST;
+}
+
+enum pagelog_outcome pagelog_fate_at_once(struct pagelog_keepers *keepers, const struct pagelog_place *place,
+                                          uint64_t position, uint64_t ms, struct pagelog_fate *fate) {
+    struct pagelog_line *holder = find_keeper(keepers, place->lines);
+    return holder && ask_fate(keepers, holder, place, position, ms, fate) ? PAGELOG_DONE : PAGELOG_LOST;
+}
+
+/* Nothing answers `full` itself: the answer that is waited for is that of the line after it. */
+void pagelog_keepers_tell_full(struct pagelog_keepers *keepers, const struct pagelog_place *place) {
+    char line[2 * LINE_BYTES], answer[PAGELOG_LINE_BYTES], *words[MOST_WORDS];
+    struct pagelog_line *keeper = find_keeper(keepers, place->lines);
+    if (!keeper || keeper->version == 1) return;
+    snprintf(line, sizeof line, "full %s %llu of=%s/%s\nwhere %s\n", keepers->name,
+             (unsigned long long)place->generation, place->database, place->run, keepers->name);
+    size_t count = ask_one(keepers, keeper, line, SILENCE_MS, answer, words);
+    if (count > 0 && strcmp(words[0], "what") == 0) pagelog_line_leave(keeper); /* it answers both */
+}
+
+/* Keepers have another database of the name, or none. DENIED: one says that this is so for good; a keeper
+ * that is cut off may only know less. */
+static enum pagelog_outcome ask_own(struct pagelog_keepers *keepers) {
+    struct pagelog_fate fate = {0};
+    if (pagelog_fate_of(keepers, NULL, &keepers->own, 0, &fate) != PAGELOG_DONE) return PAGELOG_LOST;
+    if (fate.loss == PAGELOG_DROPPED) keepers->reason = "the database was dropped";
+    if (fate.loss == PAGELOG_ANOTHER) keepers->reason = "the keepers have another database of this name";
+    return keepers->reason ? PAGELOG_DENIED : PAGELOG_LOST;
 }
 
 /* ---- What a place is for ---- */

@@ -16,8 +16,9 @@
 #include "pagelog.h"
 
 enum {
-    PAGELOG_PLACE_BYTES = 256, /* of an address, with the 0 at its end */
-    PAGELOG_RUN_BYTES = 80,    /* of the name of a run, with the 0 at its end */
+    PAGELOG_PLACE_BYTES = 256,   /* of an address, with the 0 at its end */
+    PAGELOG_RUN_BYTES = 80,      /* of the name of a run, with the 0 at its end */
+    PAGELOG_IDENTITY_BYTES = 40, /* of what no other database ever has, with the 0 at its end */
     PAGELOG_MOST_KEEPERS = 16,
 };
 
@@ -27,6 +28,8 @@ enum {
 /* Where a generation is served. */
 struct pagelog_place {
     uint64_t generation;
+    char database[PAGELOG_IDENTITY_BYTES]; /* also another one of the same name has another */
+    char ancestor[PAGELOG_PLACE_BYTES];    /* of a copy the name of the database that it is of; else empty */
     char run[PAGELOG_RUN_BYTES];
     char address[PAGELOG_PLACE_BYTES]; /* of the service */
     char lines[PAGELOG_PLACE_BYTES];   /* of the keeper that has it */
@@ -35,11 +38,21 @@ struct pagelog_place {
     int64_t shift;
 };
 
+/* Why a run is lost. */
+enum pagelog_loss {
+    PAGELOG_NOT_LOST = 0,
+    PAGELOG_DROPPED,    /* the database was dropped */
+    PAGELOG_ANOTHER,    /* the keepers have another database of its name */
+    PAGELOG_SUPERSEDED, /* PostgreSQL went back, and another run has gone on without this one */
+};
+
 /* How far a generation is durable. Where it is over, nothing above `end` will ever be; and all up to it is in
- * every later generation, at the same positions. Both are final. */
+ * every later generation, at the same positions. A run that is lost is in no later one, and of none of its
+ * blocks it is known whether they are. All of it is final. */
 struct pagelog_fate {
     uint64_t end;
     bool is_over;
+    enum pagelog_loss loss;
 };
 
 struct pagelog_keepers;
@@ -59,18 +72,54 @@ bool pagelog_keepers_wait_on(struct pagelog_keepers *keepers);
 /* For a child of fork(): closes the descriptors there, and nothing else. */
 void pagelog_keepers_abandon(struct pagelog_keepers *keepers);
 
+/* Whoever uses these is a client of the database of this place from now on, in its run: of another one no
+ * place is taken. */
+void pagelog_keepers_are_of(struct pagelog_keepers *keepers, const struct pagelog_place *place);
+
+/* The name of the database. */
+const char *pagelog_keepers_name(const struct pagelog_keepers *keepers);
+
+/* Why pagelog_where was DENIED; NULL where no keeper has the name. */
+const char *pagelog_keepers_reason(const struct pagelog_keepers *keepers);
+
+/* Whether the last pagelog_where was refused by all keepers: none of them listens. */
+bool pagelog_keepers_are_gone(const struct pagelog_keepers *keepers);
+
 /* The place of the highest generation that a keeper knows of, where that is `least` or above, as who knows
  * most of its archive says, of those that answer soon after the first. LOST: nobody serves it now, no keeper
- * answers, or those that do know of lower ones alone. DENIED: all that answer have no database of this name.
+ * answers, or those that do know of lower ones alone. DENIED: all that answer have no database of this name,
+ * or the one that it was was dropped, or all keepers are of version 1, which cannot say which one they have.
  */
 enum pagelog_outcome pagelog_where(struct pagelog_keepers *keepers, uint64_t least,
                                    struct pagelog_place *place);
 
-/* What has become of a position of a generation, once that is durable or the generation is over. `lines` are
- * those of the keeper that has it, which is asked first. LOST: none has said it within some seconds; it may
- * be asked again, of who has the database by then. */
-enum pagelog_outcome pagelog_fate_of(struct pagelog_keepers *keepers, const char *lines, uint64_t generation,
-                                     uint64_t position, struct pagelog_fate *fate);
+/* What keepers have said of the holder's run so far: the highest generation, 0 where none has said one; and
+ * whether some know of no such database, or of another of its name. */
+struct pagelog_told {
+    uint64_t generation;
+    bool is_doubtful;
+};
+
+/* As pagelog_where, for who has other work. Begins a question, in place of one that has not come to its end.
+ */
+void pagelog_where_begin(struct pagelog_keepers *keepers);
+
+/* Takes the answers that have come, and waits for more `ms` at most. True once no more come. */
+bool pagelog_where_take(struct pagelog_keepers *keepers, uint64_t ms, struct pagelog_told *told);
+
+/* What has become of a position of the run of a place, once that is durable or the run is over or lost.
+ * `lines` are those of who is asked first, or NULL. LOST: none has said it within some seconds; it may be
+ * asked again, of who has the database by then. */
+enum pagelog_outcome pagelog_fate_of(struct pagelog_keepers *keepers, const char *lines,
+                                     const struct pagelog_place *place, uint64_t position,
+                                     struct pagelog_fate *fate);
+
+/* The same, as the holder's keeper alone says within so many milliseconds. */
+enum pagelog_outcome pagelog_fate_at_once(struct pagelog_keepers *keepers, const struct pagelog_place *place,
+                                          uint64_t position, uint64_t ms, struct pagelog_fate *fate);
+
+/* Tells the keeper of a place that its service had no memory: it begins the next generation, if it may. */
+void pagelog_keepers_tell_full(struct pagelog_keepers *keepers, const struct pagelog_place *place);
 
 /* The token that stands for `token` in a run of the database. */
 void pagelog_token_of_run(const struct pagelog_keepers *keepers, const uint8_t token[PAGELOG_TOKEN_BYTES],

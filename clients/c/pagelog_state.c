@@ -55,6 +55,10 @@ uint64_t pagelog_file_generation(const struct pagelog_file *file) {
     return file->named.place.generation;
 }
 
+const struct pagelog_place *pagelog_file_place(const struct pagelog_file *file) {
+    return file->named.has_place ? &file->named.place : NULL;
+}
+
 uint64_t pagelog_file_lsn(const struct pagelog_file *file) {
     return file->mark.lsn;
 }
@@ -83,6 +87,7 @@ struct pagelog_file_state pagelog_file_state_of(const struct pagelog_file *file)
         .is_over = file->is_over,
         .is_named = is_named(file),
         .is_gone = file->named.is_gone,
+        .is_dropped = file->named.dropped != NULL,
         .generation = file->named.place.generation,
         .position = file->mark.lsn > 0 ? position_of(file, file->mark.lsn) : 0,
         .durable = file->named.durable,
@@ -110,9 +115,22 @@ struct pagelog_file_state pagelog_file_state_of(const struct pagelog_file *file)
     };
 }
 
+/* What a denial by the table means. */
+static const char *sentence_of(const struct pagelog_reply *refused) {
+    if (refused->kind != PAGELOG_REPLY_DENIED) return "";
+    if (refused->section == 1 && refused->row == 1)
+        return ": the table does not list this principal with this token";
+    if (refused->section != 2) return "";
+    return refused->row == 0 ? ": no row of the table matches"
+                             : ": this row of the table is the first that matches, and it denies";
+}
+
 void pagelog_file_explain(const struct pagelog_file *file, char *text, size_t room) {
-    if (file->reason)
+    if (file->reason) {
         snprintf(text, room, "%s: %s", pagelog_outcome_name(file->failed), file->reason);
-    else
-        pagelog_explain(file->log, text, room);
+        return;
+    }
+    pagelog_explain(file->log, text, room);
+    size_t length = strlen(text);
+    snprintf(text + length, room - length, "%s", sentence_of(pagelog_refused(file->log)));
 }

@@ -13,15 +13,21 @@ struct pagelog_turn {
     struct pagelog_line line;
     char name[PAGELOG_PLACE_BYTES], lines[PAGELOG_PLACE_BYTES]; /* of the database; of the keeper */
     uint64_t generation;                                        /* in which it is asked for */
+    char of[PAGELOG_IDENTITY_BYTES + PAGELOG_RUN_BYTES];        /* the database and the run */
     uint64_t looked; /* when what the keeper has said was read last */
     bool is_asked;   /* no answer has come yet */
+    bool is_soon; /* it was asked for `now`, and another keeps it, who may not use it: the answer is not known
+                     yet */
     bool is_held;
-    bool is_mine;     /* it was held when its line or its generation ended: whoever had it comes first */
-    bool is_same;     /* the turn before was this one's too: nobody has written since */
-    bool is_kept;     /* it may be used again */
-    bool is_wanted;   /* another waits for the turn that is kept */
-    uint64_t shunned; /* until when a keeper that has not answered is left alone */
-    uint64_t patient; /* until when another keeper may have it, since it was lost here; 0: it was not */
+    bool is_used;       /* it was asked for, and not given back since */
+    bool is_mine;       /* it was held when its line or its generation ended: whoever had it comes first */
+    bool is_same;       /* the turn before was this one's too: nobody has written since */
+    bool is_kept;       /* it may be used again */
+    bool is_wanted;     /* another waits for it */
+    bool is_unheard;    /* that was said, and is not answered yet */
+    bool has_heartbeat; /* it is answered at any time, by pagelog_turn_heartbeat */
+    uint64_t shunned;   /* until when a keeper that has not answered is left alone */
+    uint64_t patient;   /* until when another keeper may have it, since it was lost here; 0: it was not */
 };
 
 /* A turn that was not asked for yet. */
@@ -30,11 +36,10 @@ void pagelog_turn_begin(struct pagelog_turn *turn, const char *name);
 /* For the end of it, and for a child of fork(): closes the connection. */
 void pagelog_turn_leave(struct pagelog_turn *turn);
 
-/* Asks the keeper of these lines. DONE: the turn is held, as one that was kept is. CONFLICT: another has it;
- * this one waits in the queue, unless it was to be `now`. LOST: nobody answers, or that keeper has not the
- * database. */
-enum pagelog_outcome pagelog_turn_ask(struct pagelog_turn *turn, const char *lines, uint64_t generation,
-                                      bool now);
+/* Asks the keeper of this place. DONE: the turn is held, as one that was kept is. CONFLICT: another has it;
+ * this one waits in the queue, unless it was to be `now` and is not `is_soon`. LOST: nobody answers, or that
+ * keeper has not the database. */
+enum pagelog_outcome pagelog_turn_ask(struct pagelog_turn *turn, const struct pagelog_place *place, bool now);
 
 /* What has come of it since, without waiting: as above. */
 enum pagelog_outcome pagelog_turn_look(struct pagelog_turn *turn);
@@ -43,7 +48,10 @@ enum pagelog_outcome pagelog_turn_look(struct pagelog_turn *turn);
  * nobody else has. */
 bool pagelog_turn_may_come(const struct pagelog_turn *turn);
 
-/* Says that a turn which is kept is in use, if it was wanted back: then it is waited for. */
+/* Answers a keeper that wants back a turn which is held: it is in use, or given back. */
+void pagelog_turn_heartbeat(struct pagelog_turn *turn);
+
+/* As that, of a turn which is kept, unless it was looked after a moment ago. */
 void pagelog_turn_hold(struct pagelog_turn *turn);
 
 /* Gives it back, or waits for it no more. One that is kept stays, unless it is wanted. */

@@ -8,8 +8,8 @@
  * NAME is kept in the database by the first commit of a writer, and from then on it is opened by that name
  * alone. A parameter that is none of those below, nor SQLite's, is an error.
  *
- * Parameters of the URI; those that it lacks are looked for in the file that `credentials` names, a line
- * "NAME VALUE" for each, and then in the environment, as PAGELOG_TOKEN:
+ * Parameters of the URI; those that it lacks are looked for in the file that `credentials` names, which its
+ * owner alone may read, a line "NAME VALUE" for each, and then in the environment, as PAGELOG_TOKEN:
  *
  *   to=ADDRESS       the service, as 127.0.0.1:7400
  *   db=N             the number of the database; 0
@@ -35,6 +35,8 @@
  *                    replies came so soon; 50; 0: it sleeps at once, which costs less of a processor
  *   audit=N          how many entries the service's audit list may have; 16777216. A writer with `op`
  *                    warns in SQLite's log once nine tenths are there
+ *   errors=stderr    what goes wrong is written to standard error, too, as in SQLite's shell and with the
+ *                    preload; log: to SQLite's log alone
  *   async_commits=N  with synchronous=off up to N commits, 64 at most, may be on their way to the service
  *                    while nobody waits for them; 0
  *
@@ -70,17 +72,23 @@
  *                        Of a named database: the same of acknowledged commits that were not durable, told
  *                        once; with synchronous=full of a COMMIT that no keeper calls durable
  *   SQLITE_BUSY_SNAPSHOT of a named database: another writer has gone on; nothing of the transaction is there
- *   SQLITE_FULL          the service's memory is full; with the extended code 269 the audit list is
+ *   SQLITE_FULL          the service's memory is full, and of a named database no other has followed it in
+ *                        time; with the extended code 269 the audit list is
  *   SQLITE_PERM          the table denies it, or there is no such database
  *   SQLITE_PROTOCOL      another session writes in this epoch, or what answers is no such service; of a named
  *                        database: `at` is a position below the base of the generation
- *   SQLITE_NOTADB        page 0 of the database has something else
- *   SQLITE_MISUSE        the URI lacks a parameter, or has one that is unknown or cannot be read; a pragma
+ *   SQLITE_NOTADB        another client has written page 0 of the database; SQLite's log and the pragma below
+ *                        say from which `at` it can still be read
+ *   SQLITE_MISUSE        the URI lacks a parameter, or has one that is unknown or cannot be read, as the name
+ *                        of a plain file in ATTACH or VACUUM INTO, which is file:NAME?vfs=unix; a pragma
  *                        has a number out of its range; the connection was opened before a fork, and
  *                        this is a child
- *   SQLITE_CANTOPEN      of an open: nothing answers, or the database has another name; of a COMMIT to
- *                        several databases: one of them is a plain file with a journal, which a crash
- *                        would leave half written, and nothing is committed
+ *   SQLITE_CANTOPEN      of an open: nothing answers, or no keeper listens, or the database has another
+ *                        name; of a COMMIT to several databases: one of them is a plain file with a
+ *                        journal, which a crash would leave half written, and nothing is committed
+ *
+ * The message of an open that fails, as of sqlite3_errmsg, says why. Of a statement SQLite takes no message
+ * from a VFS: the pragma below says it, SQLite's log, and with `errors=stderr` standard error.
  *
  * A wait for the service that takes longer than a second asks the connection's busy handler, as of
  * busy_timeout, and ends once that says so. Without one it ends by `timeout` and `patience`.
@@ -117,15 +125,29 @@ enum { NAME_BYTES = 1024 };
 
 sqlite3_vfs *pagelog_real_vfs;
 
+/* Says which setting is wrong. A name alone is mostly that of a plain file, of ATTACH or VACUUM INTO. */
+static int refuse_setting(sqlite3_filename name, const char *wrong) {
+    bool is_shown = pagelog_reads_shown(name);
+    if (!sqlite3_uri_key(name, 0) && strcmp(wrong, "to") == 0)
+        pagelog_tell(SQLITE_MISUSE, is_shown,
+                     "%s has no setting `to` or `where`; a plain file is opened as file:%s?vfs=unix", name,
+                     name);
+    else
+        pagelog_tell(SQLITE_MISUSE, is_shown, "the setting %s is missing, unknown, or cannot be read", wrong);
+    return SQLITE_MISUSE;
+}
+
 static int open_database(sqlite3_filename name, struct connection *connection, int flags, int *out_flags) {
     struct pagelog_file_options options = {.reads_only = (flags & SQLITE_OPEN_READONLY) != 0};
     struct settings settings;
-    const char *wrong = pagelog_read_settings(name, &options, &settings);
-    if (wrong) {
-        sqlite3_log(SQLITE_MISUSE, "pagelog: the setting %s is missing, unknown, or cannot be read", wrong);
-        return SQLITE_MISUSE;
+    if (pagelog_has_shared_credentials(name)) {
+        const char *file = sqlite3_uri_parameter(name, "credentials");
+        pagelog_tell(SQLITE_PERM, pagelog_reads_shown(name), "others may read %s: chmod 600 %s", file, file);
+        return SQLITE_PERM;
     }
-    int code = pagelog_find_or_open(&options, settings.entries, &connection->database);
+    const char *wrong = pagelog_read_settings(name, &options, &settings);
+    if (wrong) return refuse_setting(name, wrong);
+    int code = pagelog_find_or_open(&options, &settings, &connection->database);
     if (code != SQLITE_OK) return code;
     pagelog_open_connection(connection, name);
     if (out_flags && options.reads_only)
@@ -137,7 +159,10 @@ static int vfs_open(sqlite3_vfs *vfs, sqlite3_filename name, sqlite3_file *file,
     (void)vfs;
     file->pMethods = NULL;
     if (out_flags) *out_flags = flags;
-    if (flags & SQLITE_OPEN_MAIN_DB) return open_database(name, (struct connection *)file, flags, out_flags);
+    if (flags & SQLITE_OPEN_MAIN_DB) {
+        pagelog_begin_open();
+        return pagelog_end_open(file, open_database(name, (struct connection *)file, flags, out_flags));
+    }
     if (flags & SQLITE_OPEN_WAL) return SQLITE_CANTOPEN;
     if (!(flags & (SQLITE_OPEN_MAIN_JOURNAL | SQLITE_OPEN_SUPER_JOURNAL)))
         return pagelog_real_vfs->xOpen(pagelog_real_vfs, name, file, flags, out_flags);

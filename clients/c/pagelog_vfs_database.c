@@ -2,7 +2,6 @@
  * outcome of a database's file is to SQLite. */
 #include "pagelog_vfs_inside.h"
 
-#include <pthread.h>
 #include <stdio.h>
 #include <string.h>
 
@@ -44,7 +43,8 @@ static int code_of(const struct pagelog_file *file, enum pagelog_outcome outcome
     return SQLITE_ERROR;
 }
 
-/* What the service has lost is not found by who opens the database from now on: its file is a new one. */
+/* What the service has lost, or was dropped, is not found by who opens the database from now on: its file is
+ * a new one. */
 static void unlist_database(struct database *database) {
     sqlite3_mutex_enter(list_mutex());
     struct database **at = &databases;
@@ -57,9 +57,10 @@ static void unlist_database(struct database *database) {
 /* Notes an outcome by its code. */
 static int note(struct database *database, int code) {
     if (code == SQLITE_IOERR_FSYNC) database->is_loss_untold = false;
-    if (pagelog_file_state_of(database->file).is_restarted && !database->is_named) unlist_database(database);
+    struct pagelog_file_state state = pagelog_file_state_of(database->file);
+    if (state.is_dropped || (state.is_restarted && !database->is_named)) unlist_database(database);
     pagelog_file_explain(database->file, database->error, sizeof database->error);
-    sqlite3_log(code, "pagelog: %s", database->error);
+    pagelog_tell(code, database->shows_errors, "%s", database->error);
     return code;
 }
 
@@ -76,7 +77,10 @@ int pagelog_result_of_begin(struct database *database, enum pagelog_outcome outc
 /* ---- Databases ---- */
 
 static void free_database(struct database *database) {
+    pagelog_stop_heartbeat(database);
     pagelog_turn_leave(&database->turn);
+    pthread_mutex_destroy(&database->turn_guard);
+    pagelog_leave_poll(database);
     pagelog_file_free(database->file);
     sqlite3_free(database->room);
     sqlite3_mutex_free(database->mutex);
@@ -113,10 +117,13 @@ static struct database *make_database(const struct pagelog_file_options *options
     database->address = sqlite3_mprintf("%s", options->service.address);
     database->is_named = options->keepers != NULL;
     database->kept_name = sqlite3_mprintf("%s", database->is_named ? options->database_name : "");
+    database->is_durable_only = database->is_named && options->durable_only;
+    database->follows_holder = database->is_named && !options->durable_only && !options->at;
     database->name = sqlite3_mprintf("%s", options->name);
     database->mutex = sqlite3_mutex_alloc(SQLITE_MUTEX_FAST);
     database->file = pagelog_file_new(options);
     pagelog_turn_begin(&database->turn, database->is_named ? options->database_name : "");
+    pthread_mutex_init(&database->turn_guard, NULL);
     take_operator(database, options);
     if (database->key && database->address && database->name && database->kept_name && database->mutex &&
         database->file)
@@ -226,22 +233,25 @@ static int ensure_open(struct database *database, const struct pagelog_file_opti
     if (database->is_open) {
         code = join(database, options);
     } else {
-        code = pagelog_result_of_begin(database, pagelog_file_open(database->file));
+        enum pagelog_outcome outcome = pagelog_file_open(database->file);
+        if (outcome == PAGELOG_DONE) outcome = pagelog_reach_durable(database);
+        code = pagelog_result_of_begin(database, outcome);
         database->is_open = code == SQLITE_OK;
         if (database->is_open) pagelog_warn_of_full_list(database);
     }
     return leave(database, code);
 }
 
-int pagelog_find_or_open(const struct pagelog_file_options *options, uint64_t entries,
+int pagelog_find_or_open(const struct pagelog_file_options *options, const struct settings *settings,
                          struct database **found) {
     struct database *database = make_database(options);
     if (!database) return SQLITE_NOMEM;
-    database->entries = entries;
+    database->entries = settings->entries;
+    database->shows_errors = settings->shows_errors;
     int code = options->reads_only ? SQLITE_OK : share(&database);
     if (code == SQLITE_OK && strcmp(database->name, options->name) != 0) {
-        sqlite3_log(SQLITE_CANTOPEN, "pagelog: the database is open as %s, and has not the name %s",
-                    database->name, options->name);
+        pagelog_tell(SQLITE_CANTOPEN, settings->shows_errors,
+                     "the database is open as %s, and has not the name %s", database->name, options->name);
         code = SQLITE_CANTOPEN;
     }
     if (code == SQLITE_OK) code = ensure_open(database, options);
@@ -276,15 +286,18 @@ void pagelog_unlist_connection(struct connection *connection) {
 /* The lists are whole in a child: no thread is amid a change of them while this process forks. */
 static void before_fork(void) {
     sqlite3_mutex_enter(list_mutex());
+    pagelog_hold_heartbeat_for_fork();
 }
 
 static void after_fork_in_parent(void) {
+    pagelog_release_heartbeat_after_fork(false);
     sqlite3_mutex_leave(list_mutex());
 }
 
 /* The socket is the parent's, and so are the replies that it brings. What the child opens is its own. After
  * vfork() this is not called, nor need be: such a child only starts another program. */
 static void after_fork_in_child(void) {
+    pagelog_release_heartbeat_after_fork(true);
     for (struct database *database = databases; database; database = database->next)
         pagelog_file_abandon(database->file);
     for (struct connection *connection = connections; connection; connection = connection->next) {
@@ -293,6 +306,7 @@ static void after_fork_in_child(void) {
         pagelog_file_abandon(connection->database->file);
         pagelog_disown_connection(connection);
     }
+    pagelog_abandon_polls();
     databases = NULL;
     connections = NULL;
     sqlite3_mutex_leave(list_mutex());

@@ -21,7 +21,7 @@ static enum pagelog_outcome ask(struct connection *connection, const struct page
     database->durable_waits += is_commit;
     sqlite3_mutex_leave(database->mutex);
     enum pagelog_outcome outcome =
-        pagelog_fate_of(connection->keepers, awaited->lines, awaited->generation, awaited->position, fate);
+        pagelog_fate_of(connection->keepers, awaited->place.lines, &awaited->place, awaited->position, fate);
     sqlite3_mutex_enter(database->mutex);
     database->durable_waits -= is_commit;
     pagelog_file_set_waiting(database->file, pagelog_connection_waits_on, connection);
@@ -34,7 +34,7 @@ static int doubt(struct connection *connection) {
     struct database *database = connection->database;
     connection->decision = IN_DOUBT;
     strcpy(database->error, reason);
-    sqlite3_log(SQLITE_IOERR_FSYNC, "pagelog: %s", reason);
+    pagelog_tell(SQLITE_IOERR_FSYNC, database->shows_errors, "%s", reason);
     return SQLITE_IOERR_FSYNC;
 }
 
@@ -44,7 +44,7 @@ static enum pagelog_outcome wait_for(struct connection *connection, uint64_t pos
     struct database *database = connection->database;
     struct pagelog_file *file = database->file;
     struct pagelog_awaited awaited = {.position = position};
-    uint64_t until = pagelog_file_patience(file);
+    struct pagelog_file_patience patience = pagelog_file_patience(file);
     if (!keepers_of(connection)) return PAGELOG_LOST;
     pagelog_keepers_set_waiting(connection->keepers, pagelog_connection_waits_on, connection);
     while (!pagelog_file_is_durable(file, &awaited)) {
@@ -55,7 +55,7 @@ static enum pagelog_outcome wait_for(struct connection *connection, uint64_t pos
         if (pagelog_file_losses(file) > losses) database->is_loss_untold = true;
         if (outcome == PAGELOG_DONE) continue;
         bool goes_on = outcome == PAGELOG_LOST && pagelog_keepers_wait_on(connection->keepers);
-        if (!goes_on || !pagelog_file_may_wait(file, until)) return outcome;
+        if (!goes_on || !pagelog_file_may_wait(file, &patience)) return outcome;
     }
     return PAGELOG_DONE;
 }

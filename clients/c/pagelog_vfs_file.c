@@ -3,6 +3,7 @@
 #include "pagelog_vfs_inside.h"
 
 #include <string.h>
+#include <unistd.h>
 
 /* Of a database: the change counter, the number of pages, and those of the free list. */
 enum { VERSION_OFFSET = 24, VERSION_BYTES = 16 };
@@ -50,6 +51,7 @@ static int file_close(sqlite3_file *file) {
     leave(database, SQLITE_OK);
     pagelog_unlist_connection(connection);
     pagelog_keepers_free(connection->keepers);
+    if (connection->woken >= 0) close(connection->woken);
     pagelog_release(database);
     return SQLITE_OK;
 }
@@ -282,7 +284,9 @@ void pagelog_open_connection(struct connection *connection, sqlite3_filename nam
     connection->busy = NULL;
     connection->sqlite = NULL;
     connection->keepers = NULL;
-    connection->wants_turn = false;
+    connection->wants_turn = connection->wants_lock = false;
+    connection->next_waiting = NULL;
+    connection->woken = -1;
     connection->committed = 0;
     connection->decision = DECIDED;
     connection->synchronous = SYNCHRONOUS_FULL; /* as SQLite begins */

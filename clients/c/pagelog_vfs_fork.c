@@ -3,6 +3,8 @@
  * the parent may have been amid a change. */
 #include "pagelog_vfs_inside.h"
 
+#include <unistd.h>
+
 static int inherited_close(sqlite3_file *file) {
     (void)file;
     return SQLITE_OK;
@@ -84,5 +86,6 @@ void pagelog_disown_connection(struct connection *connection) {
         .xDeviceCharacteristics = inherited_device_characteristics,
     };
     if (connection->keepers) pagelog_keepers_abandon(connection->keepers);
+    if (connection->woken >= 0) close(connection->woken);
     connection->base.pMethods = &methods;
 }

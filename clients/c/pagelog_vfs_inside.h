@@ -7,6 +7,8 @@
 #include "pagelog_place.h"
 #include "pagelog_turn.h"
 
+#include <pthread.h>
+
 #ifdef PAGELOG_STATIC
 #include <sqlite3.h>
 #else
@@ -17,8 +19,8 @@ SQLITE_EXTENSION_INIT3
 enum {
     SECTOR_BYTES = 8192,
     LEAST_SECTOR_BYTES = 512,
-    VALUE_BYTES = 256, /* of a setting */
-    ERROR_BYTES = 160,
+    VALUE_BYTES = 256,                          /* of a setting */
+    ERROR_BYTES = 2 * PAGELOG_NAME_BYTES + 128, /* with two names */
 };
 
 /* The audit list is full, by which SQLite's extended code differs from a service without memory. */
@@ -48,14 +50,23 @@ struct database {
     bool is_named;              /* by keepers, the addresses of which are `address` then */
     char *kept_name;            /* the name that they know it by, or NULL */
     struct pagelog_turn turn;   /* to write, among processes */
-    struct connection *turn_of; /* who has it, or waits for it; NULL: nobody */
-    unsigned turn_writes;       /* in the transaction that has it */
+    pthread_mutex_t turn_guard; /* of what the heartbeat's thread changes of it */
+    struct database *next_heartbeat;
+    bool has_heartbeat;
+    struct connection *turn_of;       /* who has it, or waits for it; NULL: nobody */
+    unsigned turn_writes;             /* in the transaction that has it */
+    struct connection *first_waiting; /* of this process, for the write lock, in the order of asking */
     unsigned
         durable_waits;   /* commits that are in the log, and wait until they are durable; others may read */
     bool is_loss_untold; /* the file has lost commits, and no statement has told it */
-    uint64_t entries;    /* that the audit list may have */
-    uint64_t looked;     /* requests of this file when it was last looked how full that is */
-    unsigned char *room; /* of the last journal, for the next one; NULL: none */
+    bool is_durable_only,
+        follows_holder;       /* reads what is durable alone; asks whether its run is superseded */
+    struct holder_poll *poll; /* NULL: none yet */
+    uint64_t polled;          /* the last round of it that was heard */
+    uint64_t entries;         /* that the audit list may have */
+    bool shows_errors;        /* on standard error */
+    uint64_t looked;          /* requests of this file when it was last looked how full that is */
+    unsigned char *room;      /* of the last journal, for the next one; NULL: none */
     sqlite3_int64 room_bytes;
     char error[ERROR_BYTES];
 };
@@ -87,6 +98,9 @@ struct connection {
     struct pagelog_keepers *keepers;
     enum decision decision;
     bool wants_turn; /* it was refused the turn: the next begin waits for it */
+    bool wants_lock; /* another of this process had the write lock: the next begin waits in line */
+    struct connection *next_waiting;
+    int woken; /* an event that ends its sleep once it is the next one; -1: it has never waited */
     uint64_t
         committed; /* position: of its last commit that was not waited for until it is durable; 0: none */
     /* What was set by `PRAGMA synchronous`, `locking_mode` and `journal_mode`. */
@@ -138,12 +152,19 @@ struct settings {
     char address[VALUE_BYTES],
         name[VALUE_BYTES]; /* of the service; or the keepers, and the name that they know */
     uint64_t entries;      /* that the audit list may have */
+    bool shows_errors;     /* on standard error */
 };
+
+/* Whether others may read the file that `credentials` names: then nothing is read of it. */
+bool pagelog_has_shared_credentials(sqlite3_filename uri);
 
 /* Reads all settings; the name of the first one that is missing, has no meaning, or cannot be read, or NULL.
  */
 const char *pagelog_read_settings(sqlite3_filename uri, struct pagelog_file_options *options,
                                   struct settings *settings);
+
+/* Whether errors are shown on standard error. */
+bool pagelog_reads_shown(sqlite3_filename uri);
 
 /* A number of microseconds, as the wire has it. */
 unsigned pagelog_spin_of(uint64_t us);
@@ -165,7 +186,7 @@ int pagelog_take_over_if_wanted(struct database *database);
 
 /* The database of these options, open, with one reference more. One that was fenced is taken over again where
  * the options have an operator. */
-int pagelog_find_or_open(const struct pagelog_file_options *options, uint64_t entries,
+int pagelog_find_or_open(const struct pagelog_file_options *options, const struct settings *settings,
                          struct database **found);
 
 /* Gives a reference back; the last one frees the database. */
@@ -201,14 +222,41 @@ void pagelog_note_commit(struct connection *connection);
  * SQLite's log says so. */
 void pagelog_wait_before_close(struct connection *connection);
 
+/* ---- pagelog_vfs_poll.c: of a named database; of others they do nothing ---- */
+
+/* Before a begin: has that ask where the database is, if keepers say that its run was superseded. */
+void pagelog_poll_holder(struct database *database);
+
+/* After a begin of a reader of what is durable; and after the open of one, which waits until it can read what
+ * others of this process have read. As pagelog_file_reach. */
+void pagelog_note_durable_read(struct database *database);
+enum pagelog_outcome pagelog_reach_durable(struct database *database);
+
+/* Before a database is freed. */
+void pagelog_leave_poll(struct database *database);
+
+/* In a child of fork(), which begins its own. */
+void pagelog_abandon_polls(void);
+
 /* ---- pagelog_vfs_turn.c: of a named database; of others they do nothing ---- */
 
 /* Before a begin: waits for the turn, where the last try was refused it. SQLITE_BUSY once the busy handler
  * says so. */
 int pagelog_wait_for_turn(struct connection *connection);
 
-/* Takes the turn, if it is to be had now, and makes the file the writer. SQLITE_BUSY where another has it, or
- * has written since the begin. */
+/* Whether the write lock of this process is free for a connection: nobody else has it, or has waited longer.
+ */
+bool pagelog_is_next(const struct connection *connection);
+
+/* Wakes who waits for the write lock, where it is free, or for the others to go, where they are gone. */
+void pagelog_wake_next(const struct database *database);
+
+/* Has the next sleep of SQLite's in this thread end with that; until `nothing`. */
+void pagelog_await_wake(struct connection *connection);
+void pagelog_await_nothing(void);
+
+/* Takes the turn, if it is to be had now, or is kept by another who does not use it, and makes the file the
+ * writer. SQLITE_BUSY where another uses it, or has written since the begin. */
 int pagelog_reserve_database(struct connection *connection);
 
 /* Gives the turn back, if this connection has it; says that it is in use, if it is wanted back. */
@@ -218,6 +266,36 @@ void pagelog_hold_turn(struct connection *connection);
 /* Sleeps until a turn comes that this thread waits for, or the time is over; false where it waits for none.
  */
 bool pagelog_sleep_for_turn(int microseconds);
+
+/* ---- pagelog_vfs_errors.c ---- */
+
+/* Says why something failed: to SQLite's log, and to standard error where it is shown. Within an open it
+ * becomes the message of that. */
+void pagelog_tell(int code, bool is_shown, const char *format, ...) __attribute__((format(printf, 3, 4)));
+
+/* Whether errors are shown where no setting says so. */
+bool pagelog_shows_by_default(void);
+void pagelog_show_errors(void);
+
+/* An open of a database begins, and ends with this code. Returns the one that SQLite is told: where the open
+ * has failed with a message, the file is one that refuses all, and says why. */
+void pagelog_begin_open(void);
+int pagelog_end_open(sqlite3_file *file, int code);
+
+/* ---- pagelog_vfs_heartbeat.c ---- */
+
+/* Has the heartbeat's thread look after the turn of a database; false where there is none to be had. */
+bool pagelog_start_heartbeat(struct database *database);
+
+/* A turn was granted that was not held before. */
+void pagelog_note_grant(void);
+
+/* Before a database is freed. */
+void pagelog_stop_heartbeat(struct database *database);
+
+/* Around a fork. The child has no thread, and none of the turns. */
+void pagelog_hold_heartbeat_for_fork(void);
+void pagelog_release_heartbeat_after_fork(bool is_child);
 
 /* ---- pagelog_vfs_fork.c ---- */
 

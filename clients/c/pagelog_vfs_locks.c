@@ -12,8 +12,11 @@ void pagelog_lower_lock(struct database *database, struct connection *connection
         database->is_pending = false;
         pagelog_give_turn(connection);
     }
-    if (lock == SQLITE_LOCK_NONE) pagelog_give_turn(connection);
-    if (lock == SQLITE_LOCK_NONE) database->sharing--;
+    if (lock == SQLITE_LOCK_NONE) {
+        pagelog_give_turn(connection);
+        database->sharing--;
+        pagelog_wake_next(database);
+    }
     connection->lock = lock;
     connection->decision = DECIDED;
     connection->is_refused = connection->is_committed = false;
@@ -28,8 +31,11 @@ static int lock_shared(struct database *database) {
         return SQLITE_IOERR_FSYNC;
     }
     int code = pagelog_take_over_if_wanted(database);
-    if (code == SQLITE_OK && database->sharing == 0)
+    if (code == SQLITE_OK && database->sharing == 0) {
+        pagelog_poll_holder(database);
         code = pagelog_result_of_begin(database, pagelog_file_begin(database->file));
+        if (code == SQLITE_OK) pagelog_note_durable_read(database);
+    }
     if (code == SQLITE_OK) database->sharing++;
     return code;
 }
@@ -53,7 +59,10 @@ static int refuse_commit(struct database *database) {
 }
 
 static int lock_reserved(struct database *database, struct connection *connection) {
-    if (database->reserved && database->reserved != connection) return SQLITE_BUSY;
+    if (database->reserved != connection && !pagelog_is_next(connection)) {
+        connection->wants_lock = database->is_named;
+        return SQLITE_BUSY;
+    }
     int code = pagelog_file_may_commit(database->file) ? SQLITE_OK : refuse_commit(database);
     if (code == SQLITE_OK && !database->reserved) code = pagelog_reserve_database(connection);
     if (code == SQLITE_OK) database->reserved = connection;
@@ -66,17 +75,23 @@ static int lock_exclusive(struct database *database, struct connection *connecti
     if (code != SQLITE_OK) return code;
     database->is_pending = true;
     connection->lock = SQLITE_LOCK_PENDING;
-    return database->sharing > 1 ? SQLITE_BUSY : SQLITE_OK;
+    if (database->sharing == 1) return SQLITE_OK;
+    pagelog_await_wake(connection);
+    return SQLITE_BUSY;
 }
 
 int pagelog_lock(sqlite3_file *file, int lock) {
     struct connection *connection = (struct connection *)file;
     struct database *database = enter(file);
     int code = SQLITE_OK;
+    pagelog_await_nothing();
     if (lock <= connection->lock) return leave(database, SQLITE_OK);
     if (connection->lock == SQLITE_LOCK_NONE) code = pagelog_wait_for_turn(connection);
     if (code == SQLITE_OK && connection->lock == SQLITE_LOCK_NONE) code = lock_shared(database);
-    if (code != SQLITE_OK && connection->lock == SQLITE_LOCK_NONE) pagelog_give_turn(connection);
+    if (code != SQLITE_OK && connection->lock == SQLITE_LOCK_NONE) {
+        pagelog_give_turn(connection);
+        pagelog_wake_next(database);
+    }
     if (code == SQLITE_OK && connection->lock == SQLITE_LOCK_NONE) connection->lock = SQLITE_LOCK_SHARED;
     if (code == SQLITE_OK && lock == SQLITE_LOCK_RESERVED) code = lock_reserved(database, connection);
     if (code == SQLITE_OK && lock == SQLITE_LOCK_EXCLUSIVE) code = lock_exclusive(database, connection);
@@ -86,6 +101,7 @@ int pagelog_lock(sqlite3_file *file, int lock) {
 
 int pagelog_unlock(sqlite3_file *file, int lock) {
     struct database *database = enter(file);
+    pagelog_await_nothing();
     pagelog_lower_lock(database, (struct connection *)file, lock);
     return leave(database, SQLITE_OK);
 }

@@ -7,6 +7,7 @@
 #include <stdio.h>
 #include <stdlib.h>
 #include <string.h>
+#include <sys/stat.h>
 
 /* How long a wait looks for its reply, in microseconds. */
 enum { DEFAULT_SPIN_US = 50 };
@@ -19,13 +20,33 @@ static const char *const known[] = {"to",          "db",      "id",    "token", 
                                     "mode",        "at",      "check", "stale",   "pages",    "copies",
                                     "quorum",      "written", "spin",  "timeout", "patience", "async_commits",
                                     "credentials", "audit",   "vfs",   "cache",   "psow",     "nolock",
-                                    "immutable",   "modeof",  "where", "name",    "move",     "durable"};
+                                    "immutable",   "modeof",  "where", "name",    "move",     "durable",
+                                    "errors"};
+
+/* Opens a file of credentials. NULL where it cannot be read, and where others may read it, as `*is_shared`
+ * says. */
+static FILE *open_credentials(const char *path, bool *is_shared) {
+    struct stat told;
+    FILE *file = fopen(path, "re");
+    *is_shared = file && (fstat(fileno(file), &told) != 0 || (S_ISREG(told.st_mode) && told.st_mode & 077));
+    if (!*is_shared) return file;
+    fclose(file);
+    return NULL;
+}
+
+bool pagelog_has_shared_credentials(sqlite3_filename uri) {
+    const char *path = sqlite3_uri_parameter(uri, "credentials");
+    bool is_shared = false;
+    FILE *file = path ? open_credentials(path, &is_shared) : NULL;
+    if (file) fclose(file);
+    return is_shared;
+}
 
 /* Looks in the file `path` for a line "NAME VALUE". */
 static bool find_in_file(const char *path, const char *name, char *value) {
     char line[VALUE_BYTES + 32], found[32], text[VALUE_BYTES];
-    bool is_there = false;
-    FILE *file = fopen(path, "re");
+    bool is_there = false, is_shared;
+    FILE *file = open_credentials(path, &is_shared);
     if (!file) return false;
     while (!is_there && fgets(line, sizeof line, file))
         is_there = sscanf(line, "%31s %255s", found, text) == 2 && strcmp(found, name) == 0;
@@ -118,6 +139,20 @@ static bool is_of_keepers(sqlite3_filename uri, char where[VALUE_BYTES]) {
     return !has_address && find_setting(uri, "where", where);
 }
 
+/* Of `errors`. */
+static const char *const shown = "stderr", *const hidden = "log";
+
+bool pagelog_reads_shown(sqlite3_filename uri) {
+    char text[VALUE_BYTES];
+    if (!find_setting(uri, "errors", text)) return pagelog_shows_by_default();
+    return strcmp(text, shown) == 0;
+}
+
+static bool is_shown_or_hidden(sqlite3_filename uri) {
+    char text[VALUE_BYTES];
+    return !find_setting(uri, "errors", text) || strcmp(text, shown) == 0 || strcmp(text, hidden) == 0;
+}
+
 /* Where the database is: the name of the first setting that is wrong, or NULL. */
 static const char *read_place(sqlite3_filename uri, struct pagelog_file_options *options,
                               struct settings *settings) {
@@ -183,11 +218,13 @@ const char *pagelog_read_settings(sqlite3_filename uri, struct pagelog_file_opti
     uint64_t pages = 0, stale = 0;
     const char *wrong = find_unknown(uri);
     settings->entries = MOST_ENTRIES;
+    settings->shows_errors = pagelog_reads_shown(uri);
     if (!wrong && strlen(uri) > PAGELOG_NAME_BYTES) wrong = "(name)";
     if (!wrong) wrong = read_place(uri, options, settings);
     if (!wrong) wrong = read_principal(uri, &options->service);
     if (!wrong) wrong = read_zone(uri, options);
     if (!wrong) wrong = read_waits(uri, options);
+    if (!wrong && !is_shown_or_hidden(uri)) wrong = "errors";
     if (wrong) return wrong;
     if (!read_setting(uri, "at", PAGELOG_LAST_LSN, &options->at)) return "at";
     if (!read_setting(uri, "pages", UINT32_MAX, &pages)) return "pages";

@@ -6,10 +6,16 @@
  * newest. */
 #include "pagelog_vfs_inside.h"
 
+#include "pagelog_common.h"
+
 #include <poll.h>
 #include <string.h>
+#include <sys/eventfd.h>
 
-enum { MANY_WRITES = 16 }; /* of a transaction, after which it looks whether its turn is wanted */
+enum {
+    MANY_WRITES = 16, /* of a transaction, after which it looks whether its turn is wanted */
+    MOMENT_MS = 1000,
+};
 
 /* What a sleep of SQLite's in this thread waits for too. */
 static _Thread_local int awaited = -1;
@@ -21,11 +27,11 @@ bool pagelog_sleep_for_turn(int microseconds) {
     return true;
 }
 
-/* Has the busy handler let the wait go on. It sleeps, and is woken by the turn. */
-static bool waits_on(struct connection *connection) {
+/* Has the busy handler let the wait go on. It sleeps, and is woken by what can be read. */
+static bool waits_on(struct connection *connection, int fd) {
     struct database *database = connection->database;
     if (!connection->busy) return false;
-    awaited = database->turn.line.socket;
+    awaited = fd;
     sqlite3_mutex_leave(database->mutex);
     bool goes_on = connection->busy(connection->busy_argument) != 0;
     sqlite3_mutex_enter(database->mutex);
@@ -37,42 +43,124 @@ static bool waits_on(struct connection *connection) {
 static enum pagelog_outcome ask(struct database *database, bool now) {
     struct pagelog_awaited place = {.position = UINT64_MAX};
     pagelog_file_is_durable(database->file, &place);
-    enum pagelog_outcome outcome = pagelog_turn_ask(&database->turn, place.lines, place.generation, now);
+    bool has_heartbeat = pagelog_start_heartbeat(database);
+    pthread_mutex_lock(&database->turn_guard);
+    bool was_held = database->turn.is_held;
+    database->turn.has_heartbeat = has_heartbeat;
+    enum pagelog_outcome outcome = pagelog_turn_ask(&database->turn, &place.place, now);
+    pthread_mutex_unlock(&database->turn_guard);
+    if (outcome == PAGELOG_DONE && !was_held) pagelog_note_grant();
     return outcome;
+}
+
+/* What has come of a turn that was asked for. */
+static enum pagelog_outcome look(struct database *database) {
+    pthread_mutex_lock(&database->turn_guard);
+    enum pagelog_outcome outcome = pagelog_turn_look(&database->turn);
+    pthread_mutex_unlock(&database->turn_guard);
+    if (outcome == PAGELOG_DONE) pagelog_note_grant();
+    return outcome;
+}
+
+static bool is_held_in(struct database *database, uint64_t generation) {
+    pthread_mutex_lock(&database->turn_guard);
+    bool is_held = database->turn.is_held && database->turn.generation == generation;
+    pthread_mutex_unlock(&database->turn_guard);
+    return is_held;
 }
 
 /* The turn is there, or nobody can give it. Another process may have written since. */
 static void take(struct connection *connection, enum pagelog_outcome outcome) {
     struct database *database = connection->database;
-    if (outcome != PAGELOG_DONE || !database->turn.is_same) pagelog_file_doubt(database->file);
+    pthread_mutex_lock(&database->turn_guard);
+    bool is_same = database->turn.is_same;
+    pthread_mutex_unlock(&database->turn_guard);
+    if (outcome != PAGELOG_DONE || !is_same) pagelog_file_doubt(database->file);
     database->turn_of = connection;
     database->turn_writes = 0;
 }
 
+/* ---- The connections of this process, in the order of asking ---- */
+
+bool pagelog_is_next(const struct connection *connection) {
+    const struct database *database = connection->database;
+    if (database->reserved || database->turn_of) return database->turn_of == connection;
+    return !database->first_waiting || database->first_waiting == connection;
+}
+
+void pagelog_wake_next(const struct database *database) {
+    struct connection *next = database->is_pending ? database->reserved : database->first_waiting;
+    bool is_next = next && (database->is_pending ? database->sharing == 1 : pagelog_is_next(next));
+    if (is_next && next->woken >= 0) eventfd_write(next->woken, 1);
+}
+
+void pagelog_await_wake(struct connection *connection) {
+    eventfd_t drained;
+    if (connection->woken < 0) connection->woken = eventfd(0, EFD_CLOEXEC | EFD_NONBLOCK);
+    if (connection->woken >= 0) eventfd_read(connection->woken, &drained);
+    awaited = connection->woken;
+}
+
+void pagelog_await_nothing(void) {
+    awaited = -1;
+}
+
+static struct connection **end_of_line(struct database *database, const struct connection *connection) {
+    struct connection **at = &database->first_waiting;
+    while (*at && *at != connection)
+        at = &(*at)->next_waiting;
+    return at;
+}
+
+/* False once the busy handler ends the wait. */
+static bool wait_in_line(struct connection *connection) {
+    struct database *database = connection->database;
+    if (pagelog_is_next(connection)) return true;
+    pagelog_await_wake(connection);
+    *end_of_line(database, connection) = connection;
+    bool goes_on = true;
+    while (goes_on && !pagelog_is_next(connection)) {
+        goes_on = waits_on(connection, connection->woken);
+        pagelog_await_wake(connection);
+    }
+    pagelog_await_nothing();
+    bool is_next = pagelog_is_next(connection);
+    *end_of_line(database, connection) = connection->next_waiting;
+    connection->next_waiting = NULL;
+    if (!is_next) pagelog_wake_next(database);
+    return is_next;
+}
+
 void pagelog_give_turn(struct connection *connection) {
     struct database *database = connection->database;
-    if (database->turn_of != connection) return;
-    database->turn_of = NULL;
-    pagelog_turn_give(&database->turn);
+    if (database->turn_of == connection) {
+        database->turn_of = NULL;
+        pthread_mutex_lock(&database->turn_guard);
+        pagelog_turn_give(&database->turn);
+        pthread_mutex_unlock(&database->turn_guard);
+    }
 }
 
 void pagelog_hold_turn(struct connection *connection) {
     struct database *database = connection->database;
-    if (database->turn_of != connection || !database->turn.is_kept) return;
-    if (++database->turn_writes % MANY_WRITES != 0) return;
+    if (database->turn_of != connection || ++database->turn_writes % MANY_WRITES != 0) return;
+    pthread_mutex_lock(&database->turn_guard);
     pagelog_turn_hold(&database->turn);
+    pthread_mutex_unlock(&database->turn_guard);
 }
 
 int pagelog_wait_for_turn(struct connection *connection) {
     struct database *database = connection->database;
+    bool asks = connection->wants_turn && database->sharing == 0;
+    if (!asks && !connection->wants_lock) return SQLITE_OK;
+    connection->wants_lock = false;
+    if (!wait_in_line(connection)) return SQLITE_OK;
+    database->turn_of = connection;
     if (!connection->wants_turn || database->sharing > 0) return SQLITE_OK;
     connection->wants_turn = false;
-    if (database->turn_of) return database->turn_of == connection ? SQLITE_OK : SQLITE_BUSY;
-    database->turn_of = connection;
     enum pagelog_outcome outcome = ask(database, false);
-    while (outcome == PAGELOG_CONFLICT && waits_on(connection))
-        outcome =
-            pagelog_file_is_overtaken(database->file) ? PAGELOG_LOST : pagelog_turn_look(&database->turn);
+    while (outcome == PAGELOG_CONFLICT && waits_on(connection, database->turn.line.socket))
+        outcome = pagelog_file_is_overtaken(database->file) ? PAGELOG_LOST : look(database);
     if (outcome == PAGELOG_CONFLICT) {
         pagelog_give_turn(connection);
         return SQLITE_BUSY;
@@ -81,15 +169,33 @@ int pagelog_wait_for_turn(struct connection *connection) {
     return SQLITE_OK;
 }
 
+/* Whether to wait on for a turn that another process keeps, and may not use. SQLite asks no busy handler
+ * where a transaction that has read begins to write: it is asked here, after the moment in which a process
+ * that lives answers its keeper. */
+static bool comes_soon(struct connection *connection, uint64_t until) {
+    struct database *database = connection->database;
+    struct pollfd fd = {.fd = database->turn.line.socket, .events = POLLIN};
+    uint64_t now = pagelog_now();
+    if (!database->turn.is_soon || pagelog_file_is_overtaken(database->file)) return false;
+    if (now >= until) return waits_on(connection, fd.fd);
+    sqlite3_mutex_leave(database->mutex);
+    poll(&fd, 1, (int)(until - now));
+    sqlite3_mutex_enter(database->mutex);
+    pagelog_file_set_waiting(database->file, pagelog_connection_waits_on, connection);
+    return true;
+}
+
 /* Has the turn of the generation that the file is in. One that was waited for may be of a generation that is
  * over, or of none where its keeper was gone. */
 static int have_turn(struct connection *connection) {
     struct database *database = connection->database;
-    const struct pagelog_turn *turn = &database->turn;
-    if (database->turn_of == connection && turn->is_held &&
-        turn->generation == pagelog_file_generation(database->file))
+    if (database->turn_of == connection && is_held_in(database, pagelog_file_generation(database->file)))
         return SQLITE_OK;
+    database->turn_of = connection;
     enum pagelog_outcome outcome = ask(database, true);
+    uint64_t until = pagelog_after(MOMENT_MS);
+    while (outcome == PAGELOG_CONFLICT && comes_soon(connection, until))
+        outcome = look(database);
     bool may_come = outcome == PAGELOG_LOST && connection->busy && pagelog_turn_may_come(&database->turn);
     connection->wants_turn = outcome == PAGELOG_CONFLICT;
     if (connection->wants_turn || may_come) {
@@ -106,7 +212,6 @@ int pagelog_reserve_database(struct connection *connection) {
     enum pagelog_outcome outcome;
     uint64_t generation;
     if (!database->is_named) return SQLITE_OK;
-    if (database->turn_of && database->turn_of != connection) return SQLITE_BUSY;
     do {
         generation = pagelog_file_generation(database->file);
         if (have_turn(connection) != SQLITE_OK) return SQLITE_BUSY;

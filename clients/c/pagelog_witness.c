@@ -84,7 +84,7 @@ static enum pagelog_outcome judge(struct pagelog *log, const struct pagelog_repl
     if ((is_there && !is_same(&log->witness, reply)) || ends_before) log->is_restarted = true;
     if (log->is_restarted) return pagelog_fail(log, PAGELOG_FENCED);
     if (is_there) return PAGELOG_DONE;
-    if (reply->kind == PAGELOG_REPLY_NO_MEMORY) return pagelog_fail(log, PAGELOG_LOST);
+    if (reply->kind == PAGELOG_REPLY_NO_MEMORY) return pagelog_restore(log, PAGELOG_LOST, reply);
     return pagelog_restore(log, pagelog_outcome_of(reply), reply);
 }
 

@@ -68,10 +68,16 @@ static void look_at_keeper(const char *address) {
 
 static void take_turn(const char *address) {
     struct pagelog_turn turn;
+    struct pagelog_place place = {
+        .generation = 1, .database = "00000000-0000-4000-8000-000000000001", .run = "run1"};
     enum pagelog_outcome outcome = PAGELOG_LOST;
+    snprintf(place.lines, sizeof place.lines, "%s", address);
     pagelog_turn_begin(&turn, "shop");
-    for (uint64_t generation = 1; generation < 6 && outcome != PAGELOG_DONE; generation++)
-        outcome = pagelog_turn_ask(&turn, address, generation, true);
+    for (int tries = 0; tries < 5 && outcome != PAGELOG_DONE; tries++) {
+        pagelog_turn_leave(&turn);
+        pagelog_turn_begin(&turn, "shop");
+        outcome = pagelog_turn_ask(&turn, &place, true);
+    }
     expect("the turn is had", outcome == PAGELOG_DONE);
     pagelog_turn_leave(&turn);
 }

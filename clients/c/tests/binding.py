@@ -322,19 +322,22 @@ class Log:
         return text.value.decode()
 
 
+DATABASE = "00000000-0000-4000-8000-000000000001"  # of a stub, by default
+
+
 class Place(Structure):
-    _fields_ = [("generation", c_uint64), ("run", ctypes.c_char * 80), ("address", ctypes.c_char * 256), ("lines", ctypes.c_char * 256),
+    _fields_ = [("generation", c_uint64), ("database", ctypes.c_char * 40), ("ancestor", ctypes.c_char * 256), ("run", ctypes.c_char * 80), ("address", ctypes.c_char * 256), ("lines", ctypes.c_char * 256),
                 ("archived", c_uint64), ("base", c_uint64), ("shift", ctypes.c_int64)]
 
 
 class Fate(Structure):
-    _fields_ = [("end", c_uint64), ("is_over", c_bool)]
+    _fields_ = [("end", c_uint64), ("is_over", c_bool), ("loss", c_uint)]
 
 
 declare("pagelog_keepers_new", c_void_p, c_char_p, c_char_p)
 declare("pagelog_keepers_free", None, c_void_p)
 declare("pagelog_where", c_uint, c_void_p, c_uint64, POINTER(Place))
-declare("pagelog_fate_of", c_uint, c_void_p, c_char_p, c_uint64, c_uint64, POINTER(Fate))
+declare("pagelog_fate_of", c_uint, c_void_p, c_char_p, POINTER(Place), c_uint64, POINTER(Fate))
 declare("pagelog_token_of_run", None, c_void_p, Token, c_char_p, Token)
 
 
@@ -354,9 +357,10 @@ class Keepers:
         place = Place()
         return name(lib.pagelog_where(self.made, least, byref(place))), place
 
-    def fate(self, generation, position, lines=None):
-        fate = Fate()
-        return name(lib.pagelog_fate_of(self.made, lines and lines.encode(), generation, position, byref(fate))), fate
+    def fate(self, generation, position, lines=None, database=DATABASE, run=None):
+        """Of the run of a stub's generation, by default."""
+        fate, place = Fate(), Place(generation=generation, database=database.encode(), run=(run or f"run{generation}").encode())
+        return name(lib.pagelog_fate_of(self.made, lines and lines.encode(), byref(place), position, byref(fate))), fate
 
     def token(self, key, run):
         made = Token()
@@ -374,7 +378,7 @@ class FileOptions(Structure):
 class State(Structure):
     _fields_ = [("is_writer", c_bool), ("is_fenced", c_bool), ("is_broken", c_bool), ("is_stale", c_bool),
                 ("is_restarted", c_bool), ("is_foreign", c_bool), ("is_misnamed", c_bool), ("is_over", c_bool),
-                ("is_named", c_bool), ("is_gone", c_bool), ("generation", c_uint64), ("position", c_uint64), ("durable", c_uint64),
+                ("is_named", c_bool), ("is_gone", c_bool), ("is_dropped", c_bool), ("generation", c_uint64), ("position", c_uint64), ("durable", c_uint64),
                 ("committed", c_uint64), ("moves", c_uint64), ("resent", c_uint64), ("lsn", c_uint64), ("end", c_uint64), ("size", c_uint64), ("transaction", c_uint64),
                 ("epoch", c_uint32), ("writing_epoch", c_uint32), ("zone", Zone), ("cached_pages", c_size_t),
                 ("check_ms", c_uint), ("spin_us", c_uint), ("unwaited", c_uint), ("on_their_way", c_uint64),

@@ -619,7 +619,7 @@ def test_a_database_of_something_else():
             same("append", DONE, log.append(blocks))
         with File(service.address, 2, operator=1) as file:
             same("open", MALFORMED, file.open())
-            true("words", "no end mark" in file.words)
+            true("words", "page 0 was written by another client" in file.words)
             same("not open", MALFORMED, file.begin())
 
 

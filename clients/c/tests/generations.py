@@ -7,15 +7,16 @@ import hashlib
 import hmac
 import re
 import socket
+import sqlite3
 import subprocess
 import threading
 import time
 
-from binding import DENIED, DONE, LOST, Keepers
+from binding import DATABASE, DENIED, DONE, LOST, Keepers
 from check import LONG, run, same, true
 from database import TOKENS, code_of, connect, named, numbers, one, sqlite_of, uri_of
 from service import CLIENT, Asker, Service, plain_environment, wire
-from stub_keeper import Before, StubKeeper, later, token_of
+from stub_keeper import Before, StubKeeper, later, table_of, token_of
 from vfs_forks import in_child
 
 EVENTS = {
@@ -167,9 +168,9 @@ def test_where_a_database_is():
 
 
 def test_the_stub_says_what_keepers_say():
-    """As many words as they describe in their own lines."""
-    described = (CLIENT.parent / "python" / "src" / "pagelog" / "keeper" / "lines.py").read_text()
-    words = re.search(r"\bat NAME [A-Z ]+", described)[0].split()
+    """As many words as their page describes."""
+    described = (CLIENT.parent.parent / "docs" / "LINES.md").read_text()
+    words = re.search(r"\bat NAME [A-Z ]+ of=\S+", described)[0].split()
     with StubKeeper() as keeper:
         same("where", len(words), len(keeper.answer(["where", "shop"])))
 
@@ -195,6 +196,9 @@ def one_after_the_other(*answers):
         def serve():
             with contextlib.suppress(OSError):
                 lines = [listener.accept()[0].makefile("rwb", 0) for listener in listeners]
+                for line in lines:
+                    line.readline()
+                    line.write(b"hello 2\n")
                 while all([line.readline() for line in lines]):
                     for line, answer in zip(lines, answers):
                         line.write(answer.encode() + b"\n")
@@ -205,12 +209,56 @@ def one_after_the_other(*answers):
 
 def test_two_keepers_of_one_generation_who_knows_most_of_the_archive_counts():
     """One that has not looked for a while may say where a service was that was ended since."""
-    told = "at shop 2 run2 127.0.0.1:%d %d 127.0.0.1:2 0 0 0"
+    told = f"at shop 2 run2 127.0.0.1:%d %d 127.0.0.1:2 0 0 0 of={DATABASE}/run2"
     for order in ((11, 5), (12, 9), (13, 7)), ((12, 9), (11, 5), (13, 7)):
-        with one_after_the_other(*(told % of for of in order), "at shop 1 run1 127.0.0.1:14 99 127.0.0.1:2 0 0 0") as addresses:
+        with one_after_the_other(*(told % of for of in order), f"at shop 1 run1 127.0.0.1:14 99 127.0.0.1:2 0 0 0 of={DATABASE}/run1") as addresses:
             with Keepers(addresses) as keepers:
                 places = (keepers.where()[1] for _ in range(100))  # who answers late is not waited for
                 true(order, any((place.archived, place.address) == (9, b"127.0.0.1:12") for place in places))
+
+
+@contextlib.contextmanager
+def saying(answers):
+    """A keeper that says so to each word; to others `what`, as one of version 1."""
+    with socket.create_server(("127.0.0.1", 0)) as listener:
+
+        def serve(line):
+            with line, line.makefile("rb") as asked:
+                for text in asked:
+                    words = text.decode().split()
+                    told = answers.get(words[0])
+                    line.sendall(((told(words) if callable(told) else told) or f"what {words[0]}").encode() + b"\n")
+
+        def accept():
+            with contextlib.suppress(OSError):
+                while True:
+                    threading.Thread(target=serve, args=(listener.accept()[0],), daemon=True).start()
+
+        threading.Thread(target=accept, daemon=True).start()
+        yield "%s:%d" % listener.getsockname()
+
+
+def test_keepers_of_version_1():
+    """They name no database: where there are no others they are refused. What one says of a number is of the run that it has."""
+    at = "at shop 1 {} 127.0.0.1:11 5 127.0.0.1:2 0 0 0"
+    for run, told, expected in (("run1", "durable shop 1 7", DONE), ("another", "durable shop 1 7", LOST), ("run1", "over shop 1 7", LOST)):
+        with saying({"where": at.format(run), "durable": lambda words, told=told: told if len(words) == 4 else None}) as address:
+            with Keepers(address) as keepers:
+                same("where", DENIED, keepers.where()[0])
+                same(f"{run}: {told}", expected, keepers.fate(1, 6)[0])
+            with Keepers(f"{address},127.0.0.1:1") as keepers:
+                same("one that is away may be a newer one", LOST, keepers.where()[0])
+
+
+def test_an_answer_is_of_the_run_that_was_asked_for():
+    own, other = f"of={DATABASE}/run1", f"of={DATABASE}/run2"
+    for told, expected in ((f"durable shop 1 7 {own}", (DONE, 0)), (f"durable shop 1 7 {other}", (LOST, 0)), ("durable shop 1 7", (LOST, 0)),
+                           (f"over shop 1 7 {other}", (LOST, 0)), (f"lost shop 1 dropped {own} color=red", (DONE, 1)),
+                           (f"lost shop 1 another by=0 {own}", (DONE, 2)), (f"lost shop 1 superseded by=4 {own}", (DONE, 3)),
+                           (f"lost shop 1 dropped {other}", (LOST, 0))):  # fmt: skip
+        with saying({"hello": "hello 3", "durable": told}) as address, Keepers(address) as keepers:
+            outcome, fate = keepers.fate(1, 6)
+            same(told, expected, (outcome, fate.loss if outcome == DONE else 0))
 
 
 def test_a_host_with_an_address_that_is_silent():
@@ -246,12 +294,88 @@ def test_settings_of_a_named_database():
     with StubKeeper() as keeper:
         for more, wanted in (({"to": "127.0.0.1:1"}, "SQLITE_MISUSE"), ({"op": "x"}, "SQLITE_MISUSE"), ({"move": -1}, "SQLITE_MISUSE"),
                              ({"durable": 2}, "SQLITE_MISUSE"), ({"name": "other"}, "SQLITE_PERM"), ({"name": ""}, "SQLITE_MISUSE"),
-                             ({"token": "00" * 16, "move": 300}, "SQLITE_CANTOPEN")):
+                             ({"errors": "loud"}, "SQLITE_MISUSE"), ({"token": "00" * 16}, "SQLITE_PERM")):
             same(more, wanted, code_of(lambda: rows(named(keeper, **more))))
         connection = named(keeper)
         connection.execute("create table t(a, b)")
         same("numbers", (1, 1, 1, 0), numbers(connection, "position", "durable", "generation", "moves"))
         same("roles", ("writer", "reader"), (one(connection, "pragma pagelog_role"), one(named(keeper, 3, mode="ro"), "pragma pagelog_role")))
+
+
+def refusal(action):
+    """The name of an error, and its message."""
+    try:
+        action()
+    except sqlite3.Error as error:
+        return error.sqlite_errorname, str(error)
+    return None
+
+
+@contextlib.contextmanager
+def nobody():
+    """An address at which connections are refused."""
+    with socket.socket() as held:
+        held.bind(("127.0.0.1", 0))
+        yield "%s:%d" % held.getsockname()
+
+
+def test_an_open_that_is_refused_says_why():
+    """And at once: a call would wait for five minutes here."""
+    with StubKeeper() as keeper, nobody() as one_port, nobody() as other_port:
+        for id, more in (2, {}), (3, {"mode": "ro"}):
+            told = "SQLITE_PERM", f"pagelog: denied: the table does not list principal {id} with this token"
+            same(f"a wrong token of {id}", told, refusal(lambda: named(keeper, id, token="00" * 16, **more)))
+        same("another name", ("SQLITE_PERM", "pagelog: denied: the keepers know of no database blog"),
+             refusal(lambda: named(keeper, name="blog")))
+        same("no keeper", ("SQLITE_CANTOPEN", "pagelog: lost: no keeper answers: all connections are refused"),
+             refusal(lambda: sqlite_of(f"{one_port},{other_port}", "shop", 2)))
+        same("a setting", ("SQLITE_MISUSE", "pagelog: the setting colour is missing, unknown, or cannot be read"),
+             refusal(lambda: named(keeper, colour=1)))
+        named(keeper).execute("create table t(a)")
+        same("what may be opened still is", [], rows(named(keeper)))
+        same("an open of something else", 1, one(sqlite3.connect(":memory:"), "select 1"))
+
+
+def test_a_statement_that_is_barred_says_why():
+    """Its operator has another token; and its table lets the principal only read."""
+    denied = '[[row]]\nverdict = "deny"\nwho = 5\nrole = "primary"\n[[row]]\nverdict = "allow"\nrole = "secondary"\n'
+    for more, told in (({"optoken": "00" * 16}, "denied: the table does not list operator 1 with this token"),
+                       ({}, "denied: denied B2, value 0: this row of the table is the first that matches, and it denies")):
+        with StubKeeper() as keeper:
+            with keeper.now.asker(wire.OPERATOR) as operator:
+                principals, _, rest = table_of(keeper.name, keeper.now.run).partition("[[row]]\nverdict = \"deny\"")
+                operator.set_table(principals + denied + f"[[row]]\nverdict = \"deny\"{rest}")
+            connection = named(keeper, 5, **more)
+            same(told, "SQLITE_PERM", code_of(lambda: connection.execute("create table t(a)")))
+            same(told, told, one(connection, "pragma pagelog_error"))
+
+
+def test_a_token_is_wrong_only_where_its_run_says_so():
+    """A run that is over may have lost its address to another service, which its keepers do not know at once."""
+    with StubKeeper() as keeper:
+        named(keeper).execute("create table t(a)")
+        new = keeper.next(images=False)
+        right, keeper.now.run = keeper.now.run, "another"  # the tokens of that are others
+
+        def succeed():
+            keeper.now.run = right
+            keeper.switch(new)
+
+        keeper.rule = Before(1, succeed)
+        same("it is looked for in the next generation", ([], (2,)), (rows(reader := named(keeper, 3, mode="ro")), numbers(reader, "generation")))
+
+
+def test_who_was_let_in_is_not_refused_by_another_service_at_the_address():
+    """Until its keepers have seen that the service has ended, which may take longer than a wrong token."""
+    with StubKeeper() as keeper:
+        connection = named(keeper)
+        connection.execute("create table t(a)")
+        new = keeper.next(images=False)
+        keeper.now.service.end()
+        with Service(listen=keeper.now.service.address):
+            later(1.0, lambda: keeper.switch(new))
+            connection.execute("insert into t values (1)")
+            same("in the next generation", ([1], (2,)), (rows(connection), numbers(connection, "generation")))
 
 
 def test_synchronous_says_what_a_commit_waits_for():
@@ -302,6 +426,7 @@ def test_readers_of_what_is_durable():
         connection, careful, other = named(keeper), named(keeper, 3, mode="ro", durable=1), named(keeper, 3, mode="ro")
         connection.execute("create table t(a, b)")
         connection.execute(level)
+        keeper.is_archiving = False
         fill(connection, 4)
         same("not yet", ([], 4), (rows(careful), len(rows(other))))
         keeper.archive_now()
@@ -313,6 +438,7 @@ def test_readers_of_what_is_durable():
         same("after a death", ([0, 1, 2, 3], [0, 1, 2, 3]), (rows(careful), rows(other)))
         again = named(keeper)
         again.execute(level)
+        keeper.is_archiving = True
         fill(again, 1, first=9)
         for event in (keeper.succeed, keeper.archive_now):
             event()
@@ -702,6 +828,26 @@ def test_a_wait_for_the_archive_goes_on_from_a_move_that_was_cut_off():
         thread.join(60)
         same("told", ["SQLITE_IOERR_FSYNC"], told)
         same("then", ([*range(40), 100], "ok"), (rows(connection), one(connection, "pragma integrity_check")))
+
+
+def test_a_wait_for_the_archive_asks_more_and_more_seldom():
+    """Where no keeper says what is durable: after 5 ms, and up to five times a second."""
+    with StubKeeper() as keeper:
+        connection = named(keeper)
+        connection.execute("create table t(a, b)")
+        durable, times = keeper.durable, []
+
+        def elsewhere(name, generation, _):
+            times.append(time.monotonic())
+            if len(times) == 9:
+                keeper.durable = durable
+            return "elsewhere", name, generation
+
+        keeper.durable = elsewhere
+        fill(connection, 1)
+        gaps = [later - earlier for earlier, later in zip(times, times[1:])]
+        for gap, least in zip(gaps, (0.005, 0.01, 0.02, 0.04, 0.08, 0.16, 0.2, 0.2), strict=True):
+            true(f"after {least} s: {gaps}", gap >= least)
 
 
 def test_a_generation_that_is_closed_for_a_while():

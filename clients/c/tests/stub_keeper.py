@@ -139,7 +139,8 @@ def later(seconds, action):
 class StubKeeper:
     """Of one database. `watch` is called with each request that a client sends, before the service has it."""
 
-    def __init__(self, name="shop"):
+    def __init__(self, name="shop", database="00000000-0000-4000-8000-000000000001"):
+        self.database = database
         self.name, self.archive, self.ends = name, [], {}
         self.changed = threading.Condition(threading.RLock())
         self.is_archiving, self.is_published, self.asked = True, True, 0
@@ -209,17 +210,24 @@ class StubKeeper:
     def turn(self, line, words):
         with self.changed:
             match words:
+                case ["turn", _, *_, of] if of.startswith("of=") and of != self.of():
+                    line.say("elsewhere", self.name, of)
                 case ["turn", _, *how]:
-                    self.turns.ask(line, now="now" in how, mine="mine" in how)
-                case ["back", _]:
+                    self.turns.ask(line, now="now" in how, mine="mine" in how, heartbeat="heartbeat" in how)
+                case ["back", _, *_]:
                     self.turns.back(line)
-                case ["hold", _]:
+                case ["hold", _, *_]:
                     self.turns.hold(line)
+
+    def of(self, run=None):
+        return f"of={self.database}/{run or self.now.run}"
 
     def answer(self, words):
         with self.changed:
             self.asked += 1
             match words:
+                case ["hello", _]:
+                    return "hello", 2
                 case ["where", name] if name != self.name:
                     return "unknown", name
                 case ["where", name]:
@@ -227,9 +235,9 @@ class StubKeeper:
                     if not self.is_published:
                         return "nowhere", name
                     return ("at", name, now.number, now.run, now.address, len(self.archive), self.address, now.base, now.shift,
-                            self.ends.get(now.number - 1, 0))
-                case ["durable", name, generation, position]:
-                    return self.durable(name, int(generation), int(position))
+                            self.ends.get(now.number - 1, 0), self.of())
+                case ["durable", name, generation, position, of] if of == self.of(f"run{generation}"):
+                    return *self.durable(name, int(generation), int(position)), of
         return ("what",)
 
     def durable(self, name, generation, position):
@@ -277,8 +285,7 @@ class StubKeeper:
             self.ends[self.now.number] = len(self.archive)
             self.old.append(self.now)
             self.now, self.is_published = new, True
-            self.turns.end()
-            self.turns = Turns(self.name, new.number, self.after)
+            self.turns = self.turns.next(new.number)
             self.changed.notify_all()
 
     def succeed(self, **how):

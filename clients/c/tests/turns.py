@@ -3,6 +3,7 @@ generation to the next."""
 
 import contextlib
 import os
+import pathlib
 import signal
 import socket
 import threading
@@ -154,6 +155,23 @@ def test_a_writer_that_is_alone_goes_on_at_once():
         same("all of it", list(range(31)), rows(connection))
 
 
+def test_the_first_write_of_a_generation_by_one_who_is_alone_and_waits_for_nobody():
+    """Without a busy timeout, in a generation after which nobody had the turn, and in one of which that is not known."""
+    with StubKeeper() as keeper:
+        connection = named(keeper, busy=0)
+        connection.execute("create table t(a, b)")
+        for number, event in enumerate((lambda: keeper.succeed(), lambda: keeper.die(), lambda: (keeper.succeed(), forget(keeper)))):
+            event()
+            same("the first write", None, code_of(lambda: fill(connection, 1, first=number)))
+        same("all of it", [0, 1, 2], rows(connection))
+
+
+def forget(keeper):
+    """As if another keeper had had the generation before."""
+    with keeper.changed:
+        keeper.turns = turns.Turns(keeper.name, keeper.now.number, keeper.after)
+
+
 def test_a_turn_of_a_generation_that_is_over_is_not_waited_for():
     """Though nobody says so over its line, as where a machine is gone."""
     with for_ever("EARLY"), StubKeeper() as keeper:
@@ -258,25 +276,167 @@ def test_who_has_the_turn_reads_what_was_written():
         same("alone", (0, 5), tuple(now - then for now, then in zip(numbers(connection, "epoch", "round_trips"), before)))
 
 
-def test_a_turn_that_is_kept_and_in_use_is_not_passed_on():
-    """Its holder says so as it writes."""
-    with for_ever("GRACE"), StubKeeper() as keeper:
-        connection = named(keeper)
-        connection.execute("create table t(a, b)")
-        connection.execute("pragma cache_size = 2")
-        fill(connection, 30)
+class Quarters:
+    """The quarters of a ttl of a stub's turns, each of which ends when the test says so."""
+
+    def __init__(self, keeper):
+        self.keeper, self.hear, self.heard = keeper, keeper.turns.hold, 0
+        keeper.turns.hold = self.hold
+        keeper.turns._after = lambda seconds, action: self
+        keeper.turns._ttl = 3600
+
+    def cancel(self):
+        pass
+
+    def hold(self, line):
+        self.hear(line)
+        self.heard += 1
+
+    def end(self, count=1):
+        for _ in range(count):
+            with self.keeper.changed:
+                self.keeper.turns._beat()
+
+
+def keep_the_turn(keeper, **how):
+    """A connection that keeps its turn, and is idle."""
+    connection = named(keeper, **how)
+    connection.execute("create table t(a, b)")
+    fill(connection, 30)
+    true("it is kept", keeper.turns._is_kept)
+    return connection
+
+
+def upgrade(keeper, number, **how):
+    """A transaction that reads first, and then writes a row."""
+    connection = named(keeper, **how)
+    connection.execute("begin")
+    found = len(rows(connection))
+    fill(connection, 1, first=number)
+    connection.execute("commit")
+    return found
+
+
+def test_a_turn_that_is_in_use_is_not_passed_on():
+    """Whether it was kept or not. Its holder is amid a transaction, and calls nothing: a heartbeat says that it lives."""
+    for is_kept in (True, False):
+        with StubKeeper() as keeper:
+            quarters = Quarters(keeper)
+            connection = keep_the_turn(keeper) if is_kept else amid_a_transaction(keeper)
+            if is_kept:
+                connection.execute("begin immediate")
+            holder, count = keeper.turns._holder, len(rows(connection))
+            waits = waits_for_a_turn(keeper) if not is_kept else fork(
+                lambda: (fill(waiting := named(keeper, busy=60), 1, first=count), rows(waiting)))
+            until(lambda: keeper.turns._waiting and not keeper.turns._hurried, "another waits")
+            for _ in range(3 * turns.BEATS):
+                before = quarters.heard
+                quarters.end()
+                until(lambda: quarters.heard > before, "it is heard")
+            true("it has it still", keeper.turns._holder is holder)
+            connection.execute("commit")
+            same("both", (None, list(range(count + 1))), waits())
+
+
+def test_a_turn_that_is_kept_and_unused_comes_back_at_once():
+    """Its owner is idle. An upgrade waits for it, of which SQLite asks no busy handler; and so does one without a busy handler."""
+    for number, (busy, first) in enumerate(((60, "read"), (0, "read"), (60, "write"))):
+        with StubKeeper() as keeper:
+            Quarters(keeper)
+            connection = keep_the_turn(keeper)
+            if first == "read":
+                same(f"read by another, {busy}", 30, in_child(lambda: upgrade(keeper, 30, busy=busy)))
+            else:
+                same("begun by another", None, begins(keeper, busy=busy))
+            same("all of it", 30 + (first == "read"), len(rows(connection)))
+
+
+def test_an_upgrade_beside_a_transaction_is_busy():
+    with StubKeeper() as keeper:
+        Quarters(keeper)
+        connection = keep_the_turn(keeper)
         connection.execute("begin immediate")
         fill(connection, 1, first=30)
-        waits = fork(lambda: code_of(lambda: fill(named(keeper, busy=60), 1, first=-1)))
-        until(lambda: keeper.turns._grace, "it is wanted")
-        holder, count = keeper.turns._holder, 31
-        while keeper.turns._grace:
-            fill(connection, 5, size=20000, first=count)
-            count += 5
-            true("it says so", count < 1000)
-        true("it has it still", keeper.turns._holder is holder)
+        told = in_child(lambda: [code_of(lambda: upgrade(keeper, 31, busy=60)) for _ in range(2)])
+        same("told", ["SQLITE_BUSY"] * 2, told)
         connection.execute("commit")
-        same("both", (None, list(range(-1, count))), (waits(), rows(connection)))
+        same("it wrote", list(range(31)), rows(connection))
+        same("and so does the other", 31, in_child(lambda: upgrade(keeper, 31, busy=60)))
+
+
+def test_a_turn_is_not_kept_by_one_that_stands_still():
+    """In a transaction, or while it keeps the turn. Once it goes on its transaction is refused, as where another has written."""
+    for is_kept in (True, False):
+        with StubKeeper() as keeper:
+            quarters = Quarters(keeper)
+            reads, writes = os.pipe()
+
+            def stands_still():
+                connection = named(keeper)
+                connection.execute("create table t(a, b)")
+                fill(connection, 30 if is_kept else 0)
+                if not is_kept:
+                    connection.execute("begin immediate")
+                    fill(connection, 1)
+                os.kill(os.getpid(), signal.SIGSTOP)
+                return code_of(lambda: connection.execute("commit")) if not is_kept else upgrade(keeper, 31, busy=60)
+
+            waits = fork(lambda: (os.write(writes, os.getpid().to_bytes(4, "big")), stands_still())[1])
+            stopped = int.from_bytes(os.read(reads, 4), "big")
+            os.waitpid(stopped, os.WUNTRACED)
+            other = fork(lambda: code_of(lambda: fill(named(keeper, busy=60), 1, first=30)))
+            until(lambda: keeper.turns._waiting, "another waits")
+            quarters.end(turns.BEATS)
+            same("another writes", None, other())
+            os.kill(stopped, signal.SIGCONT)
+            same("told", 31 if is_kept else "SQLITE_BUSY_SNAPSHOT", waits())
+            same("what is there", list(range(32)) if is_kept else [30], rows(named(keeper, 3, mode="ro")))
+            os.close(reads)
+            os.close(writes)
+
+
+def events():
+    """How many connections of this process have waited for its write lock: each has an event."""
+    links = (pathlib.Path("/proc/self/fd") / name for name in os.listdir("/proc/self/fd"))
+    found = 0
+    for link in links:
+        with contextlib.suppress(OSError):
+            found += "eventfd" in os.readlink(link)
+    return found
+
+
+def test_threads_write_in_the_order_of_asking():
+    """Who has written asks again behind those who wait."""
+    with StubKeeper() as keeper:
+        connection = amid_a_transaction(keeper)
+        before, threads = events(), []
+        for number in range(1, 6):
+            other = named(keeper, busy=60)
+            threads.append(threading.Thread(target=fill, args=(other, 1), kwargs={"first": number}))
+            threads[-1].start()
+            until(lambda: events() == before + number, "it waits")
+        connection.execute("commit")
+        fill(connection, 1, first=6)
+        for thread in threads:
+            thread.join()
+        same("in this order", list(range(7)), [number for number, in connection.execute("select a from t order by rowid")])
+
+
+def test_a_thread_that_waits_no_more_is_in_nobodys_way():
+    with StubKeeper() as keeper:
+        connection, told = amid_a_transaction(keeper), []
+        impatient, patient = named(keeper, busy=0.2), named(keeper, busy=60)
+        before = events()
+        threads = [threading.Thread(target=lambda each=each, number=number: told.append((number, code_of(
+            lambda: fill(each, 1, first=number))))) for number, each in enumerate((impatient, patient), 1)]
+        for number, thread in enumerate(threads, 1):
+            thread.start()
+            until(lambda: events() == before + number, "it waits")
+        threads[0].join()
+        connection.execute("commit")
+        threads[1].join()
+        same("told", [(1, "SQLITE_BUSY"), (2, None)], told)
+        same("it reads", [0, 2], rows(impatient))
 
 
 def test_a_turn_that_is_kept_is_lost_with_its_line():

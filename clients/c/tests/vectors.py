@@ -238,8 +238,9 @@ def test_the_lines_of_the_page():
     page = (ROOT / "docs" / "CLIENT.md").read_text()
     lines = re.search(r"^```c\n(.*?)^```$", page, flags=re.S | re.M).group(1)
     true("ten lines and some", len(lines.splitlines()) <= 12)
+    same("its address", 1, lines.count('"127.0.0.1:7405"'))
     program = ('#include "pagelog.h"\n#include <stdio.h>\n#include <string.h>\nint main(int count, char **words) {\n'
-               "const char *address = words[count - 1];\n" + lines
+               + lines.replace('"127.0.0.1:7405"', "words[count - 1]")
                + "pagelog_blocks_free(blocks);\npagelog_free(log);\nreturn 0;\n}\n")
     folder = pathlib.Path(tempfile.mkdtemp())
     source, built = folder / "lines.c", folder / "lines"

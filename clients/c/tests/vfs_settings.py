@@ -4,6 +4,8 @@ import contextlib
 import os
 import sqlite3
 import subprocess
+import sys
+import tempfile
 import time
 
 from check import run, same, true
@@ -49,6 +51,13 @@ def test_a_parameter_that_means_nothing_is_refused():
             same(more, code, code_of(lambda: connect(service.address, **more).close()))
 
 
+def test_a_file_of_credentials_that_others_may_read_is_named():
+    with tempfile.NamedTemporaryFile("w", suffix=".cred") as file:
+        os.chmod(file.name, 0o644)
+        same("the sentence", ("SQLITE_PERM", f"pagelog: others may read {file.name}: chmod 600 {file.name}"),
+             error_of(lambda: opened(f"file:test?vfs=pagelog&to=127.0.0.1:1&credentials={file.name}")))
+
+
 def test_a_pragma_that_means_nothing_is_refused():
     with Service() as service:
         connection = connect(service.address)
@@ -87,6 +96,99 @@ def test_a_database_has_one_name():
         same("also once its page was written as a whole", "SQLITE_CANTOPEN", code_of(lambda: reader(service.address, name="blog")))
         writer.close()
         same("closed", ("SQLITE_CANTOPEN", None), (with_name("blog"), with_name("shop")))
+
+
+def log_of(*uris, then=""):
+    """What SQLite's log says where a shell opens these, one after the other, and then does more."""
+    text = f".log stdout\n.load {EXTENSION}\n" + "".join(f".open '{each}'\n" for each in uris) + then
+    preload = {"LD_PRELOAD": os.environ["LD_PRELOAD"]} if "LD_PRELOAD" in os.environ else {}
+    return subprocess.run(["sqlite3"], input=text, capture_output=True, text=True, timeout=120,
+                          env=plain_environment(ASAN_OPTIONS="detect_leaks=0", **preload)).stdout
+
+
+def shown_by_a_shell(text, **settings):
+    """What the VFS writes to standard error there, beside the shell's own errors."""
+    preload = {"LD_PRELOAD": os.environ["LD_PRELOAD"]} if "LD_PRELOAD" in os.environ else {}
+    said = subprocess.run(["sqlite3"], input=f".load {EXTENSION}\n{text}", capture_output=True, text=True, timeout=120,
+                          env=plain_environment(ASAN_OPTIONS="detect_leaks=0", **preload, **settings)).stderr
+    return [line for line in said.splitlines() if line.startswith("pagelog: ")]
+
+
+def test_what_shows_no_message_writes_it_to_standard_error():
+    """SQLite's shell does, once for what is said again, and who asks for it; not who shares a database and waits."""
+    lists_nobody = "pagelog: denied: denied A1, value 0: the table does not list this principal with this token"
+    counts = "pagelog: denied: there is no operator to ask for"
+    with Service() as service:
+        connect(service.address).execute("create table t(a)")
+        wrong, right = uri(service.address, token="00" * 16), uri(service.address, 3, None, mode="ro")
+        text = f".open '{wrong}'\n.open '{right}'\n" + 3 * "pragma pagelog_entries;\n"
+        for settings, shown in (({}, [lists_nobody, counts]), ({"PAGELOG_ERRORS": "log"}, []),
+                                ({"PAGELOG_ERRORS": "stderr"}, [lists_nobody, counts])):
+            same(settings, shown, shown_by_a_shell(text, **settings))
+        same("of one URI", [], shown_by_a_shell(f".open '{wrong}&errors=log'\n"))
+        program = "import sqlite3, sys\ntry: sqlite3.connect(sys.argv[1], uri=True)\nexcept sqlite3.Error as error: print(error)"
+        subprocess.run(["make", "-s", "-C", CLIENT, "out/pagelog_preload.so"], check=True, env=plain_environment())
+        for more, shown in ("", f"{lists_nobody}\n"), ("&errors=log", ""):
+            ran = subprocess.run([sys.executable, "-c", program, wrong + more], capture_output=True, text=True, timeout=120,
+                                 env=plain_environment(LD_PRELOAD=str(CLIENT / "out" / "pagelog_preload.so")))
+            same(f"a program that is not changed{more}", (f"{lists_nobody}\n", shown), (ran.stdout, ran.stderr))
+
+
+def test_another_name_is_told_with_that_of_the_database():
+    """In SQLite's log, and to a connection that was open before by a pragma. What the other wrote there goes to no terminal."""
+    with Service(dbs=2) as service:
+        connect(service.address, name="shop").execute("create table t(a)")
+        for who in (uri(service.address, 3, None, mode="ro", name="blog"), uri(service.address, name="blog")):
+            true(f"both names: {log_of(who)}", "the database has the name shop, and not blog" in log_of(who))
+        early = reader(service.address, name="blog", db=1)
+        connect(service.address, name="s\x1b" + 253 * "p", db=1).executescript("create table t(a);" + 600 * "insert into t values (1);")
+        same("of one that was open", "SQLITE_CANTOPEN", code_of(lambda: one(early, "select count(*) from t")))
+        same("the pragma", f"malformed: the database has the name s?{253 * 'p'}, and not blog", one(early, "pragma pagelog_error"))
+
+
+def test_a_database_that_another_client_has_written_over():
+    """Page 0, as an example of the library does it: who opens the database is told, and from where on it can still be read. Nobody is
+    fenced for that."""
+    from vfs_statements import mark, write_as_another
+
+    with Service() as service:
+        write_as_another(service.address, 1, (0, 0, mark(8)))
+        said = log_of(uri(service.address))
+        true(f"of another log: {said}", "page 0 says that a SQLite database ends at LSN 8, above LSN 1: the log is not its own" in said)
+    foreign = "page 0 was written by another client: this is no SQLite database; at={} still reads what was before"
+    for data, is_known in ((b"hello", True), (bytes(39) + b"x", False)):
+        with Service() as service:
+            writer = connect(service.address, name="shop")
+            writer.executescript("create table t(a); insert into t values (1)")
+            lsn = int(one(writer, "pragma pagelog_lsn"))
+            write_as_another(service.address, lsn + 1, (0, 0, data))
+            openings = uri(service.address, 3, None, mode="ro", name="shop"), uri(service.address, name="shop")
+            said = log_of(*openings)
+            same(f"told: {said}", 2, said.count(foreign.format(lsn if is_known else "LSN")))
+            with service.operator() as operator:
+                same("the epoch of its first writer", 2, operator.status()[0])
+            past = connect(service.address, 3, None, at=lsn, name="shop")
+            same("what was before", (1, str(lsn)), (one(past, "select a from t"), one(past, "pragma pagelog_lsn")))
+            same("who was open", ("SQLITE_NOTADB", True), (code_of(lambda: one(writer, "select a from t")),
+                                                           foreign.format(lsn) in one(writer, "pragma pagelog_error")))
+
+
+def test_a_plain_file_needs_its_own_vfs():
+    """Of ATTACH and VACUUM INTO. Without it SQLite's log says how it is named."""
+    with Service() as service, tempfile.TemporaryDirectory() as folder:
+        where = uri(service.address)
+        connection = connect(service.address)
+        connection.executescript("create table t(a); insert into t values (7)")
+        for number, words in enumerate(("vacuum into '{}'", "attach '{}' as other")):
+            file = f"{folder}/{number}.db"
+            same(words, "SQLITE_MISUSE", code_of(lambda: connection.execute(words.format(file))))
+            said = log_of(where, then=words.format(file) + ";\n")
+            true(f"{words}: {said}", f"{file} has no setting `to` or `where`; a plain file is opened as file:{file}?vfs=unix" in said)
+            same("it is not there", False, os.path.exists(file))
+            connection.execute(words.format(f"file:{file}?vfs=unix"))
+        same("the copy", [(7,)], sqlite3.connect(f"{folder}/0.db").execute("select a from t").fetchall())
+        connection.execute("create table other.u as select * from t")
+        same("the other", [(7,)], sqlite3.connect(f"{folder}/1.db").execute("select a from u").fetchall())
 
 
 def test_a_database_without_a_name_takes_the_first():

@@ -5,6 +5,7 @@ import random
 import re
 import sqlite3
 import subprocess
+import sys
 import tempfile
 import threading
 import time
@@ -468,6 +469,10 @@ def test_settings():
             file.write(f"id 2\ntoken {TOKENS[2]}\nop 1\noptoken {TOKENS[1]}\n")
         plain = f"file:test?vfs=pagelog&to={service.address}"
         opened = lambda text: sqlite3.connect(text, uri=True, isolation_level=None)
+        for mode in (0o640, 0o604, 0o620):
+            os.chmod(path, mode)
+            same("others may read it", "SQLITE_PERM", code_of(lambda: opened(f"{plain}&credentials={path}")))
+        os.chmod(path, 0o600)
         opened(f"{plain}&credentials={path}").execute("create table t(a)")
         same("no token", "SQLITE_MISUSE", code_of(lambda: opened(plain)))
         os.environ.update(PAGELOG_ID="3", PAGELOG_TOKEN=TOKENS[3])
@@ -884,7 +889,7 @@ def test_replies_of_a_service_at_its_end():
     a reader's snapshot stays readable."""
     for body, name, words in ((b"\x08", "SQLITE_FULL", "denied: spent"), (b"\x06", "SQLITE_FULL", "no memory"),
                               (b"\x07", "SQLITE_FULL_LIST", "audit list full"), (b"\x09", "SQLITE_PERM", "denied: no database"),
-                              (b"\x05\x02\0\0" + bytes(8), "SQLITE_PERM", "denied: denied B0, value 0")):
+                              (b"\x05\x02\0\0" + bytes(8), "SQLITE_PERM", "denied: denied B0, value 0: no row of the table matches")):
         is_over = [False]
         with Service() as service, Proxy(service.address, between=lambda frame: Answer(body) if is_over[0] else frame) as proxy:
             writer, follower = connect(proxy.address, patience=200), reader(proxy.address, patience=200)
@@ -1174,6 +1179,20 @@ def test_the_shell():
         shell = subprocess.run(["sqlite3"], input=text, capture_output=True, text=True, timeout=60,
                                env=plain_environment(ASAN_OPTIONS="detect_leaks=0", **preload))
         same("shell", ("one two\n2\nok\n", ""), (shell.stdout, shell.stderr))
+
+
+def test_programs_that_cannot_be_changed():
+    """The library that is loaded before them writes nothing, and they may still configure SQLite, as its shell does."""
+    library = CLIENT / "out" / "pagelog_preload.so"
+    subprocess.run(["make", "-s", "-C", CLIENT, library.relative_to(CLIENT)], check=True, env=plain_environment())
+    python = "import sqlite3, sys; print(*sqlite3.connect(sys.argv[1], uri=True).execute(sys.argv[2]).fetchone())"
+    with Service() as service:
+        connect(service.address).execute("create table t(a)").execute("insert into t values (7)")
+        where = uri(service.address, 3, None, mode="ro")
+        for words in (["sqlite3"], ["sqlite3", "-vfs", "pagelog"], [sys.executable, "-c", python]):
+            ran = subprocess.run([*words, where, "select a from t"], capture_output=True, text=True, timeout=60,
+                                 env=plain_environment(LD_PRELOAD=str(library)))
+            same(words, (0, "7\n", ""), (ran.returncode, ran.stdout, ran.stderr))
 
 
 def test_a_linked_program_gives_its_memory_back():
